@@ -1,0 +1,76 @@
+-- The five tables of a mesh as lists, and the words of their rows.
+--     Mesh                                     the five tables
+--     x y z m p                                the coordinates of point p
+--     valence start mark m p                   the words of point p: start is its start edge, mark 1 if extraordinary
+--     origin dest leftFace rightFace m e       the ends and the sides of edge e
+--     leftCw leftAcw rightCw rightAcw m e      the four neighbours of edge e
+--     interval m e                             the interval of edge e
+--     faceStart m f                            the start edge of face f
+--     corner m f k                             the corner k of face f, from 0
+--     none                                     the mark for no row
+-- A word past the end of its table reads as 0, a number past the end as a NaN.
+use mathlib.Core.List.{List}
+use Prim.Native.Nat.{ℕ, _+_, _*_}
+use lib.ListN.{getD}
+use lib.Ieee.{Float, nan}
+
+pub record Mesh : Type 0 where
+  pub positions : List Float
+  pub points : List ℕ
+  pub edges : List ℕ
+  pub intervals : List Float
+  pub faces : List ℕ
+
+abbrev pub none : ℕ
+none = 4294967295
+
+abbrev pub x : Mesh → ℕ → Float
+x m p = getD (m .positions) (p * 3) nan
+
+abbrev pub y : Mesh → ℕ → Float
+y m p = getD (m .positions) (p * 3 + 1) nan
+
+abbrev pub z : Mesh → ℕ → Float
+z m p = getD (m .positions) (p * 3 + 2) nan
+
+abbrev pub valence : Mesh → ℕ → ℕ
+valence m p = getD (m .points) (p * 3) 0
+
+abbrev pub start : Mesh → ℕ → ℕ
+start m p = getD (m .points) (p * 3 + 1) 0
+
+abbrev pub mark : Mesh → ℕ → ℕ
+mark m p = getD (m .points) (p * 3 + 2) 0
+
+abbrev pub origin : Mesh → ℕ → ℕ
+origin m e = getD (m .edges) (e * 8) 0
+
+abbrev pub dest : Mesh → ℕ → ℕ
+dest m e = getD (m .edges) (e * 8 + 1) 0
+
+abbrev pub leftFace : Mesh → ℕ → ℕ
+leftFace m e = getD (m .edges) (e * 8 + 2) 0
+
+abbrev pub rightFace : Mesh → ℕ → ℕ
+rightFace m e = getD (m .edges) (e * 8 + 3) 0
+
+abbrev pub leftCw : Mesh → ℕ → ℕ
+leftCw m e = getD (m .edges) (e * 8 + 4) 0
+
+abbrev pub leftAcw : Mesh → ℕ → ℕ
+leftAcw m e = getD (m .edges) (e * 8 + 5) 0
+
+abbrev pub rightCw : Mesh → ℕ → ℕ
+rightCw m e = getD (m .edges) (e * 8 + 6) 0
+
+abbrev pub rightAcw : Mesh → ℕ → ℕ
+rightAcw m e = getD (m .edges) (e * 8 + 7) 0
+
+abbrev pub interval : Mesh → ℕ → Float
+interval m e = getD (m .intervals) e nan
+
+abbrev pub faceStart : Mesh → ℕ → ℕ
+faceStart m f = getD (m .faces) (f * 5) 0
+
+abbrev pub corner : Mesh → ℕ → ℕ → ℕ
+corner m f k = getD (m .faces) (f * 5 + (k + 1)) 0
