@@ -1,0 +1,2 @@
+// Connecting two edges.
+ghost use mathlib.Core.Path.{_≡_};

@@ -1,0 +1,1 @@
+//! Stand-in for the module of this name, of which the six files use nothing.
