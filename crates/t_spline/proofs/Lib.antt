@@ -1,1 +1,3 @@
 pub mod Laws
+pub mod LinkTable
+pub mod Table

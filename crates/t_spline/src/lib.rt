@@ -68,6 +68,18 @@ pub struct TnurccEdge {
     pub knot_interval: f64,
 }
 
+// The links that two states set: the first edge's and the other's.
+pub enum Links {
+    Both(TnurccConnection, TnurccConnection),
+    Mismatch,
+}
+
+// Two edges that are connected to each other.
+pub struct Pair {
+    pub first: TnurccEdge,
+    pub other: TnurccEdge,
+}
+
 impl TnurccConnection {
     pub const LEFT_CW: usize = 0;
     pub const LEFT_ACW: usize = 1;
