@@ -1,1 +1,3 @@
 pub mod Mesh
+pub mod Rows
+pub mod Records
