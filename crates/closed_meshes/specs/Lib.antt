@@ -1,3 +1,4 @@
 pub mod Mesh
 pub mod Cycles
 pub mod Closed
+pub mod Refinement
