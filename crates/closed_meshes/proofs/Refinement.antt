@@ -320,3 +320,138 @@ module _ {P E F : Type 0} (m : Mesh P E F) (c : Closed m) where
             (λ d h. absurd (omega arith))
             (λ d h. next-end-half d ∙ ap start-half (sym (face-end-half d)))
       }
+
+  -- Walks about the new points: the old ranks about old points, those about the old face about its face point, and ranks 0 to 3
+  -- about a midpoint.
+  turn' : Dart (NewEdge E) → Dart (NewEdge E)
+  turn' x = flip (prev' x)
+
+  pointDart' : NewPoint P E F → Dart (NewEdge E)
+  pointDart' (old p) = start-half (c .pointDart p)
+  pointDart' (mid e) = rgt (org e)
+  pointDart' (facePoint f) = outward (c .faceDart f)
+
+  pointRank : Dart (NewEdge E) → ℕ
+  pointRank (lft (org e)) = c .about-points .rank (lft e)
+  pointRank (lft (dst e)) = 2
+  pointRank (lft (join d)) = c .about-faces .rank d
+  pointRank (rgt (org e)) = 0
+  pointRank (rgt (dst e)) = c .about-points .rank (rgt e)
+  pointRank (rgt (join (lft e))) = 3
+  pointRank (rgt (join (rgt e))) = 1
+
+  pointRank-start-half : (d : Dart E) → pointRank (start-half d) ≡ c .about-points .rank d
+  unfolding pointRank
+  pointRank-start-half (lft e) = refl
+  pointRank-start-half (rgt e) = refl
+
+  turn-start-half : (d : Dart E) → turn' (start-half d) ≡ start-half (flip (c .prev d))
+  unfolding turn' prev'
+  turn-start-half d = ap flip (prev-start-half d) ∙ flip-end-half (c .prev d)
+
+  -- Each law at a new dart, from the law at the old one.
+  cls-turn' : (x : Dart (NewEdge E)) → first (refined m c) (turn' x) ≡ first (refined m c) x
+  unfolding turn' prev'
+  cls-turn' =
+      by-kind (λ x. first (refined m c) (turn' x) ≡ first (refined m c) x)
+        (λ d.
+          ap (first (refined m c)) (turn-start-half d) ∙ first-start-half (flip (c .prev d)) ∙ ap old (c .about-points .cls-step d)
+          ∙ sym (first-start-half d))
+        (λ d. ap (first (refined m c)) (flip-start-half d) ∙ first-end-half (flip d) ∙ ap mid (edge-flip d))
+        (λ d. ap facePoint (c .about-faces .cls-step d))
+        (λ d. ap (first (refined m c)) (ap flip (prev-end-half d)) ∙ sym (first-end-half d))
+
+  cls-start' : (p : NewPoint P E F) → first (refined m c) (pointDart' p) ≡ p
+  unfolding pointDart'
+  cls-start' (old p) = first-start-half (c .pointDart p) ∙ ap old (c .about-points .cls-start p)
+  cls-start' (mid e) = refl
+  cls-start' (facePoint f) = ap facePoint (c .about-faces .cls-start f)
+
+  rank-start' : (p : NewPoint P E F) → pointRank (pointDart' p) ≡ 0
+  unfolding pointDart' pointRank
+  rank-start' (old p) = pointRank-start-half (c .pointDart p) ∙ c .about-points .rank-start p
+  rank-start' (mid e) = refl
+  rank-start' (facePoint f) = c .about-faces .rank-start f
+
+  rank-below' : (x : Dart (NewEdge E)) → pointRank x < refined m c .valence (first (refined m c) x)
+  unfolding pointRank
+  rank-below' (lft (org e)) = c .about-points .rank-below (lft e)
+  rank-below' (lft (dst e)) = omega arith
+  rank-below' (lft (join d)) = c .about-faces .rank-below d
+  rank-below' (rgt (org e)) = omega arith
+  rank-below' (rgt (dst e)) = c .about-points .rank-below (rgt e)
+  rank-below' (rgt (join (lft e))) = omega arith
+  rank-below' (rgt (join (rgt e))) = omega arith
+
+  rank-turn' :
+    (x : Dart (NewEdge E)) → suc (pointRank x) < refined m c .valence (first (refined m c) x) → pointRank (turn' x) ≡ suc (pointRank x)
+  unfolding pointRank turn' prev'
+  rank-turn' (lft (org e)) h =
+      ap pointRank (turn-start-half (lft e)) ∙ pointRank-start-half (flip (c .prev (lft e))) ∙ c .about-points .rank-step (lft e) h
+  rank-turn' (lft (dst e)) h = refl
+  rank-turn' (lft (join d)) h = c .about-faces .rank-step d h
+  rank-turn' (rgt (org e)) h = refl
+  rank-turn' (rgt (dst e)) h =
+      ap pointRank (turn-start-half (rgt e)) ∙ pointRank-start-half (flip (c .prev (rgt e))) ∙ c .about-points .rank-step (rgt e) h
+  rank-turn' (rgt (join (lft e))) h = absurd (omega arith)
+  rank-turn' (rgt (join (rgt e))) h = refl
+
+  turn-last' :
+    (x : Dart (NewEdge E)) → suc (pointRank x) ≡ refined m c .valence (first (refined m c) x) →
+    turn' x ≡ pointDart' (first (refined m c) x)
+  unfolding pointRank turn' prev' pointDart'
+  turn-last' (lft (org e)) h = turn-start-half (lft e) ∙ ap start-half (c .about-points .step-last (lft e) h)
+  turn-last' (lft (dst e)) h = absurd (omega arith)
+  turn-last' (lft (join d)) h = ap outward (c .about-faces .step-last d h)
+  turn-last' (rgt (org e)) h = absurd (omega arith)
+  turn-last' (rgt (dst e)) h = turn-start-half (rgt e) ∙ ap start-half (c .about-points .step-last (rgt e) h)
+  turn-last' (rgt (join (lft e))) h = refl
+  turn-last' (rgt (join (rgt e))) h = absurd (omega arith)
+
+  edge-pointDart' : (p : NewPoint P E F) → edge (pointDart' p) ≡ refined m c .start p
+  unfolding pointDart'
+  edge-pointDart' (old p) = edge-start-half (c .pointDart p)
+  edge-pointDart' (mid e) = refl
+  edge-pointDart' (facePoint f) = refl
+
+  valence-low' : (p : NewPoint P E F) → 2 ≤ refined m c .valence p
+  valence-low' (old p) = c .valence-low p
+  valence-low' (mid e) = omega arith
+  valence-low' (facePoint f) = omega (arith, c .size-low f)
+
+  -- Closed stays closed.
+  pub refined-closed : Closed (refined m c)
+  unfolding next' prev' SameEnds OnePass turn'
+  refined-closed =
+      record {
+        next = next';
+        prev = prev';
+        edge-next = edge-next';
+        edge-prev = edge-prev';
+        prev-next = prev-next';
+        next-prev = next-prev';
+        first-next = first-next';
+        ends-differ = ends-differ';
+        sides-differ = sides-differ';
+        one-edge = one-edge';
+        one-pass = one-pass';
+        faceDart = start-half;
+        edge-faceDart = edge-start-half;
+        pointDart = pointDart';
+        edge-pointDart = edge-pointDart';
+        size = λ d. 4;
+        size-low = λ d. omega arith;
+        size-high = λ d. omega arith;
+        about-faces = about-faces';
+        valence-low = valence-low';
+        about-points =
+          record {
+            rank = pointRank;
+            cls-step = cls-turn';
+            cls-start = cls-start';
+            rank-start = rank-start';
+            rank-below = rank-below';
+            rank-step = rank-turn';
+            step-last = turn-last'
+          }
+      }
