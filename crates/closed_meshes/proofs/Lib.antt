@@ -1,3 +1,4 @@
 pub mod Cycles
 pub mod Darts
 pub mod Refinement
+pub mod Isomorphisms
