@@ -2,3 +2,5 @@ pub mod Cycles
 pub mod Darts
 pub mod Refinement
 pub mod Isomorphisms
+pub mod Groupoid
+pub mod Lift
