@@ -4,3 +4,6 @@ pub mod Refinement
 pub mod Isomorphisms
 pub mod Groupoid
 pub mod Lift
+pub mod Counting
+pub mod Sums
+

@@ -3,9 +3,10 @@
 --     Isomorphism m m'      points, edges and faces correspond, and each field of a row but its start edge with them
 --     Touching m            the start edge of each point touches it, and the start edge of each face borders it
 --     Row n                 the rows of a table of n rows: the numbers below n
+--     sumTo n g             the sum of g k over the numbers k below n
 use mathlib.Core.Path.{_≡_}
 use mathlib.Core.Option.{Option, Option·map}
-use Prim.Native.Nat.{ℕ, _<_}
+use Prim.Native.Nat.{ℕ, zero, suc, _+_, _<_}
 use Rattle.closed_meshes.specs.Mesh.{Mesh, Place, Dart, edge, first, face}
 
 pub record Bijection (A B : Type 0) : Type 0 where
@@ -35,3 +36,8 @@ pub record Touching {P E F : Type 0} (m : Mesh P E F) : Type 0 where
 
 abbrev pub Row : ℕ → Type 0
 Row n = (k : ℕ) × (k < n)
+
+-- the sum of g k over the numbers k below n
+unfoldable pub sumTo : ℕ → (ℕ → ℕ) → ℕ
+sumTo zero g = 0
+sumTo (suc n) g = sumTo n g + g n
