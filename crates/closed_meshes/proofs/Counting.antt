@@ -111,17 +111,21 @@ module _ {n : ℕ} (g : Row n → Row n) (injective : (x y : Row n) → g x ≡ 
                 rows-le (suc n) n (λ x. extended y x (parted x)) (λ u v. extended-injective y free u v (parted u) (parted v)) in
           absurd (omega arith)
 
+-- An injective map that is onto is a bijection.
+abbrev pub bijection : {A B : Type 0} (g : A → B) → ((x y : A) → g x ≡ g y → x ≡ y) → ((y : B) → (x : A) × (g x ≡ y)) → Bijection A B
+bijection g injective at =
+    record { to = g; from = λ y. at y .0; from-to = λ x. injective _ _ (at (g x) .1); to-from = λ y. at y .1 }
+
 -- Numbers that are injective and in range number the rows of a type that has as many.
-unfoldable pub numbering : {A : Type 0} {n : ℕ} → Bijection A (Row n) → (g : A → Row n) → ((x y : A) → g x ≡ g y → x ≡ y) → Bijection A (Row n)
-numbering {A} {n} b g injective =
-    record {
-      to = g;
-      from = λ y. b .from (at y .0);
-      from-to = λ x. injective _ _ (at (g x) .1);
-      to-from = λ y. at y .1
-    }
+pub numbered-onto :
+  {A : Type 0} {n : ℕ} → Bijection A (Row n) → (g : A → Row n) → ((x y : A) → g x ≡ g y → x ≡ y) → (y : Row n) → (x : A) × (g x ≡ y)
+numbered-onto {A} {n} b g injective y = (b .from (at .0), at .1)
   where
-    at : (y : Row n) → (x : Row n) × (g (b .from x) ≡ y)
+    at : (x : Row n) × (g (b .from x) ≡ y)
     at =
-        injective-onto (λ x. g (b .from x)) λ x y e.
-          sym (b .to-from x) ∙ ap (b .to) (injective (b .from x) (b .from y) e) ∙ b .to-from y
+        injective-onto (λ x. g (b .from x))
+          (λ x y e. sym (b .to-from x) ∙ ap (b .to) (injective (b .from x) (b .from y) e) ∙ b .to-from y)
+          y
+
+abbrev pub numbering : {A : Type 0} {n : ℕ} → Bijection A (Row n) → (g : A → Row n) → ((x y : A) → g x ≡ g y → x ≡ y) → Bijection A (Row n)
+numbering b g injective = bijection g injective (numbered-onto b g injective)

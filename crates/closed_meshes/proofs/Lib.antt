@@ -7,3 +7,4 @@ pub mod Lift
 pub mod Counting
 pub mod Sums
 
+pub mod Counts
