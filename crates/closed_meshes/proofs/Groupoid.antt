@@ -35,7 +35,7 @@ pub field-back :
   ((x : A) → g' (b .to x) ≡ k .to (g x)) → (y : A') → g (b .from y) ≡ k .from (g' y)
 field-back b k g g' h y = sym (k .from-to _) ∙ ap (k .from) (sym (h (b .from y)) ∙ ap g' (b .to-from y))
 
-pub isomorphism-refl : {P E F : Type 0} (m : Mesh P E F) → Isomorphism m m
+unfoldable pub isomorphism-refl : {P E F : Type 0} (m : Mesh P E F) → Isomorphism m m
 isomorphism-refl {P} {E} {F} m =
     record {
       points = identity P;

@@ -8,3 +8,4 @@ pub mod Counting
 pub mod Sums
 
 pub mod Counts
+pub mod Runs
