@@ -1,1 +1,3 @@
 pub mod Mesh
+pub mod Cycles
+pub mod Closed
