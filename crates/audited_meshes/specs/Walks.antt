@@ -8,7 +8,7 @@
 --     firstPoint m f e         the end of e at which a walk about face f comes to e; the walk leaves e at the other end
 --     Walk                     back es: it met its start after the edges es; lost: it left the rows, lost its face or its
 --                              point, or did not meet its start within its bound
---     passed w                 the number of edges passed
+--     edgesOf w, passed w      the edges that a walk passed before it met its start, and their number; none if it is lost
 --     walk step on s ..        the walk by one step, along edges that pass the test `on`, until it meets s
 --     faceWalk m ne f          the walk about face f from its start edge, along the edges below ne, of at most 64 edges
 --     pointWalk m ne k p       the walk about point p from its start edge, along the edges below ne, of at most k edges
@@ -44,9 +44,12 @@ pub data Walk : Type 0 where
   back : List ℕ → Walk
   lost : Walk
 
+abbrev pub edgesOf : Walk → List ℕ
+edgesOf (back es) = es
+edgesOf lost = []
+
 abbrev pub passed : Walk → ℕ
-passed (back es) = length es
-passed lost = 0
+passed w = length (edgesOf w)
 
 -- the walk that passes e first
 abbrev pub pass : ℕ → Walk → Walk
