@@ -213,7 +213,7 @@ one-edge-is m ne = (into, λ h e l i k same. absurd (differ e i k (h e i l (omeg
 -- ---- the whole audit
 
 module _ (m : Mesh) (np ne nf : ℕ) where
-  countsFit-is : Is (countsFit m np ne nf) (((np ≤ pointRows m) × (ne ≤ edgeRows m)) × (nf ≤ faceRows m))
+  pub countsFit-is : Is (countsFit m np ne nf) (((np ≤ pointRows m) × (ne ≤ edgeRows m)) × (nf ≤ faceRows m))
   unfolding countsFit
   countsFit-is = and-is (and-is (leb-is np (pointRows m)) (leb-is ne (edgeRows m))) (leb-is nf (faceRows m))
 
