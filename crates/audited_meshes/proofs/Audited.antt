@@ -11,12 +11,13 @@ use lib.Dec.{eqb, ltb, leb}
 use lib.ListN.{length, getD}
 use lib.Ieee.Scale.{finite}
 use Rattle.tables.specs.Mesh.{Mesh, none, x, y, z, valence, start, mark, origin, dest, leftFace, rightFace, leftCw, leftAcw, rightCw, rightAcw, interval, faceStart, corner}
-use Rattle.audited_meshes.specs.Folds.{every, total, occurrences, distinct}
+use Rattle.closed_meshes.specs.Renumbering.{sumTo}
+use Rattle.audited_meshes.specs.Folds.{every, occurrences, distinct}
 use Rattle.audited_meshes.specs.Walks.{Walk, back, lost, borders, touches, acwOfFace, acwOfPoint, cwOfFace, firstPoint, walk, faceWalk, pointWalk}
 use Rattle.audited_meshes.specs.Audit.{pointRows, edgeRows, faceRows, countsFit, edgeInRange, inRange, intervalFit, numbersFit, sameEnds, edgesDiffer, acwLinks, cwLinks, linked, faceWalked, pointWalked, cornersFit, marksFit, audit}
 use Rattle.audited_meshes.specs.Audited.{Borders, Touches, SameEnds, Distinct, Passes, EdgeInRange, AcwLinks, CwLinks, FaceWalked, PointWalked, Audited}
 use Rattle.audited_meshes.proofs.Tests.{Is, and-is, or-is, not-is, if-is, eqb-is, ltb-is, leb-is, self-is, every-is}
-use Rattle.audited_meshes.proofs.Folds.{total-le, total-const, length-total}
+use Rattle.audited_meshes.proofs.Folds.{sumTo-le, sumTo-const, length-sumTo}
 use Rattle.audited_meshes.proofs.Walks.{passes-on, passes-once, walk-of-passes, passes-of-walk}
 
 -- ---- rows and links
@@ -103,9 +104,9 @@ distinct-is ks =
 pub length-passes :
   (step : ℕ → ℕ) (On : ℕ → Type 0) (s e n : ℕ) (es : List ℕ) → ((i : ℕ) → On i → i < n) → Passes step On s e es → length es ≤ n
 length-passes step On s e n es below p =
-    let sum : length es ≡ total n (λ i. occurrences i es) = length-total n es (λ i l. below i (passes-on step On s e es p i l)) in
-    let most : total n (λ i. occurrences i es) ≤ total n (λ i. 1) = total-le n (λ i. occurrences i es) (λ i. 1) (λ i l. passes-once step On s e es p i) in
-    omega (arith, total-const n 1)
+    let sum : length es ≡ sumTo n (λ i. occurrences i es) = length-sumTo n es (λ i l. below i (passes-on step On s e es p i l)) in
+    let most : sumTo n (λ i. occurrences i es) ≤ sumTo n (λ i. 1) = sumTo-le n (λ i. occurrences i es) (λ i. 1) (λ i l. passes-once step On s e es p i) in
+    omega (arith, sumTo-const n 1)
 
 module _ (m : Mesh) (ne : ℕ) where
   -- The edges below ne that border face f, and those that touch point p.

@@ -10,13 +10,14 @@ use lib.Dec.{eqb, ltb, leb}
 use lib.ListN.{length}
 use lib.Ieee.Scale.{finite}
 use Rattle.tables.specs.Mesh.{Mesh, none, x, y, z, valence, start, mark, origin, dest, leftFace, rightFace, leftAcw, interval, faceStart, corner}
-use Rattle.audited_meshes.specs.Folds.{every, total, one, occurrences, distinct}
+use Rattle.closed_meshes.specs.Renumbering.{sumTo}
+use Rattle.audited_meshes.specs.Folds.{every, one, occurrences, distinct}
 use Rattle.audited_meshes.specs.Walks.{Walk, back, lost, edgesOf, passed, borders, touches, acwOfFace, acwOfPoint, firstPoint, faceWalk, pointWalk}
 use Rattle.audited_meshes.specs.Audit.{pointRows, edgeRows, faceRows, countsFit, intervalFit, audit}
 use Rattle.audited_meshes.specs.Audited.{Borders, Touches, SameEnds, Distinct, Passes, last, more, EdgeInRange, FaceWalked, PointWalked, Audited}
 use Rattle.audited_meshes.specs.Quick.{pointFit, edgeFit, faceFit, faceBack, pointBack, free, alone, aloneAt, oneEdge, quick}
 use Rattle.audited_meshes.proofs.Tests.{Is, and-is, or-is, not-is, eqb-is, ltb-is, leb-is, self-is, every-is, same-test}
-use Rattle.audited_meshes.proofs.Folds.{total-cong}
+use Rattle.audited_meshes.proofs.Folds.{sumTo-cong}
 use Rattle.audited_meshes.proofs.Walks.{occurrences-here, in-longer, passes-on, passes-once}
 use Rattle.audited_meshes.proofs.Sums.{sum-is}
 use Rattle.audited_meshes.proofs.Audited.{borders-is, touches-is, edgeInRange-is, Linked, linked-is, distinct-is, countsFit-is, corners-is, mark-is, faceWalk-is, pointWalk-is, audit-is}
@@ -192,7 +193,7 @@ module _ (m : Mesh) (np ne nf : ℕ) (ranges : (e : ℕ) → e < ne → EdgeInRa
   -- the sizes of the faces add up to twice the edges exactly if each walk passes each edge of its face once
   face-sum :
     ((e : ℕ) → e < ne → leftFace m e ≢ rightFace m e) →
-    (total nf (λ f. passed (faceWalk m ne f)) ≡ 2 * ne)
+    (sumTo nf (λ f. passed (faceWalk m ne f)) ≡ 2 * ne)
     ↔ ((f e : ℕ) → f < nf → e < ne → occurrences e (edgesOf (faceWalk m ne f)) ≡ one (borders m f e))
   face-sum differ =
       let walks : (f : ℕ) (es : List ℕ) → faceWalk m ne f ≡ back es → Passes (acwOfFace m f) (λ e. (e < ne) × Borders m f e) (faceStart m f) (faceStart m f) es
@@ -205,7 +206,7 @@ module _ (m : Mesh) (np ne nf : ℕ) (ranges : (e : ℕ) → e < ne → EdgeInRa
   -- the lengths of the walks about points, likewise; v gives the bound of each walk
   point-sum :
     (v : ℕ → ℕ) → ((e : ℕ) → e < ne → origin m e ≢ dest m e) →
-    (total np (λ p. passed (pointWalk m ne (v p) p)) ≡ 2 * ne)
+    (sumTo np (λ p. passed (pointWalk m ne (v p) p)) ≡ 2 * ne)
     ↔ ((p e : ℕ) → p < np → e < ne → occurrences e (edgesOf (pointWalk m ne (v p) p)) ≡ one (touches m p e))
   point-sum v differ =
       let walks : (p : ℕ) (es : List ℕ) → pointWalk m ne (v p) p ≡ back es → Passes (acwOfPoint m p) (λ e. (e < ne) × Touches m p e) (start m p) (start m p) es
@@ -243,9 +244,9 @@ module _ (m : Mesh) (np ne nf : ℕ) where
       (e : ℕ) → e < ne →
       (((EdgeInRange m np ne nf e × (intervalFit (interval m e) ≡ true)) × (origin m e ≢ dest m e)) × (leftFace m e ≢ rightFace m e)) × Linked m e
     faces : (f : ℕ) → f < nf → (faceStart m f < ne) × ((k : ℕ) → k < 4 → (corner m f k < np) ⊎ (corner m f k ≡ none))
-    valences : total np (λ p. valence m p) ≡ 2 * ne
+    valences : sumTo np (λ p. valence m p) ≡ 2 * ne
     face-back : (f : ℕ) → f < nf → Back (faceWalk m ne f) (λ es. (3 ≤ length es) × Distinct (map (firstPoint m f) es))
-    sizes : total nf (λ f. passed (faceWalk m ne f)) ≡ 2 * ne
+    sizes : sumTo nf (λ f. passed (faceWalk m ne f)) ≡ 2 * ne
     point-back : (p : ℕ) → p < np → Back (pointWalk m ne (valence m p) p) (λ es. length es ≡ valence m p)
     one-edge : (e : ℕ) → e < ne → oneEdge m ne e ≡ true
 
@@ -261,9 +262,9 @@ module _ (m : Mesh) (np ne nf : ℕ) where
                   (and-is
                     (and-is (and-is (countsFit-is m np ne nf) (every-is np (pointFit-is m np ne nf))) (every-is ne (edgeFit-is m np ne nf)))
                     (every-is nf (faceFit-is m np ne nf)))
-                  (eqb-is (total np (λ p. valence m p)) (2 * ne)))
+                  (eqb-is (sumTo np (λ p. valence m p)) (2 * ne)))
                 (every-is nf (λ f. faceBack-is m f (faceWalk m ne f))))
-              (eqb-is (total nf (λ f. passed (faceWalk m ne f))) (2 * ne)))
+              (eqb-is (sumTo nf (λ f. passed (faceWalk m ne f))) (2 * ne)))
             (every-is np (λ p. pointBack-is (valence m p) (pointWalk m ne (valence m p) p))))
           (every-is ne (λ e. self-is (oneEdge m ne e))))
         (
@@ -325,9 +326,9 @@ module _ (m : Mesh) (np ne nf : ℕ) where
       ends e l = r .edges e l .0 .0 .1
       sides : (e : ℕ) → e < ne → leftFace m e ≢ rightFace m e
       sides e l = r .edges e l .0 .1
-      lengths : total np (λ p. passed (pointWalk m ne (valence m p) p)) ≡ 2 * ne
+      lengths : sumTo np (λ p. passed (pointWalk m ne (valence m p) p)) ≡ 2 * ne
       lengths =
-          total-cong np (λ p. passed (pointWalk m ne (valence m p) p)) (λ p. valence m p)
+          sumTo-cong np (λ p. passed (pointWalk m ne (valence m p) p)) (λ p. valence m p)
             (λ p l. ap passed (r .point-back p l .came) ∙ r .point-back p l .holds)
           ∙ r .valences
       walked : (p : ℕ) → p < np → PointWalked m ne p
@@ -358,7 +359,7 @@ module _ (m : Mesh) (np ne nf : ℕ) where
           );
         faces = λ f l. (a .faceStart-in-range f l, λ k j. a .corner-fit f k l j);
         valences =
-          total-cong np (λ p. valence m p) (λ p. passed (pointWalk m ne (valence m p) p)) (λ p l. sym (a .point-walked p l .is-valence) ∙ sym (ap passed (point-came p l)))
+          sumTo-cong np (λ p. valence m p) (λ p. passed (pointWalk m ne (valence m p) p)) (λ p l. sym (a .point-walked p l .is-valence) ∙ sym (ap passed (point-came p l)))
           ∙ point-sum m np ne nf (a .edge-in-range) (λ p. valence m p) (a .ends-differ) .1
               (λ p e l k.
                 let w = a .point-walked p l in

@@ -10,8 +10,9 @@ use native.Mathlib.Decide.{ℕ-discrete}
 use lib.Dec.{eqb}
 use lib.ListN.{length}
 use borrow.Author.Tests.{eqb-true, eqb-false, eq-eqb, ne-eqb}
-use Rattle.audited_meshes.specs.Folds.{total, one, occurrences}
-use Rattle.audited_meshes.proofs.Folds.{total-cong, total-le, total-tight, total-add, total-const, total-swap, total-one, length-total}
+use Rattle.closed_meshes.specs.Renumbering.{sumTo}
+use Rattle.audited_meshes.specs.Folds.{one, occurrences}
+use Rattle.audited_meshes.proofs.Folds.{sumTo-cong, sumTo-le, sumTo-tight, sumTo-add, sumTo-const, sumTo-swap, sumTo-one, length-sumTo}
 
 -- of two numbers that differ at most one is k
 one-or : (a b k : ℕ) → a ≢ b → one (eqb a k || eqb b k) ≡ one (eqb a k) + one (eqb b k)
@@ -34,37 +35,37 @@ module _
   (below : (k i : ℕ) → 0 < occurrences i (es k) → i < ne)
   (at-most : (k i : ℕ) → occurrences i (es k) ≤ one (eqb (a i) k || eqb (b i) k)) where
   -- each edge is in two classes
-  two-classes : (e : ℕ) → e < ne → total n (λ k. one (eqb (a e) k || eqb (b e) k)) ≡ 2
+  two-classes : (e : ℕ) → e < ne → sumTo n (λ k. one (eqb (a e) k || eqb (b e) k)) ≡ 2
   two-classes e l =
-      total-cong n (λ k. one (eqb (a e) k || eqb (b e) k)) (λ k. one (eqb (a e) k) + one (eqb (b e) k)) (λ k j. one-or (a e) (b e) k (differ e l))
-      ∙ total-add n (λ k. one (eqb (a e) k)) (λ k. one (eqb (b e) k))
-      ∙ ap₂ (λ (i j : ℕ). i + j) (total-one n (a e) (a-below e l)) (total-one n (b e) (b-below e l))
+      sumTo-cong n (λ k. one (eqb (a e) k || eqb (b e) k)) (λ k. one (eqb (a e) k) + one (eqb (b e) k)) (λ k j. one-or (a e) (b e) k (differ e l))
+      ∙ sumTo-add n (λ k. one (eqb (a e) k)) (λ k. one (eqb (b e) k))
+      ∙ ap₂ (λ (i j : ℕ). i + j) (sumTo-one n (a e) (a-below e l)) (sumTo-one n (b e) (b-below e l))
 
   -- the edges of all classes are twice the edges
-  all-classes : total n (λ k. total ne (λ e. one (eqb (a e) k || eqb (b e) k))) ≡ 2 * ne
+  all-classes : sumTo n (λ k. sumTo ne (λ e. one (eqb (a e) k || eqb (b e) k))) ≡ 2 * ne
   all-classes =
-      total-swap n ne (λ k e. one (eqb (a e) k || eqb (b e) k))
-      ∙ total-cong ne (λ e. total n (λ k. one (eqb (a e) k || eqb (b e) k))) (λ e. 2) two-classes
-      ∙ total-const ne 2
+      sumTo-swap n ne (λ k e. one (eqb (a e) k || eqb (b e) k))
+      ∙ sumTo-cong ne (λ e. sumTo n (λ k. one (eqb (a e) k || eqb (b e) k))) (λ e. 2) two-classes
+      ∙ sumTo-const ne 2
 
-  length-walk : (k : ℕ) → length (es k) ≡ total ne (λ e. occurrences e (es k))
-  length-walk k = length-total ne (es k) (below k)
+  length-walk : (k : ℕ) → length (es k) ≡ sumTo ne (λ e. occurrences e (es k))
+  length-walk k = length-sumTo ne (es k) (below k)
 
   pub sum-is :
-    (total n (λ k. length (es k)) ≡ 2 * ne)
+    (sumTo n (λ k. length (es k)) ≡ 2 * ne)
     ↔ ((k e : ℕ) → k < n → e < ne → occurrences e (es k) ≡ one (eqb (a e) k || eqb (b e) k))
   sum-is = (into, out)
     where
-      into : total n (λ k. length (es k)) ≡ 2 * ne → (k e : ℕ) → k < n → e < ne → occurrences e (es k) ≡ one (eqb (a e) k || eqb (b e) k)
+      into : sumTo n (λ k. length (es k)) ≡ 2 * ne → (k e : ℕ) → k < n → e < ne → occurrences e (es k) ≡ one (eqb (a e) k || eqb (b e) k)
       into sum k e l j =
-          let short : (k : ℕ) → k < n → length (es k) ≤ total ne (λ e. one (eqb (a e) k || eqb (b e) k))
-              = λ k l. subst (λ x. x ≤ total ne (λ e. one (eqb (a e) k || eqb (b e) k))) (sym (length-walk k))
-                  (total-le ne (λ e. occurrences e (es k)) (λ e. one (eqb (a e) k || eqb (b e) k)) (λ e j. at-most k e)) in
-          let full : length (es k) ≡ total ne (λ e. one (eqb (a e) k || eqb (b e) k))
-              = total-tight n (λ k. length (es k)) (λ k. total ne (λ e. one (eqb (a e) k || eqb (b e) k))) short (sum ∙ sym all-classes) k l in
-          total-tight ne (λ e. occurrences e (es k)) (λ e. one (eqb (a e) k || eqb (b e) k)) (λ e j. at-most k e) (sym (length-walk k) ∙ full) e j
-      out : ((k e : ℕ) → k < n → e < ne → occurrences e (es k) ≡ one (eqb (a e) k || eqb (b e) k)) → total n (λ k. length (es k)) ≡ 2 * ne
+          let short : (k : ℕ) → k < n → length (es k) ≤ sumTo ne (λ e. one (eqb (a e) k || eqb (b e) k))
+              = λ k l. subst (λ x. x ≤ sumTo ne (λ e. one (eqb (a e) k || eqb (b e) k))) (sym (length-walk k))
+                  (sumTo-le ne (λ e. occurrences e (es k)) (λ e. one (eqb (a e) k || eqb (b e) k)) (λ e j. at-most k e)) in
+          let full : length (es k) ≡ sumTo ne (λ e. one (eqb (a e) k || eqb (b e) k))
+              = sumTo-tight n (λ k. length (es k)) (λ k. sumTo ne (λ e. one (eqb (a e) k || eqb (b e) k))) short (sum ∙ sym all-classes) k l in
+          sumTo-tight ne (λ e. occurrences e (es k)) (λ e. one (eqb (a e) k || eqb (b e) k)) (λ e j. at-most k e) (sym (length-walk k) ∙ full) e j
+      out : ((k e : ℕ) → k < n → e < ne → occurrences e (es k) ≡ one (eqb (a e) k || eqb (b e) k)) → sumTo n (λ k. length (es k)) ≡ 2 * ne
       out all =
-          total-cong n (λ k. length (es k)) (λ k. total ne (λ e. one (eqb (a e) k || eqb (b e) k)))
-            (λ k l. length-walk k ∙ total-cong ne (λ e. occurrences e (es k)) (λ e. one (eqb (a e) k || eqb (b e) k)) (λ e j. all k e l j))
+          sumTo-cong n (λ k. length (es k)) (λ k. sumTo ne (λ e. one (eqb (a e) k || eqb (b e) k)))
+            (λ k l. length-walk k ∙ sumTo-cong ne (λ e. occurrences e (es k)) (λ e. one (eqb (a e) k || eqb (b e) k)) (λ e j. all k e l j))
           ∙ all-classes

@@ -1,6 +1,5 @@
--- Tests and sums over the numbers below a bound, and over lists of numbers.
+-- Tests over the numbers below a bound, and over lists of numbers.
 --     every n test             test holds of each number below n
---     total n value            the sum of the values of the numbers below n
 --     one test                 1 if the test holds, else 0
 --     occurrences k ks         how often k stands in ks
 --     distinct ks              no number stands twice in ks
@@ -13,10 +12,6 @@ use lib.ListN.{length, getD}
 unfoldable pub every : ℕ → (ℕ → Bool) → Bool
 every zero test = true
 every (suc n) test = every n test && test n
-
-unfoldable pub total : ℕ → (ℕ → ℕ) → ℕ
-total zero value = 0
-total (suc n) value = total n value + value n
 
 abbrev pub one : Bool → ℕ
 one true = 1

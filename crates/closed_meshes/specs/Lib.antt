@@ -1,3 +1,5 @@
 pub mod Mesh
 pub mod Cycles
 pub mod Closed
+pub mod Refinement
+pub mod Renumbering
