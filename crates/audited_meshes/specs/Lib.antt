@@ -1,1 +1,5 @@
+pub mod Folds
+pub mod Walks
 pub mod Audit
+pub mod Audited
+pub mod Quick

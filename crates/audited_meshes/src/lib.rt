@@ -1,1 +1,7 @@
-// Audited meshes.
+// Whether tables of rows are a closed mesh (document 01, "Audit").
+// Not here: closed meshes over any types and their refinement (`closed_meshes`), the code that walks and audits.
+// Definitions: `specs/Walks.antt` (walks about faces and points), `specs/Audit.antt` (the audit as a test that computes),
+// `specs/Audited.antt` (the same as propositions), `specs/Quick.antt` (the test in near linear time that code makes),
+// `specs/Rows.antt` (the closed mesh over bounded numbers whose words stand in the tables).
+// Theorems, stated in `specs/Claims.antt`: the test and the propositions are equivalent, the quick test equals the test, and
+// tables pass it exactly if they hold a closed mesh over bounded numbers.

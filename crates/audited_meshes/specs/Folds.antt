@@ -1,0 +1,26 @@
+-- Tests over the numbers below a bound, and over lists of numbers.
+--     every n test             test holds of each number below n
+--     one test                 1 if the test holds, else 0
+--     occurrences k ks         how often k stands in ks
+--     distinct ks              no number stands twice in ks
+use mathlib.Core.Bool.{Bool, true, false, not, _&&_}
+use mathlib.Core.List.{List, [], _∷_}
+use Prim.Native.Nat.{ℕ, zero, suc, _+_}
+use lib.Dec.{eqb}
+use lib.ListN.{length, getD}
+
+unfoldable pub every : ℕ → (ℕ → Bool) → Bool
+every zero test = true
+every (suc n) test = every n test && test n
+
+abbrev pub one : Bool → ℕ
+one true = 1
+one false = 0
+
+unfoldable pub occurrences : ℕ → List ℕ → ℕ
+occurrences k [] = 0
+occurrences k (i ∷ is) = one (eqb i k) + occurrences k is
+
+unfoldable pub distinct : List ℕ → Bool
+unfolding every
+distinct ks = every (length ks) (λ i. every i (λ j. not (eqb (getD ks i 0) (getD ks j 0))))
