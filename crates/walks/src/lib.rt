@@ -3,9 +3,9 @@
 // point, or does not meet its start within its bound is lost, and says so.
 // Not here: whether the mesh is closed (`audit`).
 // Definitions: `specs/Steps.antt`, `specs/Border.antt`. Laws for callers: `proofs/Laws.antt`.
-mod t_nurcc_control_point;
-mod t_nurcc_face;
-mod t_nurcc_iter;
+pub mod t_nurcc_control_point;
+pub mod t_nurcc_face;
+pub mod t_nurcc_iter;
 
 // One step of a walk: the next edge, and a point of the edge that it leaves (about a face, the point at which the walk came to
 // that edge; about a point, its other end); or the walk is lost.
