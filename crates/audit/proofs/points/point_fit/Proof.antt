@@ -1,3 +1,11 @@
+-- point_fit meets its contract: each test decides one of the definition's.
+use Rattle.audit.proofs.PointTests.{point-start, point-numbers, point-valence, point-mark}
+use Rattle.audit.specs.Parts.{pointRows}
+use Rattle.positions.specs.Position.{finitePosition}
+use borrow.Author.Tests.{not-true, not-false, eq-eqb, ne-eqb}
+use native.Mathlib.Omega.{arith}
+use Prim.Native.Nat.{ℕ, _≤_, _<_}
+use mathlib.Core.Path.{_≡_, sym, _∙_, ap, subst, refl}
 use borrow.Author.Needs.{needs}
 use Rattle.audit.proofs.points.point_fit.Statement.{statement}
 use Rattle.audit.proofs.points.point_fit.Tie as tie
@@ -29,7 +37,7 @@ index-requires c κs = search needs
 
 -- src/points.rt:26:9
 returns : tie.Need-returns
-returns c = ?
+returns c = sym (point-start (pointRows (c .before .before .before .before .before .args .positions .now) (c .before .before .before .before .before .args .points .now)) (c .before .before .before .before .before .args .ne) (c .before .before .before .before .before .args .p) (omega (arith, c .before .index .ensures)))
 
 -- src/points.rt:28:9
 load-position-requires : tie.Need-load-position-requires
@@ -41,7 +49,9 @@ is-finite-requires c κs = search needs
 
 -- src/points.rt:29:9
 returns-2 : tie.Need-returns-2
-returns-2 c = ?
+returns-2 c = 
+    let bad = sym (ap finitePosition (c .before .before .load-position .ensures)) ∙ sym (c .before .is-finite .ensures) ∙ not-true _ (c .if2 .taken) in
+    sym (point-numbers (pointRows (c .before .before .before .before .before .before .before .before .args .positions .now) (c .before .before .before .before .before .before .before .before .args .points .now)) (c .before .before .before .before .before .before .before .before .args .ne) (c .before .before .before .before .before .before .before .before .args .p) bad)
 
 -- src/points.rt:31:8
 mul-if3 : tie.Need-mul-if3
@@ -53,7 +63,7 @@ shared-slice-read-if3 c = search needs
 
 -- src/points.rt:32:9
 returns-3 : tie.Need-returns-3
-returns-3 c = ?
+returns-3 c = sym (point-valence (pointRows (c .before .before .before .before .before .before .before .before .before .before .args .positions .now) (c .before .before .before .before .before .before .before .before .before .before .args .points .now)) (c .before .before .before .before .before .before .before .before .before .before .args .ne) (c .before .before .before .before .before .before .before .before .before .before .args .p) (c .if3 .taken))
 
 -- src/points.rt:34:15
 add-if4 : tie.Need-add-if4
@@ -69,7 +79,9 @@ shared-slice-read-if4 c = search needs
 
 -- src/points.rt:35:9
 returns-4 : tie.Need-returns-4
-returns-4 c = ?
+returns-4 c = 
+    let good = sym (ap finitePosition (c .before .before .before .before .before .before .load-position .ensures)) ∙ sym (c .before .before .before .before .before .is-finite .ensures) ∙ not-false _ (c .before .before .before .before .if2 .left) in
+    sym (point-mark (pointRows (c .before .before .before .before .before .before .before .before .before .before .before .before .args .positions .now) (c .before .before .before .before .before .before .before .before .before .before .before .before .args .points .now)) (c .before .before .before .before .before .before .before .before .before .before .before .before .args .ne) (c .before .before .before .before .before .before .before .before .before .before .before .before .args .p) (omega (arith, c .before .before .before .before .before .before .before .before .index .ensures, c .before .before .before .before .before .before .before .if1 .left)) good (c .before .before .if3 .left) ∙ rw (eq-eqb _ _ (c .if4 .taken)))
 
 -- src/points.rt:37:12
 add-result : tie.Need-add-result
@@ -85,7 +97,9 @@ shared-slice-read-result c = search needs
 
 -- src/points.rt:19:1
 returns-5 : tie.Need-returns-5
-returns-5 c = ?
+returns-5 c = 
+    let good = sym (ap finitePosition (c .before .before .before .before .before .before .before .load-position .ensures)) ∙ sym (c .before .before .before .before .before .before .is-finite .ensures) ∙ not-false _ (c .before .before .before .before .before .if2 .left) in
+    sym (point-mark (pointRows (c .before .before .before .before .before .before .before .before .before .before .before .before .before .args .positions .now) (c .before .before .before .before .before .before .before .before .before .before .before .before .before .args .points .now)) (c .before .before .before .before .before .before .before .before .before .before .before .before .before .args .ne) (c .before .before .before .before .before .before .before .before .before .before .before .before .before .args .p) (omega (arith, c .before .before .before .before .before .before .before .before .before .index .ensures, c .before .before .before .before .before .before .before .before .if1 .left)) good (c .before .before .before .if3 .left) ∙ rw (ne-eqb _ _ (c .before .if4 .left)))
 
 pub point-fit-spec : {M : Type 1} → statement M
 point-fit-spec =
