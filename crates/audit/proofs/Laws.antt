@@ -72,3 +72,7 @@ pub every-cong : (n : ℕ) (t u : ℕ → Bool) → ((k : ℕ) → k < n → t k
 unfolding every
 every-cong zero t u h = refl
 every-cong (suc n) t u h = ap₂ (λ (a b : Bool). a && b) (every-cong n t u (λ k l. h k (omega arith))) (h n (omega arith))
+
+pub and-four : (x a b c d : Bool) → (x && a && b && c && d) ≡ (x && (a && b && c && d))
+and-four true a b c d = refl
+and-four false a b c d = refl

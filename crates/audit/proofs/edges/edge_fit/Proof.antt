@@ -1,3 +1,10 @@
+-- edge_fit meets its contract: each test decides one of the definition's.
+use Rattle.audit.proofs.EdgeTests.{edge-range, edge-interval, edge-ends, edge-sides, edge-links, edge-in-range, edge-range-rows, linked-rows}
+use Rattle.audit.specs.Parts.{edgeRows}
+use Rattle.walks.specs.Steps.{faceTables}
+use borrow.Author.Tests.{not-true, not-false}
+use mathlib.Core.List.{[]}
+use mathlib.Core.Path.{sym, _∙_}
 use borrow.Author.Needs.{needs}
 use Rattle.audit.proofs.edges.edge_fit.Statement.{statement}
 use Rattle.audit.proofs.edges.edge_fit.Tie as tie
@@ -17,7 +24,7 @@ edge-in-range-requires c κs = search needs
 
 -- src/edges.rt:120:9
 returns : tie.Need-returns
-returns c = ?
+returns c = sym (edge-range (edgeRows (c .before .before .before .before .args .edges .now) (c .before .before .before .before .args .intervals .now)) (c .before .before .before .before .args .np) (c .before .before .before .before .args .ne) (c .before .before .before .before .args .nf) (c .before .before .before .before .args .e) (edge-range-rows _ _ _ _ _ _ ∙ sym (c .before .edge-in-range .ensures) ∙ not-true _ (c .if1 .taken)))
 
 -- src/edges.rt:122:22
 mul-interval-fit : tie.Need-mul-interval-fit
@@ -33,7 +40,7 @@ interval-fit-requires c κs = search needs
 
 -- src/edges.rt:123:9
 returns-2 : tie.Need-returns-2
-returns-2 c = ?
+returns-2 c = sym (edge-interval (edgeRows (c .before .before .before .before .before .before .before .args .edges .now) (c .before .before .before .before .before .before .before .args .intervals .now)) (c .before .before .before .before .before .before .before .args .np) (c .before .before .before .before .before .before .before .args .ne) (c .before .before .before .before .before .before .before .args .nf) (c .before .before .before .before .before .before .before .args .e) (sym (c .before .interval-fit .ensures) ∙ not-true _ (c .if2 .taken)))
 
 -- src/edges.rt:125:8
 mul-if3 : tie.Need-mul-if3
@@ -57,7 +64,7 @@ shared-slice-read-if3-2 c = search needs
 
 -- src/edges.rt:126:9
 returns-3 : tie.Need-returns-3
-returns-3 c = ?
+returns-3 c = sym (edge-ends (edgeRows (c .before .before .before .before .before .before .before .before .before .before .args .edges .now) (c .before .before .before .before .before .before .before .before .before .before .args .intervals .now)) (c .before .before .before .before .before .before .before .before .before .before .args .np) (c .before .before .before .before .before .before .before .before .before .before .args .ne) (c .before .before .before .before .before .before .before .before .before .before .args .nf) (c .before .before .before .before .before .before .before .before .before .before .args .e) (c .if3 .taken))
 
 -- src/edges.rt:128:14
 add-if4 : tie.Need-add-if4
@@ -85,15 +92,20 @@ shared-slice-read-if4-2 c = search needs
 
 -- src/edges.rt:129:9
 returns-4 : tie.Need-returns-4
-returns-4 c = ?
+returns-4 c = sym (edge-sides (edgeRows (c .before .before .before .before .before .before .before .before .before .before .before .before .before .args .edges .now) (c .before .before .before .before .before .before .before .before .before .before .before .before .before .args .intervals .now)) (c .before .before .before .before .before .before .before .before .before .before .before .before .before .args .np) (c .before .before .before .before .before .before .before .before .before .before .before .before .before .args .ne) (c .before .before .before .before .before .before .before .before .before .before .before .before .before .args .nf) (c .before .before .before .before .before .before .before .before .before .before .before .before .before .args .e) (c .if4 .taken))
 
 -- src/edges.rt:131:5
 is-linked-requires : tie.Need-is-linked-requires
-is-linked-requires c κs = ?
+is-linked-requires c κs = 
+    let r = edge-in-range (faceTables (c .before .before .before .before .before .before .before .before .before .before .before .before .before .args .edges .now) []) (c .before .before .before .before .before .before .before .before .before .before .before .before .before .args .np) (c .before .before .before .before .before .before .before .before .before .before .before .before .before .args .ne) (c .before .before .before .before .before .before .before .before .before .before .before .before .before .args .nf) (c .before .before .before .before .before .before .before .before .before .before .before .before .before .args .e) (sym (c .before .before .before .before .before .before .before .before .before .before .edge-in-range .ensures) ∙ not-false _ (c .before .before .before .before .before .before .before .before .before .if1 .left)) in
+    (search needs, (search needs, (r .leftCw-in-range, (r .leftAcw-in-range, (r .rightCw-in-range, r .rightAcw-in-range)))))
 
 -- src/edges.rt:112:1
 returns-5 : tie.Need-returns-5
-returns-5 c = ?
+returns-5 c = 
+    c .is-linked .ensures ∙ sym (linked-rows _ _ _)
+    ∙ sym (edge-links (edgeRows (c .before .before .before .before .before .before .before .before .before .before .before .before .before .before .args .edges .now) (c .before .before .before .before .before .before .before .before .before .before .before .before .before .before .args .intervals .now)) (c .before .before .before .before .before .before .before .before .before .before .before .before .before .before .args .np) (c .before .before .before .before .before .before .before .before .before .before .before .before .before .before .args .ne) (c .before .before .before .before .before .before .before .before .before .before .before .before .before .before .args .nf) (c .before .before .before .before .before .before .before .before .before .before .before .before .before .before .args .e)
+    (edge-range-rows _ _ _ _ _ _ ∙ sym (c .before .before .before .before .before .before .before .before .before .before .before .edge-in-range .ensures) ∙ not-false _ (c .before .before .before .before .before .before .before .before .before .before .if1 .left)) (sym (c .before .before .before .before .before .before .before .before .interval-fit .ensures) ∙ not-false _ (c .before .before .before .before .before .before .before .if2 .left)) (c .before .before .before .before .if3 .left) (c .before .if4 .left))
 
 pub edge-fit-spec : {M : Type 1} → statement M
 edge-fit-spec =

@@ -1,3 +1,13 @@
+-- is_linked meets its contract: each test decides one of the definition's.
+use Rattle.audit.proofs.EdgeTests.{linked-1, linked-2, linked-3, linked-4}
+use Rattle.audit.specs.Parts.{linksBack}
+use Rattle.walks.specs.Steps.{faceTables}
+use Rattle.audited_meshes.specs.Audit.{acwLinks}
+use Rattle.tables.specs.Mesh.{origin, dest, leftFace, rightFace}
+use borrow.Author.Tests.{not-true, not-false}
+use Prim.Native.Nat.{ℕ}
+use mathlib.Core.List.{[]}
+use mathlib.Core.Path.{sym, _∙_, ap}
 use borrow.Author.Needs.{needs}
 use Rattle.audit.proofs.edges.is_linked.Statement.{statement}
 use Rattle.audit.proofs.edges.is_linked.Tie as tie
@@ -69,7 +79,9 @@ acw-links-requires c κs = search needs
 
 -- src/edges.rt:100:9
 returns : tie.Need-returns
-returns c = ?
+returns c = 
+    let t = ap (λ (a : ℕ). acwLinks (faceTables (c .before .before .before .before .before .before .before .before .args .edges .now) []) (c .before .before .before .before .before .before .before .before .args .e) (dest (faceTables (c .before .before .before .before .before .before .before .before .args .edges .now) []) (c .before .before .before .before .before .before .before .before .args .e)) (leftFace (faceTables (c .before .before .before .before .before .before .before .before .args .edges .now) []) (c .before .before .before .before .before .before .before .before .args .e)) a) (sym (c .before .before .index .ensures)) ∙ sym (c .before .acw-links .ensures) ∙ not-true _ (c .if1 .taken) in
+    sym (linked-1 (c .before .before .before .before .before .before .before .before .args .edges .now) (c .before .before .before .before .before .before .before .before .args .e) t)
 
 -- src/edges.rt:102:26
 mul-acw-links-2 : tie.Need-mul-acw-links-2
@@ -101,7 +113,9 @@ acw-links-requires-2 c κs = search needs
 
 -- src/edges.rt:103:9
 returns-2 : tie.Need-returns-2
-returns-2 c = ?
+returns-2 c = 
+    let t = ap (λ (a : ℕ). acwLinks (faceTables (c .before .before .before .before .before .before .before .before .before .before .before .before .before .args .edges .now) []) (c .before .before .before .before .before .before .before .before .before .before .before .before .before .args .e) (origin (faceTables (c .before .before .before .before .before .before .before .before .before .before .before .before .before .args .edges .now) []) (c .before .before .before .before .before .before .before .before .before .before .before .before .before .args .e)) (rightFace (faceTables (c .before .before .before .before .before .before .before .before .before .before .before .before .before .args .edges .now) []) (c .before .before .before .before .before .before .before .before .before .before .before .before .before .args .e)) a) (sym (c .before .before .index2 .ensures)) ∙ sym (c .before .acw-links2 .ensures) ∙ not-true _ (c .if2 .taken) in
+    sym (linked-2 (c .before .before .before .before .before .before .before .before .before .before .before .before .before .args .edges .now) (c .before .before .before .before .before .before .before .before .before .before .before .before .before .args .e) t)
 
 -- src/edges.rt:105:48
 add-index-3 : tie.Need-add-index-3
@@ -125,7 +139,9 @@ links-back-requires c κs = search needs
 
 -- src/edges.rt:106:9
 returns-3 : tie.Need-returns-3
-returns-3 c = ?
+returns-3 c = 
+    let t = ap (λ (a : ℕ). linksBack (c .before .before .before .before .before .before .before .before .before .before .before .before .before .before .before .before .before .args .edges .now) 5 (leftFace (faceTables (c .before .before .before .before .before .before .before .before .before .before .before .before .before .before .before .before .before .args .edges .now) []) (c .before .before .before .before .before .before .before .before .before .before .before .before .before .before .before .before .before .args .e)) a (c .before .before .before .before .before .before .before .before .before .before .before .before .before .before .before .before .before .args .e)) (sym (c .before .before .index3 .ensures)) ∙ sym (c .before .links-back .ensures) ∙ not-true _ (c .if3 .taken) in
+    sym (linked-3 (c .before .before .before .before .before .before .before .before .before .before .before .before .before .before .before .before .before .args .edges .now) (c .before .before .before .before .before .before .before .before .before .before .before .before .before .before .before .before .before .args .e) t)
 
 -- src/edges.rt:108:45
 add-index-4 : tie.Need-add-index-4
@@ -149,7 +165,12 @@ links-back-requires-2 c κs = search needs
 
 -- src/edges.rt:87:1
 returns-4 : tie.Need-returns-4
-returns-4 c = ?
+returns-4 c = 
+    let t1 = ap (λ (a : ℕ). acwLinks (faceTables (c .before .before .before .before .before .before .before .before .before .before .before .before .before .before .before .before .before .before .before .before .args .edges .now) []) (c .before .before .before .before .before .before .before .before .before .before .before .before .before .before .before .before .before .before .before .before .args .e) (dest (faceTables (c .before .before .before .before .before .before .before .before .before .before .before .before .before .before .before .before .before .before .before .before .args .edges .now) []) (c .before .before .before .before .before .before .before .before .before .before .before .before .before .before .before .before .before .before .before .before .args .e)) (leftFace (faceTables (c .before .before .before .before .before .before .before .before .before .before .before .before .before .before .before .before .before .before .before .before .args .edges .now) []) (c .before .before .before .before .before .before .before .before .before .before .before .before .before .before .before .before .before .before .before .before .args .e)) a) (sym (c .before .before .before .before .before .before .before .before .before .before .before .before .before .before .index .ensures)) ∙ sym (c .before .before .before .before .before .before .before .before .before .before .before .before .before .acw-links .ensures) ∙ not-false _ (c .before .before .before .before .before .before .before .before .before .before .before .before .if1 .left) in
+    let t2 = ap (λ (a : ℕ). acwLinks (faceTables (c .before .before .before .before .before .before .before .before .before .before .before .before .before .before .before .before .before .before .before .before .args .edges .now) []) (c .before .before .before .before .before .before .before .before .before .before .before .before .before .before .before .before .before .before .before .before .args .e) (origin (faceTables (c .before .before .before .before .before .before .before .before .before .before .before .before .before .before .before .before .before .before .before .before .args .edges .now) []) (c .before .before .before .before .before .before .before .before .before .before .before .before .before .before .before .before .before .before .before .before .args .e)) (rightFace (faceTables (c .before .before .before .before .before .before .before .before .before .before .before .before .before .before .before .before .before .before .before .before .args .edges .now) []) (c .before .before .before .before .before .before .before .before .before .before .before .before .before .before .before .before .before .before .before .before .args .e)) a) (sym (c .before .before .before .before .before .before .before .before .before .index2 .ensures)) ∙ sym (c .before .before .before .before .before .before .before .before .acw-links2 .ensures) ∙ not-false _ (c .before .before .before .before .before .before .before .if2 .left) in
+    let t3 = ap (λ (a : ℕ). linksBack (c .before .before .before .before .before .before .before .before .before .before .before .before .before .before .before .before .before .before .before .before .args .edges .now) 5 (leftFace (faceTables (c .before .before .before .before .before .before .before .before .before .before .before .before .before .before .before .before .before .before .before .before .args .edges .now) []) (c .before .before .before .before .before .before .before .before .before .before .before .before .before .before .before .before .before .before .before .before .args .e)) a (c .before .before .before .before .before .before .before .before .before .before .before .before .before .before .before .before .before .before .before .before .args .e)) (sym (c .before .before .before .before .before .index3 .ensures)) ∙ sym (c .before .before .before .before .links-back .ensures) ∙ not-false _ (c .before .before .before .if3 .left) in
+    let t4 = ap (λ (a : ℕ). linksBack (c .before .before .before .before .before .before .before .before .before .before .before .before .before .before .before .before .before .before .before .before .args .edges .now) 5 (rightFace (faceTables (c .before .before .before .before .before .before .before .before .before .before .before .before .before .before .before .before .before .before .before .before .args .edges .now) []) (c .before .before .before .before .before .before .before .before .before .before .before .before .before .before .before .before .before .before .before .before .args .e)) a (c .before .before .before .before .before .before .before .before .before .before .before .before .before .before .before .before .before .before .before .before .args .e)) (sym (c .before .index4 .ensures)) ∙ sym (c .links-back2 .ensures) in
+    sym (linked-4 (c .before .before .before .before .before .before .before .before .before .before .before .before .before .before .before .before .before .before .before .before .args .edges .now) (c .before .before .before .before .before .before .before .before .before .before .before .before .before .before .before .before .before .before .before .before .args .e) t1 t2 t3 ∙ t4)
 
 pub is-linked-spec : {M : Type 1} → statement M
 is-linked-spec =

@@ -1,3 +1,8 @@
+-- links_back meets its contract: its tests are the definition's.
+use borrow.Author.Tests.{eq-eqb, ne-eqb}
+use lib.Dec.{eqb}
+use Prim.Native.Nat.{ℕ}
+use mathlib.Core.Path.{sym, _∙_, ap}
 use borrow.Author.Needs.{needs}
 use Rattle.audit.proofs.edges.links_back.Statement.{statement}
 use Rattle.audit.proofs.edges.links_back.Tie as tie
@@ -39,7 +44,7 @@ index-requires c κs = search needs
 
 -- src/edges.rt:66:9
 returns : tie.Need-returns
-returns c = ?
+returns c = rw (eq-eqb _ _ (c .before .before .if1 .taken)) (ap (λ (w : ℕ). eqb w (c .before .before .before .before .before .args .e)) (c .index .ensures))
 
 -- src/edges.rt:68:14
 add-if2 : tie.Need-add-if2
@@ -75,11 +80,11 @@ index-requires-2 c κs = search needs
 
 -- src/edges.rt:70:9
 returns-2 : tie.Need-returns-2
-returns-2 c = ?
+returns-2 c = rw (ne-eqb _ _ (c .before .before .before .before .if1 .left), eq-eqb _ _ (c .before .before .if2 .taken)) (ap (λ (w : ℕ). eqb w (c .before .before .before .before .before .before .before .args .e)) (c .index2 .ensures))
 
 -- src/edges.rt:59:1
 returns-3 : tie.Need-returns-3
-returns-3 c = ?
+returns-3 c = rw (ne-eqb _ _ (c .before .before .if1 .left), ne-eqb _ _ (c .if2 .left))
 
 pub links-back-spec : {M : Type 1} → statement M
 links-back-spec =
