@@ -4,10 +4,11 @@ use mathlib.Core.Path.{_≡_, refl, sym, _∙_, ap}
 use mathlib.Core.Bool.{Bool, true, false, not, _&&_, _||_}
 use Prim.Native.Nat.{ℕ, zero, suc, _+_, _-_, _<_, _≤_}
 use native.Mathlib.Omega.{arith}
-use lib.Dec.{eqb}
-use Rattle.tables.specs.Mesh.{Mesh, valence, start}
+use lib.Dec.{eqb, leb}
+use borrow.Author.Tests.{le-leb, lt-leb}
+use Rattle.tables.specs.Mesh.{Mesh, valence, start, origin, dest}
 use Rattle.audited_meshes.specs.Walks.{touches, acwOfPoint}
-use Rattle.audited_meshes.specs.Quick.{free, alone, aloneAt}
+use Rattle.audited_meshes.specs.Quick.{free, alone, aloneAt, oneEdge}
 use Rattle.audited_meshes.proofs.Tests.{and-is, ltb-is, self-is}
 
 module _ (m : Mesh) (ne e p q : ℕ) where
@@ -49,3 +50,17 @@ module _ (m : Mesh) (ne e p q : ℕ) where
 
   pub free-below : (i : ℕ) → free m ne e q i ≡ true → i < ne
   free-below i o = and-is (ltb-is i ne) (self-is (eqb i e || not (touches m q i))) .0 o .0
+
+-- seen from the end of smaller valence
+module _ (m : Mesh) (ne e p q : ℕ) (a : p ≡ origin m e) (b : q ≡ dest m e) where
+  pub from-origin : valence m p ≤ valence m q → aloneAt m ne e p q ≡ oneEdge m ne e
+  unfolding oneEdge
+  from-origin l =
+      let t : leb (valence m (origin m e)) (valence m (dest m e)) ≡ true = rw (sym a, sym b) (le-leb (valence m p) (valence m q) l) in
+      rw (t, a, b)
+
+  pub from-dest : valence m q < valence m p → aloneAt m ne e q p ≡ oneEdge m ne e
+  unfolding oneEdge
+  from-dest l =
+      let t : leb (valence m (origin m e)) (valence m (dest m e)) ≡ false = rw (sym a, sym b) (lt-leb (valence m p) (valence m q) l) in
+      rw (t, a, b)

@@ -4,3 +4,4 @@ pub mod FaceTests
 pub mod Signs
 pub mod EdgeTests
 pub mod Alone
+pub mod Whole
