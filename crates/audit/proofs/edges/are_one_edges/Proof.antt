@@ -11,9 +11,6 @@ use Rattle.walks.specs.Steps.{pointTables}
 use borrow.Author.Needs.{needs}
 use Rattle.audit.proofs.edges.are_one_edges.Statement.{statement}
 use Rattle.audit.proofs.edges.are_one_edges.Tie as tie
-use Rattle.audit.proofs.edges.are_one_edges.Reads as reads
-use Rattle.audit.proofs.edges.are_one_edges.Lts as lts
-use Rattle.audit.proofs.edges.is_one_edge.Reads as is-one-edge-reads
 
 abbrev Inv-loop : tie.InvT-loop
 Inv-loop points edges np ne e₀ e = (e ≤ ne) × (every e (λ k. oneEdge (pointTables points edges) ne k) ≡ true)
@@ -21,33 +18,20 @@ Inv-loop points edges np ne e₀ e = (e ≤ ne) × (every e (λ k. oneEdge (poin
 abbrev μ-loop : tie.MeasureT-loop
 μ-loop points edges np ne e₀ e = ne - e
 
--- src/edges.rt:209:5
 loop-holds : tie.Need-loop-holds Inv-loop μ-loop
 loop-holds c = (omega arith, every-none _)
 
--- src/edges.rt:210:13
 is-one-edge-requires : tie.Need-is-one-edge-requires Inv-loop μ-loop
 is-one-edge-requires c κs = 
     let ends = c .before .before .before .before .pre .1 .1 (c .before .loop .e) (c .loop-test .taken) in
     (search needs, (search needs, (search needs, (ends .0, ends .1))))
 
--- src/edges.rt:211:13
 returns : tie.Need-returns Inv-loop μ-loop
 returns c = sym (every-stop _ _ _ (c .before .before .loop-test .taken) (sym (c .before .is-one-edge .ensures) ∙ not-true _ (c .if1 .taken)))
 
--- src/edges.rt:213:9
-add-e : tie.Need-add-e Inv-loop μ-loop
-add-e c = search needs
-
--- src/edges.rt:209:5
-loop-less : tie.Need-loop-less Inv-loop μ-loop
-loop-less c = search needs
-
--- src/edges.rt:209:5
 loop-again : tie.Need-loop-again Inv-loop μ-loop
 loop-again c = (omega arith, every-more _ _ (c .before .before .before .loop .inv .1) (sym (c .before .is-one-edge .ensures) ∙ not-false _ (c .if1 .left)))
 
--- src/edges.rt:202:1
 returns-2 : tie.Need-returns-2 Inv-loop μ-loop
 returns-2 c = sym (every-all _ _ _ (c .before .loop .inv .1) (omega arith))
 
@@ -60,7 +44,7 @@ are-one-edges-spec =
     loop-holds
     is-one-edge-requires
     returns
-    add-e
-    loop-less
+    (λ c. search needs)
+    (λ c. search needs)
     loop-again
     returns-2)
