@@ -85,15 +85,15 @@ pub fn point_walk(edges: &[u32], points: &[u32], ne: usize, k: usize, p: usize) 
     ensures { λ r. ⌜ r ≡ passedBy (pointWalk (pointTables (now (points .entry)) (now (edges .entry))) ne k p) ⌝ }
 {
     let start = points[p * 3 + 1];
-    let mut n = 0;
+    let mut v = 0;
     let mut e = start;
-    while n < k {
+    while v < k {
         let Step::To { point: _, next } = point_step(edges, ne, p, index(e)) else {
             return Passed::Lost;
         };
-        n += 1;
+        v += 1;
         if next == start {
-            return Passed::Back(n);
+            return Passed::Back(v);
         }
         e = next;
     }
