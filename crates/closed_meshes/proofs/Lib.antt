@@ -9,3 +9,4 @@ pub mod Sums
 
 pub mod Counts
 pub mod Runs
+pub mod Names
