@@ -10,3 +10,4 @@ pub mod Sums
 pub mod Counts
 pub mod Runs
 pub mod Names
+pub mod Shared
