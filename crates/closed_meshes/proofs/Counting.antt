@@ -55,8 +55,8 @@ rows-le zero m g h = omega arith
 rows-le (suc n) zero g h = absurd (omega (arith, g latter .1))
 rows-le (suc n) (suc m) g h =
     let le : n ≤ m =
-          rows-le n m (λ i. lowered g h i .0) λ i j e.
-            lowered-injective g h i j (lowered g h i .0) (lowered g h i .1) (subst (Lowered g h j) (sym e) (lowered g h j .1)) in
+    rows-le n m (λ i. lowered g h i .0) λ i j e.
+    lowered-injective g h i j (lowered g h i .0) (lowered g h i .1) (subst (Lowered g h j) (sym e) (lowered g h j .1)) in
     omega arith
 
 -- A row is a former one or the last.
@@ -76,8 +76,8 @@ found zero g y = inr λ x. absurd (omega (arith, x .1))
 found (suc n) g y = go (found n (λ i. g (former i)) y) (ℕ-discrete (g latter .0) (y .0))
   where
     go :
-      ((x : Row n) × (g (former x) ≡ y)) ⊎ ((x : Row n) → ¬ (g (former x) ≡ y)) → Dec (g latter .0 ≡ y .0) →
-      ((x : Row (suc n)) × (g x ≡ y)) ⊎ ((x : Row (suc n)) → ¬ (g x ≡ y))
+        ((x : Row n) × (g (former x) ≡ y)) ⊎ ((x : Row n) → ¬ (g (former x) ≡ y)) → Dec (g latter .0 ≡ y .0) →
+        ((x : Row (suc n)) × (g x ≡ y)) ⊎ ((x : Row (suc n)) → ¬ (g x ≡ y))
     go (inl x) d = inl (former (x .0), x .1)
     go (inr h) (yes e) = inl (latter, row-path _ _ e)
     go (inr h) (no k) = inr λ x. none x (parted x)
@@ -93,7 +93,7 @@ module _ {n : ℕ} (g : Row n → Row n) (injective : (x y : Row n) → g x ≡ 
   extended y x (inr t) = y
 
   extended-injective :
-    (y : Row n) → ((x : Row n) → ¬ (g x ≡ y)) → (u v : Row (suc n)) (s : Parted u) (t : Parted v) → extended y u s ≡ extended y v t → u ≡ v
+      (y : Row n) → ((x : Row n) → ¬ (g x ≡ y)) → (u v : Row (suc n)) (s : Parted u) (t : Parted v) → extended y u s ≡ extended y v t → u ≡ v
   unfolding extended
   extended-injective y free u v (inl s) (inl t) e = s .1 ∙ ap former (injective (s .0) (t .0) e) ∙ sym (t .1)
   extended-injective y free u v (inl s) (inr t) e = absurd (free (s .0) e)
@@ -108,7 +108,7 @@ module _ {n : ℕ} (g : Row n → Row n) (injective : (x y : Row n) → g x ≡ 
       go (inl t) = t
       go (inr free) =
           let le : suc n ≤ n =
-                rows-le (suc n) n (λ x. extended y x (parted x)) (λ u v. extended-injective y free u v (parted u) (parted v)) in
+          rows-le (suc n) n (λ x. extended y x (parted x)) (λ u v. extended-injective y free u v (parted u) (parted v)) in
           absurd (omega arith)
 
 -- An injective map that is onto is a bijection.
@@ -118,14 +118,14 @@ bijection g injective at =
 
 -- Numbers that are injective and in range number the rows of a type that has as many.
 pub numbered-onto :
-  {A : Type 0} {n : ℕ} → Bijection A (Row n) → (g : A → Row n) → ((x y : A) → g x ≡ g y → x ≡ y) → (y : Row n) → (x : A) × (g x ≡ y)
+    {A : Type 0} {n : ℕ} → Bijection A (Row n) → (g : A → Row n) → ((x y : A) → g x ≡ g y → x ≡ y) → (y : Row n) → (x : A) × (g x ≡ y)
 numbered-onto {A} {n} b g injective y = (b .from (at .0), at .1)
   where
     at : (x : Row n) × (g (b .from x) ≡ y)
     at =
         injective-onto (λ x. g (b .from x))
-          (λ x y e. sym (b .to-from x) ∙ ap (b .to) (injective (b .from x) (b .from y) e) ∙ b .to-from y)
-          y
+        (λ x y e. sym (b .to-from x) ∙ ap (b .to) (injective (b .from x) (b .from y) e) ∙ b .to-from y)
+        y
 
 abbrev pub numbering : {A : Type 0} {n : ℕ} → Bijection A (Row n) → (g : A → Row n) → ((x y : A) → g x ≡ g y → x ≡ y) → Bijection A (Row n)
 numbering b g injective = bijection g injective (numbered-onto b g injective)

@@ -45,7 +45,7 @@ either g h (inl x) = inl (g x)
 either g h (inr y) = inr (h y)
 
 either-back :
-  {A B A' B' : Type 0} (k : Bijection A A') (l : Bijection B B') (x : A ⊎ B) → either (k .from) (l .from) (either (k .to) (l .to) x) ≡ x
+    {A B A' B' : Type 0} (k : Bijection A A') (l : Bijection B B') (x : A ⊎ B) → either (k .from) (l .from) (either (k .to) (l .to) x) ≡ x
 unfolding either
 either-back k l (inl x) = ap inl (k .from-to x)
 either-back k l (inr y) = ap inr (l .from-to y)
@@ -59,7 +59,7 @@ both {A} {B} {a} {b} k l = composed halves (rows-joint a b)
           to = either (k .to) (l .to);
           from = either (k .from) (l .from);
           from-to = either-back k l;
-          to-from = either-back (inverse k) (inverse l)
+          to-from = either-back (inverse k) (inverse l);
         }
 
 -- The kinds of rows as sums.
@@ -69,7 +69,7 @@ kinds-of-darts =
       to = elim [ lft e ↦ inl e | rgt e ↦ inr e ];
       from = elim [ inl e ↦ lft e | inr e ↦ rgt e ];
       from-to = elim [ lft e ↦ refl | rgt e ↦ refl ];
-      to-from = elim [ inl e ↦ refl | inr e ↦ refl ]
+      to-from = elim [ inl e ↦ refl | inr e ↦ refl ];
     }
 
 kinds-of-points : {P E F : Type 0} → Bijection (NewPoint P E F) ((P ⊎ E) ⊎ F)
@@ -78,7 +78,7 @@ kinds-of-points =
       to = elim [ old p ↦ inl (inl p) | mid e ↦ inl (inr e) | facePoint f ↦ inr f ];
       from = elim [ inl (inl p) ↦ old p | inl (inr e) ↦ mid e | inr f ↦ facePoint f ];
       from-to = elim [ old p ↦ refl | mid e ↦ refl | facePoint f ↦ refl ];
-      to-from = elim [ inl (inl p) ↦ refl | inl (inr e) ↦ refl | inr f ↦ refl ]
+      to-from = elim [ inl (inl p) ↦ refl | inl (inr e) ↦ refl | inr f ↦ refl ];
     }
 
 kinds-of-edges : {E : Type 0} → Bijection (NewEdge E) ((E ⊎ E) ⊎ Dart E)
@@ -87,7 +87,7 @@ kinds-of-edges =
       to = elim [ org e ↦ inl (inl e) | dst e ↦ inl (inr e) | join d ↦ inr d ];
       from = elim [ inl (inl e) ↦ org e | inl (inr e) ↦ dst e | inr d ↦ join d ];
       from-to = elim [ org e ↦ refl | dst e ↦ refl | join d ↦ refl ];
-      to-from = elim [ inl (inl e) ↦ refl | inl (inr e) ↦ refl | inr d ↦ refl ]
+      to-from = elim [ inl (inl e) ↦ refl | inl (inr e) ↦ refl | inr d ↦ refl ];
     }
 
 -- The same rows under another name of their number.
@@ -114,4 +114,4 @@ module _ {np ne nf : ℕ} {m : Mesh (Row np) (Row ne) (Row nf)} (c : Closed m) (
   pub sum-of-valences : ((p : Row np) → g (p .0) ≡ m .valence p) → sumTo np g ≡ 2 * ne
   sum-of-valences h =
       sum-of-lengths (count-darts (identity (Row ne))) (c .about-points) (λ d. c .next (flip d))
-        (λ d. ap flip (c .prev-next (flip d)) ∙ flip-flip d) g h
+      (λ d. ap flip (c .prev-next (flip d)) ∙ flip-flip d) g h

@@ -47,7 +47,7 @@ module _ {P E F : Type 0} {m : Mesh P E F} (c : Closed m) where
   dart-of-second d d' k h =
       sym (flip-flip d)
       ∙ ap flip
-          (dart-of-first (flip d) (flip d') (edge-flip d ∙ k ∙ sym (edge-flip d')) (first-flip m d ∙ h ∙ sym (first-flip m d')))
+      (dart-of-first (flip d) (flip d') (edge-flip d ∙ k ∙ sym (edge-flip d')) (first-flip m d ∙ h ∙ sym (first-flip m d')))
       ∙ flip-flip d'
 
   -- The next dart and the previous one are of the same face, and of another edge.

@@ -1,12 +1,14 @@
-pub mod Cycles
 pub mod Darts
+pub mod Cycles
+pub mod NewDarts
+pub mod NewWalks
 pub mod Refinement
 pub mod Isomorphisms
 pub mod Groupoid
 pub mod Lift
+pub mod Unique
 pub mod Counting
 pub mod Sums
-
 pub mod Counts
 pub mod Runs
 pub mod Names

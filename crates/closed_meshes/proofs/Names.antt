@@ -13,11 +13,14 @@ use Rattle.closed_meshes.specs.Shared.{Stage}
 use Rattle.closed_meshes.specs.Runs.{given, Step, Run, begin, then, NamesDiffer, RunsNameApart}
 use Rattle.closed_meshes.proofs.Darts.{dart-of-face}
 use Rattle.closed_meshes.proofs.Isomorphisms.{onto}
+use Rattle.closed_meshes.proofs.Groupoid.{isomorphism-refl}
+use Rattle.closed_meshes.proofs.Lift.{mapPoint, lifted}
+use Rattle.closed_meshes.proofs.Runs.{Matching, matching-given, new-point, name-of-point}
 
 -- Names that differ on the kinds differ on the rows that a bijection makes of them.
 differ-onto :
-  {A B N : Type 0} (b : Bijection A B) (name : B → N) → ((x y : A) → name (b .to x) ≡ name (b .to y) → x ≡ y) →
-  (u v : B) → name u ≡ name v → u ≡ v
+    {A B N : Type 0} (b : Bijection A B) (name : B → N) → ((x y : A) → name (b .to x) ≡ name (b .to y) → x ≡ y) →
+    (u v : B) → name u ≡ name v → u ≡ v
 differ-onto b name h =
     onto b (λ u. (v : _) → name u ≡ name v → u ≡ v) λ x.
     onto b (λ v. name (b .to x) ≡ name v → b .to x ≡ v) λ y e. ap (b .to) (h x y e)
@@ -54,8 +57,8 @@ module _ {P E F : Type 0} where
     old-edge e h = omega (arith, a .edges e)
 
     new-points-differ :
-      (x y : NewPoint (s .Point) (s .Edge) (s .Face)) →
-      newPointName (suc k) (s .mesh) (s .names) x ≡ newPointName (suc k) (s .mesh) (s .names) y → x ≡ y
+        (x y : NewPoint (s .Point) (s .Edge) (s .Face)) →
+        newPointName (suc k) (s .mesh) (s .names) x ≡ newPointName (suc k) (s .mesh) (s .names) y → x ≡ y
     unfolding pointStep
     new-points-differ (old p) (old p') h = ap old (a .differ .points p p' h)
     new-points-differ (old p) (mid e) h = absurd (old-point p (ap pointStep h))
@@ -68,7 +71,7 @@ module _ {P E F : Type 0} where
     new-points-differ (facePoint f) (facePoint f') h = ap facePoint (a .differ .faces f f' (cc))
 
     new-edges-differ :
-      (x y : NewEdge (s .Edge)) → newEdgeName (suc k) (s .mesh) (s .names) x ≡ newEdgeName (suc k) (s .mesh) (s .names) y → x ≡ y
+        (x y : NewEdge (s .Edge)) → newEdgeName (suc k) (s .mesh) (s .names) x ≡ newEdgeName (suc k) (s .mesh) (s .names) y → x ≡ y
     unfolding edgeStep
     new-edges-differ (org e) (org e') h = ap org (a .differ .edges e e' h)
     new-edges-differ (org e) (dst e') h = absurd (old-edge e (ap edgeStep h))
@@ -82,7 +85,7 @@ module _ {P E F : Type 0} where
         ap join (dart-of-face (s .closed) d d' (a .differ .edges _ _ (cc)) (a .differ .faces _ _ (cc)))
 
     new-faces-differ :
-      (d d' : Dart (s .Edge)) → newFaceName (suc k) (s .mesh) (s .names) d ≡ newFaceName (suc k) (s .mesh) (s .names) d' → d ≡ d'
+        (d d' : Dart (s .Edge)) → newFaceName (suc k) (s .mesh) (s .names) d ≡ newFaceName (suc k) (s .mesh) (s .names) d' → d ≡ d'
     new-faces-differ d d' h = s .closed .one-pass d d' (a .differ .faces _ _ (cc)) (a .differ .points _ _ (cc))
 
     new-point-step : (x : NewPoint (s .Point) (s .Edge) (s .Face)) → pointStep (newPointName (suc k) (s .mesh) (s .names) x) ≤ suc k
@@ -105,14 +108,14 @@ module _ {P E F : Type 0} where
     named-step t b =
         record {
           differ =
-            record {
-              points = differ-onto (b .numbering .points) (t .names .point) (λ x y h. new-points-differ x y (sym (b .point-name x) ∙ h ∙ b .point-name y));
-              edges = differ-onto (b .numbering .edges) (t .names .edge) (λ x y h. new-edges-differ x y (sym (b .edge-name x) ∙ h ∙ b .edge-name y));
-              faces = differ-onto (b .numbering .faces) (t .names .face) (λ x y h. new-faces-differ x y (sym (b .face-name x) ∙ h ∙ b .face-name y))
-            };
+              record {
+                points = differ-onto (b .numbering .points) (t .names .point) (λ x y h. new-points-differ x y (sym (b .point-name x) ∙ h ∙ b .point-name y));
+                edges = differ-onto (b .numbering .edges) (t .names .edge) (λ x y h. new-edges-differ x y (sym (b .edge-name x) ∙ h ∙ b .edge-name y));
+                faces = differ-onto (b .numbering .faces) (t .names .face) (λ x y h. new-faces-differ x y (sym (b .face-name x) ∙ h ∙ b .face-name y));
+              };
           points = onto (b .numbering .points) (λ p. pointStep (t .names .point p) ≤ suc k) (λ x. rw (b .point-name x) (new-point-step x));
           edges = onto (b .numbering .edges) (λ e. edgeStep (t .names .edge e) ≤ suc k) (λ x. rw (b .edge-name x) (new-edge-step x));
-          faces = onto (b .numbering .faces) (λ f. faceStep (t .names .face f) ≤ suc k) (λ x. rw (b .face-name x) (new-face-step x))
+          faces = onto (b .numbering .faces) (λ f. faceStep (t .names .face f) ≤ suc k) (λ x. rw (b .face-name x) (new-face-step x));
         }
 
   named-run : {m : Mesh P E F} {c : Closed m} {k : ℕ} {s : Stage P E F} → Run (given m c) k s → Named k s
@@ -122,10 +125,31 @@ module _ {P E F : Type 0} where
         differ = record { points = λ p p' h. cc; edges = λ e e' h. cc; faces = λ f f' h. cc };
         points = λ p. omega arith;
         edges = λ e. omega arith;
-        faces = λ f. omega arith
+        faces = λ f. omega arith;
       }
   named-run (then {k} {s'} {s''} r b) = named-step k s' (named-run r) s'' b
 
--- The claim.
+-- No two rows of a kind share a name.
 pub names-differ : RunsNameApart
 names-differ P E F m c k s r = named-run r .differ
+
+-- One step of two matching stages: points of one name are of corresponding kinds.
+pub same-kind :
+    {P E F : Type 0} {m : Mesh P E F} {c : Closed m} {k : ℕ} {s s' t t' : Stage P E F} → Run (given m c) k s' → (a : Matching s s') →
+    (b : Step (suc k) s t) (b' : Step (suc k) s' t') (p : t .Point) (p' : t' .Point) → t .names .point p ≡ t' .names .point p' →
+    lifted (s .closed) (s' .closed) (a .isomorphism) .points .to (b .numbering .points .from p) ≡ b' .numbering .points .from p'
+same-kind {k} {s'} r a b b' p p' h =
+    new-points-differ k s' (named-run r) _ _ (new-point (suc k) a _ ∙ sym (name-of-point b p) ∙ h ∙ name-of-point b' p')
+
+-- After the first step points of one name are of one kind.
+pub same-kind-first :
+    {P E F : Type 0} {m : Mesh P E F} {c c' : Closed m} {t t' : Stage P E F} (b : Step 1 (given m c) t) (b' : Step 1 (given m c') t')
+    (p : t .Point) (p' : t' .Point) → t .names .point p ≡ t' .names .point p' →
+    b .numbering .points .from p ≡ b' .numbering .points .from p'
+unfolding lifted matching-given isomorphism-refl
+same-kind-first {m} {c} {c'} b b' p p' h = sym (unmoved _) ∙ same-kind {m = m} {c = c'} begin (matching-given m c c') b b' p p' h
+  where
+    unmoved : {P E F : Type 0} (x : NewPoint P E F) → mapPoint (λ p. p) (λ e. e) (λ f. f) x ≡ x
+    unmoved (old p) = refl
+    unmoved (mid e) = refl
+    unmoved (facePoint f) = refl

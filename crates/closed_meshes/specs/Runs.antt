@@ -23,11 +23,11 @@ module _ {P E F : Type 0} where
   pub record Step (k : ℕ) (s s' : Stage P E F) : Type 0 where
     pub numbering : Isomorphism (refined (s .mesh) (s .closed)) (s' .mesh)
     pub point-name :
-      (p : NewPoint (s .Point) (s .Edge) (s .Face)) → s' .names .point (numbering .points .to p) ≡ newPointName k (s .mesh) (s .names) p
+        (p : NewPoint (s .Point) (s .Edge) (s .Face)) → s' .names .point (numbering .points .to p) ≡ newPointName k (s .mesh) (s .names) p
     pub edge-name :
-      (e : NewEdge (s .Edge)) → s' .names .edge (numbering .edges .to e) ≡ newEdgeName k (s .mesh) (s .names) e
+        (e : NewEdge (s .Edge)) → s' .names .edge (numbering .edges .to e) ≡ newEdgeName k (s .mesh) (s .names) e
     pub face-name :
-      (d : Dart (s .Edge)) → s' .names .face (numbering .faces .to d) ≡ newFaceName k (s .mesh) (s .names) d
+        (d : Dart (s .Edge)) → s' .names .face (numbering .faces .to d) ≡ newFaceName k (s .mesh) (s .names) d
 
   pub data Run (s : Stage P E F) : ℕ → Stage P E F → Type 1 where
     begin : Run s zero s
@@ -44,5 +44,5 @@ RunsNameApart =
 
 abbrev pub TwoRuns : Type 1
 TwoRuns =
-    (P E F : Type 0) (m : Mesh P E F) (c : Closed m) (k : ℕ) (s s' : Stage P E F) →
-    Run (given m c) k s → Run (given m c) k s' → Shared s s'
+    (P E F : Type 0) (m : Mesh P E F) (c c' : Closed m) (k : ℕ) (s s' : Stage P E F) →
+    Run (given m c) k s → Run (given m c') k s' → Shared s s'
