@@ -10,12 +10,13 @@
 --     newBorder d           the edges and points that a walk about the new face d passes in turn, begun at d's first point
 --     StaysClosed           the claim: a refined closed mesh is closed
 --     NewBorders            the claim: the walk about a new face passes its border
+--     NewCorners            the claim: the corners of a new face are the points that the walk passes, from the face point on
 use mathlib.Core.Path.{_≡_}
 use mathlib.Core.List.{List, [], _∷_, map}
 use mathlib.Core.Option.{Option, some}
 use Prim.Native.Nat.{ℕ}
 use Rattle.closed_meshes.specs.Mesh.{Mesh, Place, place0, place1, place2, place3, Dart, lft, rgt, edge, first, face}
-use Rattle.closed_meshes.specs.Cycles.{walk}
+use Rattle.closed_meshes.specs.Cycles.{steps, walk}
 use Rattle.closed_meshes.specs.Closed.{Closed}
 
 pub data NewPoint (P E F : Type 0) : Type 0 where
@@ -130,3 +131,9 @@ abbrev pub NewBorders : Type 1
 NewBorders =
     (P E F : Type 0) (m : Mesh P E F) (c : Closed m) (c' : Closed (refined m c)) (d : Dart E) →
     map (λ x. (edge x, first (refined m c) x)) (walk (c' .next) (c' .size d) (c' .faceDart d)) ≡ newBorder m c d
+
+abbrev pub NewCorners : Type 1
+NewCorners =
+    (P E F : Type 0) (m : Mesh P E F) (c : Closed m) (c' : Closed (refined m c)) (d : Dart E) →
+    map (λ x. some (first (refined m c) x)) (walk (c' .next) (c' .size d) (steps (c' .next) 2 (c' .faceDart d)))
+    ≡ newCorner m c d place0 ∷ newCorner m c d place1 ∷ newCorner m c d place2 ∷ newCorner m c d place3 ∷ []

@@ -15,6 +15,7 @@
 // Claims and their proofs:
 //     StaysClosed     a refined closed mesh is closed                         proofs/Refinement.antt, stays-closed
 //     NewBorders      the walk about a new face passes its border             proofs/Refinement.antt, new-borders
+//     NewCorners      its corners are the points of the walk from the face point  proofs/Refinement.antt, new-corners
 //     CarriesOver     closed carries over any isomorphism                     proofs/Isomorphisms.antt, carries-over
 //     RunsNameApart   no two rows of a kind share a name                      proofs/Names.antt, names-differ
 //     TwoRuns         two runs with equally many steps are shared             proofs/Shared.antt, theorem
