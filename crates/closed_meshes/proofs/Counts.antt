@@ -1,8 +1,8 @@
 -- How many rows a refined mesh has: of np points, ne edges and nf faces it has np + ne + nf points, 4 ne edges and 2 ne faces.
 -- The sizes of all faces of a closed mesh add up to 2 ne, and so do the valences. Assumes nothing.
-use mathlib.Core.Path.{_≡_, refl, sym, _∙_, ap, subst}
+use mathlib.Core.Path.{_≡_, refl, _∙_, ap, subst}
 use mathlib.Core.Logic.{_⊎_, inl, inr}
-use Prim.Native.Nat.{ℕ, _+_, _-_, _*_, _≤_, _<_}
+use Prim.Native.Nat.{ℕ, _+_, _-_, _*_, _<_}
 use native.Mathlib.Omega.{arith}
 use native.Mathlib.Decide.{decLt}
 use Rattle.closed_meshes.specs.Mesh.{Mesh, Dart, lft, rgt, flip}

@@ -57,9 +57,6 @@ module _ {P E F : Type 0} {m : Mesh P E F} (c : Closed m) where
   pub face-prev : (d : Dart E) → face m (c .prev d) ≡ face m d
   face-prev d = sym (face-next (c .prev d)) ∙ ap (face m) (c .next-prev d)
 
-  pub second-prev : (d : Dart E) → second m (c .prev d) ≡ first m d
-  second-prev d = sym (c .first-next (c .prev d)) ∙ ap (first m) (c .next-prev d)
-
   pub edge-moves : (d : Dart E) → ¬ (edge (c .next d) ≡ edge d)
   edge-moves d h =
       first-differs d (sym (ap (first m) (dart-of-face (c .next d) d h (face-next d))) ∙ c .first-next d)

@@ -1,7 +1,7 @@
 -- A mesh is isomorphic to itself, and isomorphisms can be turned round and composed. Assumes nothing.
 use mathlib.Core.Path.{_≡_, refl, sym, _∙_, ap}
 use mathlib.Core.Option.{Option, some, none, Option·map}
-use Rattle.closed_meshes.specs.Mesh.{Mesh, Place}
+use Rattle.closed_meshes.specs.Mesh.{Mesh}
 use Rattle.closed_meshes.specs.Renumbering.{Bijection, Isomorphism}
 use Rattle.closed_meshes.proofs.Isomorphisms.{inverse}
 

@@ -5,11 +5,14 @@ pub mod NewWalks
 pub mod Refinement
 pub mod Isomorphisms
 pub mod Groupoid
-pub mod Lift
 pub mod Unique
+pub mod NewBorders
 pub mod Counting
 pub mod Sums
 pub mod Counts
-pub mod Runs
 pub mod Names
-pub mod Shared
+pub mod RefinementLifts
+pub mod Runs
+pub mod SameKind
+pub mod SharedIsAll
+pub mod TwoRuns

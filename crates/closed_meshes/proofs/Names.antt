@@ -1,8 +1,8 @@
 -- No two rows of a kind share a name, after every step of a run. Assumes nothing.
 -- A new name carries the number of its step, so it is none of the names before; two new names of a kind stand on different rows,
 -- because the sides of an edge differ and no face passes a point twice.
-use mathlib.Core.Path.{_≡_, refl, sym, _∙_, ap}
-use Prim.Native.Nat.{ℕ, zero, suc, _≤_}
+use mathlib.Core.Path.{_≡_, sym, _∙_, ap}
+use Prim.Native.Nat.{ℕ, suc, _≤_}
 use native.Mathlib.Omega.{arith}
 use Rattle.closed_meshes.specs.Mesh.{Mesh, Dart}
 use Rattle.closed_meshes.specs.Closed.{Closed}
@@ -13,9 +13,6 @@ use Rattle.closed_meshes.specs.Shared.{Stage}
 use Rattle.closed_meshes.specs.Runs.{given, Step, Run, begin, then, NamesDiffer, RunsNameApart}
 use Rattle.closed_meshes.proofs.Darts.{dart-of-face}
 use Rattle.closed_meshes.proofs.Isomorphisms.{onto}
-use Rattle.closed_meshes.proofs.Groupoid.{isomorphism-refl}
-use Rattle.closed_meshes.proofs.Lift.{mapPoint, lifted}
-use Rattle.closed_meshes.proofs.Runs.{Matching, matching-given, new-point, name-of-point}
 
 -- Names that differ on the kinds differ on the rows that a bijection makes of them.
 differ-onto :
@@ -27,26 +24,26 @@ differ-onto b name h =
 
 module _ {P E F : Type 0} where
   -- the number of the step that gave a name, 0 for those of the first mesh
-  pointStep : PointName P E F → ℕ
+  pub pointStep : PointName P E F → ℕ
   pointStep (givenPoint p) = 0
   pointStep (midpointOf k e) = k
   pointStep (facePointOf k f) = k
 
-  edgeStep : EdgeName P E F → ℕ
+  pub edgeStep : EdgeName P E F → ℕ
   edgeStep (givenEdge e) = 0
   edgeStep (destinationHalfOf k e) = k
   edgeStep (joiningEdgeOf k f e) = k
 
-  faceStep : FaceName P E F → ℕ
+  pub faceStep : FaceName P E F → ℕ
   faceStep (givenFace f) = 0
   faceStep (newFaceOf k f p) = k
 
   -- The names differ and no name is of a later step than k.
-  record Named (k : ℕ) (s : Stage P E F) : Type 0 where
-    differ : NamesDiffer s
-    points : (p : s .Point) → pointStep (s .names .point p) ≤ k
-    edges : (e : s .Edge) → edgeStep (s .names .edge e) ≤ k
-    faces : (f : s .Face) → faceStep (s .names .face f) ≤ k
+  pub record Named (k : ℕ) (s : Stage P E F) : Type 0 where
+    pub differ : NamesDiffer s
+    pub points : (p : s .Point) → pointStep (s .names .point p) ≤ k
+    pub edges : (e : s .Edge) → edgeStep (s .names .edge e) ≤ k
+    pub faces : (f : s .Face) → faceStep (s .names .face f) ≤ k
 
   module _ (k : ℕ) (s : Stage P E F) (a : Named k s) where
     -- An old name is not of this step.
@@ -56,7 +53,7 @@ module _ {P E F : Type 0} where
     old-edge : (e : s .Edge) → ¬ (edgeStep (s .names .edge e) ≡ suc k)
     old-edge e h = omega (arith, a .edges e)
 
-    new-points-differ :
+    pub new-points-differ :
         (x y : NewPoint (s .Point) (s .Edge) (s .Face)) →
         newPointName (suc k) (s .mesh) (s .names) x ≡ newPointName (suc k) (s .mesh) (s .names) y → x ≡ y
     unfolding pointStep
@@ -118,7 +115,7 @@ module _ {P E F : Type 0} where
           faces = onto (b .numbering .faces) (λ f. faceStep (t .names .face f) ≤ suc k) (λ x. rw (b .face-name x) (new-face-step x));
         }
 
-  named-run : {m : Mesh P E F} {c : Closed m} {k : ℕ} {s : Stage P E F} → Run (given m c) k s → Named k s
+  pub named-run : {m : Mesh P E F} {c : Closed m} {k : ℕ} {s : Stage P E F} → Run (given m c) k s → Named k s
   unfolding pointStep edgeStep faceStep
   named-run begin =
       record {
@@ -132,24 +129,3 @@ module _ {P E F : Type 0} where
 -- No two rows of a kind share a name.
 pub names-differ : RunsNameApart
 names-differ P E F m c k s r = named-run r .differ
-
--- One step of two matching stages: points of one name are of corresponding kinds.
-pub same-kind :
-    {P E F : Type 0} {m : Mesh P E F} {c : Closed m} {k : ℕ} {s s' t t' : Stage P E F} → Run (given m c) k s' → (a : Matching s s') →
-    (b : Step (suc k) s t) (b' : Step (suc k) s' t') (p : t .Point) (p' : t' .Point) → t .names .point p ≡ t' .names .point p' →
-    lifted (s .closed) (s' .closed) (a .isomorphism) .points .to (b .numbering .points .from p) ≡ b' .numbering .points .from p'
-same-kind {k} {s'} r a b b' p p' h =
-    new-points-differ k s' (named-run r) _ _ (new-point (suc k) a _ ∙ sym (name-of-point b p) ∙ h ∙ name-of-point b' p')
-
--- After the first step points of one name are of one kind.
-pub same-kind-first :
-    {P E F : Type 0} {m : Mesh P E F} {c c' : Closed m} {t t' : Stage P E F} (b : Step 1 (given m c) t) (b' : Step 1 (given m c') t')
-    (p : t .Point) (p' : t' .Point) → t .names .point p ≡ t' .names .point p' →
-    b .numbering .points .from p ≡ b' .numbering .points .from p'
-unfolding lifted matching-given isomorphism-refl
-same-kind-first {m} {c} {c'} b b' p p' h = sym (unmoved _) ∙ same-kind {m = m} {c = c'} begin (matching-given m c c') b b' p p' h
-  where
-    unmoved : {P E F : Type 0} (x : NewPoint P E F) → mapPoint (λ p. p) (λ e. e) (λ f. f) x ≡ x
-    unmoved (old p) = refl
-    unmoved (mid e) = refl
-    unmoved (facePoint f) = refl

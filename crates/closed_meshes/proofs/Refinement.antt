@@ -1,17 +1,13 @@
 -- A refined closed mesh is closed. Assumes nothing.
 use mathlib.Core.Path.{_≡_, refl, sym, _∙_, ap}
-use mathlib.Core.List.{[], _∷_, map}
-use mathlib.Core.Option.{some}
-use Prim.Native.Nat.{ℕ, suc, _≤_, _<_}
+use Prim.Native.Nat.{ℕ, _≤_}
 use native.Mathlib.Omega.{arith}
-use Rattle.closed_meshes.specs.Mesh.{Mesh, place0, place1, place2, place3, Dart, lft, rgt, edge, flip, first, second, face, acw, cw}
-use Rattle.closed_meshes.specs.Cycles.{steps, walk}
+use Rattle.closed_meshes.specs.Mesh.{Mesh, Dart, lft, rgt, edge, first, second, face, acw, cw}
 use Rattle.closed_meshes.specs.Closed.{Closed}
-use Rattle.closed_meshes.specs.Refinement.{NewPoint, old, mid, facePoint, NewEdge, org, dst, join, firstHalf, secondHalf, refined, newCorner, newBorder, StaysClosed, NewBorders, NewCorners}
-use Rattle.closed_meshes.proofs.Darts.{flip-flip, edge-flip, dart-of-first, dart-of-second, dart-of-face, face-prev, edge-moves}
-use Rattle.closed_meshes.proofs.NewDarts.{start-half, end-half, inward, outward, by-kind, next', prev', edge-start-half, edge-end-half, first-start-half, second-start-half, first-end-half, second-end-half, face-start-half, face-end-half, next-start-half, next-end-half, prev-start-half, prev-end-half, flip-start-half, flip-end-half}
+use Rattle.closed_meshes.specs.Refinement.{NewPoint, old, mid, facePoint, NewEdge, org, dst, join, refined, StaysClosed}
+use Rattle.closed_meshes.proofs.Darts.{dart-of-first, dart-of-second, dart-of-face, face-prev, edge-moves}
+use Rattle.closed_meshes.proofs.NewDarts.{start-half, end-half, inward, outward, by-kind, next', prev', edge-start-half, edge-end-half, first-start-half, second-start-half, first-end-half, second-end-half, face-start-half, face-end-half, next-start-half, next-end-half, prev-start-half, prev-end-half}
 use Rattle.closed_meshes.proofs.NewWalks.{about-faces', about-points', pointDart', edge-pointDart'}
-use Rattle.closed_meshes.proofs.Unique.{next-unique, size-unique, faceDart-unique}
 
 module _ {P E F : Type 0} (m : Mesh P E F) (c : Closed m) where
   edge-next' : (x : Dart (NewEdge E)) → edge (next' m c x) ≡ acw (refined m c) x
@@ -169,7 +165,7 @@ module _ {P E F : Type 0} (m : Mesh P E F) (c : Closed m) where
   valence-low' (mid e) = omega arith
   valence-low' (facePoint f) = omega (arith, c .size-low f)
 
-  refined-closed : Closed (refined m c)
+  pub refined-closed : Closed (refined m c)
   unfolding SameEnds OnePass
   refined-closed =
       record {
@@ -196,79 +192,19 @@ module _ {P E F : Type 0} (m : Mesh P E F) (c : Closed m) where
         about-points = about-points' m c;
       }
 
-  -- Whatever closes the refined mesh, its walks about new faces are these.
-  module _ (c' : Closed (refined m c)) where
-    next-refined : (x : Dart (NewEdge E)) → c' .next x ≡ next' m c x
-    unfolding refined-closed
-    next-refined x = next-unique c' refined-closed x
+  -- What closes it.
+  pub next-closed : (x : Dart (NewEdge E)) → refined-closed .next x ≡ next' m c x
+  unfolding refined-closed
+  next-closed x = refl
 
-    size-refined : (d : Dart E) → c' .size d ≡ 4
-    unfolding refined-closed
-    size-refined d = size-unique c' refined-closed d
+  pub size-closed : (d : Dart E) → refined-closed .size d ≡ 4
+  unfolding refined-closed
+  size-closed d = refl
 
-    faceDart-refined : (d : Dart E) → c' .faceDart d ≡ start-half d
-    unfolding refined-closed
-    faceDart-refined d = faceDart-unique c' refined-closed d
-
-    from-start-half : (d : Dart E) → c' .next (start-half d) ≡ inward d
-    from-start-half d = next-refined (start-half d) ∙ next-start-half m c d
-
-    from-inward : (d : Dart E) → c' .next (inward d) ≡ outward (c .prev d)
-    unfolding next'
-    from-inward d = next-refined (inward d)
-
-    from-outward : (d : Dart E) → c' .next (outward d) ≡ end-half d
-    unfolding next'
-    from-outward d = next-refined (outward d)
-
-    from-end-half : (d : Dart E) → c' .next (end-half (c .prev d)) ≡ start-half d
-    from-end-half d = next-refined (end-half (c .prev d)) ∙ next-end-half m c (c .prev d) ∙ ap start-half (c .next-prev d)
-
-    walk-from-start :
-        (d : Dart E) →
-        walk (c' .next) (c' .size d) (c' .faceDart d) ≡ start-half d ∷ inward d ∷ outward (c .prev d) ∷ end-half (c .prev d) ∷ []
-    unfolding walk
-    walk-from-start d =
-        rw (size-refined d, faceDart-refined d, from-start-half d, from-inward d, from-outward (c .prev d))
-
-    walk-from-face-point :
-        (d : Dart E) →
-        walk (c' .next) (c' .size d) (steps (c' .next) 2 (c' .faceDart d))
-        ≡ outward (c .prev d) ∷ end-half (c .prev d) ∷ start-half d ∷ inward d ∷ []
-    unfolding walk steps
-    walk-from-face-point d =
-        rw (
-          size-refined d,
-          faceDart-refined d,
-          from-start-half d,
-          from-inward d,
-          from-outward (c .prev d),
-          from-end-half d,
-          from-start-half d,
-        )
-
-    border-refined :
-        (d : Dart E) → map (λ x. (edge x, first (refined m c) x)) (walk (c' .next) (c' .size d) (c' .faceDart d)) ≡ newBorder m c d
-    border-refined d =
-        let p = c .prev d in
-        rw (walk-from-start d)
-        (rw (edge-start-half d, first-start-half m c d, edge-end-half p, first-end-half m c p, face-prev c d))
-
-    corners-refined :
-        (d : Dart E) →
-        map (λ x. some (first (refined m c) x)) (walk (c' .next) (c' .size d) (steps (c' .next) 2 (c' .faceDart d)))
-        ≡ newCorner m c d place0 ∷ newCorner m c d place1 ∷ newCorner m c d place2 ∷ newCorner m c d place3 ∷ []
-    corners-refined d =
-        rw (walk-from-face-point d) (rw (first-end-half m c (c .prev d), first-start-half m c d, face-prev c d))
+  pub faceDart-closed : (d : Dart E) → refined-closed .faceDart d ≡ start-half d
+  unfolding refined-closed
+  faceDart-closed d = refl
 
 -- Closed stays closed.
 pub stays-closed : StaysClosed
 stays-closed P E F m c = refined-closed m c
-
--- A walk about a new face passes its border.
-pub new-borders : NewBorders
-new-borders P E F m c c' d = border-refined m c c' d
-
--- The corners of a new face are the points that the walk passes, from the face point on.
-pub new-corners : NewCorners
-new-corners P E F m c c' d = corners-refined m c c' d

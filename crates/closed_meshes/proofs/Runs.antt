@@ -1,16 +1,16 @@
 -- Two runs from one closed mesh match: they are one but for their numbering. Assumes nothing.
 use mathlib.Core.Path.{_≡_, refl, sym, _∙_, ap, ap₂}
-use Prim.Native.Nat.{ℕ, zero, suc}
-use Rattle.closed_meshes.specs.Mesh.{Mesh, Dart, lft, rgt, edge, first, face}
+use Prim.Native.Nat.{ℕ}
+use Rattle.closed_meshes.specs.Mesh.{Mesh, Dart, edge, face}
 use Rattle.closed_meshes.specs.Closed.{Closed}
 use Rattle.closed_meshes.specs.Refinement.{NewPoint, old, mid, facePoint, NewEdge, org, dst, join, refined}
 use Rattle.closed_meshes.specs.Renumbering.{Isomorphism, Touching}
-use Rattle.closed_meshes.specs.Names.{Names, midpointOf, facePointOf, destinationHalfOf, joiningEdgeOf, newFaceOf, newPointName, newEdgeName, newFaceName}
+use Rattle.closed_meshes.specs.Names.{joiningEdgeOf, newFaceOf, newPointName, newEdgeName, newFaceName}
 use Rattle.closed_meshes.specs.Shared.{Stage}
 use Rattle.closed_meshes.specs.Runs.{given, Step, Run, begin, then}
 use Rattle.closed_meshes.proofs.Groupoid.{isomorphism-refl, isomorphism-sym, isomorphism-trans}
 use Rattle.closed_meshes.proofs.Isomorphisms.{edge-mapDart, first-to, face-to, carries-over}
-use Rattle.closed_meshes.proofs.Lift.{lifted}
+use Rattle.closed_meshes.proofs.RefinementLifts.{lifted}
 use Rattle.closed_meshes.proofs.Refinement.{stays-closed}
 
 -- Two stages are one but for their numbering: an isomorphism keeps all names.
@@ -28,15 +28,15 @@ module _ {P E F : Type 0} where
         newPointName k (s' .mesh) (s' .names) (lifted (s .closed) (s' .closed) (a .isomorphism) .points .to x) ≡ newPointName k (s .mesh) (s .names) x
     unfolding lifted
     new-point (old p) = a .point p
-    new-point (mid e) = ap (midpointOf k) (a .edge e)
-    new-point (facePoint f) = ap (facePointOf k) (a .face f)
+    new-point (mid e) = rw (a .edge e)
+    new-point (facePoint f) = rw (a .face f)
 
     new-edge :
         (x : NewEdge (s .Edge)) →
         newEdgeName k (s' .mesh) (s' .names) (lifted (s .closed) (s' .closed) (a .isomorphism) .edges .to x) ≡ newEdgeName k (s .mesh) (s .names) x
     unfolding lifted
     new-edge (org e) = a .edge e
-    new-edge (dst e) = ap (destinationHalfOf k) (a .edge e)
+    new-edge (dst e) = rw (a .edge e)
     new-edge (join d) =
         ap₂ (joiningEdgeOf k)
         (ap (s' .names .face) (face-to (a .isomorphism) d) ∙ a .face _)

@@ -1,10 +1,11 @@
 -- The data of `Closed` are settled by the mesh. Assumes nothing.
-use mathlib.Core.Path.{_≡_, sym, _∙_}
+use mathlib.Core.Path.{_≡_, refl, sym, _∙_}
 use Rattle.closed_meshes.specs.Mesh.{Mesh, Dart}
 use Rattle.closed_meshes.specs.Closed.{Closed}
 use Rattle.closed_meshes.proofs.Darts.{dart-of-face, dart-of-first, face-next, face-prev}
-use Rattle.closed_meshes.proofs.Groupoid.{isomorphism-refl}
-use Rattle.closed_meshes.proofs.Lift.{size-to}
+use Rattle.closed_meshes.proofs.Cycles.{len-unique}
+use Rattle.closed_meshes.proofs.Groupoid.{identity}
+use Rattle.closed_meshes.proofs.Isomorphisms.{cycles-carried}
 
 module _ {P E F : Type 0} {m : Mesh P E F} (c c' : Closed m) where
   pub next-unique : (d : Dart E) → c .next d ≡ c' .next d
@@ -16,8 +17,10 @@ module _ {P E F : Type 0} {m : Mesh P E F} (c c' : Closed m) where
       dart-of-face c (c .prev d) (c' .prev d) (c .edge-prev d ∙ sym (c' .edge-prev d)) (face-prev c d ∙ sym (face-prev c' d))
 
   pub size-unique : (f : F) → c .size f ≡ c' .size f
-  unfolding isomorphism-refl
-  size-unique f = sym (size-to c c' (isomorphism-refl m) f)
+  size-unique f =
+      len-unique {len' = c' .size} (c .prev) (c .next-prev) (c .about-faces)
+      (cycles-carried (identity (Dart E)) (identity F) next-unique (λ d. refl) (λ x. refl) (c' .about-faces))
+      f
 
   pub faceDart-unique : (f : F) → c .faceDart f ≡ c' .faceDart f
   faceDart-unique f =

@@ -6,7 +6,7 @@
 --     Row n                 the rows of a table of n rows: the numbers below n
 --     sumTo n g             the sum of g k over the numbers k below n
 use mathlib.Core.Path.{_≡_}
-use mathlib.Core.Option.{Option, Option·map}
+use mathlib.Core.Option.{Option·map}
 use Prim.Native.Nat.{ℕ, zero, suc, _+_, _<_}
 use Rattle.closed_meshes.specs.Mesh.{Mesh, Place, Dart, edge, first, face}
 use Rattle.closed_meshes.specs.Closed.{Closed}

@@ -5,6 +5,7 @@
 --     NamesDiffer s         no two rows of a kind share a name
 --     RunsNameApart         the claim: names differ after every step of a run
 --     TwoRuns               the claim: two runs from one closed mesh with equally many steps are shared
+--     SharedIsAll           the claim: meshes that are shared are one but for the numbers of their rows and their start edges
 use mathlib.Core.Path.{_≡_}
 use Prim.Native.Nat.{ℕ, zero, suc}
 use Rattle.closed_meshes.specs.Mesh.{Mesh, Dart}
@@ -46,3 +47,7 @@ abbrev pub TwoRuns : Type 1
 TwoRuns =
     (P E F : Type 0) (m : Mesh P E F) (c c' : Closed m) (k : ℕ) (s s' : Stage P E F) →
     Run (given m c) k s → Run (given m c') k s' → Shared s s'
+
+abbrev pub SharedIsAll : Type 1
+SharedIsAll =
+    (P E F : Type 0) (s s' : Stage P E F) → NamesDiffer s → NamesDiffer s' → Shared s s' → Isomorphism (s .mesh) (s' .mesh)

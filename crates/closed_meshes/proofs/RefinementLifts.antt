@@ -2,7 +2,7 @@
 -- refinements. Assumes nothing.
 use mathlib.Core.Path.{_≡_, refl, sym, _∙_, ap}
 use mathlib.Core.Option.{some}
-use Rattle.closed_meshes.specs.Mesh.{Mesh, Place, place0, place1, place2, place3, Dart, lft, rgt, edge, first, face}
+use Rattle.closed_meshes.specs.Mesh.{Mesh, place0, place1, place2, place3, Dart, lft, rgt, edge}
 use Rattle.closed_meshes.specs.Closed.{Closed}
 use Rattle.closed_meshes.specs.Refinement.{NewPoint, old, mid, facePoint, NewEdge, org, dst, join, firstHalf, secondHalf, refined}
 use Rattle.closed_meshes.specs.Renumbering.{Bijection, Isomorphism}

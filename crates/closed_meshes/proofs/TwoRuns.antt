@@ -9,7 +9,7 @@ use Rattle.closed_meshes.specs.Cycles.{walk}
 use Rattle.closed_meshes.specs.Shared.{Stage, passed, border, SharedEdge, Shared}
 use Rattle.closed_meshes.specs.Runs.{NamesDiffer, TwoRuns}
 use Rattle.closed_meshes.proofs.Isomorphisms.{dartTo, edge-mapDart, first-to, face-to}
-use Rattle.closed_meshes.proofs.Lift.{next-to, size-to}
+use Rattle.closed_meshes.proofs.RefinementLifts.{next-to, size-to}
 use Rattle.closed_meshes.proofs.Names.{names-differ}
 use Rattle.closed_meshes.proofs.Runs.{Matching, runs-match}
 
