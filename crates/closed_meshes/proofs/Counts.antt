@@ -8,7 +8,7 @@ use native.Mathlib.Decide.{decLt}
 use Rattle.closed_meshes.specs.Mesh.{Mesh, Dart, lft, rgt, flip}
 use Rattle.closed_meshes.specs.Closed.{Closed}
 use Rattle.closed_meshes.specs.Refinement.{NewPoint, old, mid, facePoint, NewEdge, org, dst, join}
-use Rattle.closed_meshes.specs.Renumbering.{Bijection, Row, sumTo}
+use Rattle.closed_meshes.specs.Renumbering.{Injective, Bijection, Row, sumTo}
 use Rattle.closed_meshes.proofs.Counting.{row-path, bijection}
 use Rattle.closed_meshes.proofs.Darts.{flip-flip}
 use Rattle.closed_meshes.proofs.Groupoid.{identity, composed}
@@ -21,7 +21,7 @@ module _ (a b : ℕ) where
   joint (inl i) = (i .0, omega (arith, i .1))
   joint (inr i) = (a + i .0, omega (arith, i .1))
 
-  joint-injective : (x y : Row a ⊎ Row b) → joint x ≡ joint y → x ≡ y
+  joint-injective : Injective joint
   unfolding joint
   joint-injective (inl i) (inl j) h = ap inl (row-path i j (ap (λ r. r .0) h))
   joint-injective (inl i) (inr j) h = let e : i .0 ≡ a + j .0 = ap (λ r. r .0) h in absurd (omega (arith, i .1))
@@ -45,7 +45,8 @@ either g h (inl x) = inl (g x)
 either g h (inr y) = inr (h y)
 
 either-back :
-    {A B A' B' : Type 0} (k : Bijection A A') (l : Bijection B B') (x : A ⊎ B) → either (k .from) (l .from) (either (k .to) (l .to) x) ≡ x
+    {A B A' B' : Type 0} (k : Bijection A A') (l : Bijection B B') (x : A ⊎ B) →
+    either (k .from) (l .from) (either (k .to) (l .to) x) ≡ x
 unfolding either
 either-back k l (inl x) = ap inl (k .from-to x)
 either-back k l (inr y) = ap inr (l .from-to y)
@@ -94,9 +95,11 @@ kinds-of-edges =
 recounted : {A : Type 0} {n n' : ℕ} → n ≡ n' → Bijection A (Row n) → Bijection A (Row n')
 recounted {A} e b = subst (λ n. Bijection A (Row n)) e b
 
-module _ {P E F : Type 0} {np ne nf : ℕ} (points : Bijection P (Row np)) (edges : Bijection E (Row ne)) (faces : Bijection F (Row nf)) where
-  pub count-points : Bijection (NewPoint P E F) (Row (np + ne + nf))
-  count-points = composed kinds-of-points (both (both points edges) faces)
+module _
+    {P E F : Type 0} {np ne nf : ℕ} (points : Bijection P (Row np)) (edges : Bijection E (Row ne)) (faces : Bijection F (Row nf))
+  where
+    pub count-points : Bijection (NewPoint P E F) (Row (np + ne + nf))
+    count-points = composed kinds-of-points (both (both points edges) faces)
 
 module _ {E : Type 0} {ne : ℕ} (edges : Bijection E (Row ne)) where
   pub count-darts : Bijection (Dart E) (Row (2 * ne))

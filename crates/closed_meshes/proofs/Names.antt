@@ -7,7 +7,7 @@ use native.Mathlib.Omega.{arith}
 use Rattle.closed_meshes.specs.Mesh.{Mesh, Dart}
 use Rattle.closed_meshes.specs.Closed.{Closed}
 use Rattle.closed_meshes.specs.Refinement.{NewPoint, old, mid, facePoint, NewEdge, org, dst, join}
-use Rattle.closed_meshes.specs.Renumbering.{Bijection}
+use Rattle.closed_meshes.specs.Renumbering.{Injective, Bijection}
 use Rattle.closed_meshes.specs.Names.{PointName, EdgeName, FaceName, givenPoint, midpointOf, facePointOf, givenEdge, destinationHalfOf, joiningEdgeOf, givenFace, newFaceOf, newPointName, newEdgeName, newFaceName}
 use Rattle.closed_meshes.specs.Shared.{Stage}
 use Rattle.closed_meshes.specs.Runs.{given, Step, Run, begin, then, NamesDiffer, RunsNameApart}
@@ -16,8 +16,7 @@ use Rattle.closed_meshes.proofs.Isomorphisms.{onto}
 
 -- Names that differ on the kinds differ on the rows that a bijection makes of them.
 differ-onto :
-    {A B N : Type 0} (b : Bijection A B) (name : B → N) → ((x y : A) → name (b .to x) ≡ name (b .to y) → x ≡ y) →
-    (u v : B) → name u ≡ name v → u ≡ v
+    {A B N : Type 0} (b : Bijection A B) (name : B → N) → ((x y : A) → name (b .to x) ≡ name (b .to y) → x ≡ y) → Injective name
 differ-onto b name h =
     onto b (λ u. (v : _) → name u ≡ name v → u ≡ v) λ x.
     onto b (λ v. name (b .to x) ≡ name v → b .to x ≡ v) λ y e. ap (b .to) (h x y e)
@@ -53,9 +52,7 @@ module _ {P E F : Type 0} where
     old-edge : (e : s .Edge) → ¬ (edgeStep (s .names .edge e) ≡ suc k)
     old-edge e h = omega (arith, a .edges e)
 
-    pub new-points-differ :
-        (x y : NewPoint (s .Point) (s .Edge) (s .Face)) →
-        newPointName (suc k) (s .mesh) (s .names) x ≡ newPointName (suc k) (s .mesh) (s .names) y → x ≡ y
+    pub new-points-differ : Injective (newPointName (suc k) (s .mesh) (s .names))
     unfolding pointStep
     new-points-differ (old p) (old p') h = ap old (a .differ .points p p' h)
     new-points-differ (old p) (mid e) h = absurd (old-point p (ap pointStep h))
@@ -67,8 +64,7 @@ module _ {P E F : Type 0} where
     new-points-differ (facePoint f) (mid e) h = cc
     new-points-differ (facePoint f) (facePoint f') h = ap facePoint (a .differ .faces f f' (cc))
 
-    new-edges-differ :
-        (x y : NewEdge (s .Edge)) → newEdgeName (suc k) (s .mesh) (s .names) x ≡ newEdgeName (suc k) (s .mesh) (s .names) y → x ≡ y
+    new-edges-differ : Injective (newEdgeName (suc k) (s .mesh) (s .names))
     unfolding edgeStep
     new-edges-differ (org e) (org e') h = ap org (a .differ .edges e e' h)
     new-edges-differ (org e) (dst e') h = absurd (old-edge e (ap edgeStep h))
@@ -81,11 +77,11 @@ module _ {P E F : Type 0} where
     new-edges-differ (join d) (join d') h =
         ap join (dart-of-face (s .closed) d d' (a .differ .edges _ _ (cc)) (a .differ .faces _ _ (cc)))
 
-    new-faces-differ :
-        (d d' : Dart (s .Edge)) → newFaceName (suc k) (s .mesh) (s .names) d ≡ newFaceName (suc k) (s .mesh) (s .names) d' → d ≡ d'
+    new-faces-differ : Injective (newFaceName (suc k) (s .mesh) (s .names))
     new-faces-differ d d' h = s .closed .one-pass d d' (a .differ .faces _ _ (cc)) (a .differ .points _ _ (cc))
 
-    new-point-step : (x : NewPoint (s .Point) (s .Edge) (s .Face)) → pointStep (newPointName (suc k) (s .mesh) (s .names) x) ≤ suc k
+    new-point-step :
+        (x : NewPoint (s .Point) (s .Edge) (s .Face)) → pointStep (newPointName (suc k) (s .mesh) (s .names) x) ≤ suc k
     unfolding pointStep
     new-point-step (old p) = omega (arith, a .points p)
     new-point-step (mid e) = omega arith
@@ -106,13 +102,25 @@ module _ {P E F : Type 0} where
         record {
           differ =
               record {
-                points = differ-onto (b .numbering .points) (t .names .point) (λ x y h. new-points-differ x y (sym (b .point-name x) ∙ h ∙ b .point-name y));
-                edges = differ-onto (b .numbering .edges) (t .names .edge) (λ x y h. new-edges-differ x y (sym (b .edge-name x) ∙ h ∙ b .edge-name y));
-                faces = differ-onto (b .numbering .faces) (t .names .face) (λ x y h. new-faces-differ x y (sym (b .face-name x) ∙ h ∙ b .face-name y));
+                points =
+                    differ-onto (b .numbering .points) (t .names .point)
+                    (λ x y h. new-points-differ x y (sym (b .point-name x) ∙ h ∙ b .point-name y));
+                edges =
+                    differ-onto (b .numbering .edges) (t .names .edge)
+                    (λ x y h. new-edges-differ x y (sym (b .edge-name x) ∙ h ∙ b .edge-name y));
+                faces =
+                    differ-onto (b .numbering .faces) (t .names .face)
+                    (λ x y h. new-faces-differ x y (sym (b .face-name x) ∙ h ∙ b .face-name y));
               };
-          points = onto (b .numbering .points) (λ p. pointStep (t .names .point p) ≤ suc k) (λ x. rw (b .point-name x) (new-point-step x));
-          edges = onto (b .numbering .edges) (λ e. edgeStep (t .names .edge e) ≤ suc k) (λ x. rw (b .edge-name x) (new-edge-step x));
-          faces = onto (b .numbering .faces) (λ f. faceStep (t .names .face f) ≤ suc k) (λ x. rw (b .face-name x) (new-face-step x));
+          points =
+              onto (b .numbering .points) (λ p. pointStep (t .names .point p) ≤ suc k)
+              (λ x. rw (b .point-name x) (new-point-step x));
+          edges =
+              onto (b .numbering .edges) (λ e. edgeStep (t .names .edge e) ≤ suc k)
+              (λ x. rw (b .edge-name x) (new-edge-step x));
+          faces =
+              onto (b .numbering .faces) (λ f. faceStep (t .names .face f) ≤ suc k)
+              (λ x. rw (b .face-name x) (new-face-step x));
         }
 
   pub named-run : {m : Mesh P E F} {c : Closed m} {k : ℕ} {s : Stage P E F} → Run (given m c) k s → Named k s

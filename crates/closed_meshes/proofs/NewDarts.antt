@@ -24,7 +24,8 @@ outward d = lft (join d)
 -- There are no other new darts.
 pub by-kind :
     {E : Type 0} (Q : Dart (NewEdge E) → Type 0) →
-    ((d : Dart E) → Q (start-half d)) → ((d : Dart E) → Q (inward d)) → ((d : Dart E) → Q (outward d)) → ((d : Dart E) → Q (end-half d)) →
+    ((d : Dart E) → Q (start-half d)) → ((d : Dart E) → Q (inward d)) →
+    ((d : Dart E) → Q (outward d)) → ((d : Dart E) → Q (end-half d)) →
     (x : Dart (NewEdge E)) → Q x
 by-kind Q s i o t (lft (org e)) = s (lft e)
 by-kind Q s i o t (lft (dst e)) = t (lft e)

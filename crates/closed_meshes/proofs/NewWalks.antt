@@ -129,7 +129,8 @@ module _ {P E F : Type 0} (m : Mesh P E F) (c : Closed m) where
   rank-below' (rgt (join (rgt e))) = omega arith
 
   rank-turn' :
-      (x : Dart (NewEdge E)) → suc (pointRank x) < refined m c .valence (first (refined m c) x) → pointRank (turn' x) ≡ suc (pointRank x)
+      (x : Dart (NewEdge E)) → suc (pointRank x) < refined m c .valence (first (refined m c) x) →
+      pointRank (turn' x) ≡ suc (pointRank x)
   unfolding pointRank turn' prev'
   rank-turn' (lft (org e)) h =
       ap pointRank (turn-start-half (lft e)) ∙ pointRank-start-half (flip (c .prev (lft e))) ∙ c .about-points .rank-step (lft e) h

@@ -109,7 +109,9 @@ module _ {P E F : Type 0} (m : Mesh P E F) (c : Closed m) where
           (cc (second-start-half m c d, second-start-half m c d'))
           (cc (first-start-half m c d, first-start-half m c d'))
 
-      same-join : (d d' : Dart E) → _≡_ {A = NewPoint P E F} (mid (edge d)) (mid (edge d')) → _≡_ {A = NewPoint P E F} (facePoint (face m d)) (facePoint (face m d')) → d ≡ d'
+      same-join :
+          (d d' : Dart E) → _≡_ {A = NewPoint P E F} (mid (edge d)) (mid (edge d')) →
+          _≡_ {A = NewPoint P E F} (facePoint (face m d)) (facePoint (face m d')) → d ≡ d'
       same-join d d' h k = dart-of-face c d d' (cc) (cc)
 
       same-end :

@@ -99,7 +99,8 @@ module _ {P E F P' E' F' : Type 0} {m : Mesh P E F} {m' : Mesh P' E' F'} (c : Cl
             λ d.
             elim [
               | place0 ↦ ap (λ f. some (facePoint f)) (face-to i d)
-              | place1 ↦ ap (λ x. some (mid (edge x))) (prev-to c c' i d) ∙ ap (λ e. some (mid e)) (edge-mapDart (i .edges .to) (c .prev d))
+              | place1 ↦
+                  ap (λ x. some (mid (edge x))) (prev-to c c' i d) ∙ ap (λ e. some (mid e)) (edge-mapDart (i .edges .to) (c .prev d))
               | place2 ↦ ap (λ p. some (old p)) (first-to i d)
               | place3 ↦ ap (λ e. some (mid e)) (edge-mapDart (i .edges .to) d)
             ];

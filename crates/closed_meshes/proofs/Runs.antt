@@ -25,7 +25,8 @@ module _ {P E F : Type 0} where
   module _ (k : ℕ) {s s' : Stage P E F} (a : Matching s s') where
     pub new-point :
         (x : NewPoint (s .Point) (s .Edge) (s .Face)) →
-        newPointName k (s' .mesh) (s' .names) (lifted (s .closed) (s' .closed) (a .isomorphism) .points .to x) ≡ newPointName k (s .mesh) (s .names) x
+        newPointName k (s' .mesh) (s' .names) (lifted (s .closed) (s' .closed) (a .isomorphism) .points .to x)
+        ≡ newPointName k (s .mesh) (s .names) x
     unfolding lifted
     new-point (old p) = a .point p
     new-point (mid e) = rw (a .edge e)
@@ -33,7 +34,8 @@ module _ {P E F : Type 0} where
 
     new-edge :
         (x : NewEdge (s .Edge)) →
-        newEdgeName k (s' .mesh) (s' .names) (lifted (s .closed) (s' .closed) (a .isomorphism) .edges .to x) ≡ newEdgeName k (s .mesh) (s .names) x
+        newEdgeName k (s' .mesh) (s' .names) (lifted (s .closed) (s' .closed) (a .isomorphism) .edges .to x)
+        ≡ newEdgeName k (s .mesh) (s .names) x
     unfolding lifted
     new-edge (org e) = a .edge e
     new-edge (dst e) = rw (a .edge e)
@@ -44,7 +46,8 @@ module _ {P E F : Type 0} where
 
     new-face :
         (d : Dart (s .Edge)) →
-        newFaceName k (s' .mesh) (s' .names) (lifted (s .closed) (s' .closed) (a .isomorphism) .faces .to d) ≡ newFaceName k (s .mesh) (s .names) d
+        newFaceName k (s' .mesh) (s' .names) (lifted (s .closed) (s' .closed) (a .isomorphism) .faces .to d)
+        ≡ newFaceName k (s .mesh) (s .names) d
     unfolding lifted
     new-face d =
         ap₂ (newFaceOf k)
@@ -86,32 +89,35 @@ module _ {P E F : Type 0} where
   runs-match m c c' r r' = matching-run (matching-given m c c') r r'
 
   -- Any numbering of the kinds, with start edges that touch, makes a step: the mesh is closed again and its rows have names.
-  module _ (k : ℕ) (s : Stage P E F) {P' E' F' : Type 0} {m : Mesh P' E' F'} (i : Isomorphism (refined (s .mesh) (s .closed)) m) (t : Touching m) where
-    unfoldable pub after : Stage P E F
-    after =
-        record {
-          Point = P';
-          Edge = E';
-          Face = F';
-          mesh = m;
-          closed = carries-over _ _ _ _ _ _ (refined (s .mesh) (s .closed)) m i t (stays-closed _ _ _ (s .mesh) (s .closed));
-          names =
-              record {
-                point = λ p. newPointName k (s .mesh) (s .names) (i .points .from p);
-                edge = λ e. newEdgeName k (s .mesh) (s .names) (i .edges .from e);
-                face = λ f. newFaceName k (s .mesh) (s .names) (i .faces .from f);
-              };
-        }
+  module _
+      (k : ℕ) (s : Stage P E F) {P' E' F' : Type 0} {m : Mesh P' E' F'} (i : Isomorphism (refined (s .mesh) (s .closed)) m)
+      (t : Touching m)
+    where
+      unfoldable pub after : Stage P E F
+      after =
+          record {
+            Point = P';
+            Edge = E';
+            Face = F';
+            mesh = m;
+            closed = carries-over _ _ _ _ _ _ (refined (s .mesh) (s .closed)) m i t (stays-closed _ _ _ (s .mesh) (s .closed));
+            names =
+                record {
+                  point = λ p. newPointName k (s .mesh) (s .names) (i .points .from p);
+                  edge = λ e. newEdgeName k (s .mesh) (s .names) (i .edges .from e);
+                  face = λ f. newFaceName k (s .mesh) (s .names) (i .faces .from f);
+                };
+          }
 
-    pub step-after : Step k s after
-    unfolding after
-    step-after =
-        record {
-          numbering = i;
-          point-name = λ p. ap (newPointName k (s .mesh) (s .names)) (i .points .from-to p);
-          edge-name = λ e. ap (newEdgeName k (s .mesh) (s .names)) (i .edges .from-to e);
-          face-name = λ f. ap (newFaceName k (s .mesh) (s .names)) (i .faces .from-to f);
-        }
+      pub step-after : Step k s after
+      unfolding after
+      step-after =
+          record {
+            numbering = i;
+            point-name = λ p. ap (newPointName k (s .mesh) (s .names)) (i .points .from-to p);
+            edge-name = λ e. ap (newEdgeName k (s .mesh) (s .names)) (i .edges .from-to e);
+            face-name = λ f. ap (newFaceName k (s .mesh) (s .names)) (i .faces .from-to f);
+          }
 
   -- The name of a row after a step is the name of its kind.
   module _ {k : ℕ} {s t : Stage P E F} (b : Step k s t) where

@@ -1,14 +1,14 @@
 -- Nothing is left out of `Shared`: it makes an isomorphism of the meshes. Assumes nothing.
 use mathlib.Core.Path.{_≡_, refl, sym, _∙_, ap}
 use mathlib.Core.Option.{Option, none, some, Option·map}
-use Rattle.closed_meshes.specs.Renumbering.{Bijection, Isomorphism}
+use Rattle.closed_meshes.specs.Renumbering.{Injective, Bijection, Isomorphism}
 use Rattle.closed_meshes.specs.Shared.{Stage, SharedEdge, Shared}
 use Rattle.closed_meshes.specs.Runs.{NamesDiffer, SharedIsAll}
 
 -- Rows with the same names correspond.
 module _
-    {A A' N : Type 0} (name : A → N) (name' : A' → N) (differ : (x y : A) → name x ≡ name y → x ≡ y)
-    (differ' : (x y : A') → name' x ≡ name' y → x ≡ y) (there : (x : A) → (y : A') × (name x ≡ name' y))
+    {A A' N : Type 0} (name : A → N) (name' : A' → N) (differ : Injective name)
+    (differ' : Injective name') (there : (x : A) → (y : A') × (name x ≡ name' y))
     (here : (y : A') → (x : A) × (name x ≡ name' y))
   where
     abbrev by-name : Bijection A A'

@@ -60,7 +60,9 @@ module _ {P E F : Type 0} {s s' : Stage P E F} (a : Matching s s') (n : NamesDif
       ∙ ap (λ k. map (passed s') (walk (s' .closed .next) k (dartTo (a .isomorphism) d)))
       (sym (ap (s' .closed .size) (face-to (a .isomorphism) d) ∙ size-to (s .closed) (s' .closed) (a .isomorphism) (face (s .mesh) d)))
 
-  named-option : (o : Option (s .Point)) → Option·map (s .names .point) o ≡ Option·map (s' .names .point) (Option·map (a .isomorphism .points .to) o)
+  named-option :
+      (o : Option (s .Point)) →
+      Option·map (s .names .point) o ≡ Option·map (s' .names .point) (Option·map (a .isomorphism .points .to) o)
   named-option none = refl
   named-option (some p) = ap some (sym (a .point p))
 

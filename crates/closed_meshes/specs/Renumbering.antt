@@ -1,4 +1,5 @@
 -- Two meshes that are one but for the numbering of their rows and their start edges.
+--     Injective g           no two values of g are the same
 --     Bijection A B         a one-to-one correspondence of A and B
 --     Isomorphism m m'      points, edges and faces correspond, and each field of a row but its start edge with them
 --     Touching m            the start edge of each point touches it, and the start edge of each face borders it
@@ -10,6 +11,9 @@ use mathlib.Core.Option.{Option·map}
 use Prim.Native.Nat.{ℕ, zero, suc, _+_, _<_}
 use Rattle.closed_meshes.specs.Mesh.{Mesh, Place, Dart, edge, first, face}
 use Rattle.closed_meshes.specs.Closed.{Closed}
+
+abbrev pub Injective : {A B : Type 0} → (A → B) → Type 0
+Injective {A} g = (x y : A) → g x ≡ g y → x ≡ y
 
 pub record Bijection (A B : Type 0) : Type 0 where
   pub to : A → B

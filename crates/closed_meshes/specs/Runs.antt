@@ -11,7 +11,7 @@ use Prim.Native.Nat.{ℕ, zero, suc}
 use Rattle.closed_meshes.specs.Mesh.{Mesh, Dart}
 use Rattle.closed_meshes.specs.Closed.{Closed}
 use Rattle.closed_meshes.specs.Refinement.{NewPoint, NewEdge, refined}
-use Rattle.closed_meshes.specs.Renumbering.{Isomorphism}
+use Rattle.closed_meshes.specs.Renumbering.{Injective, Isomorphism}
 use Rattle.closed_meshes.specs.Names.{givenNames, newPointName, newEdgeName, newFaceName}
 use Rattle.closed_meshes.specs.Shared.{Stage, Shared}
 
@@ -24,7 +24,8 @@ module _ {P E F : Type 0} where
   pub record Step (k : ℕ) (s s' : Stage P E F) : Type 0 where
     pub numbering : Isomorphism (refined (s .mesh) (s .closed)) (s' .mesh)
     pub point-name :
-        (p : NewPoint (s .Point) (s .Edge) (s .Face)) → s' .names .point (numbering .points .to p) ≡ newPointName k (s .mesh) (s .names) p
+        (p : NewPoint (s .Point) (s .Edge) (s .Face)) →
+        s' .names .point (numbering .points .to p) ≡ newPointName k (s .mesh) (s .names) p
     pub edge-name :
         (e : NewEdge (s .Edge)) → s' .names .edge (numbering .edges .to e) ≡ newEdgeName k (s .mesh) (s .names) e
     pub face-name :
@@ -35,9 +36,9 @@ module _ {P E F : Type 0} where
     then : {k : ℕ} {s' s'' : Stage P E F} → Run s k s' → Step (suc k) s' s'' → Run s (suc k) s''
 
   pub record NamesDiffer (s : Stage P E F) : Type 0 where
-    pub points : (p p' : s .Point) → s .names .point p ≡ s .names .point p' → p ≡ p'
-    pub edges : (e e' : s .Edge) → s .names .edge e ≡ s .names .edge e' → e ≡ e'
-    pub faces : (f f' : s .Face) → s .names .face f ≡ s .names .face f' → f ≡ f'
+    pub points : Injective (s .names .point)
+    pub edges : Injective (s .names .edge)
+    pub faces : Injective (s .names .face)
 
 abbrev pub RunsNameApart : Type 1
 RunsNameApart =

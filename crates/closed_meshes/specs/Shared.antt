@@ -1,5 +1,6 @@
 -- What two meshes with names share (document 01, "Shared means").
 --     Stage P E F           a closed mesh with names, reached from a first mesh over P E F
+--     passed s d            the names of d's edge and of the point from which it leaves
 --     border s d            the names of the edges and points that the walk about d's face passes in turn, begun at d
 --     SharedEdge s s' e e'  the edges e and e' agree, every reference read as a name
 --     Shared s s'           the same names occur in both meshes and, every reference read as a name, rows of one name agree
