@@ -197,3 +197,11 @@ module _ {P E F P' E' F' : Type 0} {m : Mesh P E F} {m' : Mesh P' E' F'} (i : Is
 -- Closed carries over.
 pub carries-over : CarriesOver
 carries-over P E F P' E' F' m m' i t c = closed-carried i c t
+
+-- In a closed mesh the start edges touch.
+pub touching-of-closed : {P E F : Type 0} {m : Mesh P E F} → Closed m → Touching m
+touching-of-closed c =
+    record {
+      start = λ p. (c .pointDart p, c .edge-pointDart p, c .about-points .cls-start p);
+      faceStart = λ f. (c .faceDart f, c .edge-faceDart f, c .about-faces .cls-start f);
+    }

@@ -16,3 +16,4 @@ pub mod Runs
 pub mod SameKind
 pub mod SharedIsAll
 pub mod TwoRuns
+pub mod Cases

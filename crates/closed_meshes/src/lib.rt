@@ -23,4 +23,4 @@
 // Laws for callers: a walk passes each dart once, any start will do, lengths are unique (proofs/Cycles.antt); the data of Closed
 // are settled by the mesh (proofs/Unique.antt); injective numbers in range are a numbering (proofs/Counting.antt); counts of rows,
 // sums of sizes and of valences (proofs/Counts.antt); any numbering makes a step, and which names its rows have (proofs/Runs.antt);
-// points of one name are of one kind (proofs/SameKind.antt).
+// points of one name are of one kind (proofs/SameKind.antt). An instance: two triangles back to back (proofs/Cases.antt).
