@@ -1,7 +1,7 @@
 -- The definitions have an instance: two triangles back to back are closed, and a run of two steps from them goes on as defined.
 use mathlib.Core.Path.{_≡_, refl, sym, _∙_, ap}
 use mathlib.Core.Option.{none}
-use Prim.Native.Nat.{ℕ, suc, _<_}
+use Prim.Native.Nat.{ℕ, suc}
 use native.Mathlib.Omega.{arith}
 use Rattle.closed_meshes.specs.Mesh.{Mesh, Dart, lft, rgt, edge, flip, first, second, face}
 use Rattle.closed_meshes.specs.Cycles.{Cycles}
