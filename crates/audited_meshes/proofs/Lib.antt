@@ -4,5 +4,7 @@ pub mod Walks
 pub mod Audited
 pub mod Sums
 pub mod Quick
+pub mod Positions
+pub mod Cycles
 pub mod Meshes
 pub mod Cases

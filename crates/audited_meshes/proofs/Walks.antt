@@ -38,7 +38,7 @@ never-back es w = let z : _≡_ {A = ℕ} 0 1 = cc in omega arith
 
 module _ (step : ℕ → ℕ) (On : ℕ → Type 0) (s : ℕ) where
   -- A walk passes the edge that it comes to.
-  passes-head : (e : ℕ) (es : List ℕ) → Passes step On s e es → 0 < occurrences e es
+  pub passes-head : (e : ℕ) (es : List ℕ) → Passes step On s e es → 0 < occurrences e es
   passes-head e es (last {e = i} o b) = omega (arith, occurrences-here i [])
   passes-head e es (more {e = i} {es = rest} o b p) = omega (arith, occurrences-here i rest)
 
