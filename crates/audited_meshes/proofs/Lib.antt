@@ -6,5 +6,7 @@ pub mod Sums
 pub mod Quick
 pub mod Positions
 pub mod Cycles
+pub mod Rows
+pub mod Closed
 pub mod Meshes
 pub mod Cases

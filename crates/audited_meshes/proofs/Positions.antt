@@ -1,7 +1,7 @@
 -- Where an edge stands in the list of the edges that a walk passes, and what one step does to that. Assumes nothing.
 use mathlib.Core.Path.{_≡_, refl, sym, _∙_, ap, subst}
 use mathlib.Core.Bool.{Bool, true, false, cond}
-use mathlib.Core.List.{List, [], _∷_}
+use mathlib.Core.List.{List, [], _∷_, map}
 use mathlib.Core.Logic.{_≢_}
 use Prim.Native.Nat.{ℕ, zero, suc, _≤_, _<_}
 use native.Mathlib.Omega.{arith}
@@ -35,7 +35,7 @@ position-below i (k ∷ ks) l = go (position-below i ks) (ℕ-discrete k i)
     go ih (yes e) = subst (λ i. position i (k ∷ ks) < suc (length ks)) e (omega (arith, position-here k ks))
     go ih (no h) = omega (arith, position-there i k ks h, ih (omega (arith, occurrences-there i k ks h)))
 
-getD-position : (i : ℕ) (ks : List ℕ) → 0 < occurrences i ks → getD ks (position i ks) 0 ≡ i
+pub getD-position : (i : ℕ) (ks : List ℕ) → 0 < occurrences i ks → getD ks (position i ks) 0 ≡ i
 unfolding occurrences
 getD-position i [] l = absurd (omega arith)
 getD-position i (k ∷ ks) l = go (getD-position i ks) (ℕ-discrete k i)
@@ -70,6 +70,12 @@ position-getD (k ∷ ks) (suc j) once l = go (position-getD ks j (fewer once) (o
         let twice : 0 < occurrences k ks = subst (λ i. 0 < occurrences i ks) (sym e) (occurrences-getD ks j (omega arith)) in
         absurd (omega (arith, occurrences-here k ks, once k))
     go ih (no h) = position-there (getD ks j 0) k ks h ∙ ap suc ih
+
+-- an element of the list of the values
+pub getD-map-below : (g : ℕ → ℕ) (ks : List ℕ) (j : ℕ) → j < length ks → getD (map g ks) j 0 ≡ g (getD ks j 0)
+getD-map-below g [] j l = absurd (omega arith)
+getD-map-below g (k ∷ ks) zero l = refl
+getD-map-below g (k ∷ ks) (suc j) l = getD-map-below g ks j (omega arith)
 
 module _ (step : ℕ → ℕ) (On : ℕ → Type 0) (s : ℕ) where
   getD-passes-zero : (e : ℕ) (es : List ℕ) → Passes step On s e es → getD es 0 0 ≡ e
