@@ -8,5 +8,6 @@ pub mod Positions
 pub mod Cycles
 pub mod Rows
 pub mod Closed
+pub mod Holds
 pub mod Meshes
 pub mod Cases
