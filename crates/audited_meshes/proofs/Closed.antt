@@ -4,9 +4,9 @@ use mathlib.Core.Path.{_≡_, refl, sym, _∙_, ap, ap₂, subst}
 use mathlib.Core.Bool.{Bool, true, false, cond}
 use mathlib.Core.List.{List, map}
 use mathlib.Core.Logic.{_⊎_, inl, inr, _≢_}
-use Prim.Native.Nat.{ℕ, suc, _≤_, _<_}
+use Prim.Native.Nat.{ℕ, _≤_, _<_}
 use native.Mathlib.Omega.{arith}
-use native.Mathlib.Decide.{decLt, ℕ-discrete}
+use native.Mathlib.Decide.{decLt}
 use lib.Dec.{eqb}
 use lib.ListN.{length, getD, length-map}
 use borrow.Author.Tests.{eq-eqb, ne-eqb}
@@ -16,13 +16,14 @@ use Rattle.closed_meshes.specs.Cycles.{Cycles}
 use Rattle.closed_meshes.specs.Renumbering.{Row}
 use Rattle.closed_meshes.proofs.Counting.{row-path}
 use Rattle.closed_meshes.proofs.Darts.{edge-flip, first-flip}
-use Rattle.tables.specs.Mesh.{Mesh, valence, start, origin, dest, leftFace, rightFace, leftCw, leftAcw, rightCw, rightAcw, faceStart}
+use Rattle.tables.specs.Mesh.{Mesh, valence, start, origin, dest, leftFace, rightFace, faceStart}
 use Rattle.audited_meshes.specs.Folds.{occurrences}
-use Rattle.audited_meshes.specs.Walks.{acwOfFace, cwOfFace, acwOfPoint, firstPoint}
-use Rattle.audited_meshes.specs.Audited.{Borders, Touches, SameEnds, AcwLinks, CwLinks, FaceWalked, PointWalked, Audited}
+use Rattle.audited_meshes.specs.Walks.{acwOfFace, cwOfFace, acwOfPoint, firstPoint, passed, faceWalk, pointWalk}
+use Rattle.audited_meshes.specs.Audited.{Borders, Touches, AcwLinks, CwLinks, FaceWalked, PointWalked, Audited}
 use Rattle.audited_meshes.proofs.Walks.{passes-head, passes-on}
 use Rattle.audited_meshes.proofs.Positions.{position, position-below, getD-position, getD-map-below, passes-step, passes-moves}
 use Rattle.audited_meshes.proofs.Cycles.{cycles-of-walks}
+use Rattle.audited_meshes.proofs.Audited.{faceWalk-is, pointWalk-is}
 use Rattle.audited_meshes.proofs.Rows.{rows}
 
 module _ (m : Mesh) {np ne nf : ℕ} (a : Audited m np ne nf) where
@@ -198,7 +199,7 @@ module _ (m : Mesh) {np ne nf : ℕ} (a : Audited m np ne nf) where
   next-moves d same =
       let w = face-walk (face t d) in
       passes-moves _ _ _ (w .edges) (w .passes) (num d) (face-passed d) (omega (arith, w .at-least-3))
-        (acwOfFace-dart d ∙ ap (λ (e : Row ne). e .0) (sym (edge-next d)) ∙ ap num same)
+      (acwOfFace-dart d ∙ ap (λ (e : Row ne). e .0) (sym (edge-next d)) ∙ ap num same)
 
   -- the edge before a dart about its face touches the dart's first point, as the walk about that point goes there
   prev-touches : (d : Dart (Row ne)) → Touches m (first t d .0) (num (prev d))
@@ -207,7 +208,7 @@ module _ (m : Mesh) {np ne nf : ℕ} (a : Audited m np ne nf) where
       let w = point-walk (first t d) in
       let there : acwOfPoint m (first t d .0) (num d) ≡ num (prev d) = acwOfPoint-dart d ∙ ap (λ (e : Row ne). e .0) (sym (edge-prev d)) in
       subst (λ i. Touches m (first t d .0) i) there
-        (passes-on _ _ _ _ (w .edges) (w .passes) _ (passes-step _ _ _ (w .edges) (w .passes) (num d) (point-passed d)) .1)
+      (passes-on _ _ _ _ (w .edges) (w .passes) _ (passes-step _ _ _ (w .edges) (w .passes) (num d) (point-passed d)) .1)
 
   -- a point at an edge is one end of each dart of it
   end-of-touches : (d : Dart (Row ne)) (p : ℕ) → Touches m p (num d) → (first t d .0 ≡ p) ⊎ (second t d .0 ≡ p)
@@ -235,11 +236,14 @@ module _ (m : Mesh) {np ne nf : ℕ} (a : Audited m np ne nf) where
     where
       touched : Touches m (second t d .0) (num (next d))
       touched = unfold num in subst (λ (e : Row ne). Touches m (second t d .0) (e .0)) (sym (edge-next d)) (acw-links d .touches-end)
+
       back-touches : Touches m (first t (next d) .0) (num d)
       back-touches = subst (λ x. Touches m (first t (next d) .0) (num x)) (prev-next d) (prev-touches (next d))
+
       clash : second t (next d) .0 ≡ second t d .0 → (first t d .0 ≡ first t (next d) .0) ⊎ (second t d .0 ≡ first t (next d) .0) → ⊥
       clash h (inl k) = next-moves d (dart-of-face (next d) d (same-ends (next d) d (sym k) h) (face-next d))
       clash h (inr k) = second-differs (next d) (sym k ∙ sym h)
+
       go : (first t (next d) .0 ≡ second t d .0) ⊎ (second t (next d) .0 ≡ second t d .0) → first t (next d) .0 ≡ second t d .0
       go (inl h) = h
       go (inr h) = absurd (clash h (end-of-touches d (first t (next d) .0) back-touches))
@@ -248,8 +252,8 @@ module _ (m : Mesh) {np ne nf : ℕ} (a : Audited m np ne nf) where
 
   -- two darts at different places of their face's walk begin at different points
   places-differ :
-    (d d′ : Dart (Row ne)) → face t d ≡ face t d′ → first t d ≡ first t d′ →
-    position (num d′) (face-walk (face t d) .edges) < position (num d) (face-walk (face t d) .edges) → ⊥
+      (d d′ : Dart (Row ne)) → face t d ≡ face t d′ → first t d ≡ first t d′ →
+      position (num d′) (face-walk (face t d) .edges) < position (num d) (face-walk (face t d) .edges) → ⊥
   unfolding num
   places-differ d d′ f p l =
       let w = face-walk (face t d) in
@@ -260,12 +264,12 @@ module _ (m : Mesh) {np ne nf : ℕ} (a : Audited m np ne nf) where
       let j = position (num d′) es in
       let far : i < length es = position-below (num d) es on in
       let at : getD (map (firstPoint m (face t d .0)) es) i 0 ≡ first t d .0
-          = getD-map-below (firstPoint m (face t d .0)) es i far ∙ ap (firstPoint m (face t d .0)) (getD-position (num d) es on) ∙ firstPoint-dart d in
+      = getD-map-below (firstPoint m (face t d .0)) es i far ∙ ap (firstPoint m (face t d .0)) (getD-position (num d) es on) ∙ firstPoint-dart d in
       let at′ : getD (map (firstPoint m (face t d .0)) es) j 0 ≡ first t d′ .0
-          = getD-map-below (firstPoint m (face t d .0)) es j (omega (arith, position-below (num d′) es on′))
-            ∙ ap (firstPoint m (face t d .0)) (getD-position (num d′) es on′)
-            ∙ ap (λ (x : Row nf). firstPoint m (x .0) (num d′)) f
-            ∙ firstPoint-dart d′ in
+      = getD-map-below (firstPoint m (face t d .0)) es j (omega (arith, position-below (num d′) es on′))
+      ∙ ap (firstPoint m (face t d .0)) (getD-position (num d′) es on′)
+      ∙ ap (λ (x : Row nf). firstPoint m (x .0) (num d′)) f
+      ∙ firstPoint-dart d′ in
       w .no-point-twice i j (subst (λ n. i < n) (sym (length-map es (firstPoint m (face t d .0)))) far) l (at ∙ ap (λ (x : Row np). x .0) p ∙ sym at′)
 
   one-pass : (d d′ : Dart (Row ne)) → face t d ≡ face t d′ → first t d ≡ first t d′ → d ≡ d′
@@ -273,12 +277,16 @@ module _ (m : Mesh) {np ne nf : ℕ} (a : Audited m np ne nf) where
     where
       es : List ℕ
       es = face-walk (face t d) .edges
+
       i : ℕ
       i = position (num d) es
+
       j : ℕ
       j = position (num d′) es
+
       on′ : 0 < occurrences (num d′) es
       on′ = subst (λ x. 0 < occurrences (num d′) (face-walk x .edges)) (sym f) (face-passed d′)
+
       go : Dec (i < j) → Dec (j < i) → d ≡ d′
       go (yes l) k =
           absurd (places-differ d′ d (sym f) (sym p) (subst (λ x. position (num d) (face-walk x .edges) < position (num d′) (face-walk x .edges)) f l))
@@ -321,18 +329,18 @@ module _ (m : Mesh) {np ne nf : ℕ} (a : Audited m np ne nf) where
   unfolding num
   about-faces =
       cycles-of-walks num next (face t) faceDart (λ f. length (face-walk f .edges)) (λ f. acwOfFace m (f .0)) (λ f e. (e < ne) × Borders m (f .0) e)
-        (λ f. faceStart m (f .0)) (λ f. face-walk f .edges) (λ f. face-walk f .passes) (λ f. refl) face-passed dart-of-face face-next face-faceDart
-        (λ d. ap (λ (e : Row ne). e .0) (edge-next d) ∙ sym (acwOfFace-dart d))
-        (λ f. ap (λ (e : Row ne). e .0) (edge-faceDart f))
+      (λ f. faceStart m (f .0)) (λ f. face-walk f .edges) (λ f. face-walk f .passes) (λ f. refl) face-passed dart-of-face face-next face-faceDart
+      (λ d. ap (λ (e : Row ne). e .0) (edge-next d) ∙ sym (acwOfFace-dart d))
+      (λ f. ap (λ (e : Row ne). e .0) (edge-faceDart f))
 
   about-points : Cycles (λ d. flip (prev d)) (first t) pointDart (λ p. valence m (p .0))
   unfolding num
   about-points =
       cycles-of-walks num (λ d. flip (prev d)) (first t) pointDart (λ p. valence m (p .0)) (λ p. acwOfPoint m (p .0)) (λ p e. (e < ne) × Touches m (p .0) e)
-        (λ p. start m (p .0)) (λ p. point-walk p .edges) (λ p. point-walk p .passes) (λ p. point-walk p .is-valence) point-passed dart-of-first
-        (λ d. first-flip t (prev d) ∙ sym (first-next (prev d)) ∙ ap (first t) (next-prev d)) first-pointDart
-        (λ d. ap (λ (e : Row ne). e .0) (edge-flip (prev d) ∙ edge-prev d) ∙ sym (acwOfPoint-dart d))
-        (λ p. ap (λ (e : Row ne). e .0) (edge-pointDart p))
+      (λ p. start m (p .0)) (λ p. point-walk p .edges) (λ p. point-walk p .passes) (λ p. point-walk p .is-valence) point-passed dart-of-first
+      (λ d. first-flip t (prev d) ∙ sym (first-next (prev d)) ∙ ap (first t) (next-prev d)) first-pointDart
+      (λ d. ap (λ (e : Row ne). e .0) (edge-flip (prev d) ∙ edge-prev d) ∙ sym (acwOfPoint-dart d))
+      (λ p. ap (λ (e : Row ne). e .0) (edge-pointDart p))
 
   -- The mesh in tables that pass the audit is closed.
   pub closed-rows : Closed (rows m a)
@@ -358,5 +366,15 @@ module _ (m : Mesh) {np ne nf : ℕ} (a : Audited m np ne nf) where
         size-high = λ f. face-walk f .at-most-64;
         about-faces = about-faces;
         valence-low = λ p. subst (λ n. 2 ≤ n) (point-walk p .is-valence) (point-walk p .at-least-2);
-        about-points = about-points
+        about-points = about-points;
       }
+
+  -- The number of edges that a walk passes is the size of the face, the valence of the point.
+  pub passed-faceWalk : (f : Row nf) → passed (faceWalk m ne (f .0)) ≡ closed-rows .size f
+  unfolding closed-rows
+  passed-faceWalk f = let w = face-walk f in ap passed (faceWalk-is m ne (f .0) (w .edges) .1 (w .passes, w .at-most-64))
+
+  pub passed-pointWalk : (p : Row np) (k : ℕ) → valence m (p .0) ≤ k → passed (pointWalk m ne k (p .0)) ≡ valence m (p .0)
+  passed-pointWalk p k h =
+      let w = point-walk p in
+      ap passed (pointWalk-is m ne (p .0) k (w .edges) .1 (w .passes, omega (arith, w .is-valence))) ∙ w .is-valence

@@ -5,7 +5,7 @@ use mathlib.Core.List.{List, [], _∷_}
 use mathlib.Core.Logic.{_≢_}
 use Prim.Native.Nat.{ℕ, zero, suc, _+_, _≤_, _<_}
 use native.Mathlib.Omega.{arith}
-use native.Mathlib.Decide.{decLe, ℕ-discrete}
+use native.Mathlib.Decide.{ℕ-discrete}
 use lib.ListN.{length, getD}
 use Rattle.closed_meshes.specs.Cycles.{Cycles}
 use Rattle.closed_meshes.proofs.Cycles.{rank-injective}
@@ -16,16 +16,16 @@ use Rattle.audited_meshes.proofs.Positions.{position, position-below, p
 
 -- D darts, C classes; num d is the edge number of dart d; es c are the edges that the walk about class c passes
 module _
-  {D C : Type 0} (num : D → ℕ) (step : D → D) (cls : D → C) (start : C → D) (len : C → ℕ)
-  (stepOf : C → ℕ → ℕ) (On : C → ℕ → Type 0) (startOf : C → ℕ) (es : C → List ℕ)
-  (passes : (c : C) → Passes (stepOf c) (On c) (startOf c) (startOf c) (es c))
-  (len-is : (c : C) → length (es c) ≡ len c)
-  (passed : (d : D) → 0 < occurrences (num d) (es (cls d)))
-  (settled : (d d′ : D) → num d ≡ num d′ → cls d ≡ cls d′ → d ≡ d′)
-  (cls-step : (d : D) → cls (step d) ≡ cls d)
-  (cls-start : (c : C) → cls (start c) ≡ c)
-  (num-step : (d : D) → num (step d) ≡ stepOf (cls d) (num d))
-  (num-start : (c : C) → num (start c) ≡ startOf c) where
+    {D C : Type 0} (num : D → ℕ) (step : D → D) (cls : D → C) (start : C → D) (len : C → ℕ)
+    (stepOf : C → ℕ → ℕ) (On : C → ℕ → Type 0) (startOf : C → ℕ) (es : C → List ℕ)
+    (passes : (c : C) → Passes (stepOf c) (On c) (startOf c) (startOf c) (es c))
+    (len-is : (c : C) → length (es c) ≡ len c)
+    (passed : (d : D) → 0 < occurrences (num d) (es (cls d)))
+    (settled : (d d′ : D) → num d ≡ num d′ → cls d ≡ cls d′ → d ≡ d′)
+    (cls-step : (d : D) → cls (step d) ≡ cls d)
+    (cls-start : (c : C) → cls (start c) ≡ c)
+    (num-step : (d : D) → num (step d) ≡ stepOf (cls d) (num d))
+    (num-start : (c : C) → num (start c) ≡ startOf c) where
   -- the rank of a dart is the place of its edge on the walk about its class
   place : D → ℕ
   place d = position (num d) (es (cls d))
@@ -41,10 +41,10 @@ module _
   unfolding place
   place-last d h =
       settled (step d) (start (cls d))
-        (num-step d
-          ∙ step-of-last (stepOf (cls d)) (On (cls d)) (startOf (cls d)) (es (cls d)) (passes (cls d)) (num d) (passed d) (h ∙ sym (len-is (cls d)))
-          ∙ sym (num-start (cls d)))
-        (cls-step d ∙ sym (cls-start (cls d)))
+      (num-step d
+      ∙ step-of-last (stepOf (cls d)) (On (cls d)) (startOf (cls d)) (es (cls d)) (passes (cls d)) (num d) (passed d) (h ∙ sym (len-is (cls d)))
+      ∙ sym (num-start (cls d)))
+      (cls-step d ∙ sym (cls-start (cls d)))
 
   pub cycles-of-walks : Cycles step cls start len
   unfolding place
@@ -54,22 +54,22 @@ module _
         cls-step = cls-step;
         cls-start = cls-start;
         rank-start = λ c.
-          ap (λ x. position (num (start c)) (es x)) (cls-start c)
-          ∙ ap (λ i. position i (es c)) (num-start c)
-          ∙ position-start (stepOf c) (On c) (startOf c) (es c) (passes c);
+            ap (λ x. position (num (start c)) (es x)) (cls-start c)
+            ∙ ap (λ i. position i (es c)) (num-start c)
+            ∙ position-start (stepOf c) (On c) (startOf c) (es c) (passes c);
         rank-below = λ d. subst (λ n. place d < n) (len-is (cls d)) (position-below (num d) (es (cls d)) (passed d));
         rank-step = place-step;
-        step-last = place-last
+        step-last = place-last;
       }
 
 -- a cycle whose step can be undone, and one class x of it; edges of darts of x are On, and stepOf goes as the step does
 module _
-  {D C : Type 0} {step : D → D} {cls : D → C} {start : C → D} {len : C → ℕ} (c : Cycles step cls start len)
-  (undo : D → D) (step-undo : (d : D) → step (undo d) ≡ d) (num : D → ℕ)
-  (settled : (d d′ : D) → num d ≡ num d′ → cls d ≡ cls d′ → d ≡ d′)
-  (x : C) (stepOf : ℕ → ℕ) (On : ℕ → Type 0)
-  (num-step : (d : D) → cls d ≡ x → stepOf (num d) ≡ num (step d))
-  (on : (d : D) → cls d ≡ x → On (num d)) where
+    {D C : Type 0} {step : D → D} {cls : D → C} {start : C → D} {len : C → ℕ} (c : Cycles step cls start len)
+    (undo : D → D) (step-undo : (d : D) → step (undo d) ≡ d) (num : D → ℕ)
+    (settled : (d d′ : D) → num d ≡ num d′ → cls d ≡ cls d′ → d ≡ d′)
+    (x : C) (stepOf : ℕ → ℕ) (On : ℕ → Type 0)
+    (num-step : (d : D) → cls d ≡ x → stepOf (num d) ≡ num (step d))
+    (on : (d : D) → cls d ≡ x → On (num d)) where
   -- the edges of the k darts from d on
   pub edgesFrom : ℕ → D → List ℕ
   edgesFrom zero d = []
@@ -96,11 +96,11 @@ module _
   unfolding Before edgesFrom
   passes-from zero d b =
       last (on d (b .0))
-        (num-step d (b .0)
-          ∙ ap num (c .step-last d (subst (λ y. suc (c .rank d) ≡ len y) (sym (b .0)) (omega (arith, b .1))) ∙ ap start (b .0)))
+      (num-step d (b .0)
+      ∙ ap num (c .step-last d (subst (λ y. suc (c .rank d) ≡ len y) (sym (b .0)) (omega (arith, b .1))) ∙ ap start (b .0)))
   passes-from (suc k) d b =
       more (on d (b .0)) (away (rank-next k d b))
-        (subst (λ i. Passes stepOf On (num (start x)) i (edgesFrom (suc k) (step d))) (sym (num-step d (b .0))) (passes-from k (step d) (before-next k d b)))
+      (subst (λ i. Passes stepOf On (num (start x)) i (edgesFrom (suc k) (step d))) (sym (num-step d (b .0))) (passes-from k (step d) (before-next k d b)))
     where
       away : c .rank (step d) ≡ suc (c .rank d) → stepOf (num d) ≢ num (start x)
       away up e =
@@ -157,6 +157,7 @@ module _
     where
       rest : List ℕ
       rest = edgesFrom (suc k) (step d)
+
       go : (c .rank (step d) ≤ c .rank y → 0 < occurrences (num y) rest) → Dec (c .rank d ≡ c .rank y) → 0 < occurrences (num y) (num d ∷ rest)
       go ih (yes e) =
           let same : d ≡ y = rank-injective c undo step-undo d y (b .0 ∙ sym cy) e in

@@ -1,10 +1,11 @@
--- Tables in which a closed mesh stands, with counts, numbers and marks that fit, pass the audit. Assumes nothing.
-use mathlib.Core.Path.{_≡_, refl, sym, _∙_, ap, ap₂, subst, subst₂, subst₃}
+-- Tables in which a closed mesh stands, with counts, numbers and marks that fit, pass the audit; and so the audit passes exactly
+-- if the tables hold a closed mesh. Assumes nothing.
+use mathlib.Core.Path.{_≡_, refl, sym, _∙_, ap, subst, subst₂, subst₃}
 use mathlib.Core.List.{List, map}
-use mathlib.Core.Logic.{_⊎_, inl, inr, _≢_}
+use mathlib.Core.Logic.{_⊎_, inl, inr, _≢_, Iff·trans}
 use mathlib.Core.Option.{Option, some}
 use mathlib.Core.Option
-use Prim.Native.Nat.{ℕ, zero, suc, _≤_, _<_}
+use Prim.Native.Nat.{ℕ, zero, suc, _<_}
 use native.Mathlib.Omega.{arith}
 use lib.ListN.{length, getD, length-map}
 use borrow.Author.Tests.{eq-eqb, ne-eqb}
@@ -18,9 +19,13 @@ use Rattle.audited_meshes.specs.Folds.{occurrences}
 use Rattle.audited_meshes.specs.Walks.{acwOfFace, cwOfFace, acwOfPoint, firstPoint}
 use Rattle.audited_meshes.specs.Audited.{Borders, Touches, SameEnds, Distinct, Passes, EdgeInRange, AcwLinks, CwLinks, FaceWalked, PointWalked, Audited}
 use Rattle.audited_meshes.specs.Rows.{place, cornerWord, Stands, Fit}
+use Rattle.audited_meshes.specs.Claims.{AuditIsClosed}
 use Rattle.audited_meshes.proofs.Walks.{passes-once}
 use Rattle.audited_meshes.proofs.Positions.{getD-map-below}
-use Rattle.audited_meshes.proofs.Cycles.{edgesFrom, length-edgesFrom, passes-of-cycle, DartAt, dart-of-place, passed-of-cycle}
+use Rattle.audited_meshes.proofs.Cycles.{edgesFrom, length-edgesFrom, passes-of-cycle, dart-of-place, passed-of-cycle}
+use Rattle.audited_meshes.proofs.Audited.{audit-is-audited}
+use Rattle.audited_meshes.proofs.Rows.{rows, rows-stand, rows-fit}
+use Rattle.audited_meshes.proofs.Closed.{closed-rows}
 
 -- the place with a number
 placeAt : (k : ℕ) → k < 4 → (q : Place) × (place q ≡ k)
@@ -105,10 +110,10 @@ module _ (m : Mesh) {np ne nf : ℕ} (t : MeshOver (Row np) (Row ne) (Row nf)) (
         touches-end = subst (λ (p : Row np). Touches m (p .0) (num (c .next d))) (c .first-next d) (touches-first (c .next d));
         borders-face = subst (λ (f : Row nf). Borders m (f .0) (num (c .next d))) (face-next c d) (borders-dart (c .next d));
         links-back =
-          ap (λ (f : Row nf). cwOfFace m (f .0) (num (c .next d))) (sym (face-next c d))
-          ∙ cwOfFace-dart (c .next d)
-          ∙ sym (num-prev (c .next d))
-          ∙ ap num (c .prev-next d)
+            ap (λ (f : Row nf). cwOfFace m (f .0) (num (c .next d))) (sym (face-next c d))
+            ∙ cwOfFace-dart (c .next d)
+            ∙ sym (num-prev (c .next d))
+            ∙ ap num (c .prev-next d);
       }
 
   cw-links : (d : Dart (Row ne)) → CwLinks m (num d) (face t d .0) (num (c .prev d))
@@ -116,23 +121,23 @@ module _ (m : Mesh) {np ne nf : ℕ} (t : MeshOver (Row np) (Row ne) (Row nf)) (
       record {
         borders-face = subst (λ (f : Row nf). Borders m (f .0) (num (c .prev d))) (face-prev c d) (borders-dart (c .prev d));
         links-back =
-          ap (λ (f : Row nf). acwOfFace m (f .0) (num (c .prev d))) (sym (face-prev c d))
-          ∙ acwOfFace-dart (c .prev d)
-          ∙ sym (num-next (c .prev d))
-          ∙ ap num (c .next-prev d)
+            ap (λ (f : Row nf). acwOfFace m (f .0) (num (c .prev d))) (sym (face-prev c d))
+            ∙ acwOfFace-dart (c .prev d)
+            ∙ sym (num-next (c .prev d))
+            ∙ ap num (c .next-prev d);
       }
 
   left-acw : (e : Row ne) → AcwLinks m (e .0) (dest m (e .0)) (leftFace m (e .0)) (leftAcw m (e .0))
   unfolding num
   left-acw e =
       subst₃ (λ p f a. AcwLinks m (e .0) p f a) (sym (s .dest-stands e)) (sym (s .leftFace-stands e)) (num-next (lft e) ∙ sym (s .leftAcw-stands e))
-        (acw-links (lft e))
+      (acw-links (lft e))
 
   right-acw : (e : Row ne) → AcwLinks m (e .0) (origin m (e .0)) (rightFace m (e .0)) (rightAcw m (e .0))
   unfolding num
   right-acw e =
       subst₃ (λ p f a. AcwLinks m (e .0) p f a) (sym (s .origin-stands e)) (sym (s .rightFace-stands e)) (num-next (rgt e) ∙ sym (s .rightAcw-stands e))
-        (acw-links (rgt e))
+      (acw-links (rgt e))
 
   left-cw : (e : Row ne) → CwLinks m (e .0) (leftFace m (e .0)) (leftCw m (e .0))
   unfolding num
@@ -165,20 +170,20 @@ module _ (m : Mesh) {np ne nf : ℕ} (t : MeshOver (Row np) (Row ne) (Row nf)) (
     face-edges : List ℕ
     face-edges =
         edgesFrom (c .about-faces) (c .prev) (c .next-prev) num settled-on-face f (acwOfFace m (f .0)) (λ e. (e < ne) × Borders m (f .0) e) face-num-step on-face
-          (c .size f) (c .faceDart f)
+        (c .size f) (c .faceDart f)
 
     face-passes : Passes (acwOfFace m (f .0)) (λ e. (e < ne) × Borders m (f .0) e) (faceStart m (f .0)) (faceStart m (f .0)) face-edges
     unfolding num face-edges
     face-passes =
         subst (λ i. Passes (acwOfFace m (f .0)) (λ e. (e < ne) × Borders m (f .0) e) i i face-edges)
-          (ap (λ (e : Row ne). e .0) (c .edge-faceDart f) ∙ sym (s .faceStart-stands f))
-          (passes-of-cycle (c .about-faces) (c .prev) (c .next-prev) num settled-on-face f (acwOfFace m (f .0)) (λ e. (e < ne) × Borders m (f .0) e) face-num-step on-face)
+        (ap (λ (e : Row ne). e .0) (c .edge-faceDart f) ∙ sym (s .faceStart-stands f))
+        (passes-of-cycle (c .about-faces) (c .prev) (c .next-prev) num settled-on-face f (acwOfFace m (f .0)) (λ e. (e < ne) × Borders m (f .0) e) face-num-step on-face)
 
     length-face-edges : length face-edges ≡ c .size f
     unfolding face-edges
     length-face-edges =
         length-edgesFrom (c .about-faces) (c .prev) (c .next-prev) num settled-on-face f (acwOfFace m (f .0)) (λ e. (e < ne) × Borders m (f .0) e) face-num-step on-face
-          (c .size f) (c .faceDart f)
+        (c .size f) (c .faceDart f)
 
     face-passed : (d : Dart (Row ne)) → face t d ≡ f → 0 < occurrences (num d) face-edges
     unfolding face-edges
@@ -199,16 +204,15 @@ module _ (m : Mesh) {np ne nf : ℕ} (t : MeshOver (Row np) (Row ne) (Row nf)) (
     unfolding face-edges FirstAt
     first-at j l =
         let r = dart-of-place (c .about-faces) (c .prev) (c .next-prev) num settled-on-face f (acwOfFace m (f .0)) (λ e. (e < ne) × Borders m (f .0) e) face-num-step on-face
-              j (omega (arith, length-face-edges)) in
-        let d = r .dart in
-        (
+        j (omega (arith, length-face-edges)) in
+        let d = r .dart in (
           d,
           r .dart-cls,
           r .dart-rank,
           getD-map-below (firstPoint m (f .0)) face-edges j l
-          ∙ ap (firstPoint m (f .0)) (sym (r .dart-num))
-          ∙ ap (λ (f : Row nf). firstPoint m (f .0) (num d)) (sym (r .dart-cls))
-          ∙ firstPoint-dart d,
+              ∙ ap (firstPoint m (f .0)) (sym (r .dart-num))
+              ∙ ap (λ (f : Row nf). firstPoint m (f .0) (num d)) (sym (r .dart-cls))
+              ∙ firstPoint-dart d,
         )
 
     no-point-twice : Distinct (map (firstPoint m (f .0)) face-edges)
@@ -229,7 +233,7 @@ module _ (m : Mesh) {np ne nf : ℕ} (t : MeshOver (Row np) (Row ne) (Row nf)) (
           each-once = face-each-once;
           no-point-twice = no-point-twice;
           at-least-3 = omega (arith, length-face-edges, c .size-low f);
-          at-most-64 = omega (arith, length-face-edges, c .size-high f)
+          at-most-64 = omega (arith, length-face-edges, c .size-high f);
         }
 
   -- one step anticlockwise about a point, and what undoes it
@@ -253,20 +257,20 @@ module _ (m : Mesh) {np ne nf : ℕ} (t : MeshOver (Row np) (Row ne) (Row nf)) (
     point-edges : List ℕ
     point-edges =
         edgesFrom (c .about-points) turn turn-back num settled-at-point p (acwOfPoint m (p .0)) (λ e. (e < ne) × Touches m (p .0) e) point-num-step at-point
-          (t .valence p) (c .pointDart p)
+        (t .valence p) (c .pointDart p)
 
     point-passes : Passes (acwOfPoint m (p .0)) (λ e. (e < ne) × Touches m (p .0) e) (start m (p .0)) (start m (p .0)) point-edges
     unfolding num point-edges
     point-passes =
         subst (λ i. Passes (acwOfPoint m (p .0)) (λ e. (e < ne) × Touches m (p .0) e) i i point-edges)
-          (ap (λ (e : Row ne). e .0) (c .edge-pointDart p) ∙ sym (s .start-stands p))
-          (passes-of-cycle (c .about-points) turn turn-back num settled-at-point p (acwOfPoint m (p .0)) (λ e. (e < ne) × Touches m (p .0) e) point-num-step at-point)
+        (ap (λ (e : Row ne). e .0) (c .edge-pointDart p) ∙ sym (s .start-stands p))
+        (passes-of-cycle (c .about-points) turn turn-back num settled-at-point p (acwOfPoint m (p .0)) (λ e. (e < ne) × Touches m (p .0) e) point-num-step at-point)
 
     length-point-edges : length point-edges ≡ t .valence p
     unfolding point-edges
     length-point-edges =
         length-edgesFrom (c .about-points) turn turn-back num settled-at-point p (acwOfPoint m (p .0)) (λ e. (e < ne) × Touches m (p .0) e) point-num-step at-point
-          (t .valence p) (c .pointDart p)
+        (t .valence p) (c .pointDart p)
 
     point-passed : (d : Dart (Row ne)) → first t d ≡ p → 0 < occurrences (num d) point-edges
     unfolding point-edges
@@ -286,7 +290,7 @@ module _ (m : Mesh) {np ne nf : ℕ} (t : MeshOver (Row np) (Row ne) (Row nf)) (
           passes = point-passes;
           each-once = point-each-once;
           at-least-2 = omega (arith, length-point-edges, c .valence-low p);
-          is-valence = length-point-edges ∙ sym (s .valence-stands p)
+          is-valence = length-point-edges ∙ sym (s .valence-stands p);
         }
 
   -- ---- the rest
@@ -294,14 +298,14 @@ module _ (m : Mesh) {np ne nf : ℕ} (t : MeshOver (Row np) (Row ne) (Row nf)) (
   one-edge : (e i : ℕ) → e < ne → i < ne → SameEnds m e i → e ≡ i
   one-edge e i l k (inl h) =
       ap (λ (x : Row ne). x .0)
-        (c .one-edge (lft (e, l)) (lft (i, k))
-          (row-path _ _ (sym (s .origin-stands (e, l)) ∙ h .0 ∙ s .origin-stands (i, k)))
-          (row-path _ _ (sym (s .dest-stands (e, l)) ∙ h .1 ∙ s .dest-stands (i, k))))
+      (c .one-edge (lft (e, l)) (lft (i, k))
+      (row-path _ _ (sym (s .origin-stands (e, l)) ∙ h .0 ∙ s .origin-stands (i, k)))
+      (row-path _ _ (sym (s .dest-stands (e, l)) ∙ h .1 ∙ s .dest-stands (i, k))))
   one-edge e i l k (inr h) =
       ap (λ (x : Row ne). x .0)
-        (c .one-edge (lft (e, l)) (rgt (i, k))
-          (row-path _ _ (sym (s .origin-stands (e, l)) ∙ h .0 ∙ s .dest-stands (i, k)))
-          (row-path _ _ (sym (s .dest-stands (e, l)) ∙ h .1 ∙ s .origin-stands (i, k))))
+      (c .one-edge (lft (e, l)) (rgt (i, k))
+      (row-path _ _ (sym (s .origin-stands (e, l)) ∙ h .0 ∙ s .dest-stands (i, k)))
+      (row-path _ _ (sym (s .dest-stands (e, l)) ∙ h .1 ∙ s .origin-stands (i, k))))
 
   in-range : (e : Row ne) → EdgeInRange m np ne nf (e .0)
   in-range e =
@@ -313,7 +317,7 @@ module _ (m : Mesh) {np ne nf : ℕ} (t : MeshOver (Row np) (Row ne) (Row nf)) (
         leftCw-in-range = subst (λ i. i < ne) (sym (s .leftCw-stands e)) (t .leftCw e .1);
         leftAcw-in-range = subst (λ i. i < ne) (sym (s .leftAcw-stands e)) (t .leftAcw e .1);
         rightCw-in-range = subst (λ i. i < ne) (sym (s .rightCw-stands e)) (t .rightCw e .1);
-        rightAcw-in-range = subst (λ i. i < ne) (sym (s .rightAcw-stands e)) (t .rightAcw e .1)
+        rightAcw-in-range = subst (λ i. i < ne) (sym (s .rightAcw-stands e)) (t .rightAcw e .1);
       }
 
   corner-fit : (f : Row nf) (k : ℕ) → k < 4 → (corner m (f .0) k < np) ⊎ (corner m (f .0) k ≡ none)
@@ -345,5 +349,13 @@ module _ (m : Mesh) {np ne nf : ℕ} (t : MeshOver (Row np) (Row ne) (Row nf)) (
         face-walked = λ f l. face-walk (f, l);
         point-walked = λ p l. point-walk (p, l);
         corner-fit = λ f k l j. corner-fit (f, l) k j;
-        mark-fit = fit .mark-fit
+        mark-fit = fit .mark-fit;
       }
+
+-- The audit passes exactly if the tables hold a closed mesh over bounded numbers, and the rest fits.
+pub audit-is-closed : AuditIsClosed
+audit-is-closed m np ne nf =
+    Iff·trans (audit-is-audited m np ne nf) (
+      λ a. record { mesh = rows m a; stands = rows-stand m a; closed = closed-rows m a; fit = rows-fit m a },
+      λ h. audited-of-closed m (h .mesh) (h .stands) (h .closed) (h .fit),
+    )

@@ -3,6 +3,7 @@ pub mod Folds
 pub mod Walks
 pub mod Audited
 pub mod Sums
+pub mod OneEdge
 pub mod Quick
 pub mod Positions
 pub mod Cycles

@@ -1,6 +1,6 @@
 -- Where an edge stands in the list of the edges that a walk passes, and what one step does to that. Assumes nothing.
 use mathlib.Core.Path.{_≡_, refl, sym, _∙_, ap, subst}
-use mathlib.Core.Bool.{Bool, true, false, cond}
+use mathlib.Core.Bool.{cond}
 use mathlib.Core.List.{List, [], _∷_, map}
 use mathlib.Core.Logic.{_≢_}
 use Prim.Native.Nat.{ℕ, zero, suc, _≤_, _<_}
@@ -11,7 +11,7 @@ use lib.ListN.{length, getD}
 use borrow.Author.Tests.{eq-eqb, ne-eqb}
 use Rattle.audited_meshes.specs.Folds.{occurrences}
 use Rattle.audited_meshes.specs.Audited.{Passes, last, more}
-use Rattle.audited_meshes.proofs.Walks.{occurrences-here, occurrences-there, in-longer, passes-once}
+use Rattle.audited_meshes.proofs.Walks.{occurrences-here, occurrences-there, passes-once}
 
 -- the first place at which i stands in a list that holds it
 pub position : ℕ → List ℕ → ℕ
@@ -65,6 +65,7 @@ position-getD (k ∷ ks) (suc j) once l = go (position-getD ks j (fewer once) (o
         less : Dec (k ≡ i) → occurrences i ks ≤ 1
         less (yes e) = subst (λ i. occurrences i ks ≤ 1) e (omega (arith, occurrences-here k ks, once k))
         less (no h) = omega (arith, occurrences-there i k ks h, once i)
+
     go : position (getD ks j 0) ks ≡ j → Dec (k ≡ getD ks j 0) → position (getD ks j 0) (k ∷ ks) ≡ suc j
     go ih (yes e) =
         let twice : 0 < occurrences k ks = subst (λ i. 0 < occurrences i ks) (sym e) (occurrences-getD ks j (omega arith)) in

@@ -1,5 +1,5 @@
 -- The mesh over bounded numbers that stands in tables that pass the audit. Assumes nothing.
-use mathlib.Core.Path.{_≡_, refl, sym}
+use mathlib.Core.Path.{_≡_, refl}
 use mathlib.Core.Logic.{_⊎_, inl, inr}
 use mathlib.Core.Option.{Option, some}
 use mathlib.Core.Option
@@ -41,7 +41,7 @@ module _ (m : Mesh) {np ne nf : ℕ} (a : Audited m np ne nf) where
         rightCw = λ e. (rightCw m (e .0), a .edge-in-range (e .0) (e .1) .rightCw-in-range);
         rightAcw = λ e. (rightAcw m (e .0), a .edge-in-range (e .0) (e .1) .rightAcw-in-range);
         faceStart = λ f. (faceStart m (f .0), a .faceStart-in-range (f .0) (f .1));
-        corner = λ f k. cornerOf (corner m (f .0) (place k)) (a .corner-fit (f .0) (place k) (f .1) (place-below k))
+        corner = λ f k. cornerOf (corner m (f .0) (place k)) (a .corner-fit (f .0) (place k) (f .1) (place-below k));
       }
 
   pub rows-stand : Stands m rows
@@ -58,7 +58,7 @@ module _ (m : Mesh) {np ne nf : ℕ} (a : Audited m np ne nf) where
         rightCw-stands = λ e. refl;
         rightAcw-stands = λ e. refl;
         faceStart-stands = λ f. refl;
-        corner-stands = λ f k. cornerWord-of (corner m (f .0) (place k)) (a .corner-fit (f .0) (place k) (f .1) (place-below k))
+        corner-stands = λ f k. cornerWord-of (corner m (f .0) (place k)) (a .corner-fit (f .0) (place k) (f .1) (place-below k));
       }
 
   pub rows-fit : Fit m np ne nf
@@ -71,5 +71,5 @@ module _ (m : Mesh) {np ne nf : ℕ} (a : Audited m np ne nf) where
         y-finite = a .y-finite;
         z-finite = a .z-finite;
         interval-fit = a .interval-fit;
-        mark-fit = a .mark-fit
+        mark-fit = a .mark-fit;
       }
