@@ -125,11 +125,3 @@ module _ (step : ℕ → ℕ) (On : ℕ → Type 0) (s : ℕ) where
             (b : Bool) → on e ≡ b → walk step on s (suc k) false b e ≡ back es → Found
         go ih false h w = absurd (never-back es w)
         go ih true h w = met ih (on-is e .0 h) (eqb (step e) s) refl w
-
-    -- Two lists that a walk passes are one.
-    pub passes-unique : (e : ℕ) (es es′ : List ℕ) → Passes step On s e es → Passes step On s e es′ → es ≡ es′
-    passes-unique e es es′ p p′ =
-        let long = length es + length es′ in
-        let a : walk step on s long false (on e) e ≡ back es = walk-of-passes e es p long (omega arith) in
-        let b : walk step on s long false (on e) e ≡ back es′ = walk-of-passes e es′ p′ long (omega arith) in
-        cc
