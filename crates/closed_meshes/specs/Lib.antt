@@ -1,5 +1,1 @@
 pub mod Mesh
-pub mod Cycles
-pub mod Closed
-pub mod Refinement
-pub mod Renumbering
