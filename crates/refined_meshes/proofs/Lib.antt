@@ -1,4 +1,5 @@
 pub mod Places
 pub mod Numbering
+pub mod Words
 pub mod Records
 pub mod Cases
