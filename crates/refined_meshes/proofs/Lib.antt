@@ -1,5 +1,9 @@
 pub mod Places
 pub mod Numbering
 pub mod Words
+pub mod Turns
+pub mod Target
+pub mod Split
+pub mod Content
 pub mod Records
 pub mod Cases

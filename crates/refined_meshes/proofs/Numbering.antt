@@ -437,3 +437,14 @@ module _ {np ne nf : ℕ} {t : Mesh (Row np) (Row ne) (Row nf)} (c : Closed t) (
 
   pub faces-counted : facesBefore nf ≡ 2 * ne
   faces-counted = counted (facesBefore nf) (count-darts (identity (Row ne))) faceNo faceNo-injective faceNo-below faceNo-onto
+
+  -- ---- every row is below its number
+
+  pub pointNo-fits : (x : NewPoint (Row np) (Row ne) (Row nf)) → pointNo x < np + ne + nf
+  pointNo-fits x = rw (← points-counted) (pointNo-below x)
+
+  pub edgeNo-fits : (x : NewEdge (Row ne)) → edgeNo x < 4 * ne
+  edgeNo-fits x = rw (← edges-counted) (edgeNo-below x)
+
+  pub faceNo-fits : (d : Dart (Row ne)) → faceNo d < 2 * ne
+  faceNo-fits d = rw (← faces-counted) (faceNo-below d)
