@@ -5,5 +5,6 @@ pub mod Turns
 pub mod Target
 pub mod Split
 pub mod Content
+pub mod Splits
 pub mod Records
 pub mod Cases

@@ -189,7 +189,7 @@ module _ {np ne nf : ℕ} {t : Mesh (Row np) (Row ne) (Row nf)} (c : Closed t) (
   unfoldable pub slotOf : Row ne → ℕ
   slotOf e = splitsBefore (turnOf e) (place c (lead e))
 
-  slotOf-below : (e : Row ne) → slotOf e < splits (turnOf e)
+  pub slotOf-below : (e : Row ne) → slotOf e < splits (turnOf e)
   unfolding slotOf turnOf splits splitsBefore
   slotOf-below e =
       let k : ℕ = when (face t (lead e)) in
