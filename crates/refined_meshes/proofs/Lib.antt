@@ -6,5 +6,6 @@ pub mod Target
 pub mod Split
 pub mod Content
 pub mod Splits
+pub mod Ring
 pub mod Records
 pub mod Cases

@@ -51,6 +51,12 @@ module _ {A : Type 0} where
   turns-view zero turn view h s = refl
   turns-view (suc n) turn view h s = h n (turns n turn s) ∙ turns-view n turn view h s
 
+  pub turns-stay :
+    {B : Type 0} (n : ℕ) (turn : ℕ → A → A) (Ok : A → Type 0) → ((i : ℕ) (s : A) → Ok s → Ok (turn i s)) → (view : A → B)
+    → ((i : ℕ) (s : A) → Ok s → view (turn i s) ≡ view s) → (s : A) → Ok s → view (turns n turn s) ≡ view s
+  turns-stay n turn Ok ok view h s o =
+      turns-keep n turn (λ i x. Ok x × (view x ≡ view s)) (λ i x l q. (ok i x (q .0), h i x (q .0) ∙ q .1)) s (o, refl) .1
+
   module _
     {K B : Type 0} (turn : ℕ → A → A) (Ok : A → Type 0) (ok : (i : ℕ) (s : A) → Ok s → Ok (turn i s)) (get : A → K → B) (key : ℕ → K)
     where
