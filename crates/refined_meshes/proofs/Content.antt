@@ -15,7 +15,7 @@ use Rattle.closed_meshes.specs.Closed.{Closed}
 use Rattle.closed_meshes.specs.Refinement.{NewPoint, old, mid, facePoint, NewEdge, org, dst, join}
 use Rattle.closed_meshes.specs.Renumbering.{Bijection, Row}
 use Rattle.closed_meshes.proofs.Counting.{row-path}
-use Rattle.closed_meshes.proofs.Refinement.{start-half, end-half, inward, outward}
+use Rattle.closed_meshes.proofs.NewDarts.{start-half, end-half, inward, outward}
 use Rattle.tables.specs.Mesh.{Mesh, mark}
 use Rattle.refined_meshes.specs.State.{State, take}
 use Rattle.refined_meshes.specs.Split.{split}

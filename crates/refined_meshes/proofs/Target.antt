@@ -17,7 +17,7 @@ use Rattle.closed_meshes.specs.Closed.{Closed}
 use Rattle.closed_meshes.specs.Refinement.{NewPoint, old, mid, facePoint, NewEdge, org, dst, join, firstHalf, secondHalf}
 use Rattle.closed_meshes.specs.Renumbering.{Bijection, Row}
 use Rattle.closed_meshes.proofs.Isomorphisms.{mapDart}
-use Rattle.closed_meshes.proofs.Refinement.{start-half, end-half, inward, outward}
+use Rattle.closed_meshes.proofs.NewDarts.{start-half, end-half, inward, outward}
 use Rattle.tables.specs.Mesh.{Mesh, interval}
 use Rattle.refined_meshes.specs.Split.{half}
 use Rattle.refined_meshes.proofs.Places.{dartAt}
