@@ -7,5 +7,7 @@ pub mod Split
 pub mod Content
 pub mod Splits
 pub mod Ring
+pub mod Perimeters
+pub mod Visits
 pub mod Records
 pub mod Cases
