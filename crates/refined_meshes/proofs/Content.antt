@@ -100,6 +100,66 @@ module _ (m : Mesh) {np ne nf : ℕ} {t : MeshOver (Row np) (Row ne) (Row nf)} (
               latest = λ e x y. l .latest e x (from e y)
             })
 
+  -- Taking rows changes no word.
+  pub content-taken : {S : Row ne → Type 0} {k : ℕ} {s : State} (p e f : ℕ) → Content S k s → Content S k (take p e f s)
+  content-taken {S} {k} {s} p e f h =
+      record {
+        room =
+          record {
+            points-room = h .room .points-room;
+            edges-room = h .room .edges-room;
+            intervals-room = h .room .intervals-room;
+            faces-room = h .room .faces-room
+          };
+        whole = λ i n. ends-taken _ ∙ h .whole i n;
+        origin-half = λ i x. ends-taken _ ∙ h .origin-half i x;
+        destination-half = λ i x. ends-taken _ ∙ h .destination-half i x;
+        linked = λ d x l. link-taken d ∙ h .linked d x l;
+        done =
+          λ d l.
+            let o = h .done d l in
+            record {
+              join-ends = ends-taken _ ∙ o .join-ends;
+              first-half = side-taken _ ∙ o .first-half;
+              second-half = side-taken _ ∙ o .second-half;
+              join-left = side-taken _ ∙ o .join-left;
+              join-right = side-taken _ ∙ o .join-right;
+              new-face = (unfold faceOf in o .new-face)
+            };
+        middle = λ i x. point-taken _ ∙ h .middle i x;
+        centre = λ g l. point-taken _ ∙ h .centre g l;
+        old-point =
+          λ q.
+            let o = h .old-point q in
+            record {
+              valence-kept = ap (λ x. x .valence) (point-taken _) ∙ o .valence-kept;
+              mark-kept = ap (λ x. x .mark) (point-taken _) ∙ o .mark-kept;
+              start-found = start q (o .start-found)
+            }
+      }
+    where
+      ends-taken : (i : ℕ) → ends (take p e f s) i ≡ ends s i
+      ends-taken i = unfold ends in refl
+      side-taken : (d : Dart ℕ) → side (take p e f s) d ≡ side s d
+      side-taken (lft i) = unfold side in refl
+      side-taken (rgt i) = unfold side in refl
+      point-taken : (i : ℕ) → pointOf (take p e f s) i ≡ pointOf s i
+      point-taken i = unfold pointOf in refl
+      link-taken : (d : Dart (Row ne)) → link (take p e f s) d ≡ link s d
+      link-taken (lft i) = unfold link side in refl
+      link-taken (rgt i) = unfold link side in refl
+      start : (q : Row np) → Unchanged S s q ⊎ Latest S s q → Unchanged S (take p e f s) q ⊎ Latest S (take p e f s) q
+      start q (inl u) = inl (record { none-split = u .none-split; start-kept = ap (λ x. x .start) (point-taken _) ∙ u .start-kept })
+      start q (inr l) =
+          inr
+            (record {
+              last = l .last;
+              ends-here = l .ends-here;
+              is-split = l .is-split;
+              start-is = ap (λ x. x .start) (point-taken _) ∙ l .start-is;
+              latest = l .latest
+            })
+
   -- ---- splitting an edge
 
   -- Rows of other kinds are other rows.

@@ -30,7 +30,7 @@ use Rattle.refined_meshes.proofs.Numbering.{when, when-injective, leads
 use Rattle.refined_meshes.proofs.Words.{PointWords, ends, side, pointOf, faceOf, Room}
 use Rattle.refined_meshes.proofs.Target.{isLeft, found, endsOld, endsAt, centreAt, rowOf, oldDart}
 use Rattle.refined_meshes.proofs.Turns.{getD-filled}
-use Rattle.refined_meshes.proofs.Content.{link, Done, Latest, Unchanged, OldPoint, Content, content-same}
+use Rattle.refined_meshes.proofs.Content.{link, Done, Latest, Unchanged, OldPoint, Content, content-same, content-taken}
 use Rattle.refined_meshes.proofs.Splits.{Past, turnOf-le, turnOf-leads, turnOf-follows, Splitting, splitting-some}
 use Rattle.refined_meshes.proofs.Ring.{RingIs, Ringed, ringed, taken, taken-putRing}
 use Rattle.refined_meshes.proofs.Perimeters.{left-of-dart, point-of-dart}
@@ -246,3 +246,66 @@ module _
                 rw (perimeter i l)
                   (ap (λ (g : Row nf). firstPoint m (g .0) (edge (dartAt c f i) .0)) (sym (face-dartAt c f i)) ∙ point-of-dart m stands c (dartAt c f i))
           }
+
+    -- ---- the whole visit
+
+    -- Taking rows changes no word.
+    splitting-begun : (s : State) → Arriving turn s → Splitting m c order turn 0 (take 1 0 0 s)
+    splitting-begun s h =
+        record {
+          content = content-taken m c order 1 0 0 (h .content);
+          points-taken = ap (λ x. x + 1) (h .points-taken) ∙ ap (λ x. pointsBefore c order turn + suc x) (sym none);
+          edges-taken = add-zero (s .edgesTaken) ∙ h .edges-taken ∙ sym (ap (λ x. edgesBefore c order turn + x) none ∙ add-zero _);
+          faces-taken = add-zero (s .facesTaken) ∙ h .faces-taken
+        }
+      where
+        none : splitsBefore c order turn 0 ≡ 0
+        none = unfold splitsBefore sumTo in refl
+
+    -- At the end of a turn the edges of its face are split, and at the beginning of the next.
+    past-next : (e : Row ne) → Past c order turn n e → Past c order (suc turn) 0 e
+    past-next e (inl l) = inl (omega arith)
+    past-next e (inr l) = inl (omega (arith, l .0))
+
+    next-past : (e : Row ne) → Past c order (suc turn) 0 e → Past c order turn n e
+    next-past e (inl l) = go (ℕ-discrete (turnOf c order e) turn)
+      where
+        go : Dec (turnOf c order e ≡ turn) → Past c order turn n e
+        go (yes q) =
+            let g : face t (lead c order e) ≡ f = when-injective c order _ _ (unfold turnOf in q) in
+            inr (q, rw (← g) (place-below c (lead c order e)))
+        go (no k) = inl (omega arith)
+    next-past e (inr l) = absurd (omega (arith, l .1))
+
+    pub arriving-along : (s : State) → Arriving turn s → Arriving (suc turn) (visitAlong m np (f .0) es n s)
+    unfolding visitAlong
+    arriving-along s h =
+        record {
+          content = content-same m c order past-next next-past (content-ringed m c order f (after .content) (ringed m c order f ring-here read all (after .content .room)));
+          points-taken = ap (λ x. x .0) counts ∙ add-zero _ ∙ after .points-taken ∙ points-next;
+          edges-taken = ap (λ x. x .1) counts ∙ sized (λ x. all .edgesTaken + x) ∙ edges-next;
+          faces-taken = ap (λ x. x .2) counts ∙ sized (λ x. all .facesTaken + (x - 1)) ∙ faces-next
+        }
+      where
+        all : State
+        all = splitAll np es n (take 1 0 0 s)
+        after : Splitting m c order turn n all
+        after = splitting-some m c order f es n (omega arith) perimeter (take 1 0 0 s) (splitting-begun s h)
+        ring-here : Ring
+        ring-here = ringOf m (f .0) es n (s .pointsTaken) (foundOn es n s) all
+        read : RingIs m c order ring-here f
+        read = ring-read s all h after
+        counts : taken (putRing m ring-here all) ≡ (all .pointsTaken + 0, all .edgesTaken + ring-here .size, all .facesTaken + (ring-here .size - 1))
+        counts = taken-putRing m ring-here all
+        sized : {A : Type 0} (g : ℕ → A) → g (ring-here .size) ≡ g n
+        sized g = ap g (read .size-is)
+        every-split : splitsBefore c order turn n ≡ splits c order turn
+        every-split = split-all s all h after
+        size-here : sizeAt c order turn ≡ n
+        size-here = sizeAt-when c order f
+        points-next : pointsBefore c order turn + suc (splitsBefore c order turn n) ≡ pointsBefore c order (suc turn)
+        points-next = unfold pointsBefore sumTo in omega (arith, every-split)
+        edges-next : all .edgesTaken + n ≡ edgesBefore c order (suc turn)
+        edges-next = unfold edgesBefore sumTo in omega (arith, every-split, size-here, after .edges-taken)
+        faces-next : all .facesTaken + (n - 1) ≡ facesBefore c order (suc turn)
+        faces-next = unfold facesBefore sumTo in omega (arith, size-here, after .faces-taken)
