@@ -9,5 +9,6 @@ pub mod Splits
 pub mod Ring
 pub mod Perimeters
 pub mod Visits
+pub mod Orders
 pub mod Records
 pub mod Cases

@@ -74,6 +74,10 @@ module _ {np ne nf : ℕ} {t : Mesh (Row np) (Row ne) (Row nf)} (c : Closed t) (
   unfolding when
   when-from k = ap (λ x. x .0) (order .to-from k)
 
+  pub from-when : (f : Row nf) (h : when f < nf) → order .from (when f, h) ≡ f
+  unfolding when
+  from-when f h = ap (order .from) (row-path (order .to f .0, h) (order .to f) refl) ∙ order .from-to f
+
   -- ---- which side of an edge is visited first
 
   unfoldable pub leads : Dart (Row ne) → Bool
