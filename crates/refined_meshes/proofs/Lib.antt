@@ -10,5 +10,6 @@ pub mod Ring
 pub mod Perimeters
 pub mod Visits
 pub mod Orders
+pub mod Runs
 pub mod Records
 pub mod Cases
