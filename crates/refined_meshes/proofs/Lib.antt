@@ -11,5 +11,7 @@ pub mod Perimeters
 pub mod Visits
 pub mod Orders
 pub mod Runs
+pub mod Renumbered
+pub mod Refines
 pub mod Records
 pub mod Cases
