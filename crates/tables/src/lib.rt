@@ -67,11 +67,10 @@ pub fn load_edge(edges: &[u32], intervals: &[f64], e: usize) -> TnurccEdge
     }
 }
 
-pub fn store_edge(edges: &mut [u32], intervals: &mut [f64], e: usize, edge: TnurccEdge)
+// Stores all of an edge but its interval.
+pub fn store_edge_words(edges: &mut [u32], e: usize, edge: TnurccEdge)
     requires { ⌜ e * 8 + 8 ≤ length (now edges) ⌝ }
-    requires { ⌜ e < length (now intervals) ⌝ }
     ensures { λ _. ⌜ now (edges .exit) ≡ putRow (now (edges .entry)) (e * 8) (edgeWords edge) ⌝ }
-    ensures { λ _. ⌜ now (intervals .exit) ≡ set (now (intervals .entry)) e (edge .«knot_interval») ⌝ }
 {
     let b = e * 8;
     edges[b] = edge.origin;
@@ -82,6 +81,15 @@ pub fn store_edge(edges: &mut [u32], intervals: &mut [f64], e: usize, edge: Tnur
     edges[b + 5] = edge.connections[1];
     edges[b + 6] = edge.connections[2];
     edges[b + 7] = edge.connections[3];
+}
+
+pub fn store_edge(edges: &mut [u32], intervals: &mut [f64], e: usize, edge: TnurccEdge)
+    requires { ⌜ e * 8 + 8 ≤ length (now edges) ⌝ }
+    requires { ⌜ e < length (now intervals) ⌝ }
+    ensures { λ _. ⌜ now (edges .exit) ≡ putRow (now (edges .entry)) (e * 8) (edgeWords edge) ⌝ }
+    ensures { λ _. ⌜ now (intervals .exit) ≡ set (now (intervals .entry)) e (edge .«knot_interval») ⌝ }
+{
+    store_edge_words(edges, e, edge);
     intervals[e] = edge.knot_interval;
 }
 
