@@ -4,9 +4,12 @@
 --     sixTerms             d, A2, C2 of one edge about a point, then of another edge about another point
 --     windowWeight         the weight of the window p0 .. p4 that begins at place i
 --     facePoint            the weighted sum of the middle points p2 over the sum of the weights, of n windows
+--     around n j           the place j, counted round n places
 --     facePointOf m ne f   the face point of face f, by the walk about it along the edges below ne
+use mathlib.Core.Bool.{cond}
 use mathlib.Core.List.{List, map}
-use Prim.Native.Nat.{ℕ, _+_}
+use Prim.Native.Nat.{ℕ, _+_, _-_}
+use lib.Dec.{ltb}
 use lib.ListN.{getD, length}
 use lib.Ieee.{Float, nan, add, mul, neg, ofBits, binary64}
 use Rattle.positions.specs.declared.Position.{Position}
@@ -14,6 +17,7 @@ use Rattle.positions.specs.Position.{zeros, quotient}
 use Rattle.tables.specs.Mesh.{Mesh}
 use Rattle.tables.specs.Records.{positionAt}
 use Rattle.audited_meshes.specs.Walks.{faceWalk, edgesOf, firstPoint}
+use Rattle.walks.specs.Border.{again}
 use Rattle.position_rules.specs.declared.WeightedSum.{WeightedSum}
 use Rattle.position_rules.specs.Intervals.{A2, C2, threeTerms}
 use Rattle.position_rules.specs.Sums.{withTerm, after}
@@ -41,3 +45,15 @@ overWeight s = quotient (s .sum) (s .weight)
 
 unfoldable pub facePoint : List Float → List ℕ → List Float → (ℕ → ℕ) → (ℕ → ℕ) → ℕ → Position
 facePoint ps es is pt ed n = overWeight (windowSum ps es is pt ed n)
+
+abbrev pub around : ℕ → ℕ → ℕ
+around n j = cond (ltb j n) j (j - n)
+
+-- the points of the border followed by the first four again, and its edges round to the start
+unfoldable pub facePointAbout : Mesh → ℕ → List ℕ → Position
+facePointAbout m f es =
+    let bp : List ℕ = again 4 (map (firstPoint m f) es) in
+    facePoint (m .positions) (m .edges) (m .intervals) (λ j. getD bp j 0) (λ j. getD es (around (length es) j) 0) (length es)
+
+unfoldable pub facePointOf : Mesh → ℕ → ℕ → Position
+facePointOf m ne f = facePointAbout m f (edgesOf (faceWalk m ne f))

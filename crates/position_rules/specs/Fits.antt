@@ -1,7 +1,7 @@
 -- What the rules ask of the tables so that every row that they read is there. All of it holds of a mesh that passes the audit.
 --     EdgesFit es is ne        the edges below ne are there, and so are their neighbours
 --     EdgeFits es is e         the edge e is one of such edges
---     BorderFits               the edges and points of a border are there
+--     BorderFits es is bs n    the n edges bs of a border are there, 3 to 64 of them
 --     PlacesFit                the places of the new points are there, and so is the face between two edges about a point
 use mathlib.Core.List.{List}
 use Prim.Native.Nat.{ℕ, _+_, _*_, _≤_, _<_}
@@ -25,14 +25,13 @@ pub record EdgeFits (es : List ℕ) (is : List Float) (e : ℕ) : Type 0 where
   pub fit : EdgesFit es is rows
   pub below : e < rows
 
--- n edges bs, and n + 4 points bp
-pub record BorderFits (ps : List Float) (es : List ℕ) (is : List Float) (bp bs : List ℕ) (n : ℕ) : Type 0 where
+-- the n edges bs of a border, 3 to 64 of them
+pub record BorderFits (es : List ℕ) (is : List Float) (bs : List ℕ) (n : ℕ) : Type 0 where
   pub rows : ℕ
   pub fit : EdgesFit es is rows
   pub at-least-3 : 3 ≤ n
   pub at-most-64 : n ≤ 64
   pub edges-below : (j : ℕ) → j < n → getD bs j 0 < rows
-  pub points-there : (j : ℕ) → j < n + 4 → getD bp j 0 * 3 + 3 ≤ length ps
 
 -- the four neighbours of an edge have intervals
 pub record NeighboursFit (is : List Float) (edge : TnurccEdge) : Type 0 where

@@ -7,6 +7,7 @@ ghost use Rattle.position_rules.specs.Sums.{withTerm};
 use positions::Position;
 
 mod edge_point;
+mod face_point;
 mod intervals;
 
 // A sum of weighted positions, and the sum of their weights.
