@@ -1,1 +1,3 @@
+pub mod FacePoint
 pub mod Fits
+pub mod Sums

@@ -9,6 +9,7 @@ use positions::Position;
 mod edge_point;
 mod face_point;
 mod intervals;
+mod old_point;
 
 // A sum of weighted positions, and the sum of their weights.
 pub struct WeightedSum {
