@@ -67,3 +67,88 @@ pub fn load_face_point(places: &[f64], quads: &[u32], f: usize) -> Position
 {
     load_position(places, index(quads[f * 5 + 1]))
 }
+
+// The sum s with the terms of edge r and of the face between it and the next edge anticlockwise about p.
+fn radial_terms(
+    edges: &[u32],
+    intervals: &[f64],
+    places: &[f64],
+    halves: &[u32],
+    quads: &[u32],
+    p: usize,
+    r: usize,
+    s: WeightedSum,
+) -> WeightedSum
+    requires { ⌜ RadialFits (now edges) (now intervals) r (now places) (now halves) (now quads) ⌝ }
+    ensures { λ t. ⌜ t ≡ radialTerms (now (edges .entry)) (now (intervals .entry)) (edgePointAt (now (places .entry)) (now (halves .entry))) (facePointAt (now (places .entry)) (now (quads .entry))) p r s ⌝ }
+{
+    let next = acw_about(edges, p, r);
+    let f = face_between(edges, intervals, r, next);
+    let edge_term = s.with_term(load_edge_point(places, halves, r), edge_weight(edges, intervals, p, r));
+    edge_term.with_term(load_face_point(places, quads, f), face_weight(edges, intervals, p, r, next))
+}
+
+// The terms of n edges about p, anticlockwise from the start edge.
+fn radial_sum(
+    edges: &[u32],
+    intervals: &[f64],
+    places: &[f64],
+    halves: &[u32],
+    quads: &[u32],
+    p: usize,
+    start: usize,
+    n: usize,
+) -> WeightedSum
+    requires { ⌜ RadialFits (now edges) (now intervals) start (now places) (now halves) (now quads) ⌝ }
+    ensures { λ t. ⌜ t ≡ radialSum (now (edges .entry)) (now (intervals .entry)) (edgePointAt (now (places .entry)) (now (halves .entry))) (facePointAt (now (places .entry)) (now (quads .entry))) p start n ⌝ }
+{
+    let mut s = WeightedSum {
+        sum: Position::origin(),
+        weight: 0.0,
+    };
+    let mut r = start;
+    let mut i = 0;
+    while i < n {
+        s = radial_terms(edges, intervals, places, halves, quads, p, r, s);
+        r = acw_about(edges, p, r);
+        i += 1;
+    }
+    s
+}
+
+// The old place times (v - 3) / v, plus S times 3 over v times W; the old place if W is small.
+fn moved(place: Position, v: f64, s: WeightedSum) -> Position
+    ensures { λ r. ⌜ r ≡ moved place v s ⌝ }
+{
+    if is_small(s.weight) {
+        return place;
+    }
+    place.times((v - 3.0) / v).plus(s.sum.times(3.0).over(v * s.weight))
+}
+
+// A valence as a number.
+fn number(v: u32) -> f64
+    ensures { λ r. ⌜ r ≡ ofInt binary64 (pos v) ⌝ }
+{
+    v as f64
+}
+
+// Where the point p goes, from the edge points and face points that stand in the new table of positions.
+pub fn old_point(
+    positions: &[f64],
+    points: &[u32],
+    edges: &[u32],
+    intervals: &[f64],
+    places: &[f64],
+    halves: &[u32],
+    quads: &[u32],
+    p: usize,
+) -> Placed
+    requires { ⌜ OldPointFits (now positions) (now points) (now edges) (now intervals) (now places) (now halves) (now quads) p ⌝ }
+    ensures { λ r. ⌜ r ≡ placedAt (oldPoint (now (positions .entry)) (now (points .entry)) (now (edges .entry)) (now (intervals .entry)) (edgePointAt (now (places .entry)) (now (halves .entry))) (facePointAt (now (places .entry)) (now (quads .entry))) p) ⌝ }
+{
+    let point = load_point(positions, points, p);
+    let start = index(point.incoming_edge);
+    let s = radial_sum(edges, intervals, places, halves, quads, p, start, index(point.valence));
+    moved(point.point, number(point.valence), s).placed()
+}
