@@ -1,3 +1,4 @@
+pub mod Cases
 pub mod FacePoint
 pub mod Fits
 pub mod Sums

@@ -45,11 +45,15 @@ pub record NeighboursFit (is : List Float) (edge : TnurccEdge) : Type 0 where
   pub rightCw-there : getD (edge .connections) 2 0 < length is
   pub rightAcw-there : getD (edge .connections) 3 0 < length is
 
--- the edge e and its ends are there
-pub record EdgePointFits (ps : List Float) (es : List ℕ) (is : List Float) (e : ℕ) : Type 0 where
+-- the edge e, its ends, and the points of its two faces
+pub record EdgePointFits (ps : List Float) (es : List ℕ) (is new : List Float) (fs′ : List ℕ) (e : ℕ) : Type 0 where
   pub edge-fits : EdgeFits es is e
   pub origin-there : getD es (e * 8) 0 * 3 + 3 ≤ length ps
   pub dest-there : getD es (e * 8 + 1) 0 * 3 + 3 ≤ length ps
+  pub left-row : getD es (e * 8 + 2) 0 * 5 + 5 ≤ length fs′
+  pub left-place : getD fs′ (getD es (e * 8 + 2) 0 * 5 + 1) 0 * 3 + 3 ≤ length new
+  pub right-row : getD es (e * 8 + 3) 0 * 5 + 5 ≤ length fs′
+  pub right-place : getD fs′ (getD es (e * 8 + 3) 0 * 5 + 1) 0 * 3 + 3 ≤ length new
 
 -- the n + 4 points bp of a border, the first four again
 pub record PointsFit (ps : List Float) (bp : List ℕ) (n : ℕ) : Type 0 where

@@ -6,8 +6,6 @@
 --     radialSum                S and W: the terms of the edges from 0 to n - 1, each with the next one
 --     moved                    where a point of the valence v goes
 --     oldPoint                 where the point p goes
---     edgePointAt new es′ e    the edge point of edge e in the new table of positions: at the destination of row e of the new edges
---     facePointAt new fs′ f    the face point of face f: at corner 0 of row f of the new faces
 use mathlib.Core.Bool.{cond}
 use mathlib.Core.List.{List}
 use Prim.Native.Nat.{ℕ, _+_, _*_}
@@ -58,9 +56,3 @@ unfoldable pub oldPoint : List Float → List ℕ → List ℕ → List Float �
 oldPoint ps ws es is ep fp p =
     let v : ℕ = getD ws (p * 3) 0 in
     moved (positionAt ps p) (ofInt binary64 (pos v)) (radialSum es is ep fp p (getD ws (p * 3 + 1) 0) v)
-
-abbrev pub edgePointAt : List Float → List ℕ → ℕ → Position
-edgePointAt new es′ e = positionAt new (getD es′ (e * 8 + 1) 0)
-
-abbrev pub facePointAt : List Float → List ℕ → ℕ → Position
-facePointAt new fs′ f = positionAt new (getD fs′ (f * 5 + 1) 0)

@@ -1,14 +1,12 @@
 // The old point.
 ghost use mathlib.Core.Path.{_≡_};
-ghost use Prim.Native.Nat.{ℕ, _+_, _*_, _≤_, _<_};
-ghost use lib.ListN.{getD, length};
 ghost use lib.IntN.{pos};
 ghost use lib.Ieee.{ofInt, binary64};
 ghost use Rattle.positions.specs.Position.{placedAt};
 ghost use Rattle.t_spline.specs.Edge.{commonFace};
 ghost use Rattle.tables.specs.Records.{edgeAt};
-ghost use Rattle.position_rules.specs.Intervals.{acwAbout};
-ghost use Rattle.position_rules.specs.OldPoint.{edgeWeight, faceWeight, radialTerms, radialSum, moved, oldPoint, edgePointAt, facePointAt};
+ghost use Rattle.position_rules.specs.OldPoint.{edgeWeight, faceWeight, radialTerms, radialSum, moved, oldPoint};
+ghost use Rattle.position_rules.specs.Places.{edgePointAt, facePointAt};
 ghost use Rattle.position_rules.specs.Fits.{EdgeFits, RadialFits, OldPointFits};
 use crate::WeightedSum;
 use crate::intervals::a1;
@@ -16,13 +14,14 @@ use crate::intervals::a2;
 use crate::intervals::acw_about;
 use crate::intervals::c1;
 use crate::intervals::c2;
+use crate::places::load_edge_point;
+use crate::places::load_face_point;
 use positions::Placed;
 use positions::Position;
 use positions::is_small;
 use tables::index;
 use tables::load_edge;
 use tables::load_point;
-use tables::load_position;
 
 // 0.5 (A1 + C1) (A2 + C2) of edge r about p.
 fn edge_weight(edges: &[u32], intervals: &[f64], p: usize, r: usize) -> f64
@@ -48,24 +47,6 @@ fn face_between(edges: &[u32], intervals: &[f64], r: usize, next: usize) -> usiz
     ensures { λ f. ⌜ f ≡ commonFace (edgeAt (now (edges .entry)) (now (intervals .entry)) r) (edgeAt (now (edges .entry)) (now (intervals .entry)) next) ⌝ }
 {
     index(load_edge(edges, intervals, r).common_face(load_edge(edges, intervals, next)))
-}
-
-// The edge point of edge e, in the new table of positions at the destination of row e of the new edges.
-pub fn load_edge_point(places: &[f64], halves: &[u32], e: usize) -> Position
-    requires { ⌜ e * 8 + 8 ≤ length (now halves) ⌝ }
-    requires { ⌜ getD (now halves) (e * 8 + 1) 0 * 3 + 3 ≤ length (now places) ⌝ }
-    ensures { λ r. ⌜ r ≡ edgePointAt (now (places .entry)) (now (halves .entry)) e ⌝ }
-{
-    load_position(places, index(halves[e * 8 + 1]))
-}
-
-// The face point of face f, in the new table of positions at corner 0 of row f of the new faces.
-pub fn load_face_point(places: &[f64], quads: &[u32], f: usize) -> Position
-    requires { ⌜ f * 5 + 5 ≤ length (now quads) ⌝ }
-    requires { ⌜ getD (now quads) (f * 5 + 1) 0 * 3 + 3 ≤ length (now places) ⌝ }
-    ensures { λ r. ⌜ r ≡ facePointAt (now (places .entry)) (now (quads .entry)) f ⌝ }
-{
-    load_position(places, index(quads[f * 5 + 1]))
 }
 
 // The sum s with the terms of edge r and of the face between it and the next edge anticlockwise about p.

@@ -2,7 +2,8 @@
 -- what is left of n.
 use Rattle.position_rules.proofs.Fits.{row-there, radial-edge-fits, radial-next-fits}
 use Rattle.position_rules.proofs.Sums.{radialEdge-none, radialEdge-more, radialSum-none, radialSum-more}
-use Rattle.position_rules.specs.OldPoint.{radialEdge, radialSum, edgePointAt, facePointAt}
+use Rattle.position_rules.specs.OldPoint.{radialEdge, radialSum}
+use Rattle.position_rules.specs.Places.{edgePointAt, facePointAt}
 use Rattle.position_rules.specs.Fits.{RadialFits}
 use borrow.Author.Needs.{needs}
 use native.Mathlib.Omega.{arith}

@@ -13,8 +13,8 @@ use Rattle.position_rules.proofs.intervals.acw_about.Reads as acw-about
 use Rattle.position_rules.proofs.old_point.edge_weight.Reads as edge-weight-reads
 use Rattle.position_rules.proofs.old_point.face_between.Reads as face-between-reads
 use Rattle.position_rules.proofs.old_point.face_weight.Reads as face-weight-reads
-use Rattle.position_rules.proofs.old_point.load_edge_point.Reads as load-edge-point-reads
-use Rattle.position_rules.proofs.old_point.load_face_point.Reads as load-face-point-reads
+use Rattle.position_rules.proofs.places.load_edge_point.Reads as load-edge-point-reads
+use Rattle.position_rules.proofs.places.load_face_point.Reads as load-face-point-reads
 
 -- src/old_point.rt:85:9
 acw-about-requires : tie.Need-acw-about-requires
