@@ -76,4 +76,4 @@ module _ (es : List ℕ) (is new : List Float) (es′ fs′ : List ℕ) where
       → (f * 5 + 5 ≤ length fs′) × (getD fs′ (f * 5 + 1) 0 * 3 + 3 ≤ length new)
   face-between-fits p r f h e =
       let l : f < h .faces = rw e (h .fit .common-below p r (h .below)) in
-      (h .fit .face-row f l, h .fit .face-place f l)
+      (h .fit .new-fit .face-row f l, h .fit .new-fit .face-place f l)

@@ -1,3 +1,4 @@
+pub mod Audited
 pub mod Cases
 pub mod FacePoint
 pub mod Fits

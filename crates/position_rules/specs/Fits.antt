@@ -4,7 +4,8 @@
 --     BorderFits es is bs n    the n edges bs of a border are there, 3 to 64 of them
 --     PointsFit ps bp n        the n + 4 points bp of a border are there
 --     FacePointFits            what the face point asks; EdgePointFits, OldPointFits likewise
---     PlacesFit                the places of the new points are there, and so is the face between two edges about a point
+--     NewPointsFit             the places of the new points are there
+--     PlacesFit, RadialFits    the edges about a point are there, the faces between them, and the new points of both
 use mathlib.Core.Path.{_≡_}
 use mathlib.Core.List.{List}
 use Prim.Native.Nat.{ℕ, _+_, _*_, _≤_, _<_}
@@ -72,12 +73,16 @@ pub record FacePointFits (ps : List Float) (es : List ℕ) (is : List Float) (fs
   pub edges-below : (j : ℕ) → j < length border → getD border j 0 < ne
 
 -- the places of the new points: of the edge point of each edge and of the face point of each face
-pub record PlacesFit (es : List ℕ) (is : List Float) (ne nf : ℕ) (new : List Float) (es′ fs′ : List ℕ) : Type 0 where
-  pub fit : EdgesFit es is ne
+pub record NewPointsFit (ne nf : ℕ) (new : List Float) (es′ fs′ : List ℕ) : Type 0 where
   pub edge-row : (e : ℕ) → e < ne → e * 8 + 8 ≤ length es′
   pub edge-place : (e : ℕ) → e < ne → getD es′ (e * 8 + 1) 0 * 3 + 3 ≤ length new
   pub face-row : (f : ℕ) → f < nf → f * 5 + 5 ≤ length fs′
   pub face-place : (f : ℕ) → f < nf → getD fs′ (f * 5 + 1) 0 * 3 + 3 ≤ length new
+
+-- with the edges about a point, and the face between two of them
+pub record PlacesFit (es : List ℕ) (is : List Float) (ne nf : ℕ) (new : List Float) (es′ fs′ : List ℕ) : Type 0 where
+  pub fit : EdgesFit es is ne
+  pub new-fit : NewPointsFit ne nf new es′ fs′
   pub common-below : (p r : ℕ) → r < ne → commonFace (edgeAt es is r) (edgeAt es is (acwAbout es p r)) < nf
 
 -- the edge r is one of such edges

@@ -26,7 +26,7 @@ face-between-requires c κs = (radial-edge-fits _ _ _ _ _ _ (c .before .before .
 
 -- src/old_point.rt:87:33
 load-edge-point-requires : tie.Need-load-edge-point-requires
-load-edge-point-requires c κs = (c .before .before .before .before .before .before .before .pre .fit .edge-row _ (c .before .before .before .before .before .before .before .pre .below), c .before .before .before .before .before .before .before .pre .fit .edge-place _ (c .before .before .before .before .before .before .before .pre .below))
+load-edge-point-requires c κs = (c .before .before .before .before .before .before .before .pre .fit .new-fit .edge-row _ (c .before .before .before .before .before .before .before .pre .below), c .before .before .before .before .before .before .before .pre .fit .new-fit .edge-place _ (c .before .before .before .before .before .before .before .pre .below))
 
 -- src/old_point.rt:87:69
 edge-weight-requires : tie.Need-edge-weight-requires
