@@ -3,4 +3,5 @@ pub mod Cases
 pub mod Claims
 pub mod FacePoint
 pub mod Fits
+pub mod Floats
 pub mod Sums
