@@ -41,7 +41,7 @@ module _ (es : List ℕ) (is : List Float) where
   unfolding acwAbout
   acw-below ne p e h l = cond-below (eqb (getD es (e * 8) 0) p) _ _ ne (h .leftCw-below e l) (h .rightCw-below e l)
 
-  cw-below : (ne p e : ℕ) → EdgesFit es is ne → e < ne → cwAbout es p e < ne
+  pub cw-below : (ne p e : ℕ) → EdgesFit es is ne → e < ne → cwAbout es p e < ne
   unfolding cwAbout
   cw-below ne p e h l = cond-below (eqb (getD es (e * 8) 0) p) _ _ ne (h .rightAcw-below e l) (h .leftAcw-below e l)
 

@@ -150,7 +150,7 @@ add-round (fin false m e) (inf t) h k = absurd (false≢true k)
 add-round (fin false m e) (fin true n d) h k = absurd (false≢true k)
 add-round (fin false m e) (fin false n d) h k = refl
 
-add-fit : (x y : Float) → intervalFit x ≡ true → intervalFit y ≡ true → finite (add binary64 x y) ≡ true → intervalFit (add binary64 x y) ≡ true
+pub add-fit : (x y : Float) → intervalFit x ≡ true → intervalFit y ≡ true → finite (add binary64 x y) ≡ true → intervalFit (add binary64 x y) ≡ true
 add-fit x y h k l = rw (add-round x y h k) (round-fit _ _ (sym (ap finite (add-round x y h k)) ∙ l))
 
 -- a number that the format holds is not changed by rounding

@@ -4,4 +4,5 @@ pub mod Claims
 pub mod FacePoint
 pub mod Fits
 pub mod Floats
+pub mod Joins
 pub mod Sums
