@@ -1,0 +1,4 @@
+pub mod Lists
+pub mod Faces
+pub mod Perimeters
+pub mod Building
