@@ -1,2 +1,5 @@
 pub mod Connecting
 pub mod Rows
+pub mod Places
+pub mod Invariant
+pub mod Joining

@@ -1,4 +1,5 @@
 pub mod Lists
 pub mod Faces
 pub mod Perimeters
+pub mod Places
 pub mod Building
