@@ -124,7 +124,7 @@ module _ (l : Lists) (D C : ℕ → ℕ → Type 0) (m : Mesh) (ne : ℕ) (v : I
   -- ---- after a step that changes links alone
 
   module _ (m' : Mesh) (keeps : (x : ℕ) → x < ne → Keeps (row m x) (row m' x)) (points-same : m' .points ≡ m .points) where
-    sits-kept : (f i e : ℕ) → Sits l m ne f i e → Sits l m' ne f i e
+    pub sits-kept : (f i e : ℕ) → Sits l m ne f i e → Sits l m' ne f i e
     sits-kept f i e a =
         let k = keeps e (a .below) in
         record {

@@ -18,7 +18,7 @@ use Rattle.built_meshes.specs.Places.{pointOf, nextOf}
 use Rattle.built_meshes.proofs.Connecting.{firstOf, secondOf, acwOf, cwOf, Follows, Keeps, Wrote, connected-wrote, connected-links}
 use Rattle.built_meshes.proofs.Rows.{row, pair, row-joined-first, row-joined-other, row-joined-rest}
 use Rattle.built_meshes.proofs.Places.{next-below, next-differs, next-next-differs}
-use Rattle.built_meshes.proofs.Invariant.{Sits, Good, Invariant, same-side, same-side-second, side-second, invariant-kept, Or-this}
+use Rattle.built_meshes.proofs.Invariant.{Sits, Good, Invariant, same-side, same-side-second, side-second, sits-kept, invariant-kept, Or-this}
 
 keeps-refl : (e e' : TnurccEdge) → e' ≡ e → Keeps e e'
 keeps-refl e e' h =
@@ -198,3 +198,10 @@ module _ (l : Lists) (D C : ℕ → ℕ → Type 0) (m : Mesh) (ne : ℕ) (v : I
           (stays-acw f i g s x t y b b' face face' first first' (old .0), stays-cw f i g s x t y b b' face face' first first' (old .1))
       linked' f i (inr h) s x t y b b' face face' first first' =
           linked-new s x t y b b' (face ∙ h .0) (face' ∙ h .0) (first ∙ ap₂ (λ (f i : ℕ). pointOf l f i) (h .0) (h .1)) (first' ∙ ap₂ (λ (f i : ℕ). nextOf l f i) (h .0) (h .1))
+
+  pub sits-joined : (f i x : ℕ) → Sits l m ne f i x → Sits l (joined m e o) ne f i x
+  unfolding joined
+  sits-joined f i x t = sits-kept l D C m ne v (joined m e o) (λ x b. keeps x) refl f i x t
+
+  pub right-joined : (x : ℕ) → row (joined m e o) x .«face_right» ≡ row m x .«face_right»
+  right-joined x = keeps x .right

@@ -3,3 +3,4 @@ pub mod Rows
 pub mod Places
 pub mod Invariant
 pub mod Joining
+pub mod Entering
