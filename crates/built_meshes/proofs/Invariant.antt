@@ -347,3 +347,26 @@ module _ (l : Lists) (D C : ℕ → ℕ → Type 0) (m : Mesh) (ne : ℕ) (v : I
             interval-fit = r .interval-fit;
             linked = linked-added
           }
+
+-- ---- the places said otherwise
+
+pub invariant-as :
+  (l : Lists) (D C D' C' : ℕ → ℕ → Type 0) (m : Mesh) (ne : ℕ) → ((f i : ℕ) → D f i → D' f i) → ((f i : ℕ) → D' f i → D f i) →
+  ((f i : ℕ) → C' f i → C f i) → Invariant l D C m ne → Invariant l D' C' m ne
+invariant-as l D C D' C' m ne to from chain v =
+    record {
+      good = λ f i d. v .good f i (from f i d);
+      chained = λ f i c. let both = v .chained f i (chain f i c) in (to f i (both .0), to f (nextPlace (size l f) i) (both .1));
+      entered = λ f i d. v .entered f i (from f i d);
+      placed = λ s e b a. let at = v .placed s e b a in (at .0, to (faceFromSide (row m e) s) (at .0) (at .1), at .2, at .3);
+      one-way = λ f i g j d d'. v .one-way f i g j (from f i d) (from g j d');
+      left-face = v .left-face;
+      origin-in = v .origin-in;
+      dest-in = v .dest-in;
+      ends-differ = v .ends-differ;
+      one-side = v .one-side;
+      valence-is = v .valence-is;
+      start-is = v .start-is;
+      interval-fit = v .interval-fit;
+      linked = λ f i c. v .linked f i (chain f i c)
+    }

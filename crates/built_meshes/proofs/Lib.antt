@@ -4,3 +4,4 @@ pub mod Places
 pub mod Invariant
 pub mod Joining
 pub mod Entering
+pub mod Perimeter
