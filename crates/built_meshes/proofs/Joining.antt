@@ -20,7 +20,7 @@ use Rattle.built_meshes.proofs.Rows.{row, pair, row-joined-first, row-j
 use Rattle.built_meshes.proofs.Places.{next-below, next-differs, next-next-differs}
 use Rattle.built_meshes.proofs.Invariant.{Sits, Good, Invariant, same-side, same-side-second, side-second, sits-kept, invariant-kept, Or-this}
 
-keeps-refl : (e e' : TnurccEdge) → e' ≡ e → Keeps e e'
+pub keeps-refl : (e e' : TnurccEdge) → e' ≡ e → Keeps e e'
 keeps-refl e e' h =
     record {
       origin = ap (λ (x : TnurccEdge). x .origin) h; dest = ap (λ (x : TnurccEdge). x .dest) h; left = ap (λ (x : TnurccEdge). x .«face_left») h;

@@ -28,10 +28,11 @@ use Rattle.built_meshes.specs.Lists.{Lists, pointsOf, facesOf, size, off
 use Rattle.built_meshes.specs.Perimeters.{State, Ring, Step, on, stopped, Entered, at, refused, entered, nextPlace, joined, chained, firstOf, turned, turn, places, faceOf, withFace, closedUp, perimeter}
 use Rattle.built_meshes.specs.Places.{pointOf, nextOf}
 use Rattle.built_meshes.specs.declared.Ground.{Ground}
-use Rattle.built_meshes.proofs.Rows.{row}
+use Rattle.built_meshes.proofs.Connecting.{Keeps}
+use Rattle.built_meshes.proofs.Rows.{row, faceStart-withFace, faceStart-withFace-other, corner-withFace, corner-withFace-other}
 use Rattle.built_meshes.proofs.Places.{next-is}
-use Rattle.built_meshes.proofs.Invariant.{FaceSound, Sits, Good, Invariant, Or-this, invariant-as}
-use Rattle.built_meshes.proofs.Joining.{invariant-joined, sits-joined, right-joined}
+use Rattle.built_meshes.proofs.Invariant.{FaceSound, Sits, Good, Invariant, Or-this, sits-kept, invariant-kept, invariant-as}
+use Rattle.built_meshes.proofs.Joining.{keeps-refl, invariant-joined, sits-joined, right-joined}
 use Rattle.built_meshes.proofs.Entering.{Why, Lengths, Goes, Came, goes, stops, came, counted}
 
 pub record Ready (l : Lists) (m : Mesh) : Type 0 where
@@ -244,3 +245,145 @@ module _ (l : Lists) (s : State) (k : ℕ) (kf : k < facesOf l) (sound : FaceSou
       go zero a below x (goes t) = round (turn-first r a below t)
       go (suc i) a below x (goes t) = round (turn-next i r a below t)
       go i a below x (stops w) = halts i below w
+
+  places-came : (c i : ℕ) (x : Step Ring) → i + c ≡ size l k → Round i x → Round (size l k) (places c l k (offset l k) (size l k) i x)
+  unfolding places
+  places-came zero i x h r = subst (λ n. Round n x) (let same : i ≡ size l k = omega arith in same) r
+  places-came (suc c) i x h (round {r = r} a) =
+      places-came c (suc i) (turn l k (offset l k) (size l k) i r) (omega arith) (turn-came i r a (omega arith))
+  places-came (suc c) i x h (halts j b w) = halts j b w
+
+  -- the face is in, or it stopped at a place
+  pub data Perimeter-came : Step State → Type 0 where
+    whole : {t : State} → Faces l (suc k) t → Lengths (s .mesh) (t .mesh) → t .mesh .positions ≡ s .mesh .positions → Perimeter-came (on t)
+    halted : {g : Ground} {m : Mesh} (j : ℕ) → j < size l k → Why l (Done l k j) (pointOf l k j) (nextOf l k j) g → Perimeter-came (stopped g m)
+
+  module _ (all : Faces l k s) (r : Ring) (a : Around (size l k) r) (j : ℕ) (last : suc j ≡ size l k) where
+    ready-r : Ready l (r .mesh)
+    ready-r = ready-same l (a .lengths) ready
+
+    room-r : r .edges * 8 ≤ length (r .mesh .edges)
+    room-r =
+        let few : r .edges ≤ length (l .listed) =
+              omega (arith, counted-above (r .mesh) (r .edges), a .counts, place-listed l k j kf (omega arith), ready .all-listed) in
+        omega (arith, ready-r .edges-room)
+
+    next-last : nextPlace (size l k) j ≡ 0
+    next-last = go (next-is (size l k) j)
+      where
+        go : ((suc j ≡ size l k) × (nextPlace (size l k) j ≡ 0)) ⊎ ((suc j ≢ size l k) × (nextPlace (size l k) j ≡ suc j)) → nextPlace (size l k) j ≡ 0
+        go (inl z) = z .1
+        go (inr z) = absurd (z .0 last)
+
+    sits-last : Sits l (r .mesh) (r .edges) k j (r .before)
+    sits-last = a .before-sits j last
+
+    sits-first : Sits l (r .mesh) (r .edges) k (nextPlace (size l k) j) (r .first)
+    sits-first = subst (λ x. Sits l (r .mesh) (r .edges) k x (r .first)) (sym next-last) (a .first-sits (omega arith))
+
+    last-done : Done l k (size l k) k j
+    last-done = inr (refl, omega arith)
+
+    first-done : Done l k (size l k) k (nextPlace (size l k) j)
+    first-done = inr (refl, omega (arith, next-last))
+
+    abbrev ring : Mesh
+    ring = joined (r .mesh) (r .first) (r .before)
+
+    abbrev closed : Mesh
+    closed = withFace ring k (r .first)
+
+    joined-up : Invariant l (Done l k (size l k)) (Or-this (Chained l k (size l k)) k j) ring (r .edges)
+    joined-up =
+        invariant-joined l (Done l k (size l k)) (Chained l k (size l k)) (r .mesh) (r .edges) (a .invariant) room-r k j (r .first) (r .before)
+          (good j (omega arith)) sits-last sits-first last-done first-done
+
+    same-rows : (x : ℕ) → Keeps (row ring x) (row closed x)
+    same-rows x = keeps-refl (row ring x) (row closed x) refl
+
+    chain : (f x : ℕ) → Chained l (suc k) 0 f x → Or-this (Chained l k (size l k)) k j f x
+    chain f x (inl h) =
+        below-suc f k (h .0) (λ lt. inl (inl (lt, h .1))) (λ same.
+          let b : x < size l k = subst (λ f. x < size l f) same (h .1) in
+          below-suc x j (omega arith) (λ lt. inl (inr (same, omega arith))) (λ z. inr (same, z)))
+    chain f x (inr h) = absurd (omega (arith, h .1))
+
+    invariant-closed : Invariant l (Done l (suc k) 0) (Chained l (suc k) 0) closed (r .edges)
+    unfolding joined
+    invariant-closed =
+        invariant-as l (Done l k (size l k)) (Or-this (Chained l k (size l k)) k j) (Done l (suc k) 0) (Chained l (suc k) 0) closed (r .edges)
+          (whole-done l k) (done-whole l k) chain
+          (invariant-kept l (Done l k (size l k)) (Or-this (Chained l k (size l k)) k j) ring (r .edges) joined-up closed (λ x b. same-rows x) refl
+            (Or-this (Chained l k (size l k)) k j) (joined-up .chained) (joined-up .linked))
+
+    closed-sits : (f i x : ℕ) → Sits l (r .mesh) (r .edges) f i x → Sits l closed (r .edges) f i x
+    unfolding joined
+    closed-sits f i x t =
+        sits-kept l (Done l k (size l k)) (Or-this (Chained l k (size l k)) k j) ring (r .edges) joined-up closed (λ x b. same-rows x) refl f i x
+          (sits-joined l (Done l k (size l k)) (Chained l k (size l k)) (r .mesh) (r .edges) (a .invariant) room-r k j (r .first) (r .before)
+            (good j (omega arith)) sits-last sits-first last-done first-done f i x t)
+
+    fits : k * 5 + 5 ≤ length (ring .faces)
+    unfolding joined
+    fits = omega (arith, ready-r .faces-room)
+
+    faces-closed : Faces l (suc k) (record { mesh = closed; edges = r .edges })
+    unfolding joined
+    faces-closed =
+        record {
+          invariant = invariant-closed;
+          counts =
+            counted-same (r .mesh) closed (r .edges)
+              (right-joined l (Done l k (size l k)) (Chained l k (size l k)) (r .mesh) (r .edges) (a .invariant) room-r k j (r .first) (r .before)
+                (good j (omega arith)) sits-last sits-first last-done first-done)
+            ∙ a .counts ∙ sym (offset-suc l k);
+          starts = λ f h.
+            below-suc f k h
+              (λ lt.
+                subst (λ x. Sits l closed (r .edges) f 0 x)
+                  (sym (faceStart-withFace-other ring k (r .first) f (λ z. omega arith) ∙ ap (λ fs. getD fs (f * 5) 0) (a .faces-still)))
+                  (closed-sits f 0 (faceStart (s .mesh) f) (a .sits-still f 0 (faceStart (s .mesh) f) (λ z. omega (arith, ready .faces-few)) (all .starts f lt))))
+              (λ same.
+                subst (λ f. Sits l closed (r .edges) f 0 (faceStart closed f)) (sym same)
+                  (subst (λ x. Sits l closed (r .edges) k 0 x) (sym (faceStart-withFace ring k (r .first) fits))
+                    (closed-sits k 0 (r .first) (a .first-sits (omega arith)))));
+          corners = λ f c h b.
+            below-suc f k h
+              (λ lt. corner-withFace-other ring k (r .first) f c (λ z. omega arith) b ∙ ap (λ fs. getD fs (f * 5 + (c + 1)) 0) (a .faces-still) ∙ all .corners f c lt b)
+              (λ same. subst (λ f. corner closed f c ≡ none) (sym same) (corner-withFace ring k (r .first) c b fits)) }
+
+    lengths-closed : Lengths (s .mesh) closed
+    unfolding joined
+    lengths-closed =
+        lengths-trans (a .lengths)
+          (record {
+            positions-same = refl; points-same = refl; edges-same = length-connectedRows (r .mesh .edges) (r .mesh .intervals) (r .first) (r .before);
+            intervals-same = refl; faces-same = length-putRow (faceWords (faceOf (r .first))) (r .mesh .faces) (k * 5) })
+
+  pub perimeter-came : Faces l k s → Perimeter-came (perimeter l k (offset l k) s)
+  unfolding perimeter closedUp
+  perimeter-came all = go (places (size l k) l k (offset l k) (size l k) 0 (on begin)) (places-came (size l k) 0 (on begin) (omega arith) (round around))
+    where
+      begin : Ring
+      begin = record { mesh = s .mesh; edges = s .edges; first = 0; before = 0 }
+      around : Around 0 begin
+      around =
+          record {
+            invariant = all .invariant;
+            counts = omega (arith, all .counts);
+            lengths = lengths-refl (s .mesh);
+            positions-still = refl;
+            faces-still = refl;
+            first-sits = λ h. absurd (omega arith);
+            before-sits = λ j h. absurd (omega arith);
+            sits-still = λ f j x h t. t }
+      last : (j : ℕ) × (suc j ≡ size l k)
+      last = go (size l k) (sound .at-least-3)
+        where
+          go : (n : ℕ) → 3 ≤ n → (j : ℕ) × (suc j ≡ n)
+          go zero h = absurd (omega arith)
+          go (suc j) h = (j, refl)
+      go : (x : Step Ring) → Round (size l k) x → Perimeter-came (closedUp k x)
+      go x (round {r = r} a) =
+          whole (faces-closed all r a (last .0) (last .1)) (lengths-closed all r a (last .0) (last .1)) (a .positions-still)
+      go x (halts j b w) = halted j b w

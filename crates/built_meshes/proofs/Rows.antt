@@ -14,10 +14,10 @@ use Rattle.t_spline.specs.declared.TnurccEdge.{TnurccEdge}
 use Rattle.t_spline.specs.declared.Pair.{Pair}
 use Rattle.tables.specs.Mesh.{Mesh, none, valence, start, faceStart, corner}
 use Rattle.tables.specs.Rows.{putRow}
-use Rattle.tables.specs.Records.{edgeAt, edgeWords}
+use Rattle.tables.specs.Records.{edgeAt, edgeWords, faceWords}
 use Rattle.tables.proofs.Laws.{length-putRow, getD-putRow, getD-putRow-other}
 use Rattle.t_nurcc_edge.specs.Connected.{pairOf, connectedRows}
-use Rattle.built_meshes.specs.Perimeters.{edgeOf, touched, newEdge, filled, withEdges, joined, withFace}
+use Rattle.built_meshes.specs.Perimeters.{edgeOf, touched, newEdge, filled, withEdges, joined, faceOf, withFace}
 
 abbrev pub row : Mesh → ℕ → TnurccEdge
 row m e = edgeAt (m .edges) (m .intervals) e
@@ -188,3 +188,28 @@ module _ (m : Mesh) (e o : ℕ) where
   row-joined-rest x h h' =
       row-put-other (putRow (m .edges) (e * 8) (edgeWords (pair .first))) (m .intervals) o x (pair .other) h'
       ∙ row-put-other (m .edges) (m .intervals) e x (pair .first) h
+
+-- ---- the row of a face
+
+module _ (m : Mesh) (f e : ℕ) where
+  pub faceStart-withFace : f * 5 + 5 ≤ length (m .faces) → faceStart (withFace m f e) f ≡ e
+  faceStart-withFace fits =
+      ap (λ k. getD (withFace m f e .faces) k 0) (sym (add-zero (f * 5))) ∙ getD-putRow (faceWords (faceOf e)) (m .faces) (f * 5) 0 0 (omega arith) fits
+
+  pub corner-withFace : (c : ℕ) → c < 4 → f * 5 + 5 ≤ length (m .faces) → corner (withFace m f e) f c ≡ none
+  corner-withFace c h fits = getD-putRow (faceWords (faceOf e)) (m .faces) (f * 5) (c + 1) 0 (omega arith) fits ∙ nones c h
+    where
+      nones : (c : ℕ) → c < 4 → getD (faceWords (faceOf e)) (c + 1) 0 ≡ none
+      nones zero h = refl
+      nones (suc zero) h = refl
+      nones (suc (suc zero)) h = refl
+      nones (suc (suc (suc zero))) h = refl
+      nones (suc (suc (suc (suc c)))) h = absurd (omega arith)
+
+  pub faceStart-withFace-other : (x : ℕ) → x ≢ f → faceStart (withFace m f e) x ≡ faceStart m x
+  faceStart-withFace-other x h =
+      ap (λ k. getD (withFace m f e .faces) k 0) (sym (add-zero (x * 5)))
+      ∙ getD-putRow-other (faceWords (faceOf e)) (m .faces) 5 f x 0 0 refl h (omega arith) ∙ ap (λ k. getD (m .faces) k 0) (add-zero (x * 5))
+
+  pub corner-withFace-other : (x c : ℕ) → x ≢ f → c < 4 → corner (withFace m f e) x c ≡ corner m x c
+  corner-withFace-other x c h k = getD-putRow-other (faceWords (faceOf e)) (m .faces) 5 f x (c + 1) 0 refl h (omega arith)
