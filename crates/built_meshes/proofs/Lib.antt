@@ -5,3 +5,4 @@ pub mod Invariant
 pub mod Joining
 pub mod Entering
 pub mod Perimeter
+pub mod Faces

@@ -44,13 +44,13 @@ pub record Ready (l : Lists) (m : Mesh) : Type 0 where
   pub all-listed : offset l (facesOf l) ≡ length (l .listed)
   pub faces-few : facesOf l ≤ none
 
-lengths-trans : {m m' m'' : Mesh} → Lengths m m' → Lengths m' m'' → Lengths m m''
+pub lengths-trans : {m m' m'' : Mesh} → Lengths m m' → Lengths m' m'' → Lengths m m''
 lengths-trans h k =
     record {
       positions-same = k .positions-same ∙ h .positions-same; points-same = k .points-same ∙ h .points-same; edges-same = k .edges-same ∙ h .edges-same;
       intervals-same = k .intervals-same ∙ h .intervals-same; faces-same = k .faces-same ∙ h .faces-same }
 
-lengths-refl : (m : Mesh) → Lengths m m
+pub lengths-refl : (m : Mesh) → Lengths m m
 lengths-refl m = record { positions-same = refl; points-same = refl; edges-same = refl; intervals-same = refl; faces-same = refl }
 
 pub ready-same : (l : Lists) {m m' : Mesh} → Lengths m m' → Ready l m → Ready l m'

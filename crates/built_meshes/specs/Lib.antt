@@ -1,5 +1,6 @@
 pub mod Lists
 pub mod Faces
 pub mod Perimeters
-pub mod Places
 pub mod Building
+pub mod Places
+pub mod Grounds
