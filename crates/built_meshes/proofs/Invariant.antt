@@ -123,7 +123,8 @@ module _ (l : Lists) (D C : ℕ → ℕ → Type 0) (m : Mesh) (ne : ℕ) (v : I
 
   -- ---- after a step that changes links alone
 
-  module _ (m' : Mesh) (keeps : (x : ℕ) → x < ne → Keeps (row m x) (row m' x)) (points-same : m' .points ≡ m .points) where
+  module _ (m' : Mesh) (keeps : (x : ℕ) → x < ne → Keeps (row m x) (row m' x))
+      (valence-same : (p : ℕ) → valence m' p ≡ valence m p) (start-same : (p : ℕ) → start m' p ≡ start m p) where
     pub sits-kept : (f i e : ℕ) → Sits l m ne f i e → Sits l m' ne f i e
     sits-kept f i e a =
         let k = keeps e (a .below) in
@@ -168,11 +169,13 @@ module _ (l : Lists) (D C : ℕ → ℕ → Type 0) (m : Mesh) (ne : ℕ) (v : I
           one-side = λ s e t o b b' h k.
             v .one-side s e t o b b' (sym (first-kept s (keeps e b)) ∙ h ∙ first-kept t (keeps o b')) (sym (second-kept s (keeps e b)) ∙ k ∙ second-kept t (keeps o b'));
           valence-is = λ p b.
-            rw points-same (v .valence-is p b ∙ sumTo-cong ne (λ e. one (touches m p e)) (λ e. one (touches m' p e)) (λ e k. ap one (sym (touches-kept p e k))));
+            valence-same p ∙ v .valence-is p b ∙ sumTo-cong ne (λ e. one (touches m p e)) (λ e. one (touches m' p e)) (λ e k. ap one (sym (touches-kept p e k)));
           start-is = λ p b h.
-            let same : start m' p ≡ start m p = rw points-same in
-            let at = v .start-is p b (rw points-same at h) in
-            (subst (λ x. x < ne) (sym same) (at .0), subst (λ x. Touches m' p x) (sym same) (Touches-kept p (start m p) (at .0) (at .1)));
+            let at = v .start-is p b (subst (λ n. 0 < n) (valence-same p) h) in
+            (
+              subst (λ x. x < ne) (sym (start-same p)) (at .0),
+              subst (λ x. Touches m' p x) (sym (start-same p)) (Touches-kept p (start m p) (at .0) (at .1)),
+            );
           interval-fit = λ e b. rw (keeps e b .interval) (v .interval-fit e b);
           linked = λ f i c s e t o b b' face face' first first'.
             linked' f i c s e t o b b' (sym (face-kept s (keeps e b)) ∙ face) (sym (face-kept t (keeps o b')) ∙ face')

@@ -182,7 +182,7 @@ module _ (l : Lists) (D C : ℕ → ℕ → Type 0) (m : Mesh) (ne : ℕ) (v : I
   pub invariant-joined : Invariant l D (Or-this C f₀ i₀) (joined m e o) ne
   unfolding joined
   invariant-joined =
-      invariant-kept l D C m ne v (joined m e o) (λ x b. keeps x) refl (Or-this C f₀ i₀) chained' linked'
+      invariant-kept l D C m ne v (joined m e o) (λ x b. keeps x) (λ p. refl) (λ p. refl) (Or-this C f₀ i₀) chained' linked'
     where
       chained' : (f i : ℕ) → Or-this C f₀ i₀ f i → D f i × D f (nextPlace (size l f) i)
       chained' f i (inl c) = v .chained f i c
@@ -201,7 +201,7 @@ module _ (l : Lists) (D C : ℕ → ℕ → Type 0) (m : Mesh) (ne : ℕ) (v : I
 
   pub sits-joined : (f i x : ℕ) → Sits l m ne f i x → Sits l (joined m e o) ne f i x
   unfolding joined
-  sits-joined f i x t = sits-kept l D C m ne v (joined m e o) (λ x b. keeps x) refl f i x t
+  sits-joined f i x t = sits-kept l D C m ne v (joined m e o) (λ x b. keeps x) (λ p. refl) (λ p. refl) f i x t
 
   pub right-joined : (x : ℕ) → row (joined m e o) x .«face_right» ≡ row m x .«face_right»
   right-joined x = keeps x .right

@@ -6,3 +6,4 @@ pub mod Joining
 pub mod Entering
 pub mod Perimeter
 pub mod Faces
+pub mod Whole

@@ -313,13 +313,13 @@ module _ (l : Lists) (s : State) (k : ℕ) (kf : k < facesOf l) (sound : FaceSou
     invariant-closed =
         invariant-as l (Done l k (size l k)) (Or-this (Chained l k (size l k)) k j) (Done l (suc k) 0) (Chained l (suc k) 0) closed (r .edges)
           (whole-done l k) (done-whole l k) chain
-          (invariant-kept l (Done l k (size l k)) (Or-this (Chained l k (size l k)) k j) ring (r .edges) joined-up closed (λ x b. same-rows x) refl
+          (invariant-kept l (Done l k (size l k)) (Or-this (Chained l k (size l k)) k j) ring (r .edges) joined-up closed (λ x b. same-rows x) (λ p. refl) (λ p. refl)
             (Or-this (Chained l k (size l k)) k j) (joined-up .chained) (joined-up .linked))
 
     closed-sits : (f i x : ℕ) → Sits l (r .mesh) (r .edges) f i x → Sits l closed (r .edges) f i x
     unfolding joined
     closed-sits f i x t =
-        sits-kept l (Done l k (size l k)) (Or-this (Chained l k (size l k)) k j) ring (r .edges) joined-up closed (λ x b. same-rows x) refl f i x
+        sits-kept l (Done l k (size l k)) (Or-this (Chained l k (size l k)) k j) ring (r .edges) joined-up closed (λ x b. same-rows x) (λ p. refl) (λ p. refl) f i x
           (sits-joined l (Done l k (size l k)) (Chained l k (size l k)) (r .mesh) (r .edges) (a .invariant) room-r k j (r .first) (r .before)
             (good j (omega arith)) sits-last sits-first last-done first-done f i x t)
 

@@ -2,7 +2,7 @@
 use mathlib.Core.Path.{_≡_, refl, sym, _∙_, ap}
 use mathlib.Core.Bool.{Bool, true, false, cond}
 use mathlib.Core.Logic.{_⊎_, inl, inr, _≢_}
-use Prim.Native.Nat.{ℕ, suc, _<_, _≤_}
+use Prim.Native.Nat.{ℕ, zero, suc, _<_, _≤_}
 use native.Mathlib.Omega.{arith}
 use lib.Dec.{eqb}
 use borrow.Author.Tests.{eqb-true, eqb-false}
@@ -49,3 +49,20 @@ next-next-differs n i three l e = go (next-is n i) (next-is n (nextPlace n i))
     go (inl a) (inr b) = omega arith
     go (inr a) (inl b) = omega arith
     go (inr a) (inr b) = omega arith
+
+-- each place is the next one of some place
+pub prev-exists : (n i : ℕ) → i < n → (j : ℕ) × (j < n) × (nextPlace n j ≡ i)
+prev-exists n zero h = last n h
+  where
+    last : (n : ℕ) → 0 < n → (j : ℕ) × (j < n) × (nextPlace n j ≡ 0)
+    last zero h = absurd (omega arith)
+    last (suc j) h = (j, omega arith, go (next-is (suc j) j))
+      where
+        go : ((suc j ≡ suc j) × (nextPlace (suc j) j ≡ 0)) ⊎ ((suc j ≢ suc j) × (nextPlace (suc j) j ≡ suc j)) → nextPlace (suc j) j ≡ 0
+        go (inl z) = z .1
+        go (inr z) = absurd (z .0 refl)
+prev-exists n (suc j) h = (j, omega arith, go (next-is n j))
+  where
+    go : ((suc j ≡ n) × (nextPlace n j ≡ 0)) ⊎ ((suc j ≢ n) × (nextPlace n j ≡ suc j)) → nextPlace n j ≡ suc j
+    go (inl z) = absurd (omega arith)
+    go (inr z) = z .1
