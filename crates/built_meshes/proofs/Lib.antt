@@ -7,3 +7,4 @@ pub mod Entering
 pub mod Perimeter
 pub mod Faces
 pub mod Whole
+pub mod Begin
