@@ -8,3 +8,4 @@ pub mod Perimeter
 pub mod Faces
 pub mod Whole
 pub mod Begin
+pub mod Finished

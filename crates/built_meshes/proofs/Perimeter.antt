@@ -76,7 +76,7 @@ place-listed : (l : Lists) (f i : ℕ) → f < facesOf l → i < size l f → of
 place-listed l f i h k = omega (arith, offset-up l (suc f) (facesOf l) h, offset-suc l f)
 
 -- each edge counts
-counted-above : (m : Mesh) (k : ℕ) → k ≤ counted m k
+pub counted-above : (m : Mesh) (k : ℕ) → k ≤ counted m k
 unfolding counted sumTo
 counted-above m zero = omega arith
 counted-above m (suc k) = omega (arith, counted-above m k)
