@@ -33,7 +33,7 @@ use Rattle.built_meshes.proofs.Joining.{keeps-refl}
 use Rattle.built_meshes.proofs.Entering.{Lengths, counted}
 use Rattle.built_meshes.proofs.Perimeter.{Ready, ready-same, Done, Chained, Faces, counted-above}
 use Rattle.built_meshes.proofs.Faces.{Fit-faces}
-use Rattle.built_meshes.proofs.Begin.{Counted, Numbered, Roomy}
+use Rattle.built_meshes.proofs.Begin.{Counted, Numbered, Roomy, listed-all}
 use Rattle.built_meshes.proofs.Whole.{place-of, sides-differ, acw-links, cw-links, acw-below, cw-below, one-edge, face-walk, point-walk}
 
 -- ---- marks
@@ -140,7 +140,7 @@ module _ (c : Limits) (l : Lists) (m₀ : Mesh) (counted' : Counted c l) (number
   face-in d e b = place-of l after (s .edges) v right' d e b .face-below
 
   edges-few : s .edges ≤ length (l .listed)
-  edges-few = omega (arith, counted-above (s .mesh) (s .edges), all .counts, Rattle.built_meshes.proofs.Begin.listed-all c l m₀ counted' numbered roomy few)
+  edges-few = omega (arith, counted-above (s .mesh) (s .edges), all .counts, listed-all c l m₀ counted' numbered roomy few)
 
   positions-same : length (after .positions) ≡ length (m₀ .positions)
   unfolding finished

@@ -9,3 +9,4 @@ pub mod Faces
 pub mod Whole
 pub mod Begin
 pub mod Finished
+pub mod Refusals

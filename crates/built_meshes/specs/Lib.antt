@@ -4,3 +4,4 @@ pub mod Perimeters
 pub mod Building
 pub mod Places
 pub mod Grounds
+pub mod Claims
