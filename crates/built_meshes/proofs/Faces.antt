@@ -25,7 +25,7 @@ use Rattle.built_meshes.specs.Lists.{Lists, Limits, pointsOf, facesOf, s
 use Rattle.built_meshes.specs.Faces.{listedAt, sizeFit, inRange, noPointTwice, apart, sumsFit, faceVerdict}
 use Rattle.built_meshes.specs.Perimeters.{State, Step, on, stopped, nextPlace, perimeter}
 use Rattle.built_meshes.specs.Places.{pointOf, nextOf, Runs}
-use Rattle.built_meshes.specs.Building.{zeroedRows, faceIf, facePassed, facesFrom, allFaces}
+use Rattle.built_meshes.specs.Building.{numberOf, zeroedRows, faceIf, facePassed, facesFrom, allFaces}
 use Rattle.built_meshes.specs.Grounds.{Holds, Between}
 use Rattle.built_meshes.specs.declared.Ground.{Ground}
 use Rattle.built_meshes.specs.declared.Ground.the-variants.{FaceSize, OutOfRange, PointTwice, NonRectangularFace, EdgeTripleFace, SameWay}
@@ -45,6 +45,10 @@ every-false (suc n) test h = go (every n test) refl (every-false n test) h
     go true e ih h = (n, omega arith, h)
     go false e ih h = let w = ih e in (w .0, omega (arith, w .1), w .2)
 
+why-number : {l : Lists} {D : ℕ → ℕ → Type 0} {p q : ℕ} {g : Ground} → Why l D p q g → 10 ≤ numberOf g
+why-number (both-ways f i g j d a b d' a' b') = omega arith
+why-number (this-way f i d a b) = omega arith
+
 -- a conjunction that fails
 pub and-false : (a b : Bool) → a && b ≡ false → (a ≡ false) ⊎ (b ≡ false)
 and-false true b h = inr h
@@ -55,7 +59,7 @@ and-false false b h = inl refl
 module _ (c : Limits) (l : Lists) (m₀ : Mesh) where
   pub data Face-verdict (f : ℕ) : Verdict → Type 0 where
     fit : FaceSound l f → small (apart l f (offset l f)) ≡ true → Face-verdict f Fit
-    unfit : {g : Ground} → Holds c l m₀ g → Face-verdict f (Unfit g)
+    unfit : {g : Ground} → Holds c l m₀ g → 10 ≤ numberOf g → Face-verdict f (Unfit g)
 
   range-is : (f : ℕ) → Is (inRange l (pointsOf l) (offset l f) (size l f)) ((i : ℕ) → i < size l f → pointOf l f i < pointsOf l)
   unfolding inRange
@@ -101,24 +105,24 @@ module _ (c : Limits) (l : Lists) (m₀ : Mesh) where
     where
       sums : FaceSound l f → (t : Bool) → sumsFit l f (offset l f) ≡ t → Face-verdict f (cond (not t) (Unfit NonRectangularFace) Fit)
       sums s true h = fit s h
-      sums s false h = unfit {g = NonRectangularFace} (record { face = f; is-face = b; not-small = h })
+      sums s false h = unfit {g = NonRectangularFace} (record { face = f; is-face = b; not-small = h }) (omega arith)
       twice : sizeFit (size l f) ≡ true → inRange l (pointsOf l) (offset l f) (size l f) ≡ true → (t : Bool) → noPointTwice l (offset l f) (size l f) ≡ t →
         Face-verdict f (cond (not t) (Unfit PointTwice) (cond (not (sumsFit l f (offset l f))) (Unfit NonRectangularFace) Fit))
       twice hs hr true h =
           let both = and-is (leb-is 3 (size l f)) (leb-is (size l f) 64) .0 hs in
           sums (record { at-least-3 = both .0; at-most-64 = both .1; in-range = range-is f .0 hr; distinct = distinct-of f (twice-is f .0 h) })
             (sumsFit l f (offset l f)) refl
-      twice hs hr false h = unfit {g = PointTwice} (twice-holds f b h)
+      twice hs hr false h = unfit {g = PointTwice} (twice-holds f b h) (omega arith)
       ranges : sizeFit (size l f) ≡ true → (t : Bool) → inRange l (pointsOf l) (offset l f) (size l f) ≡ t →
         Face-verdict f (cond (not t) (Unfit OutOfRange)
           (cond (not (noPointTwice l (offset l f) (size l f))) (Unfit PointTwice) (cond (not (sumsFit l f (offset l f))) (Unfit NonRectangularFace) Fit)))
       ranges hs true h = twice hs h (noPointTwice l (offset l f) (size l f)) refl
-      ranges hs false h = unfit {g = OutOfRange} (range-holds f b h)
+      ranges hs false h = unfit {g = OutOfRange} (range-holds f b h) (omega arith)
       sizes : (t : Bool) → sizeFit (size l f) ≡ t →
         Face-verdict f (cond (not t) (Unfit FaceSize) (cond (not (inRange l (pointsOf l) (offset l f) (size l f))) (Unfit OutOfRange)
           (cond (not (noPointTwice l (offset l f) (size l f))) (Unfit PointTwice) (cond (not (sumsFit l f (offset l f))) (Unfit NonRectangularFace) Fit))))
       sizes true h = ranges h (inRange l (pointsOf l) (offset l f) (size l f)) refl
-      sizes false h = unfit {g = FaceSize} (size-holds f b h)
+      sizes false h = unfit {g = FaceSize} (size-holds f b h) (omega arith)
 
   -- ---- a place that was refused
 
@@ -160,7 +164,7 @@ module _ (c : Limits) (l : Lists) (m₀ : Mesh) where
 
   pub data Faces-came (s₀ : State) : Step State → Type 0 where
     stand : {t : State} → Faces l (facesOf l) t → Fit-faces (facesOf l) → Lengths (s₀ .mesh) (t .mesh) → t .mesh .positions ≡ s₀ .mesh .positions → Faces-came s₀ (on t)
-    stop : {g : Ground} {m : Mesh} → Holds c l m₀ g → Faces-came s₀ (stopped g m)
+    stop : {g : Ground} {m : Mesh} → Holds c l m₀ g → 10 ≤ numberOf g → Faces-came s₀ (stopped g m)
 
   module _ (s₀ : State) (ready : Ready l (s₀ .mesh)) where
     -- the state s, come from s₀, with the faces below f in
@@ -172,7 +176,7 @@ module _ (c : Limits) (l : Lists) (m₀ : Mesh) where
 
     data Along (f : ℕ) : Step State → Type 0 where
       along : {s : State} → So-far f s → Along f (on s)
-      stopped-at : {g : Ground} {m : Mesh} → Holds c l m₀ g → Along f (stopped g m)
+      stopped-at : {g : Ground} {m : Mesh} → Holds c l m₀ g → 10 ≤ numberOf g → Along f (stopped g m)
 
     fit-more : (f : ℕ) → Fit-faces f → FaceSound l f → small (apart l f (offset l f)) ≡ true → Fit-faces (suc f)
     fit-more f a s r =
@@ -190,10 +194,10 @@ module _ (c : Limits) (l : Lists) (m₀ : Mesh) where
             along (record {
               faces = faces; fit-faces = fit-more f (a .fit-faces) sound r; lengths = lengths-trans (a .lengths) lengths;
               positions-still = positions ∙ a .positions-still })
-        entered sound r x (halted {g = g} j k w) = stopped-at {g = g} (refused-holds f j b sound k w)
+        entered sound r x (halted {g = g} j k w) = stopped-at {g = g} (refused-holds f j b sound k w) (why-number w)
         go : (v : Verdict) → Face-verdict f v → Along (suc f) (faceIf l f (offset l f) s v)
         go v (fit sound r) = entered sound r (perimeter l f (offset l f) s) (perimeter-came l s f b sound (ready-same l (a .lengths) ready) (a .faces))
-        go v (unfit {g = g} h) = stopped-at {g = g} h
+        go v (unfit {g = g} h n) = stopped-at {g = g} h n
 
     from-came : (k f : ℕ) (x : Step State) → f + k ≡ facesOf l → Along f x → Along (facesOf l) (facesFrom k l f (offset l f) x)
     unfolding facesFrom
@@ -201,7 +205,7 @@ module _ (c : Limits) (l : Lists) (m₀ : Mesh) where
     from-came (suc k) f x h (along {s = s} a) =
         subst (λ o. Along (facesOf l) (facesFrom k l (suc f) o (facePassed l f (offset l f) s))) (offset-suc l f)
           (from-came k (suc f) (facePassed l f (offset l f) s) (omega arith) (face-came f s (omega arith) a))
-    from-came (suc k) f x h (stopped-at {g = g} w) = stopped-at {g = g} w
+    from-came (suc k) f x h (stopped-at {g = g} w n) = stopped-at {g = g} w n
 
     pub faces-came : Faces l 0 s₀ → Faces-came s₀ (facesFrom (facesOf l) l 0 0 (on s₀))
     unfolding offset sumTo
@@ -214,4 +218,4 @@ module _ (c : Limits) (l : Lists) (m₀ : Mesh) where
               lengths = lengths-refl (s₀ .mesh); positions-still = refl }
         go : (x : Step State) → Along (facesOf l) x → Faces-came s₀ x
         go x (along a) = stand (a .faces) (a .fit-faces) (a .lengths) (a .positions-still)
-        go x (stopped-at {g = g} w) = stop {g = g} w
+        go x (stopped-at {g = g} w n) = stop {g = g} w n

@@ -10,3 +10,4 @@ pub mod Whole
 pub mod Begin
 pub mod Finished
 pub mod Refusals
+pub mod Theorem

@@ -196,30 +196,30 @@ module _ (c : Limits) (l : Lists) (m₀ : Mesh) (s : State) (all : Faces l (face
   -- ---- where all tests pass, no ground holds
 
   module _ (fit : Fit-faces c l m₀ (facesOf l)) (w : Whole-fit) where
-    no-face-size : ¬ Face-size l
+    pub no-face-size : ¬ Face-size l
     no-face-size h = go (h .small-or-large)
       where
         go : (size l (h .face) < 3) ⊎ (64 < size l (h .face)) → ⊥
         go (inl z) = omega (arith, fit .sound (h .face) (h .is-face) .at-least-3)
         go (inr z) = omega (arith, fit .sound (h .face) (h .is-face) .at-most-64)
 
-    no-out-of-range : ¬ Out-of-range l
+    pub no-out-of-range : ¬ Out-of-range l
     no-out-of-range h = omega (arith, fit .sound (h .face) (h .is-place .0) .in-range (h .place) (h .is-place .1), h .beyond)
 
-    no-point-twice : ¬ Point-twice l
+    pub no-point-twice : ¬ Point-twice l
     no-point-twice h =
         let below = h .is-place .1 in
         let z : h .place ≡ h .earlier = fit .sound (h .face) (h .is-place .0) .distinct (h .place) (h .earlier) below (omega (arith, h .is-earlier)) (h .same) in
         omega (arith, h .is-earlier)
 
-    no-unlike-sums : ¬ Non-rectangular l
+    pub no-unlike-sums : ¬ Non-rectangular l
     no-unlike-sums h = true≢false (sym (fit .rectangular (h .face) (h .is-face)) ∙ h .not-small)
 
     one-way : (f i g j p q : ℕ) → Runs l f i p q → Runs l g j p q → Differ f i g j → ⊥
     one-way f i g j p q r t d =
         d (v .one-way f i g j (place-done f i (r .is-place)) (place-done g j (t .is-place)) (r .begins ∙ sym (t .begins)) (r .ends ∙ sym (t .ends)))
 
-    no-triple : ¬ Triple-face l
+    pub no-triple : ¬ Triple-face l
     no-triple t = go (t .first-joins) (t .second-joins) (t .third-joins)
       where
         go : Between l (t .f) (t .i) (t .p) (t .q) → Between l (t .g) (t .j) (t .p) (t .q) → Between l (t .h) (t .k) (t .p) (t .q) → ⊥
@@ -230,10 +230,10 @@ module _ (c : Limits) (l : Lists) (m₀ : Mesh) (s : State) (all : Faces l (face
         go (inr a) (inl b) (inl c) = one-way _ _ _ _ _ _ b c (t .second-third)
         go (inr a) (inl b) (inr c) = one-way _ _ _ _ _ _ a c (t .first-third)
 
-    no-same-way : ¬ Same-way l
+    pub no-same-way : ¬ Same-way l
     no-same-way t = one-way _ _ _ _ _ _ (t .first-runs) (t .second-runs) (t .two)
 
-    no-missing : ¬ Missing-face l
+    pub no-missing : ¬ Missing-face l
     no-missing h =
         let t = v .entered (h .f) (h .i) (place-done _ _ (h .runs .is-place)) in
         go (t .0) (t .1 .on-side) (t .1 .below) (t .1 .first-is ∙ h .runs .begins) (t .1 .second-is ∙ h .runs .ends)
@@ -246,7 +246,7 @@ module _ (c : Limits) (l : Lists) (m₀ : Mesh) (s : State) (all : Faces l (face
         go e Left b first second = runs-back Right e b second first
         go e Right b first second = runs-back Left e b second first
 
-    no-no-edge : ¬ No-edge l
+    pub no-no-edge : ¬ No-edge l
     no-no-edge h =
         let some = w .edged (h .point) (h .is-point) in
         let t = v .start-is (h .point) (h .is-point) (omega arith) in
@@ -260,7 +260,7 @@ module _ (c : Limits) (l : Lists) (m₀ : Mesh) (s : State) (all : Faces l (face
         go e b (inl z) = begins-here Left e b z
         go e b (inr z) = begins-here Right e b z
 
-    no-missed : allFaces l m₀ ≡ on s → ¬ Missed-edge l m₀
+    pub no-missed : allFaces l m₀ ≡ on s → ¬ Missed-edge l m₀
     no-missed stands h = go (subst (λ t. Hit (h .point) (h .edge) t) same (record { is-edge = h .is-edge; hits = h .touches; misses = h .misses }))
       where
         same : h .state ≡ s
