@@ -11,3 +11,4 @@ pub mod Begin
 pub mod Finished
 pub mod Refusals
 pub mod Theorem
+pub mod Cases

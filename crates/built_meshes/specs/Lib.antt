@@ -5,3 +5,4 @@ pub mod Building
 pub mod Places
 pub mod Grounds
 pub mod Claims
+pub mod Pieces
