@@ -16,7 +16,6 @@ use borrow.Author.Tests.{leb-false, eqb-false}
 use Rattle.t_spline.specs.Edge.{none}
 use Rattle.tables.specs.Mesh.{Mesh, valence}
 use Rattle.tables.specs.Rows.{zeroed}
-use Rattle.tables.proofs.Laws.{length-zeroed}
 use Rattle.closed_meshes.specs.Renumbering.{sumTo}
 use Rattle.audited_meshes.specs.Folds.{every}
 use Rattle.audited_meshes.specs.Audit.{pointRows, edgeRows, faceRows, intervalFit}
@@ -24,8 +23,10 @@ use Rattle.audited_meshes.proofs.Tests.{Is, and-is, eqb-is, leb-is, self-is, ev
 use Rattle.built_meshes.specs.Lists.{Lists, Limits, pointsOf, facesOf, side, size, offset, countsFit, numbersFit, rowsFit}
 use Rattle.built_meshes.specs.Perimeters.{State}
 use Rattle.built_meshes.specs.Building.{zeroedRows}
+use Rattle.built_meshes.specs.Beyond.{Within}
 use Rattle.built_meshes.specs.Grounds.{Over-counts, many-points, many-faces, many-listed, point-cut, face-cut, unlike, sum-unlike, Unfit-number, coordinate, interval, Few-rows, few-points, few-faces, few-edges}
-use Rattle.built_meshes.proofs.Entering.{Lengths, counted}
+use Rattle.built_meshes.proofs.Beyond.{behind-zeroed}
+use Rattle.built_meshes.proofs.Entering.{counted}
 use Rattle.built_meshes.proofs.Perimeter.{Ready, Done, Chained, Faces}
 use Rattle.built_meshes.proofs.Faces.{every-false, and-false}
 
@@ -197,23 +198,23 @@ module _ (c : Limits) (l : Lists) (m : Mesh) (counted' : Counted c l) (numbered 
   faces-fit : facesOf l * 5 ≤ length (m .faces)
   faces-fit = omega (arith, roomy .faces-enough)
 
-  pub lengths-zeroed : Lengths m (zeroedRows l m)
+  pub within-zeroed : Within l m (zeroedRows l m)
   unfolding zeroedRows
-  lengths-zeroed =
+  within-zeroed =
       record {
-        positions-same = length-zeroed (pointsOf l * 3) (ofBits binary64 0) (m .positions) positions-fit;
-        points-same = length-zeroed (pointsOf l * 3) 0 (m .points) points-fit;
-        edges-same = length-zeroed (length (l .listed) * 8) 0 (m .edges) edges-fit;
-        intervals-same = length-zeroed (length (l .listed)) (ofBits binary64 0) (m .intervals) intervals-fit';
-        faces-same = length-zeroed (facesOf l * 5) 0 (m .faces) faces-fit }
+        positions = behind-zeroed (pointsOf l * 3) (ofBits binary64 0) (m .positions) positions-fit;
+        points = behind-zeroed (pointsOf l * 3) 0 (m .points) points-fit;
+        edges = behind-zeroed (length (l .listed) * 8) 0 (m .edges) edges-fit;
+        intervals = behind-zeroed (length (l .listed)) (ofBits binary64 0) (m .intervals) intervals-fit';
+        faces = behind-zeroed (facesOf l * 5) 0 (m .faces) faces-fit }
 
   pub ready : Ready l (zeroedRows l m)
   ready =
       record {
-        points-room = rw (lengths-zeroed .points-same) points-fit;
-        edges-room = rw (lengths-zeroed .edges-same) edges-fit;
-        intervals-room = rw (lengths-zeroed .intervals-same) intervals-fit';
-        faces-room = rw (lengths-zeroed .faces-same) faces-fit;
+        points-room = rw (within-zeroed .points .0) points-fit;
+        edges-room = rw (within-zeroed .edges .0) edges-fit;
+        intervals-room = rw (within-zeroed .intervals .0) intervals-fit';
+        faces-room = rw (within-zeroed .faces .0) faces-fit;
         intervals-fit = λ k b. numbered .intervals-fit k (omega (arith, counted' .alike));
         all-listed = listed-all;
         faces-few = omega (arith, counted' .faces-few) }

@@ -7,13 +7,12 @@
 use mathlib.Core.Path.{_≡_, refl, sym, _∙_, ap, ap₂, subst}
 use mathlib.Core.Bool.{Bool, true, false, not, _&&_, _||_, false≢true, true≢false}
 use mathlib.Core.Logic.{_⊎_, inl, inr, ⊎-elim, _≢_}
-use mathlib.Core.List.{List}
 use Prim.Native.Nat.{ℕ, zero, suc, _+_, _*_, _<_, _≤_}
 use native.Mathlib.Omega.{arith}
 use native.Mathlib.Decide.{ℕ-discrete}
 use lib.Dec.{eqb}
 use lib.Ieee.{Float}
-use lib.ListN.{length, length-set}
+use lib.ListN.{length}
 use borrow.Author.Tests.{eqb-true, eqb-false, eq-eqb, ne-eqb}
 use Rattle.t_spline.specs.Edge.{none, faceFromSide}
 use Rattle.t_spline.specs.declared.TnurccEdge.{TnurccEdge}
@@ -21,7 +20,6 @@ use Rattle.t_spline.specs.declared.TnurccFaceSide.{TnurccFaceSide}
 use Rattle.t_spline.specs.declared.TnurccFaceSide.the-variants.{Left, Right}
 use Rattle.tables.specs.Mesh.{Mesh, valence, start, origin, dest, rightFace}
 use Rattle.tables.specs.Records.{edgeWords}
-use Rattle.tables.proofs.Laws.{length-putRow}
 use Rattle.closed_meshes.specs.Renumbering.{sumTo}
 use Rattle.audited_meshes.specs.Folds.{one}
 use Rattle.audited_meshes.specs.Walks.{touches}
@@ -32,6 +30,7 @@ use Rattle.audited_meshes.proofs.Tests.{Is, and-is, or-is, eqb-is}
 use Rattle.built_meshes.specs.Lists.{Lists, pointsOf, size}
 use Rattle.built_meshes.specs.Perimeters.{nextPlace, joins, orLast, edgeBetween, edgeOf, touched, newEdge, filled, Entered, at, refused, enteredAt, enteredIf, entered}
 use Rattle.built_meshes.specs.Places.{pointOf, nextOf}
+use Rattle.built_meshes.specs.Beyond.{Within}
 use Rattle.built_meshes.specs.declared.Ground.{Ground}
 use Rattle.built_meshes.specs.declared.Ground.the-variants.{EdgeTripleFace, SameWay}
 use Rattle.built_meshes.specs.declared.Found.{Found}
@@ -39,6 +38,7 @@ use Rattle.built_meshes.specs.declared.Found.the-variants as Founds
 use Rattle.built_meshes.proofs.Connecting.{firstOf, secondOf, acwOf, cwOf}
 use Rattle.built_meshes.proofs.Rows.{row, withRight, row-newEdge, row-newEdge-other, valence-newEdge-first, valence-newEdge-second, valence-newEdge-other, start-newEdge-first, start-newEdge-second, start-newEdge-other, row-filled, row-filled-other}
 use Rattle.built_meshes.proofs.Places.{next-below, next-differs}
+use Rattle.built_meshes.proofs.Beyond.{behind-trans, behind-set, behind-putRow, behind-touched}
 use Rattle.built_meshes.proofs.Invariant.{Sits, Good, Invariant, Same-side, Adds, Or-this, sits-added, sits-new, Rest, invariant-added}
 
 -- ---- the search
@@ -101,14 +101,6 @@ module _ (l : Lists) (D : ℕ → ℕ → Type 0) (p q : ℕ) where
     -- a place entered runs this way
     this-way : (f i : ℕ) → D f i → pointOf l f i ≡ p → nextOf l f i ≡ q → Why SameWay
 
--- the tables are as long as they were
-pub record Lengths (m m' : Mesh) : Type 0 where
-  pub positions-same : length (m' .positions) ≡ length (m .positions)
-  pub points-same : length (m' .points) ≡ length (m .points)
-  pub edges-same : length (m' .edges) ≡ length (m .edges)
-  pub intervals-same : length (m' .intervals) ≡ length (m .intervals)
-  pub faces-same : length (m' .faces) ≡ length (m .faces)
-
 module _ (l : Lists) (D C : ℕ → ℕ → Type 0) (m : Mesh) (ne : ℕ) (f₀ i₀ : ℕ) where
   -- the place is in, at an edge
   pub record Goes (m' : Mesh) (ne' e : ℕ) : Type 0 where
@@ -116,17 +108,17 @@ module _ (l : Lists) (D C : ℕ → ℕ → Type 0) (m : Mesh) (ne : ℕ) (f₀ 
     pub sits : Sits l m' ne' f₀ i₀ e
     pub sits-still : (f i x : ℕ) → f ≢ none → Sits l m ne f i x → Sits l m' ne' f i x
     pub counts : counted m' ne' ≡ suc (counted m ne)
-    pub lengths : Lengths m m'
-    pub positions-still : m' .positions ≡ m .positions
+    pub within : Within l m m'
     pub faces-still : m' .faces ≡ m .faces
-    pub right-face : f₀ ≢ none
+    pub grows : ne ≤ ne'
+    pub later : (x : ℕ) → ne' ≤ x → row m' x ≡ row m x
 
   pub data Came : Entered → Type 0 where
     goes : {m' : Mesh} {ne' e : ℕ} → Goes m' ne' e → Came (at m' ne' e)
     stops : {g : Ground} → Why l D (pointOf l f₀ i₀) (nextOf l f₀ i₀) g → Came (refused g)
 
   module _ (v : Invariant l D C m ne) (g₀ : Good l f₀ i₀) (value : Float) (fit : intervalFit value ≡ true)
-      (points-room : pointsOf l * 3 ≤ length (m .points)) (edges-room : suc ne * 8 ≤ length (m .edges)) (intervals-room : ne < length (m .intervals)) where
+      (points-room : pointsOf l * 3 ≤ length (m .points)) (edges-room : suc ne * 8 ≤ length (m .edges)) (intervals-room : ne < length (m .intervals)) (listed-room : ne < length (l .listed)) where
     abbrev p : ℕ
     p = pointOf l f₀ i₀
 
@@ -245,11 +237,14 @@ module _ (l : Lists) (D C : ℕ → ℕ → Type 0) (m : Mesh) (ne : ℕ) (f₀ 
               sumTo-more ne e (λ x. sided (row m x .«face_right»)) (λ x. sided (row (filled m e f₀) x .«face_right»)) b
                 (ap sided (ap (λ (r : TnurccEdge). r .«face_right») here) ∙ sided-face f₀ (g₀ .a-face) ∙ ap suc (sym (ap sided free ∙ sided-none)))
                 (λ x k h. ap sided (ap (λ (r : TnurccEdge). r .«face_right») (row-filled-other m e f₀ x h)));
-            lengths =
-              record { positions-same = refl; points-same = refl; edges-same = length-set (m .edges) (e * 8 + 3) f₀; intervals-same = refl; faces-same = refl };
-            positions-still = refl;
+            within =
+              record {
+                positions = (refl, refl); points = (refl, refl);
+                edges = behind-set (length (l .listed) * 8) (m .edges) (e * 8 + 3) f₀ (omega arith);
+                intervals = (refl, refl); faces = (refl, refl) };
             faces-still = refl;
-            right-face = g₀ .a-face }
+            grows = omega arith;
+            later = λ x h. row-filled-other m e f₀ x (λ z. omega arith) }
         where
           touches-alone : (x y : ℕ) → Touches m x y → Touches (filled m e f₀) x y
           touches-alone x y (inl h) = inl (left-alone y .origin-same ∙ h)
@@ -398,9 +393,6 @@ module _ (l : Lists) (D C : ℕ → ℕ → Type 0) (m : Mesh) (ne : ℕ) (f₀ 
               subst At-new (sym (start-newEdge-other m ne f₀ p q value differ p-fits q-fits x i j))
                 (old (valence-newEdge-other m ne f₀ p q value differ p-fits q-fits x i j))
 
-      length-touched : (ws : List ℕ) (x e : ℕ) → length (touched ws x e) ≡ length ws
-      length-touched ws x e = simp length-set
-
       goes-new : Goes new (suc ne) ne
       unfolding newEdge counted sumTo One-side
       goes-new =
@@ -421,16 +413,18 @@ module _ (l : Lists) (D C : ℕ → ℕ → Type 0) (m : Mesh) (ne : ℕ) (f₀ 
             counts =
               omega (arith, sumTo-cong ne (λ x. sided (row new x .«face_right»)) (λ x. sided (row m x .«face_right»)) (λ x k. ap (λ (r : TnurccEdge). sided (r .«face_right»)) (there x k)),
                 ap (λ (r : TnurccEdge). sided (r .«face_right»)) here-new, sided-none);
-            lengths =
+            within =
               record {
-                positions-same = refl;
-                points-same = length-touched (touched (m .points) p ne) q ne ∙ length-touched (m .points) p ne;
-                edges-same = length-putRow (edgeWords (edgeOf ne f₀ p q value)) (m .edges) (ne * 8);
-                intervals-same = length-set (m .intervals) ne value;
-                faces-same = refl };
-            positions-still = refl;
+                positions = (refl, refl);
+                points =
+                  behind-trans (pointsOf l * 3) (m .points) (touched (m .points) p ne) (touched (touched (m .points) p ne) q ne)
+                    (behind-touched (pointsOf l) (m .points) p ne p-in) (behind-touched (pointsOf l) (touched (m .points) p ne) q ne q-in);
+                edges = behind-putRow (length (l .listed) * 8) (edgeWords (edgeOf ne f₀ p q value)) (m .edges) (ne * 8) (omega arith);
+                intervals = behind-set (length (l .listed)) (m .intervals) ne value listed-room;
+                faces = (refl, refl) };
             faces-still = refl;
-            right-face = g₀ .a-face }
+            grows = omega arith;
+            later = λ x h. row-newEdge-other m ne f₀ p q value x (λ z. omega arith) }
 
     -- ---- the search decides
 

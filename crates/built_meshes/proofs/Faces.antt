@@ -26,15 +26,18 @@ use Rattle.built_meshes.specs.Faces.{listedAt, sizeFit, inRange, noPoint
 use Rattle.built_meshes.specs.Perimeters.{State, Step, on, stopped, nextPlace, perimeter}
 use Rattle.built_meshes.specs.Places.{pointOf, nextOf, Runs}
 use Rattle.built_meshes.specs.Building.{numberOf, zeroedRows, faceIf, facePassed, facesFrom, allFaces}
-use Rattle.built_meshes.specs.Grounds.{Holds, Between}
+use Rattle.built_meshes.specs.Beyond.{Within}
+use Rattle.built_meshes.specs.Grounds.{Holds}
 use Rattle.built_meshes.specs.declared.Ground.{Ground}
 use Rattle.built_meshes.specs.declared.Ground.the-variants.{FaceSize, OutOfRange, PointTwice, NonRectangularFace, EdgeTripleFace, SameWay}
 use Rattle.built_meshes.specs.declared.Verdict.{Verdict}
 use Rattle.built_meshes.specs.declared.Verdict.the-variants.{Fit, Unfit}
+use Rattle.built_meshes.proofs.Rows.{row}
 use Rattle.built_meshes.proofs.Places.{next-below, next-differs}
+use Rattle.built_meshes.proofs.Beyond.{within-refl, within-trans}
 use Rattle.built_meshes.proofs.Invariant.{FaceSound, Invariant}
-use Rattle.built_meshes.proofs.Entering.{Why, both-ways, this-way, Lengths, counted}
-use Rattle.built_meshes.proofs.Perimeter.{Ready, ready-same, lengths-trans, lengths-refl, Done, Chained, Faces, Perimeter-came, whole, halted, perimeter-came, offset-suc}
+use Rattle.built_meshes.proofs.Entering.{Why, both-ways, this-way}
+use Rattle.built_meshes.proofs.Perimeter.{Ready, ready-same, Done, Faces, Perimeter-came, whole, halted, perimeter-came, offset-suc}
 
 pub every-false : (n : ℕ) (test : ℕ → Bool) → every n test ≡ false → (k : ℕ) × (k < n) × (test k ≡ false)
 unfolding every
@@ -163,20 +166,21 @@ module _ (c : Limits) (l : Lists) (m₀ : Mesh) where
     pub rectangular : (f : ℕ) → f < k → small (apart l f (offset l f)) ≡ true
 
   pub data Faces-came (s₀ : State) : Step State → Type 0 where
-    stand : {t : State} → Faces l (facesOf l) t → Fit-faces (facesOf l) → Lengths (s₀ .mesh) (t .mesh) → t .mesh .positions ≡ s₀ .mesh .positions → Faces-came s₀ (on t)
-    stop : {g : Ground} {m : Mesh} → Holds c l m₀ g → 10 ≤ numberOf g → Faces-came s₀ (stopped g m)
+    stand : {t : State} → Faces l (facesOf l) t → Fit-faces (facesOf l) → Within l (s₀ .mesh) (t .mesh) →
+      ((x : ℕ) → t .edges ≤ x → row (t .mesh) x ≡ row (s₀ .mesh) x) → Faces-came s₀ (on t)
+    stop : {g : Ground} {m : Mesh} → Holds c l m₀ g → 10 ≤ numberOf g → Within l (s₀ .mesh) m → Faces-came s₀ (stopped g m)
 
   module _ (s₀ : State) (ready : Ready l (s₀ .mesh)) where
     -- the state s, come from s₀, with the faces below f in
     record So-far (f : ℕ) (s : State) : Type 0 where
       faces : Faces l f s
       fit-faces : Fit-faces f
-      lengths : Lengths (s₀ .mesh) (s .mesh)
-      positions-still : s .mesh .positions ≡ s₀ .mesh .positions
+      within : Within l (s₀ .mesh) (s .mesh)
+      later : (x : ℕ) → s .edges ≤ x → row (s .mesh) x ≡ row (s₀ .mesh) x
 
     data Along (f : ℕ) : Step State → Type 0 where
       along : {s : State} → So-far f s → Along f (on s)
-      stopped-at : {g : Ground} {m : Mesh} → Holds c l m₀ g → 10 ≤ numberOf g → Along f (stopped g m)
+      stopped-at : {g : Ground} {m : Mesh} → Holds c l m₀ g → 10 ≤ numberOf g → Within l (s₀ .mesh) m → Along f (stopped g m)
 
     fit-more : (f : ℕ) → Fit-faces f → FaceSound l f → small (apart l f (offset l f)) ≡ true → Fit-faces (suc f)
     fit-more f a s r =
@@ -189,15 +193,15 @@ module _ (c : Limits) (l : Lists) (m₀ : Mesh) where
     face-came f s b a = go (faceVerdict l (pointsOf l) f (offset l f)) (verdict-is f b)
       where
         entered : (sound : FaceSound l f) → small (apart l f (offset l f)) ≡ true → (x : Step State) →
-          Perimeter-came l s f b sound (ready-same l (a .lengths) ready) x → Along (suc f) x
-        entered sound r x (whole faces lengths positions) =
+          Perimeter-came l s f b sound (ready-same l (a .within) ready) x → Along (suc f) x
+        entered sound r x (whole faces within grows later) =
             along (record {
-              faces = faces; fit-faces = fit-more f (a .fit-faces) sound r; lengths = lengths-trans (a .lengths) lengths;
-              positions-still = positions ∙ a .positions-still })
-        entered sound r x (halted {g = g} j k w) = stopped-at {g = g} (refused-holds f j b sound k w) (why-number w)
+              faces = faces; fit-faces = fit-more f (a .fit-faces) sound r; within = within-trans l (a .within) within;
+              later = λ x h. later x h ∙ a .later x (omega arith) })
+        entered sound r x (halted {g = g} j k w o) = stopped-at {g = g} (refused-holds f j b sound k w) (why-number w) (within-trans l (a .within) o)
         go : (v : Verdict) → Face-verdict f v → Along (suc f) (faceIf l f (offset l f) s v)
-        go v (fit sound r) = entered sound r (perimeter l f (offset l f) s) (perimeter-came l s f b sound (ready-same l (a .lengths) ready) (a .faces))
-        go v (unfit {g = g} h n) = stopped-at {g = g} h n
+        go v (fit sound r) = entered sound r (perimeter l f (offset l f) s) (perimeter-came l s f b sound (ready-same l (a .within) ready) (a .faces))
+        go v (unfit {g = g} h n) = stopped-at {g = g} h n (a .within)
 
     from-came : (k f : ℕ) (x : Step State) → f + k ≡ facesOf l → Along f x → Along (facesOf l) (facesFrom k l f (offset l f) x)
     unfolding facesFrom
@@ -205,7 +209,7 @@ module _ (c : Limits) (l : Lists) (m₀ : Mesh) where
     from-came (suc k) f x h (along {s = s} a) =
         subst (λ o. Along (facesOf l) (facesFrom k l (suc f) o (facePassed l f (offset l f) s))) (offset-suc l f)
           (from-came k (suc f) (facePassed l f (offset l f) s) (omega arith) (face-came f s (omega arith) a))
-    from-came (suc k) f x h (stopped-at {g = g} w n) = stopped-at {g = g} w n
+    from-came (suc k) f x h (stopped-at {g = g} w n o) = stopped-at {g = g} w n o
 
     pub faces-came : Faces l 0 s₀ → Faces-came s₀ (facesFrom (facesOf l) l 0 0 (on s₀))
     unfolding offset sumTo
@@ -215,7 +219,7 @@ module _ (c : Limits) (l : Lists) (m₀ : Mesh) where
         start' =
             record {
               faces = all; fit-faces = record { sound = λ f h. absurd (omega arith); rectangular = λ f h. absurd (omega arith) };
-              lengths = lengths-refl (s₀ .mesh); positions-still = refl }
+              within = within-refl l (s₀ .mesh); later = λ x h. refl }
         go : (x : Step State) → Along (facesOf l) x → Faces-came s₀ x
-        go x (along a) = stand (a .faces) (a .fit-faces) (a .lengths) (a .positions-still)
-        go x (stopped-at {g = g} w n) = stop {g = g} w n
+        go x (along a) = stand (a .faces) (a .fit-faces) (a .within) (a .later)
+        go x (stopped-at {g = g} w n o) = stop {g = g} w n o

@@ -26,11 +26,12 @@ use Rattle.audited_meshes.proofs.Folds.{below-suc}
 use Rattle.built_meshes.specs.Lists.{Lists, Limits, pointsOf, facesOf, size, offset}
 use Rattle.built_meshes.specs.Perimeters.{State}
 use Rattle.built_meshes.specs.Building.{markOf, marked, finished}
+use Rattle.built_meshes.specs.Beyond.{Within}
 use Rattle.built_meshes.proofs.Connecting.{Keeps}
 use Rattle.built_meshes.proofs.Rows.{row}
 use Rattle.built_meshes.proofs.Invariant.{FaceSound, Sits, Invariant, sits-kept, invariant-kept}
 use Rattle.built_meshes.proofs.Joining.{keeps-refl}
-use Rattle.built_meshes.proofs.Entering.{Lengths, counted}
+use Rattle.built_meshes.proofs.Entering.{counted}
 use Rattle.built_meshes.proofs.Perimeter.{Ready, ready-same, Done, Chained, Faces, counted-above}
 use Rattle.built_meshes.proofs.Faces.{Fit-faces}
 use Rattle.built_meshes.proofs.Begin.{Counted, Numbered, Roomy, listed-all}
@@ -120,7 +121,7 @@ module _ (l : Lists) (k : ℕ) (s : State) (all : Faces l k s) where
 -- ---- the audit's clauses
 
 module _ (c : Limits) (l : Lists) (m₀ : Mesh) (counted' : Counted c l) (numbered : Numbered l) (roomy : Roomy l m₀) (few : c .faces ≤ none)
-    (s : State) (all : Faces l (facesOf l) s) (fit : Fit-faces c l m₀ (facesOf l)) (lengths : Lengths m₀ (s .mesh))
+    (s : State) (all : Faces l (facesOf l) s) (fit : Fit-faces c l m₀ (facesOf l)) (within : Within l m₀ (s .mesh))
     (right : (e : ℕ) → e < s .edges → row (s .mesh) e .«face_right» ≢ none) (edged : (p : ℕ) → p < pointsOf l → valence (s .mesh) p ≢ 0)
     (walked : (p : ℕ) → p < pointsOf l → valence (s .mesh) p ≤ passed (pointWalk (s .mesh) (s .edges) (valence (s .mesh) p) p)) where
   abbrev after : Mesh
@@ -144,22 +145,22 @@ module _ (c : Limits) (l : Lists) (m₀ : Mesh) (counted' : Counted c l) (number
 
   positions-same : length (after .positions) ≡ length (m₀ .positions)
   unfolding finished
-  positions-same = length-over (pointsOf l * 3) (l .coordinates) (s .mesh .positions) (omega arith) (rw (lengths .positions-same) (omega (arith, roomy .points-enough))) ∙ lengths .positions-same
+  positions-same = length-over (pointsOf l * 3) (l .coordinates) (s .mesh .positions) (omega arith) (rw (within .positions .0) (omega (arith, roomy .points-enough))) ∙ within .positions .0
 
   points-same : length (after .points) ≡ length (m₀ .points)
   unfolding finished
-  points-same = length-marked (pointsOf l) (s .mesh .points) ∙ lengths .points-same
+  points-same = length-marked (pointsOf l) (s .mesh .points) ∙ within .points .0
 
   points-fit : pointsOf l ≤ pointRows after
   points-fit = rw (positions-same, points-same) (roomy .points-enough)
 
   edges-fit : s .edges ≤ edgeRows after
   unfolding finished
-  edges-fit = rw (lengths .edges-same, lengths .intervals-same) (omega (arith, edges-few, roomy .edges-enough))
+  edges-fit = rw (within .edges .0, within .intervals .0) (omega (arith, edges-few, roomy .edges-enough))
 
   faces-fit : facesOf l ≤ faceRows after
   unfolding finished
-  faces-fit = rw (lengths .faces-same) (roomy .faces-enough)
+  faces-fit = rw (within .faces .0) (roomy .faces-enough)
 
   coordinate-finite : (p j : ℕ) → p < pointsOf l → j < 3 → finite (getD (after .positions) (p * 3 + j) nan) ≡ true
   unfolding finished
@@ -171,7 +172,7 @@ module _ (c : Limits) (l : Lists) (m₀ : Mesh) (counted' : Counted c l) (number
   unfolding finished
   mark-fits p b =
       subst (λ k. (k ≡ 0) ⊎ (k ≡ 1))
-        (sym (mark-marked (pointsOf l) p (s .mesh .points) b (rw (lengths .points-same) (omega (arith, roomy .points-enough)))))
+        (sym (mark-marked (pointsOf l) p (s .mesh .points) b (rw (within .points .0) (omega (arith, roomy .points-enough)))))
         (markOf-fit (getD (s .mesh .points) (p * 3) 0))
 
   few' : (f : ℕ) → f < facesOf l → f ≢ none

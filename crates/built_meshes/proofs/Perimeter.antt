@@ -18,8 +18,6 @@ use Rattle.t_spline.specs.Edge.{none}
 use Rattle.tables.specs.Mesh.{Mesh, faceStart, corner}
 use Rattle.tables.specs.Rows.{putRow}
 use Rattle.tables.specs.Records.{faceWords}
-use Rattle.tables.proofs.Laws.{length-putRow, getD-putRow, getD-putRow-other}
-use Rattle.t_nurcc_edge.proofs.Laws.{length-connectedRows}
 use Rattle.closed_meshes.specs.Renumbering.{sumTo}
 use Rattle.audited_meshes.specs.Audit.{intervalFit}
 use Rattle.audited_meshes.specs.Folds.{one}
@@ -27,13 +25,15 @@ use Rattle.audited_meshes.proofs.Folds.{below-suc, sumTo-cong}
 use Rattle.built_meshes.specs.Lists.{Lists, pointsOf, facesOf, size, offset}
 use Rattle.built_meshes.specs.Perimeters.{State, Ring, Step, on, stopped, Entered, at, refused, entered, nextPlace, joined, chained, firstOf, turned, turn, places, faceOf, withFace, closedUp, perimeter}
 use Rattle.built_meshes.specs.Places.{pointOf, nextOf}
+use Rattle.built_meshes.specs.Beyond.{Within}
 use Rattle.built_meshes.specs.declared.Ground.{Ground}
 use Rattle.built_meshes.proofs.Connecting.{Keeps}
-use Rattle.built_meshes.proofs.Rows.{row, faceStart-withFace, faceStart-withFace-other, corner-withFace, corner-withFace-other}
+use Rattle.built_meshes.proofs.Rows.{row, row-joined-rest, faceStart-withFace, faceStart-withFace-other, corner-withFace, corner-withFace-other}
 use Rattle.built_meshes.proofs.Places.{next-is}
+use Rattle.built_meshes.proofs.Beyond.{behind-putRow, behind-connected, within-refl, within-trans}
 use Rattle.built_meshes.proofs.Invariant.{FaceSound, Sits, Good, Invariant, Or-this, sits-kept, invariant-kept, invariant-as}
 use Rattle.built_meshes.proofs.Joining.{keeps-refl, invariant-joined, sits-joined, right-joined}
-use Rattle.built_meshes.proofs.Entering.{Why, Lengths, Goes, Came, goes, stops, came, counted}
+use Rattle.built_meshes.proofs.Entering.{Why, Goes, Came, goes, stops, came, counted}
 
 pub record Ready (l : Lists) (m : Mesh) : Type 0 where
   pub points-room : pointsOf l * 3 ≤ length (m .points)
@@ -44,20 +44,11 @@ pub record Ready (l : Lists) (m : Mesh) : Type 0 where
   pub all-listed : offset l (facesOf l) ≡ length (l .listed)
   pub faces-few : facesOf l ≤ none
 
-pub lengths-trans : {m m' m'' : Mesh} → Lengths m m' → Lengths m' m'' → Lengths m m''
-lengths-trans h k =
-    record {
-      positions-same = k .positions-same ∙ h .positions-same; points-same = k .points-same ∙ h .points-same; edges-same = k .edges-same ∙ h .edges-same;
-      intervals-same = k .intervals-same ∙ h .intervals-same; faces-same = k .faces-same ∙ h .faces-same }
-
-pub lengths-refl : (m : Mesh) → Lengths m m
-lengths-refl m = record { positions-same = refl; points-same = refl; edges-same = refl; intervals-same = refl; faces-same = refl }
-
-pub ready-same : (l : Lists) {m m' : Mesh} → Lengths m m' → Ready l m → Ready l m'
+pub ready-same : (l : Lists) {m m' : Mesh} → Within l m m' → Ready l m → Ready l m'
 ready-same l h r =
     record {
-      points-room = rw (h .points-same) (r .points-room); edges-room = rw (h .edges-same) (r .edges-room);
-      intervals-room = rw (h .intervals-same) (r .intervals-room); faces-room = rw (h .faces-same) (r .faces-room);
+      points-room = rw (h .points .0) (r .points-room); edges-room = rw (h .edges .0) (r .edges-room);
+      intervals-room = rw (h .intervals .0) (r .intervals-room); faces-room = rw (h .faces .0) (r .faces-room);
       intervals-fit = r .intervals-fit; all-listed = r .all-listed; faces-few = r .faces-few }
 
 -- ---- counting places
@@ -125,8 +116,9 @@ module _ (l : Lists) (s : State) (k : ℕ) (kf : k < facesOf l) (sound : FaceSou
   pub record Around (i : ℕ) (r : Ring) : Type 0 where
     pub invariant : Invariant l (Done l k i) (Chained l k i) (r .mesh) (r .edges)
     pub counts : counted (r .mesh) (r .edges) ≡ offset l k + i
-    pub lengths : Lengths (s .mesh) (r .mesh)
-    pub positions-still : r .mesh .positions ≡ s .mesh .positions
+    pub within : Within l (s .mesh) (r .mesh)
+    pub grows : s .edges ≤ r .edges
+    pub later : (x : ℕ) → r .edges ≤ x → row (r .mesh) x ≡ row (s .mesh) x
     pub faces-still : r .mesh .faces ≡ s .mesh .faces
     pub first-sits : 0 < i → Sits l (r .mesh) (r .edges) k 0 (r .first)
     pub before-sits : (j : ℕ) → suc j ≡ i → Sits l (r .mesh) (r .edges) k j (r .before)
@@ -135,7 +127,7 @@ module _ (l : Lists) (s : State) (k : ℕ) (kf : k < facesOf l) (sound : FaceSou
   -- the face goes on, or it stopped at a place
   pub data Round (i : ℕ) : Step Ring → Type 0 where
     round : {r : Ring} → Around i r → Round i (on r)
-    halts : {g : Ground} {m : Mesh} (j : ℕ) → j < size l k → Why l (Done l k j) (pointOf l k j) (nextOf l k j) g → Round i (stopped g m)
+    halts : {g : Ground} {m : Mesh} (j : ℕ) → j < size l k → Why l (Done l k j) (pointOf l k j) (nextOf l k j) g → Within l (s .mesh) m → Round i (stopped g m)
 
   good : (i : ℕ) → i < size l k → Good l k i
   good i h = record { sound = sound; is-below = h; a-face = a-face }
@@ -153,19 +145,22 @@ module _ (l : Lists) (s : State) (k : ℕ) (kf : k < facesOf l) (sound : FaceSou
     room = omega (arith, counted-above (r .mesh) (r .edges), a .counts, place-listed l k i kf below, ready .all-listed)
 
     ready' : Ready l (r .mesh)
-    ready' = ready-same l (a .lengths) ready
+    ready' = ready-same l (a .within) ready
 
     entering : Came l (Done l k i) (Chained l k i) (r .mesh) (r .edges) k i (entered (r .mesh) (r .edges) k (pointOf l k i) (nextOf l k i) (getD (l .intervals) (offset l k + i) nan))
     entering =
         came l (Done l k i) (Chained l k i) (r .mesh) (r .edges) k i (a .invariant) (good i below) (getD (l .intervals) (offset l k + i) nan)
           (ready .intervals-fit (offset l k + i) (omega (arith, place-listed l k i kf below, ready .all-listed)))
-          (ready' .points-room) (omega (arith, room, ready' .edges-room)) (omega (arith, room, ready' .intervals-room))
+          (ready' .points-room) (omega (arith, room, ready' .edges-room)) (omega (arith, room, ready' .intervals-room)) room
 
     -- as many edges as places, at most
+    few-edges : {m' : Mesh} {ne' e : ℕ} → Goes l (Done l k i) (Chained l k i) (r .mesh) (r .edges) k i m' ne' e → ne' ≤ length (l .listed)
+    few-edges {m'} {ne'} {e} t = omega (arith, counted-above m' ne', t .counts, a .counts, place-listed l k i kf below, ready .all-listed)
+
     enough : {m' : Mesh} {ne' e : ℕ} → Goes l (Done l k i) (Chained l k i) (r .mesh) (r .edges) k i m' ne' e → ne' * 8 ≤ length (m' .edges)
     enough {m'} {ne'} {e} t =
-        let few : ne' ≤ length (l .listed) = omega (arith, counted-above m' ne', t .counts, a .counts, place-listed l k i kf below, ready .all-listed) in
-        rw (t .lengths .edges-same) (omega (arith, ready' .edges-room))
+        let few = few-edges t in
+        rw (t .within .edges .0) (omega (arith, ready' .edges-room))
 
     -- the place's edge before it is connected
     abbrev entry : ℕ → Mesh → ℕ → ℕ → Ring
@@ -178,6 +173,9 @@ module _ (l : Lists) (s : State) (k : ℕ) (kf : k < facesOf l) (sound : FaceSou
       still-entry : (f j x : ℕ) → f ≢ none → Sits l (s .mesh) (s .edges) f j x → Sits l m' ne' f j x
       still-entry f j x h z = t .sits-still f j x h (a .sits-still f j x h z)
 
+      later-entry : (x : ℕ) → ne' ≤ x → row m' x ≡ row (s .mesh) x
+      later-entry x h = t .later x h ∙ a .later x (omega (arith, t .grows))
+
       at-place : (j : ℕ) → j ≡ i → Sits l m' ne' k j e
       at-place j h = subst (λ j. Sits l m' ne' k j e) (sym h) (t .sits)
 
@@ -188,8 +186,9 @@ module _ (l : Lists) (s : State) (k : ℕ) (kf : k < facesOf l) (sound : FaceSou
         invariant =
           invariant-as l (Or-this (Done l k 0) k 0) (Chained l k 0) (Done l k 1) (Chained l k 1) m' ne' (done-suc l k 0) (suc-done l k 0) chain (t .invariant);
         counts = counts-entry 0 below r a t;
-        lengths = lengths-trans (a .lengths) (t .lengths);
-        positions-still = t .positions-still ∙ a .positions-still;
+        within = within-trans l (a .within) (t .within);
+        grows = omega (arith, a .grows, t .grows);
+        later = later-entry 0 below r a t;
         faces-still = t .faces-still ∙ a .faces-still;
         first-sits = λ h. t .sits;
         before-sits = λ j h. at-place 0 below r a t j (omega arith);
@@ -210,15 +209,22 @@ module _ (l : Lists) (s : State) (k : ℕ) (kf : k < facesOf l) (sound : FaceSou
             (done-suc l k (suc i)) (suc-done l k (suc i)) chain
             (invariant-joined l D (Chained l k (suc i)) m' ne' (t .invariant) (enough (suc i) below r a t) k i e (r .before) g sits-o sits-e done done');
         counts = counted-same m' (joined m' e (r .before)) ne' (right-joined l D (Chained l k (suc i)) m' ne' (t .invariant) (enough (suc i) below r a t) k i e (r .before) g sits-o sits-e done done') ∙ counts-entry (suc i) below r a t;
-        lengths =
-          lengths-trans (lengths-trans (a .lengths) (t .lengths))
-            (record { positions-same = refl; points-same = refl; edges-same = length-connectedRows (m' .edges) (m' .intervals) e (r .before); intervals-same = refl; faces-same = refl });
-        positions-still = t .positions-still ∙ a .positions-still;
+        within =
+          within-trans l (within-trans l (a .within) (t .within))
+            (record {
+              positions = (refl, refl); points = (refl, refl);
+              edges = behind-connected (length (l .listed)) (m' .edges) (m' .intervals) e (r .before) (omega (arith, sits-e .below, few)) (omega (arith, sits-o .below, few));
+              intervals = (refl, refl); faces = (refl, refl) });
+        grows = omega (arith, a .grows, t .grows);
+        later = λ x h.
+          row-joined-rest m' e (r .before) x (λ z. omega (arith, sits-e .below)) (λ z. omega (arith, sits-o .below)) ∙ later-entry (suc i) below r a t x h;
         faces-still = t .faces-still ∙ a .faces-still;
         first-sits = λ h. again k 0 (r .first) (t .sits-still k 0 (r .first) a-face (a .first-sits (omega arith)));
         before-sits = λ j h. again k j e (at-place (suc i) below r a t j (omega arith));
         sits-still = λ f j x h z. again f j x (still-entry (suc i) below r a t f j x h z) }
     where
+      few : ne' ≤ length (l .listed)
+      few = few-edges (suc i) below r a t
       D : ℕ → ℕ → Type 0
       D = Or-this (Done l k (suc i)) k (suc i)
       g : Good l k i
@@ -244,29 +250,33 @@ module _ (l : Lists) (s : State) (k : ℕ) (kf : k < facesOf l) (sound : FaceSou
       go : (i : ℕ) → Around i r → i < size l k → (x : Entered) → Came l (Done l k i) (Chained l k i) (r .mesh) (r .edges) k i x → Round (suc i) (turned r i x)
       go zero a below x (goes t) = round (turn-first r a below t)
       go (suc i) a below x (goes t) = round (turn-next i r a below t)
-      go i a below x (stops w) = halts i below w
+      go i a below x (stops w) = halts i below w (a .within)
 
   places-came : (c i : ℕ) (x : Step Ring) → i + c ≡ size l k → Round i x → Round (size l k) (places c l k (offset l k) (size l k) i x)
   unfolding places
   places-came zero i x h r = subst (λ n. Round n x) (let same : i ≡ size l k = omega arith in same) r
   places-came (suc c) i x h (round {r = r} a) =
       places-came c (suc i) (turn l k (offset l k) (size l k) i r) (omega arith) (turn-came i r a (omega arith))
-  places-came (suc c) i x h (halts j b w) = halts j b w
+  places-came (suc c) i x h (halts j b w o) = halts j b w o
 
   -- the face is in, or it stopped at a place
   pub data Perimeter-came : Step State → Type 0 where
-    whole : {t : State} → Faces l (suc k) t → Lengths (s .mesh) (t .mesh) → t .mesh .positions ≡ s .mesh .positions → Perimeter-came (on t)
-    halted : {g : Ground} {m : Mesh} (j : ℕ) → j < size l k → Why l (Done l k j) (pointOf l k j) (nextOf l k j) g → Perimeter-came (stopped g m)
+    whole :
+      {t : State} → Faces l (suc k) t → Within l (s .mesh) (t .mesh) → s .edges ≤ t .edges →
+      ((x : ℕ) → t .edges ≤ x → row (t .mesh) x ≡ row (s .mesh) x) → Perimeter-came (on t)
+    halted :
+      {g : Ground} {m : Mesh} (j : ℕ) → j < size l k → Why l (Done l k j) (pointOf l k j) (nextOf l k j) g → Within l (s .mesh) m →
+      Perimeter-came (stopped g m)
 
   module _ (all : Faces l k s) (r : Ring) (a : Around (size l k) r) (j : ℕ) (last : suc j ≡ size l k) where
     ready-r : Ready l (r .mesh)
-    ready-r = ready-same l (a .lengths) ready
+    ready-r = ready-same l (a .within) ready
+
+    few-r : r .edges ≤ length (l .listed)
+    few-r = omega (arith, counted-above (r .mesh) (r .edges), a .counts, place-listed l k j kf (omega arith), ready .all-listed)
 
     room-r : r .edges * 8 ≤ length (r .mesh .edges)
-    room-r =
-        let few : r .edges ≤ length (l .listed) =
-              omega (arith, counted-above (r .mesh) (r .edges), a .counts, place-listed l k j kf (omega arith), ready .all-listed) in
-        omega (arith, ready-r .edges-room)
+    room-r = omega (arith, few-r, ready-r .edges-room)
 
     next-last : nextPlace (size l k) j ≡ 0
     next-last = go (next-is (size l k) j)
@@ -352,13 +362,21 @@ module _ (l : Lists) (s : State) (k : ℕ) (kf : k < facesOf l) (sound : FaceSou
               (λ lt. corner-withFace-other ring k (r .first) f c (λ z. omega arith) b ∙ ap (λ fs. getD fs (f * 5 + (c + 1)) 0) (a .faces-still) ∙ all .corners f c lt b)
               (λ same. subst (λ f. corner closed f c ≡ none) (sym same) (corner-withFace ring k (r .first) c b fits)) }
 
-    lengths-closed : Lengths (s .mesh) closed
+    within-closed : Within l (s .mesh) closed
     unfolding joined
-    lengths-closed =
-        lengths-trans (a .lengths)
+    within-closed =
+        within-trans l (a .within)
           (record {
-            positions-same = refl; points-same = refl; edges-same = length-connectedRows (r .mesh .edges) (r .mesh .intervals) (r .first) (r .before);
-            intervals-same = refl; faces-same = length-putRow (faceWords (faceOf (r .first))) (r .mesh .faces) (k * 5) })
+            positions = (refl, refl); points = (refl, refl);
+            edges =
+              behind-connected (length (l .listed)) (r .mesh .edges) (r .mesh .intervals) (r .first) (r .before)
+                (omega (arith, sits-first .below, few-r)) (omega (arith, sits-last .below, few-r));
+            intervals = (refl, refl);
+            faces = behind-putRow (facesOf l * 5) (faceWords (faceOf (r .first))) (r .mesh .faces) (k * 5) (omega arith) })
+
+    later-closed : (x : ℕ) → r .edges ≤ x → row closed x ≡ row (s .mesh) x
+    later-closed x h =
+        row-joined-rest (r .mesh) (r .first) (r .before) x (λ z. omega (arith, sits-first .below)) (λ z. omega (arith, sits-last .below)) ∙ a .later x h
 
   pub perimeter-came : Faces l k s → Perimeter-came (perimeter l k (offset l k) s)
   unfolding perimeter closedUp
@@ -371,8 +389,9 @@ module _ (l : Lists) (s : State) (k : ℕ) (kf : k < facesOf l) (sound : FaceSou
           record {
             invariant = all .invariant;
             counts = omega (arith, all .counts);
-            lengths = lengths-refl (s .mesh);
-            positions-still = refl;
+            within = within-refl l (s .mesh);
+            grows = omega arith;
+            later = λ x h. refl;
             faces-still = refl;
             first-sits = λ h. absurd (omega arith);
             before-sits = λ j h. absurd (omega arith);
@@ -385,5 +404,5 @@ module _ (l : Lists) (s : State) (k : ℕ) (kf : k < facesOf l) (sound : FaceSou
           go (suc j) h = (j, refl)
       go : (x : Step Ring) → Round (size l k) x → Perimeter-came (closedUp k x)
       go x (round {r = r} a) =
-          whole (faces-closed all r a (last .0) (last .1)) (lengths-closed all r a (last .0) (last .1)) (a .positions-still)
-      go x (halts j b w) = halted j b w
+          whole (faces-closed all r a (last .0) (last .1)) (within-closed all r a (last .0) (last .1)) (a .grows) (later-closed all r a (last .0) (last .1))
+      go x (halts j b w o) = halted j b w o

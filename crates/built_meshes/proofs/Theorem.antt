@@ -19,6 +19,7 @@ use Rattle.audited_meshes.proofs.Audited.{audit-is}
 use Rattle.built_meshes.specs.Lists.{Lists, Limits, pointsOf, facesOf, offset, countsFit, numbersFit, rowsFit}
 use Rattle.built_meshes.specs.Perimeters.{State, Step, on, stopped}
 use Rattle.built_meshes.specs.Building.{numberOf, zeroedRows, wholeVerdict, finished, Outcome, refusal, wholeIf, answered, facesFrom, allFaces, buildIf, build}
+use Rattle.built_meshes.specs.Beyond.{Within}
 use Rattle.built_meshes.specs.Grounds.{Holds}
 use Rattle.built_meshes.specs.Claims.{Refused-by, Refusals-hold, Accepts-exactly, Audited-counts, Accepted-audited}
 use Rattle.built_meshes.specs.declared.Ground.{Ground}
@@ -27,10 +28,11 @@ use Rattle.built_meshes.specs.declared.Verdict.{Verdict}
 use Rattle.built_meshes.specs.declared.Built.{Built}
 use Rattle.built_meshes.specs.declared.Built.the-variants.{Accepted, Refused}
 use Rattle.built_meshes.proofs.Rows.{row}
-use Rattle.built_meshes.proofs.Entering.{Lengths, counted}
-use Rattle.built_meshes.proofs.Perimeter.{Faces, lengths-trans}
+use Rattle.built_meshes.proofs.Beyond.{within-trans}
+use Rattle.built_meshes.proofs.Entering.{counted}
+use Rattle.built_meshes.proofs.Perimeter.{Faces}
 use Rattle.built_meshes.proofs.Faces.{Fit-faces, Faces-came, stand, stop, faces-came}
-use Rattle.built_meshes.proofs.Begin.{Counted, counts-is, counts-fail, counted-fits, Numbered, numbers-is, numbers-fail, numbered-fits, Roomy, rows-is, rows-fail, roomy-fits, listed-all, lengths-zeroed, ready, faces-none}
+use Rattle.built_meshes.proofs.Begin.{Counted, counts-is, counts-fail, counted-fits, Numbered, numbers-is, numbers-fail, numbered-fits, Roomy, rows-is, rows-fail, roomy-fits, listed-all, within-zeroed, ready, faces-none}
 use Rattle.built_meshes.proofs.Finished.{audited-finished}
 use Rattle.built_meshes.proofs.Refusals.{Whole-fit, Whole-verdict, whole-fit, whole-unfit, whole-verdict-is, no-face-size, no-out-of-range, no-point-twice, no-unlike-sums, no-triple, no-same-way, no-missing, no-no-edge, no-missed}
 
@@ -49,7 +51,7 @@ module _ (c : Limits) (l : Lists) (m : Mesh) (few : c .faces ≤ none) where
     accepts : {k : Counts} {t : Mesh} → Audited-counts l t k → ((g : Ground) → ¬ Holds c l m g) → Came-out (record { answer = Accepted k; tables = t })
 
   module _ (counted' : Counted c l) (numbered : Numbered l) (roomy : Roomy l m) where
-    module _ (s : State) (stands : allFaces l m ≡ on s) (all : Faces l (facesOf l) s) (fit : Fit-faces c l m (facesOf l)) (lengths : Lengths m (s .mesh)) (w : Whole-fit c l m s all) where
+    module _ (s : State) (stands : allFaces l m ≡ on s) (all : Faces l (facesOf l) s) (fit : Fit-faces c l m (facesOf l)) (within : Within l m (s .mesh)) (w : Whole-fit c l m s all) where
       nothing-holds : (g : Ground) → ¬ Holds c l m g
       nothing-holds OverCounts h = counted-fits c l counted' h
       nothing-holds UnfitNumber h = numbered-fits l numbered h
@@ -69,7 +71,7 @@ module _ (c : Limits) (l : Lists) (m : Mesh) (few : c .faces ≤ none) where
           record {
             passes =
               audit-is (finished l (s .mesh)) (pointsOf l) (s .edges) (facesOf l) .1
-                (audited-finished c l m counted' numbered roomy few s all fit lengths (w .right) (w .edged) (w .walked));
+                (audited-finished c l m counted' numbered roomy few s all fit within (w .right) (w .edged) (w .walked));
             all-points = refl;
             all-faces = refl;
             half-listed = sym (counted-all (s .mesh) (s .edges) (w .right)) ∙ all .counts ∙ listed-all c l m counted' numbered roomy few }
@@ -80,14 +82,14 @@ module _ (c : Limits) (l : Lists) (m : Mesh) (few : c .faces ≤ none) where
         go (allFaces l m) refl
           (faces-came c l m (record { mesh = zeroedRows l m; edges = 0 }) (ready c l m counted' numbered roomy few) (faces-none c l m counted' numbered roomy few))
       where
-        whole : (s : State) → allFaces l m ≡ on s → (all : Faces l (facesOf l) s) → Fit-faces c l m (facesOf l) → Lengths m (s .mesh) →
+        whole : (s : State) → allFaces l m ≡ on s → (all : Faces l (facesOf l) s) → Fit-faces c l m (facesOf l) → Within l m (s .mesh) →
           (x : Verdict) → Whole-verdict c l m s all x → Came-out (wholeIf l m s x)
-        whole s stands all fit lengths x (whole-fit w) = accepts (audited-counts s stands all fit lengths w) (nothing-holds s stands all fit lengths w)
-        whole s stands all fit lengths x (whole-unfit {g = g} h n) = refuses {g = g} h (omega arith)
+        whole s stands all fit within x (whole-fit w) = accepts (audited-counts s stands all fit within w) (nothing-holds s stands all fit within w)
+        whole s stands all fit within x (whole-unfit {g = g} h n) = refuses {g = g} h (omega arith)
         go : (x : Step State) → allFaces l m ≡ x → Faces-came c l m (record { mesh = zeroedRows l m; edges = 0 }) x → Came-out (answered l m x)
-        go x e (stand {t = s} all fit lengths still) =
-            whole s e all fit (lengths-trans (lengths-zeroed c l m counted' numbered roomy few) lengths) (wholeVerdict (s .mesh) (pointsOf l) (s .edges)) (whole-verdict-is c l m s all e)
-        go x e (stop {g = g} h n) = refuses {g = g} h n
+        go x e (stand {t = s} all fit within later) =
+            whole s e all fit (within-trans l (within-zeroed c l m counted' numbered roomy few) within) (wholeVerdict (s .mesh) (pointsOf l) (s .edges)) (whole-verdict-is c l m s all e)
+        go x e (stop {g = g} h n o) = refuses {g = g} h n
 
   build-came : Came-out (build c l m)
   unfolding build buildIf
