@@ -24,7 +24,9 @@ use Rattle.built_meshes.specs.Lists.{Lists, Limits, pointsOf, facesOf, s
 use Rattle.built_meshes.specs.Perimeters.{State}
 use Rattle.built_meshes.specs.Building.{zeroedRows}
 use Rattle.built_meshes.specs.Beyond.{Within}
+use Rattle.built_meshes.specs.Claims.{zeroEdge}
 use Rattle.built_meshes.specs.Grounds.{Over-counts, many-points, many-faces, many-listed, point-cut, face-cut, unlike, sum-unlike, Unfit-number, coordinate, interval, Few-rows, few-points, few-faces, few-edges}
+use Rattle.built_meshes.proofs.Rows.{row, edgeAt-words, ofWords-cong}
 use Rattle.built_meshes.proofs.Beyond.{behind-zeroed}
 use Rattle.built_meshes.proofs.Entering.{counted}
 use Rattle.built_meshes.proofs.Perimeter.{Ready, Done, Chained, Faces}
@@ -207,6 +209,14 @@ module _ (c : Limits) (l : Lists) (m : Mesh) (counted' : Counted c l) (numbered 
         edges = behind-zeroed (length (l .listed) * 8) 0 (m .edges) edges-fit;
         intervals = behind-zeroed (length (l .listed)) (ofBits binary64 0) (m .intervals) intervals-fit';
         faces = behind-zeroed (facesOf l * 5) 0 (m .faces) faces-fit }
+
+  pub row-zeroed : (e : ℕ) → e < length (l .listed) → row (zeroedRows l m) e ≡ zeroEdge
+  unfolding zeroedRows
+  row-zeroed e b =
+      edgeAt-words (zeroedRows l m .edges) (zeroedRows l m .intervals) e
+      ∙ ofWords-cong (λ j. 0) (λ j. getD (zeroedRows l m .edges) (e * 8 + j) 0) (ofBits binary64 0) (getD (zeroedRows l m .intervals) e nan)
+          (λ j h. getD-zeroed (length (l .listed) * 8) (e * 8 + j) 0 0 (m .edges) (omega arith))
+          (getD-zeroed (length (l .listed)) e (ofBits binary64 0) nan (m .intervals) b)
 
   pub ready : Ready l (zeroedRows l m)
   ready =

@@ -18,7 +18,6 @@ use Rattle.t_spline.specs.declared.TnurccFaceSide.{TnurccFaceSide}
 use Rattle.t_spline.specs.declared.TnurccFaceSide.the-variants.{Left, Right}
 use Rattle.tables.specs.Mesh.{Mesh, x, y, z, valence, start, mark}
 use Rattle.tables.specs.Rows.{over}
-use Rattle.tables.proofs.Laws.{length-over}
 use Rattle.audited_meshes.specs.Walks.{passed, pointWalk}
 use Rattle.audited_meshes.specs.Audit.{pointRows, edgeRows, faceRows}
 use Rattle.audited_meshes.specs.Audited.{Audited}
@@ -26,9 +25,10 @@ use Rattle.audited_meshes.proofs.Folds.{below-suc}
 use Rattle.built_meshes.specs.Lists.{Lists, Limits, pointsOf, facesOf, size, offset}
 use Rattle.built_meshes.specs.Perimeters.{State}
 use Rattle.built_meshes.specs.Building.{markOf, marked, finished}
-use Rattle.built_meshes.specs.Beyond.{Within}
+use Rattle.built_meshes.specs.Beyond.{Behind, Within}
 use Rattle.built_meshes.proofs.Connecting.{Keeps}
 use Rattle.built_meshes.proofs.Rows.{row}
+use Rattle.built_meshes.proofs.Beyond.{behind-trans, behind-set, behind-over, within-trans}
 use Rattle.built_meshes.proofs.Invariant.{FaceSound, Sits, Invariant, sits-kept, invariant-kept}
 use Rattle.built_meshes.proofs.Joining.{keeps-refl}
 use Rattle.built_meshes.proofs.Entering.{counted}
@@ -76,6 +76,13 @@ markOf-fit v = go (eqb v 4)
     go : (b : Bool) → (_≡_ {A = ℕ} (cond b 0 1) 0) ⊎ (_≡_ {A = ℕ} (cond b 0 1) 1)
     go true = inl refl
     go false = inr refl
+
+behind-marked : (k : ℕ) (ws : List ℕ) (n : ℕ) → k ≤ n → Behind (n * 3) ws (marked k ws)
+unfolding marked
+behind-marked zero ws n h = (refl, refl)
+behind-marked (suc k) ws n h =
+    behind-trans (n * 3) ws (marked k ws) (marked (suc k) ws) (behind-marked k ws n (omega arith))
+      (behind-set (n * 3) (marked k ws) (k * 3 + 2) (markOf (getD (marked k ws) (k * 3) 0)) (omega arith))
 
 -- ---- positions
 
@@ -143,24 +150,23 @@ module _ (c : Limits) (l : Lists) (m₀ : Mesh) (counted' : Counted c l) (number
   edges-few : s .edges ≤ length (l .listed)
   edges-few = omega (arith, counted-above (s .mesh) (s .edges), all .counts, listed-all c l m₀ counted' numbered roomy few)
 
-  positions-same : length (after .positions) ≡ length (m₀ .positions)
+  pub within-finished : Within l m₀ after
   unfolding finished
-  positions-same = length-over (pointsOf l * 3) (l .coordinates) (s .mesh .positions) (omega arith) (rw (within .positions .0) (omega (arith, roomy .points-enough))) ∙ within .positions .0
-
-  points-same : length (after .points) ≡ length (m₀ .points)
-  unfolding finished
-  points-same = length-marked (pointsOf l) (s .mesh .points) ∙ within .points .0
+  within-finished =
+      within-trans l within
+        (record {
+          positions = behind-over (pointsOf l * 3) (l .coordinates) (s .mesh .positions) (omega arith) (rw (within .positions .0) (omega (arith, roomy .points-enough)));
+          points = behind-marked (pointsOf l) (s .mesh .points) (pointsOf l) (omega arith);
+          edges = (refl, refl); intervals = (refl, refl); faces = (refl, refl) })
 
   points-fit : pointsOf l ≤ pointRows after
-  points-fit = rw (positions-same, points-same) (roomy .points-enough)
+  points-fit = rw (within-finished .positions .0, within-finished .points .0) (roomy .points-enough)
 
   edges-fit : s .edges ≤ edgeRows after
-  unfolding finished
-  edges-fit = rw (within .edges .0, within .intervals .0) (omega (arith, edges-few, roomy .edges-enough))
+  edges-fit = rw (within-finished .edges .0, within-finished .intervals .0) (omega (arith, edges-few, roomy .edges-enough))
 
   faces-fit : facesOf l ≤ faceRows after
-  unfolding finished
-  faces-fit = rw (within .faces .0) (roomy .faces-enough)
+  faces-fit = rw (within-finished .faces .0) (roomy .faces-enough)
 
   coordinate-finite : (p j : ℕ) → p < pointsOf l → j < 3 → finite (getD (after .positions) (p * 3 + j) nan) ≡ true
   unfolding finished

@@ -23,16 +23,16 @@ abbrev pub row : Mesh → ℕ → TnurccEdge
 row m e = edgeAt (m .edges) (m .intervals) e
 
 -- the edge that eight words and an interval make
-abbrev ofWords : (ℕ → ℕ) → Float → TnurccEdge
+abbrev pub ofWords : (ℕ → ℕ) → Float → TnurccEdge
 ofWords w v =
     record {
       connections = w 4 ∷ w 5 ∷ w 6 ∷ w 7 ∷ []; «face_left» = w 2; «face_right» = w 3; origin = w 0; dest = w 1; «knot_interval» = v }
 
-ofWords-cong : (w w' : ℕ → ℕ) (v v' : Float) → ((j : ℕ) → j < 8 → w' j ≡ w j) → v' ≡ v → ofWords w' v' ≡ ofWords w v
+pub ofWords-cong : (w w' : ℕ → ℕ) (v v' : Float) → ((j : ℕ) → j < 8 → w' j ≡ w j) → v' ≡ v → ofWords w' v' ≡ ofWords w v
 ofWords-cong w w' v v' h k =
     rw (h 0 (omega arith), h 1 (omega arith), h 2 (omega arith), h 3 (omega arith), h 4 (omega arith), h 5 (omega arith), h 6 (omega arith), h 7 (omega arith), k)
 
-edgeAt-words : (es : List ℕ) (is : List Float) (e : ℕ) → edgeAt es is e ≡ ofWords (λ j. getD es (e * 8 + j) 0) (getD is e nan)
+pub edgeAt-words : (es : List ℕ) (is : List Float) (e : ℕ) → edgeAt es is e ≡ ofWords (λ j. getD es (e * 8 + j) 0) (getD is e nan)
 edgeAt-words es is e = rw (add-zero (e * 8))
 
 -- the same words, the same edge
