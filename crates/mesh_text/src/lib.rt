@@ -1,0 +1,1 @@
+// Mesh text 1 (document 01, "Mesh text").
