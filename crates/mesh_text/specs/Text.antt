@@ -9,7 +9,7 @@
 --     point listed side face s       the parts of the lines
 --     text s               the whole text
 use mathlib.Core.List.{List, [], _∷_}
-use mathlib.Core.Bool.{Bool, true, false, _&&_}
+use mathlib.Core.Bool.{Bool, true, _&&_, cond}
 use Prim.Native.Nat.{ℕ, zero, suc, _+_, _-_, _*_}
 use lib.ListN.{getD, length}
 use lib.Dec.{eqb, ltb}
@@ -17,11 +17,7 @@ use Rattle.mesh_text.specs.Form.{bytes, Found, found, none, Form, onward
 
 -- 0 to 9 and a to f
 unfoldable pub digitValue : ℕ → ℕ
-digitValue b = pick (ltb b 48) 16 (pick (ltb b 58) (b - 48) (pick (ltb b 97) 16 (pick (ltb b 103) (b - 87) 16)))
-  where
-    pick : Bool → ℕ → ℕ → ℕ
-    pick true x y = x
-    pick false x y = y
+digitValue b = cond (ltb b 48) 16 (cond (ltb b 58) (b - 48) (cond (ltb b 97) 16 (cond (ltb b 103) (b - 87) 16)))
 
 -- a point number and the bits of its interval
 pub record Listed : Type 0 where
@@ -59,12 +55,17 @@ module _ (s : List ℕ) where
   digits zero v = pure v
   digits (suc k) v = λ at. choose (ltb (digitValue (getD s at 0)) 10) (digit 10 >>= λ d. digits k (v * 10 + d)) (pure v) at
 
+  -- after the first digit
+  unfoldable pub decimalFrom : ℕ → Form ℕ
+  decimalFrom d = do
+    v ← digits (length s) d
+    choose (ltb v 4294967296) (pure v) (λ at. none)
+
   -- `0`, or a digit from 1 to 9 and any digits after it
   unfoldable pub decimal : Form ℕ
   decimal = do
     d ← digit 10
-    v ← choose (eqb d 0) (pure 0) (digits (length s) d)
-    choose (ltb v 4294967296) (pure v) (λ at. none)
+    choose (eqb d 0) (pure 0) (decimalFrom d)
 
   unfoldable pub many : {A : Type 0} → List ℕ → Form A → ℕ → Form (List A)
   many t p zero = pure []

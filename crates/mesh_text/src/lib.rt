@@ -1,1 +1,147 @@
-// Mesh text 1 (document 01, "Mesh text").
+// Mesh text 1 (document 01, "Mesh text"): its grammar, and a reader of it.
+// Not here: grounds 3 and later (building), the answers' lines (`mesh_answers`).
+// Contract: `read_text`. Definitions: `specs/Text.antt` (the grammar), `specs/Reading.antt` (the answer and the lists).
+// Laws for callers: `proofs/Laws.antt`.
+ghost use mathlib.Core.Path.{_≡_};
+ghost use Prim.Native.Nat.{_+_, _*_, _≤_, _<_};
+ghost use lib.ListN.{length, getD, set};
+ghost use Rattle.mesh_text.specs.Text.{stands, digitValue, bits, decimalFrom, decimal};
+ghost use Rattle.mesh_text.specs.Reading.{float, number};
+
+// How many points, faces and listed points a text has, or may have.
+pub struct Counts {
+    pub points: u32,
+    pub faces: u32,
+    pub listed: u32,
+}
+
+// What reading a text answers. Not of the form is ground 1, over the limits ground 2.
+pub enum Reading {
+    Read(Counts),
+    NotText,
+    OverLimits,
+}
+
+// A number of the text, or how many of something stand there, and the place after it.
+enum Number {
+    Is(u64, usize),
+    None,
+}
+
+// The place after a part of the text.
+enum Place {
+    At(usize),
+    None,
+}
+
+// A listed point, the bits of its interval, and the place after it.
+enum ListedPoint {
+    Is(u32, u64, usize),
+    None,
+}
+
+// How many faces and how many listed points stand there, and the place after them.
+enum Faces {
+    Are(usize, usize, usize),
+    None,
+}
+
+// The byte at a place, 0 past the end.
+fn byte(s: &[u8], at: usize) -> u8
+    ensures { λ r. ⌜ r ≡ getD (now (s .entry)) at 0 ⌝ }
+{
+    if at < s.len() { s[at] } else { 0 }
+}
+
+// Whether the bytes of t stand from a place on.
+fn stands(s: &[u8], at: usize, t: &[u8]) -> bool
+    requires { ⌜ at ≤ length (now s) ⌝ }
+    ensures { λ r. ⌜ r ≡ stands (now (s .entry)) at (now (t .entry)) ⌝ }
+{
+    let mut i = 0;
+    while i < t.len() {
+        if byte(s, at + i) != t[i] {
+            return false;
+        }
+        i += 1;
+    }
+    true
+}
+
+// The value of a lower-case hexadecimal digit, 16 for any other byte.
+fn digit_value(b: u8) -> u64
+    ensures { λ r. ⌜ r ≡ digitValue b ⌝ }
+{
+    if b < 48 {
+        return 16;
+    }
+    if b < 58 {
+        return wide(b) - 48;
+    }
+    if b < 97 {
+        return 16;
+    }
+    if b < 103 {
+        return wide(b) - 87;
+    }
+    16
+}
+
+fn wide(b: u8) -> u64
+    ensures { λ r. ⌜ r ≡ b ⌝ }
+{
+    b as u64
+}
+
+// 16 hexadecimal digits: the bits of a binary64.
+fn bits(s: &[u8], at: usize) -> Number
+    requires { ⌜ at ≤ length (now s) ⌝ }
+    ensures { λ r. ⌜ r ≡ number (λ v. v) (bits (now (s .entry)) at) ⌝ }
+{
+    let mut v: u64 = 0;
+    let mut i = at;
+    let mut k: usize = 0;
+    while k < 16 {
+        let d = digit_value(byte(s, i));
+        if 16 <= d {
+            return Number::None;
+        }
+        v = v * 16 + d;
+        i += 1;
+        k += 1;
+    }
+    Number::Is(v, i)
+}
+
+// The digits from a place on, after a first digit.
+fn decimal_from(s: &[u8], at: usize, first: u64) -> Number
+    requires { ⌜ (at ≤ length (now s)) × (first < 10) ⌝ }
+    ensures { λ r. ⌜ r ≡ number (λ v. v) (decimalFrom (now (s .entry)) first at) ⌝ }
+{
+    let mut v = first;
+    let mut i = at;
+    while v < 4294967296 {
+        let d = digit_value(byte(s, i));
+        if 10 <= d {
+            return Number::Is(v, i);
+        }
+        v = v * 10 + d;
+        i += 1;
+    }
+    Number::None
+}
+
+// A decimal number below 4,294,967,296 with no leading zero.
+fn decimal(s: &[u8], at: usize) -> Number
+    requires { ⌜ at ≤ length (now s) ⌝ }
+    ensures { λ r. ⌜ r ≡ number (λ v. v) (decimal (now (s .entry)) at) ⌝ }
+{
+    let first = digit_value(byte(s, at));
+    if 10 <= first {
+        return Number::None;
+    }
+    if first == 0 {
+        return Number::Is(0, at + 1);
+    }
+    decimal_from(s, at + 1, first)
+}

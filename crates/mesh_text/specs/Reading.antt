@@ -1,0 +1,108 @@
+-- What reading a text answers, and what it leaves in the lent lists.
+--     float b                      the binary64 of a bit pattern
+--     flat f l                     the lists of l's elements joined
+--     coordinates lengths listedPoints intervals m   the four lists that a text stands for
+--     counts m                     how many points, faces and listed points
+--     Lists                        the four lent lists
+--     within c limits l            the counts are within the limits, and the lists have room
+--     readInto s limits l          the answer, and the lists after it
+--     number place listing f       the answers of the parts
+use mathlib.Core.List.{List, [], _∷_, _++_, map}
+use mathlib.Core.Bool.{Bool, true, false, _&&_, cond}
+use Prim.Native.Nat.{ℕ, _+_, _*_}
+use lib.ListN.{length}
+use lib.Seq.{sets}
+use lib.Dec.{leb}
+use lib.Ieee.{Float, binary64, ofBits}
+use Rattle.mesh_text.specs.Form.{Found, found, none}
+use Rattle.mesh_text.specs.Text.{Mesh, Listed, text}
+use Rattle.mesh_text.specs.declared.Number.{Number}
+use Rattle.mesh_text.specs.declared.Number.the-variants as Number
+use Rattle.mesh_text.specs.declared.Place.{Place}
+use Rattle.mesh_text.specs.declared.Place.the-variants as Place
+use Rattle.mesh_text.specs.declared.ListedPoint.{ListedPoint}
+use Rattle.mesh_text.specs.declared.ListedPoint.the-variants as ListedPoint
+use Rattle.mesh_text.specs.declared.Faces.{Faces}
+use Rattle.mesh_text.specs.declared.Faces.the-variants as Faces
+use Rattle.mesh_text.specs.declared.Counts.{Counts}
+use Rattle.mesh_text.specs.declared.Reading.{Reading}
+use Rattle.mesh_text.specs.declared.Reading.the-variants as Reading
+
+abbrev pub float : ℕ → Float
+float b = ofBits binary64 b
+
+unfoldable pub flat : {A B : Type 0} → (A → List B) → List A → List B
+flat f [] = []
+flat f (a ∷ l) = f a ++ flat f l
+
+abbrev pub sidePoints : List Listed → List ℕ
+sidePoints ps = map (λ (p : Listed). p .point) ps
+
+abbrev pub sideIntervals : List Listed → List Float
+sideIntervals ps = map (λ (p : Listed). float (p .interval)) ps
+
+abbrev pub coordinates : Mesh → List Float
+coordinates m = flat (map float) (m .points)
+
+-- of each side, how many points it lists
+abbrev pub lengths : Mesh → List ℕ
+lengths m = flat (map length) (m .faces)
+
+abbrev pub listedPoints : Mesh → List ℕ
+listedPoints m = flat (flat sidePoints) (m .faces)
+
+abbrev pub intervals : Mesh → List Float
+intervals m = flat (flat sideIntervals) (m .faces)
+
+abbrev pub counts : Mesh → Counts
+counts m = record { points = length (m .points); faces = length (m .faces); listed = length (listedPoints m) }
+
+pub record Lists : Type 0 where
+  pub coordinates : List Float
+  pub lengths : List ℕ
+  pub listed : List ℕ
+  pub intervals : List Float
+
+-- each list with what the text stands for at its front
+abbrev pub filled : Mesh → Lists → Lists
+filled m l = record {
+    coordinates = sets (l .coordinates) 0 (coordinates m);
+    lengths = sets (l .lengths) 0 (lengths m);
+    listed = sets (l .listed) 0 (listedPoints m);
+    intervals = sets (l .intervals) 0 (intervals m)
+  }
+
+unfoldable pub within : Counts → Counts → Lists → Bool
+within c limits l =
+    leb (c .points) (limits .points) && (leb (c .faces) (limits .faces) && (leb (c .listed) (limits .listed)
+    && (leb (3 * c .points) (length (l .coordinates)) && (leb (4 * c .faces) (length (l .lengths))
+    && (leb (c .listed) (length (l .listed)) && leb (c .listed) (length (l .intervals)))))))
+
+pub record Answer : Type 0 where
+  pub reading : Reading
+  pub lists : Lists
+
+-- the form of the whole text is tested before anything is counted
+unfoldable pub readInto : List ℕ → Counts → Lists → Answer
+readInto s limits l = go (text s)
+  where
+    go : Found Mesh → Answer
+    go none = record { reading = Reading.NotText; lists = l }
+    go (found m n) = cond (within (counts m) limits l) (record { reading = Reading.Read (counts m); lists = filled m l }) (record { reading = Reading.OverLimits; lists = l })
+
+-- how the parts answer: by a number for what was found, or by the place alone
+abbrev pub number : {A : Type 0} → (A → ℕ) → Found A → Number
+number f (found a n) = Number.Is (f a) n
+number f none = Number.None
+
+abbrev pub place : {A : Type 0} → Found A → Place
+place (found a n) = Place.At n
+place none = Place.None
+
+abbrev pub listing : Found Listed → ListedPoint
+listing (found p n) = ListedPoint.Is (p .point) (p .interval) n
+listing none = ListedPoint.None
+
+abbrev pub faces : Found (List (List (List Listed))) → Faces
+faces (found fs n) = Faces.Are (length fs) (length (flat (flat sidePoints) fs)) n
+faces none = Faces.None
