@@ -5,14 +5,8 @@ use mathlib.Core.Bool.{Bool, true, false}
 use Prim.Native.Nat.{ℕ, zero, suc, _+_, _*_, _≤_, _<_}
 use lib.ListN.{length, getD}
 use borrow.Author.Tests.{lt-ltb, le-ltb}
-use Rattle.mesh_text.specs.Form.{Found, found, none, Form, onward, _>>=_, pure, choose, times}
+use Rattle.mesh_text.specs.Form.{Found, found, none, Form, onward, _>>=_, pure, choose, times, given}
 use Rattle.mesh_text.specs.Text.{digitValue, stands, literal, digit, digits, many}
-use Rattle.mesh_text.specs.Reading.{number}
-
--- the answer to what was found, d if nothing was
-abbrev pub given : {A R : Type 0} → (A → ℕ → R) → R → Found A → R
-given g d (found a n) = g a n
-given g d none = d
 
 pub given-pure : {A B R : Type 0} (g : B → ℕ → R) (d : R) (f : A → B) (x : Found A) → given g d (onward (λ a. pure (f a)) x) ≡ given (λ a n. g (f a) n) d x
 given-pure g d f (found a n) = refl
@@ -21,14 +15,6 @@ given-pure g d f none = refl
 pub given-same : {A R : Type 0} (g h : A → ℕ → R) (d : R) (x : Found A) → ((a : A) (n : ℕ) → g a n ≡ h a n) → given g d x ≡ given h d x
 given-same g h d (found a n) e = e a n
 given-same g h d none e = refl
-
-pub number-pure : {A B : Type 0} (g : B → ℕ) (f : A → B) (x : Found A) → number g (onward (λ a. pure (f a)) x) ≡ number (λ a. g (f a)) x
-number-pure g f (found a n) = refl
-number-pure g f none = refl
-
-pub number-same : {A : Type 0} (g h : A → ℕ) (x : Found A) → ((a : A) → g a ≡ h a) → number g x ≡ number h x
-number-same g h (found a n) e = rw (e a)
-number-same g h none e = refl
 
 module _ {A : Type 0} (p : Form A) (at : ℕ) where
   pub times-found : (k : ℕ) {a : A} {n : ℕ} → p at ≡ found a n → times (suc k) p at ≡ onward (λ l. pure (a ∷ l)) (times k p n)

@@ -5,6 +5,7 @@
 --     _>>=_  _>>_  pure    one form after the other, nothing more
 --     choose t p q         p if the test holds, else q
 --     times k p            p, k times in a row
+--     given g d x          g of what was found, d if nothing was
 use mathlib.Core.List.{List, [], _∷_}
 use mathlib.Core.Bool.{Bool, true, false}
 use Prim.Native.Nat.{ℕ, zero, suc}
@@ -48,3 +49,7 @@ times (suc k) p = do
   a ← p
   rest ← times k p
   pure (a ∷ rest)
+
+abbrev pub given : {A R : Type 0} → (A → ℕ → R) → R → Found A → R
+given g d (found a n) = g a n
+given g d none = d

@@ -6,20 +6,23 @@
 --     Lists                        the four lent lists
 --     within c limits l            the counts are within the limits, and the lists have room
 --     readInto s limits l          the answer, and the lists after it
---     number place listing f       the answers of the parts
+--     number place run listing facesOf x             the answers of the reader's parts
+--     stored f l i x               what the parts leave in a lent list
 use mathlib.Core.List.{List, [], _∷_, _++_, map}
 use mathlib.Core.Bool.{Bool, true, false, _&&_, cond}
-use Prim.Native.Nat.{ℕ, _+_, _*_}
+use Prim.Native.Nat.{ℕ, _+_, _*_, _%_}
 use lib.ListN.{length}
 use lib.Seq.{sets}
 use lib.Dec.{leb}
 use lib.Ieee.{Float, binary64, ofBits}
-use Rattle.mesh_text.specs.Form.{Found, found, none}
+use Rattle.mesh_text.specs.Form.{Found, found, none, given}
 use Rattle.mesh_text.specs.Text.{Mesh, Listed, text}
 use Rattle.mesh_text.specs.declared.Number.{Number}
 use Rattle.mesh_text.specs.declared.Number.the-variants as Number
 use Rattle.mesh_text.specs.declared.Place.{Place}
 use Rattle.mesh_text.specs.declared.Place.the-variants as Place
+use Rattle.mesh_text.specs.declared.Run.{Run}
+use Rattle.mesh_text.specs.declared.Run.the-variants as Run
 use Rattle.mesh_text.specs.declared.ListedPoint.{ListedPoint}
 use Rattle.mesh_text.specs.declared.ListedPoint.the-variants as ListedPoint
 use Rattle.mesh_text.specs.declared.Faces.{Faces}
@@ -34,6 +37,10 @@ float b = ofBits binary64 b
 unfoldable pub flat : {A B : Type 0} → (A → List B) → List A → List B
 flat f [] = []
 flat f (a ∷ l) = f a ++ flat f l
+
+-- of each side, how many points it lists, as a word of 32 bits
+abbrev pub lengthWord : List Listed → ℕ
+lengthWord ps = length ps % 4294967296
 
 abbrev pub sidePoints : List Listed → List ℕ
 sidePoints ps = map (λ (p : Listed). p .point) ps
@@ -90,19 +97,35 @@ readInto s limits l = go (text s)
     go none = record { reading = Reading.NotText; lists = l }
     go (found m n) = cond (within (counts m) limits l) (record { reading = Reading.Read (counts m); lists = filled m l }) (record { reading = Reading.OverLimits; lists = l })
 
--- how the parts answer: by a number for what was found, or by the place alone
-abbrev pub number : {A : Type 0} → (A → ℕ) → Found A → Number
-number f (found a n) = Number.Is (f a) n
-number f none = Number.None
+-- how the parts of the reader answer
+abbrev pub number : Found ℕ → Number
+number x = given (λ v n. Number.Is v n) Number.None x
 
 abbrev pub place : {A : Type 0} → Found A → Place
-place (found a n) = Place.At n
-place none = Place.None
+place x = given (λ a n. Place.At n) Place.None x
+
+abbrev pub run : {A : Type 0} → (A → ℕ) → Found A → Run
+run f x = given (λ a n. Run.Of (f a) n) Run.None x
 
 abbrev pub listing : Found Listed → ListedPoint
-listing (found p n) = ListedPoint.Is (p .point) (p .interval) n
-listing none = ListedPoint.None
+listing x = given (λ p n. ListedPoint.Is (p .point) (p .interval) n) ListedPoint.None x
 
-abbrev pub faces : Found (List (List (List Listed))) → Faces
-faces (found fs n) = Faces.Are (length fs) (length (flat (flat sidePoints) fs)) n
-faces none = Faces.None
+abbrev pub facesOf : Found (List (List (List Listed))) → Faces
+facesOf x = given (λ fs n. Faces.Are (length fs) (length (flat (flat sidePoints) fs)) n) Faces.None x
+
+-- the list l with the numbers f of what was found stored in it from i on
+abbrev pub stored : {A B : Type 0} → (A → List B) → List B → ℕ → Found A → List B
+stored f l i x = given (λ a n. sets l i (f a)) [] x
+
+-- what is promised where something was found
+abbrev pub AtPlace : Place → Type 0 → Type 0
+AtPlace (Place.At n) P = P
+AtPlace Place.None P = Unit {0}
+
+abbrev pub AtRun : Run → Type 0 → Type 0
+AtRun (Run.Of c n) P = P
+AtRun Run.None P = Unit {0}
+
+abbrev pub AtFaces : Faces → Type 0 → Type 0
+AtFaces (Faces.Are f c n) P = P
+AtFaces Faces.None P = Unit {0}

@@ -5,7 +5,7 @@
 ghost use mathlib.Core.Path.{_≡_};
 ghost use Prim.Native.Nat.{_+_, _*_, _≤_, _<_};
 ghost use lib.ListN.{length, getD, set};
-ghost use Rattle.mesh_text.specs.Text.{stands, digitValue, bits, decimalFrom, decimal};
+ghost use Rattle.mesh_text.specs.Text.{stands, digitValue, bits, decimalFrom, decimal, coordinate};
 ghost use Rattle.mesh_text.specs.Reading.{float, number};
 
 // How many points, faces and listed points a text has, or may have.
@@ -22,7 +22,7 @@ pub enum Reading {
     OverLimits,
 }
 
-// A number of the text, or how many of something stand there, and the place after it.
+// A number of the text, and the place after it.
 enum Number {
     Is(u64, usize),
     None,
@@ -31,6 +31,12 @@ enum Number {
 // The place after a part of the text.
 enum Place {
     At(usize),
+    None,
+}
+
+// How many points are listed there, or how many lines stand there, and the place after them.
+enum Run {
+    Of(usize, usize),
     None,
 }
 
@@ -96,7 +102,7 @@ fn wide(b: u8) -> u64
 // 16 hexadecimal digits: the bits of a binary64.
 fn bits(s: &[u8], at: usize) -> Number
     requires { ⌜ at ≤ length (now s) ⌝ }
-    ensures { λ r. ⌜ r ≡ number (λ v. v) (bits (now (s .entry)) at) ⌝ }
+    ensures { λ r. ⌜ r ≡ number (bits (now (s .entry)) at) ⌝ }
 {
     let mut v: u64 = 0;
     let mut i = at;
@@ -116,7 +122,7 @@ fn bits(s: &[u8], at: usize) -> Number
 // The digits from a place on, after a first digit.
 fn decimal_from(s: &[u8], at: usize, first: u64) -> Number
     requires { ⌜ (at ≤ length (now s)) × (first < 10) ⌝ }
-    ensures { λ r. ⌜ r ≡ number (λ v. v) (decimalFrom (now (s .entry)) first at) ⌝ }
+    ensures { λ r. ⌜ r ≡ number (decimalFrom (now (s .entry)) first at) ⌝ }
 {
     let mut v = first;
     let mut i = at;
@@ -134,7 +140,7 @@ fn decimal_from(s: &[u8], at: usize, first: u64) -> Number
 // A decimal number below 4,294,967,296 with no leading zero.
 fn decimal(s: &[u8], at: usize) -> Number
     requires { ⌜ at ≤ length (now s) ⌝ }
-    ensures { λ r. ⌜ r ≡ number (λ v. v) (decimal (now (s .entry)) at) ⌝ }
+    ensures { λ r. ⌜ r ≡ number (decimal (now (s .entry)) at) ⌝ }
 {
     let first = digit_value(byte(s, at));
     if 10 <= first {
@@ -144,4 +150,43 @@ fn decimal(s: &[u8], at: usize) -> Number
         return Number::Is(0, at + 1);
     }
     decimal_from(s, at + 1, first)
+}
+
+// The binary64 of a bit pattern, the NaN for the pattern of one.
+fn float(b: u64) -> f64
+    ensures { λ r. ⌜ r ≡ float b ⌝ }
+{
+    if 0x7ff0000000000000 < b % 0x8000000000000000 {
+        return 0.0 / 0.0;
+    }
+    f64::from_bits(b)
+}
+
+// Stores a number, where the list has such a row.
+fn put_number(xs: &mut [f64], i: usize, x: f64)
+    ensures { λ r. ⌜ now (xs .exit) ≡ set (now (xs .entry)) i x ⌝ }
+{
+    if i < xs.len() {
+        xs[i] = x;
+    }
+}
+
+// Stores a word, where the list has such a row.
+fn put_word(xs: &mut [u32], i: usize, x: u32)
+    ensures { λ r. ⌜ now (xs .exit) ≡ set (now (xs .entry)) i x ⌝ }
+{
+    if i < xs.len() {
+        xs[i] = x;
+    }
+}
+
+// A space and a coordinate.
+fn coordinate(s: &[u8], at: usize) -> Number
+    requires { ⌜ at ≤ length (now s) ⌝ }
+    ensures { λ r. ⌜ r ≡ number (coordinate (now (s .entry)) at) ⌝ }
+{
+    if !stands(s, at, b" ") {
+        return Number::None;
+    }
+    bits(s, at + 1)
 }

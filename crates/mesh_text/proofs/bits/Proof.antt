@@ -6,9 +6,9 @@ use mathlib.Core.Path.{_≡_}
 use Prim.Native.Nat.{_≤_, _<_, _+_, _-_, _^_}
 use lib.ListN.{length}
 use Rattle.mesh_text.specs.Form.{times}
-use Rattle.mesh_text.specs.Text.{bits, digit, value}
+use Rattle.mesh_text.specs.Text.{bits, digit}
 use Rattle.mesh_text.specs.Reading.{number}
-use Rattle.mesh_text.proofs.bits.Proof.Turn.{bits-start, bits-turn, bits-none, bits-end, bits-inside, next-fits, next-below}
+use Rattle.mesh_text.proofs.bits.Proof.Turn.{numberOf, bits-start, bits-turn, bits-none, bits-end, bits-inside, next-fits, next-below}
 use Rattle.mesh_text.proofs.bits.Statement.{statement}
 use Rattle.mesh_text.proofs.bits.Tie as tie
 use Rattle.mesh_text.proofs.bits.Reads as reads
@@ -18,7 +18,7 @@ use Rattle.mesh_text.proofs.digit_value.Reads as digit-value-reads
 
 abbrev Inv-loop : tie.InvT-loop
 Inv-loop s at v₀ i₀ k₀ v i k = 
-    (k ≤ 16) × (i ≤ length s) × (v < 16 ^ k) × (number (value 16 v) (times (16 - k) (digit s 16) i) ≡ number (λ v. v) (bits s at))
+    (k ≤ 16) × (i ≤ length s) × (v < 16 ^ k) × (numberOf v (times (16 - k) (digit s 16) i) ≡ number (bits s at))
 
 abbrev μ-loop : tie.MeasureT-loop
 μ-loop s at v₀ i₀ k₀ v i k = 16 - k

@@ -18,7 +18,7 @@ use Rattle.mesh_text.proofs.digit_value.Reads as digit-value-reads
 
 abbrev Inv-loop : tie.InvT-loop
 Inv-loop s at first v₀ i₀ v i = 
-    (at ≤ i) × (i ≤ length s) × (number (λ v. v) (rest s (length s - (i - at)) v i) ≡ number (λ v. v) (decimalFrom s first at))
+    (at ≤ i) × (i ≤ length s) × (number (rest s (length s - (i - at)) v i) ≡ number (decimalFrom s first at))
 
 abbrev μ-loop : tie.MeasureT-loop
 μ-loop s at first v₀ i₀ v i = length s - i

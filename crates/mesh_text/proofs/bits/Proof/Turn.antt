@@ -6,35 +6,40 @@ use native.Mathlib.Nat.{pow-suc, pow-le-pow-right, zero-lt-suc}
 use native.Mathlib.Numerals.{add-one}
 use native.Mathlib.Omega.{arith}
 use lib.ListN.{length, getD}
-use Rattle.mesh_text.specs.Form.{found, none, pure, times}
+use Rattle.mesh_text.specs.Form.{Found, found, none, given, pure, times}
 use Rattle.mesh_text.specs.Text.{bits, digit, digitValue, value}
 use Rattle.mesh_text.specs.Reading.{number}
+use Rattle.mesh_text.specs.declared.Number.{Number}
 use Rattle.mesh_text.specs.declared.Number.the-variants as Number
 use Rattle.mesh_text.proofs.Laws.{digit-inside}
-use Rattle.mesh_text.proofs.Turns.{number-pure, times-found, times-none, digit-found, digit-none}
+use Rattle.mesh_text.proofs.Turns.{given-pure, times-found, times-none, digit-found, digit-none}
 
-pub bits-start : (s : List ℕ) (at : ℕ) → number (value 16 0) (times 16 (digit s 16) at) ≡ number (λ v. v) (bits s at)
+-- the number that digits of value v make with those that were found
+abbrev pub numberOf : ℕ → Found (List ℕ) → Number
+numberOf v x = given (λ ds n. Number.Is (value 16 v ds) n) Number.None x
+
+pub bits-start : (s : List ℕ) (at : ℕ) → numberOf 0 (times 16 (digit s 16) at) ≡ number (bits s at)
 unfolding bits
-bits-start s at = sym (number-pure (λ (v : ℕ). v) (value 16 0) (times 16 (digit s 16) at))
+bits-start s at = sym (given-pure (λ (v n : ℕ). Number.Is v n) Number.None (value 16 0) (times 16 (digit s 16) at))
 
-module _ (s : List ℕ) (at i v k : ℕ) (inv : number (value 16 v) (times (16 - k) (digit s 16) i) ≡ number (λ v. v) (bits s at)) where
+module _ (s : List ℕ) (at i v k : ℕ) (inv : numberOf v (times (16 - k) (digit s 16) i) ≡ number (bits s at)) where
   pub bits-turn : k < 16 → {d b : ℕ} → d ≡ digitValue b → b ≡ getD s i 0 → d < 16
-      → number (value 16 (v * 16 + d)) (times (16 - (k + 1)) (digit s 16) (i + 1)) ≡ number (λ v. v) (bits s at)
+      → numberOf (v * 16 + d) (times (16 - (k + 1)) (digit s 16) (i + 1)) ≡ number (bits s at)
   unfolding value
   bits-turn hk {d} {b} ed eb hd =
       let e : d ≡ digitValue (getD s i 0) = ed ∙ ap digitValue eb in
       let f : 16 - k ≡ suc (16 - (k + 1)) = omega arith in
       let t = times-found (digit s 16) i (16 - (k + 1)) (digit-found s 16 i (rw e at hd)) in
       let r = rw (f, t) at inv in
-      rw e (sym (number-pure (value 16 v) (λ (l : List ℕ). digitValue (getD s i 0) ∷ l) (times (16 - (k + 1)) (digit s 16) (i + 1))) ∙ r)
+      rw e (sym (given-pure (λ (ds : List ℕ) (n : ℕ). Number.Is (value 16 v ds) n) Number.None (λ (l : List ℕ). digitValue (getD s i 0) ∷ l) (times (16 - (k + 1)) (digit s 16) (i + 1))) ∙ r)
 
-  pub bits-none : k < 16 → {d b : ℕ} → d ≡ digitValue b → b ≡ getD s i 0 → 16 ≤ d → Number.None ≡ number (λ v. v) (bits s at)
+  pub bits-none : k < 16 → {d b : ℕ} → d ≡ digitValue b → b ≡ getD s i 0 → 16 ≤ d → Number.None ≡ number (bits s at)
   bits-none hk {d} {b} ed eb hd =
       let e : d ≡ digitValue (getD s i 0) = ed ∙ ap digitValue eb in
       let f : 16 - k ≡ suc (16 - (k + 1)) = omega arith in
       rw (f, times-none (digit s 16) i (16 - (k + 1)) (digit-none s 16 i (rw e at hd))) at inv
 
-  pub bits-end : 16 ≤ k → Number.Is v i ≡ number (λ v. v) (bits s at)
+  pub bits-end : 16 ≤ k → Number.Is v i ≡ number (bits s at)
   unfolding times value
   bits-end hk = let f : 16 - k ≡ 0 = omega arith in rw f at inv
 

@@ -16,18 +16,18 @@ module _ (s : List ℕ) (at : ℕ) {d b : ℕ} (ed : d ≡ digitValue b) (eb : b
   value-at : d ≡ digitValue (getD s at 0)
   value-at = ed ∙ ap digitValue eb
 
-  pub first-none : 10 ≤ d → Number.None ≡ number (λ v. v) (decimal s at)
+  pub first-none : 10 ≤ d → Number.None ≡ number (decimal s at)
   unfolding decimal
   first-none h = rw (digit-none s 10 at (rw value-at at h))
 
   first-small : d ≡ 0 → d < 10
   first-small e = omega arith
 
-  pub first-zero : d ≡ 0 → Number.Is 0 (at + 1) ≡ number (λ v. v) (decimal s at)
+  pub first-zero : d ≡ 0 → Number.Is 0 (at + 1) ≡ number (decimal s at)
   unfolding decimal
   first-zero e = rw (digit-found s 10 at (rw value-at at (first-small e)), eq-eqb _ 0 (sym value-at ∙ e))
 
-  pub first-other : d < 10 → (d ≡ 0 → ⊥) → number (λ v. v) (decimalFrom s d (at + 1)) ≡ number (λ v. v) (decimal s at)
+  pub first-other : d < 10 → (d ≡ 0 → ⊥) → number (decimalFrom s d (at + 1)) ≡ number (decimal s at)
   unfolding decimal
   first-other h n = rw (digit-found s 10 at (rw value-at at h), ne-eqb _ 0 (λ e. n (value-at ∙ e)), ← value-at)
 

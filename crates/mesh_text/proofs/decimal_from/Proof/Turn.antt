@@ -20,7 +20,7 @@ use Rattle.mesh_text.proofs.Turns.{digit-found}
 abbrev pub rest : List ℕ → ℕ → ℕ → Form ℕ
 rest s k v = digits s k v >>= λ w. choose (ltb w 4294967296) (pure w) (λ at. none)
 
-pub rest-start : (s : List ℕ) (first at : ℕ) → number (λ v. v) (rest s (length s - (at - at)) first at) ≡ number (λ v. v) (decimalFrom s first at)
+pub rest-start : (s : List ℕ) (first at : ℕ) → number (rest s (length s - (at - at)) first at) ≡ number (decimalFrom s first at)
 unfolding decimalFrom
 rest-start s first at = let e : length s - (at - at) ≡ length s = omega arith in rw e
 
@@ -51,20 +51,20 @@ large s k v i h = go (digits s k v i) refl
     go (found w n) e = let g = digits-grow s k v i w n e in rw (le-ltb w 4294967296 (omega arith))
     go none e = refl
 
-module _ (s : List ℕ) (at first v i : ℕ) (inv : number (λ v. v) (rest s (length s - (i - at)) v i) ≡ number (λ v. v) (decimalFrom s first at)) where
+module _ (s : List ℕ) (at first v i : ℕ) (inv : number (rest s (length s - (i - at)) v i) ≡ number (decimalFrom s first at)) where
   pub rest-turn : at ≤ i → i < length s → {d b : ℕ} → d ≡ digitValue b → b ≡ getD s i 0 → d < 10
-      → number (λ v. v) (rest s (length s - (i + 1 - at)) (v * 10 + d) (i + 1)) ≡ number (λ v. v) (decimalFrom s first at)
+      → number (rest s (length s - (i + 1 - at)) (v * 10 + d) (i + 1)) ≡ number (decimalFrom s first at)
   rest-turn ha hi {d} {b} ed eb hd =
       let e : d ≡ digitValue (getD s i 0) = ed ∙ ap digitValue eb in
       let f : length s - (i - at) ≡ suc (length s - (i + 1 - at)) = omega arith in
       rw e (rw (f, digits-turn s v i (length s - (i + 1 - at)) (rw e at hd)) at inv)
 
-  pub rest-stop : {d b : ℕ} → d ≡ digitValue b → b ≡ getD s i 0 → 10 ≤ d → v < 4294967296 → Number.Is v i ≡ number (λ v. v) (decimalFrom s first at)
+  pub rest-stop : {d b : ℕ} → d ≡ digitValue b → b ≡ getD s i 0 → 10 ≤ d → v < 4294967296 → Number.Is v i ≡ number (decimalFrom s first at)
   rest-stop {d} {b} ed eb hd hv =
       let e : d ≡ digitValue (getD s i 0) = ed ∙ ap digitValue eb in
       rw (digits-stop s v i (length s - (i - at)) (rw e at hd), lt-ltb v 4294967296 hv) at inv
 
-  pub rest-large : 4294967296 ≤ v → Number.None ≡ number (λ v. v) (decimalFrom s first at)
+  pub rest-large : 4294967296 ≤ v → Number.None ≡ number (decimalFrom s first at)
   rest-large h = rw (large s (length s - (i - at)) v i h) at inv
 
 pub rest-inside : (s : List ℕ) (i : ℕ) {d b : ℕ} → d ≡ digitValue b → b ≡ getD s i 0 → d < 10 → i < length s
