@@ -154,3 +154,9 @@ module _ (s : List ℕ) where
   takes-bits =
       takes-bind s 0 (total (λ d. 1)) _ (times 16 (digit s 16)) _ (takes-times s (λ d. 1) (digit s 16) 16 (takes-digit 16 (omega arith))) λ ds.
       takes-pure s _ _ (value 16 0 ds) (omega arith)
+
+  pub takes-coordinate : Takes s 0 (λ v. 1) (coordinate s)
+  unfolding coordinate
+  takes-coordinate =
+      takes-bind s 0 (λ z. 1) _ (literal s (bytes " ")) _ (takes-literal (bytes " ") refl) λ z at h a n e.
+      let r = takes-bits at h a n e in omega arith

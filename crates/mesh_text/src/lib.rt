@@ -4,9 +4,12 @@
 // Laws for callers: `proofs/Laws.antt`.
 ghost use mathlib.Core.Path.{_≡_};
 ghost use Prim.Native.Nat.{_+_, _*_, _≤_, _<_};
+ghost use mathlib.Core.List.{map};
 ghost use lib.ListN.{length, getD, set};
-ghost use Rattle.mesh_text.specs.Text.{stands, digitValue, bits, decimalFrom, decimal, coordinate};
-ghost use Rattle.mesh_text.specs.Reading.{float, number};
+ghost use Rattle.mesh_text.specs.Form.{bytes, times};
+ghost use Rattle.mesh_text.specs.Text.{stands, digitValue, bits, decimalFrom, decimal, coordinate, point, listed, side, face, many};
+ghost use Rattle.mesh_text.specs.Reading.{float, flat, sidePoints, sideIntervals, lengthWord};
+ghost use Rattle.mesh_text.specs.Reading.{number, place, run, listing, facesOf, stored, AtPlace, AtRun, AtFaces};
 
 // How many points, faces and listed points a text has, or may have.
 pub struct Counts {
@@ -189,4 +192,56 @@ fn coordinate(s: &[u8], at: usize) -> Number
         return Number::None;
     }
     bits(s, at + 1)
+}
+
+// The three coordinates of a point, stored from n on.
+fn coordinates(s: &[u8], at: usize, xs: &mut [f64], n: usize) -> Place
+    requires { ⌜ (at ≤ length (now s)) × (n ≤ at) ⌝ }
+    ensures place { λ r. ⌜ r ≡ place (times 3 (coordinate (now (s .entry))) at) ⌝ }
+    ensures list { λ r. ⌜ AtPlace r (now (xs .exit) ≡ stored (map float) (now (xs .entry)) n (times 3 (coordinate (now (s .entry))) at)) ⌝ }
+{
+    let mut i = at;
+    let mut k: usize = 0;
+    while k < 3 {
+        let Number::Is(b, j) = coordinate(s, i) else {
+            return Place::None;
+        };
+        put_number(xs, n + k, float(b));
+        i = j;
+        k += 1;
+    }
+    Place::At(i)
+}
+
+// A point line after `[point`.
+fn point(s: &[u8], at: usize, xs: &mut [f64], n: usize) -> Place
+    requires { ⌜ (at ≤ length (now s)) × (n ≤ at) ⌝ }
+    ensures place { λ r. ⌜ r ≡ place (point (now (s .entry)) at) ⌝ }
+    ensures list { λ r. ⌜ AtPlace r (now (xs .exit) ≡ stored (map float) (now (xs .entry)) n (point (now (s .entry)) at)) ⌝ }
+{
+    let Place::At(i) = coordinates(s, at, xs, n) else {
+        return Place::None;
+    };
+    if !stands(s, i, b"]\n") {
+        return Place::None;
+    }
+    Place::At(i + 2)
+}
+
+// The point lines, and how many they are.
+fn points(s: &[u8], at: usize, xs: &mut [f64]) -> Run
+    requires { ⌜ at ≤ length (now s) ⌝ }
+    ensures run { λ r. ⌜ r ≡ run length (many (now (s .entry)) (bytes "[point") (point (now (s .entry))) (length (now (s .entry))) at) ⌝ }
+    ensures list { λ r. ⌜ AtRun r (now (xs .exit) ≡ stored (flat (map float)) (now (xs .entry)) 0 (many (now (s .entry)) (bytes "[point") (point (now (s .entry))) (length (now (s .entry))) at)) ⌝ }
+{
+    let mut i = at;
+    let mut k: usize = 0;
+    while stands(s, i, b"[point") {
+        let Place::At(j) = point(s, i + 6, xs, 3 * k) else {
+            return Run::None;
+        };
+        i = j;
+        k += 1;
+    }
+    Run::Of(k, i)
 }

@@ -1,0 +1,69 @@
+-- What the answers of the reader's parts say of the forms. Assumes nothing.
+use mathlib.Core.List.{List, [], _∷_, _++_}
+use mathlib.Core.Path.{_≡_, refl, sym, ap, _∙_}
+use Prim.Native.Nat.{ℕ, zero, suc, _+_}
+use native.Mathlib.Nat.{add-zero}
+use native.Mathlib.Omega.{arith}
+use lib.ListN.{length, set}
+use lib.Seq.{sets}
+use Rattle.mesh_text.specs.Form.{Found, found, none, Form, onward, pure, given}
+use Rattle.mesh_text.specs.Text.{Listed}
+use Rattle.mesh_text.specs.Reading.{number, place, run, listing, stored}
+use Rattle.mesh_text.specs.declared.Number.the-variants as Number
+use Rattle.mesh_text.specs.declared.Place.the-variants as Place
+use Rattle.mesh_text.specs.declared.Run.the-variants as Run
+use Rattle.mesh_text.specs.declared.ListedPoint.the-variants as ListedPoint
+
+pub sets-append : {B : Type 0} (xs : List B) (i : ℕ) (vs ws : List B) → sets xs i (vs ++ ws) ≡ sets (sets xs i vs) (i + length vs) ws
+sets-append xs i [] ws = rw add-zero
+sets-append xs i (v ∷ vs) ws =
+    let e : suc i + length vs ≡ i + suc (length vs) = omega arith in
+    sets-append (set xs i v) (suc i) vs ws ∙ ap (λ (k : ℕ). sets (sets (set xs i v) (suc i) vs) k ws) e
+
+pub number-is : (x : Found ℕ) {v n : ℕ} → number x ≡ Number.Is v n → x ≡ found v n
+number-is (found v n) e = cc
+number-is none e = cc
+
+pub number-none : (x : Found ℕ) → number x ≡ Number.None → x ≡ none
+number-none (found v n) e = cc
+number-none none e = refl
+
+pub listing-is : (x : Found Listed) {p d n : ℕ} → listing x ≡ ListedPoint.Is p d n → x ≡ found (record { point = p; interval = d }) n
+listing-is (found l m) {p} {d} {n} e =
+    let ep : l .point ≡ p = cc in
+    let ed : l .interval ≡ d = cc in
+    let en : m ≡ n = cc in
+    λ i. found (record { point = ep i; interval = ed i }) (en i)
+listing-is none e = cc
+
+pub listing-none : (x : Found Listed) → listing x ≡ ListedPoint.None → x ≡ none
+listing-none (found l n) e = cc
+listing-none none e = refl
+
+module _ {A : Type 0} where
+  pub place-at : (x : Found A) {n : ℕ} → place x ≡ Place.At n → (a : A) × (x ≡ found a n)
+  place-at (found a m) e = (a, cc)
+  place-at none e = let z : _≡_ {A = ℕ} 0 1 = cc in absurd (omega arith)
+
+  pub place-none : (x : Found A) → place x ≡ Place.None → x ≡ none
+  place-none (found a n) e = cc
+  place-none none e = refl
+
+  pub run-of : (f : A → ℕ) (x : Found A) {c n : ℕ} → run f x ≡ Run.Of c n → (a : A) × (x ≡ found a n) × (f a ≡ c)
+  run-of f (found a m) e = (a, cc, cc)
+  run-of f none e = let z : _≡_ {A = ℕ} 0 1 = cc in absurd (omega arith)
+
+  pub run-none : (f : A → ℕ) (x : Found A) → run f x ≡ Run.None → x ≡ none
+  run-none f (found a n) e = cc
+  run-none f none e = refl
+
+  -- the same after one more element was found
+  pub place-next : (a : A) (x : Found (List A)) → place (onward (λ l. pure (a ∷ l)) x) ≡ place x
+  place-next a (found l n) = refl
+  place-next a none = refl
+
+  -- what is stored of one more element, then of the others
+  pub stored-next : {B : Type 0} (F : List A → List B) (G : A → List B) (xs : List B) (i : ℕ) (a : A) (x : Found (List A)) → ((l : List A) → F (a ∷ l) ≡ G a ++ F l)
+      → stored F xs i (onward (λ l. pure (a ∷ l)) x) ≡ stored F (sets xs i (G a)) (i + length (G a)) x
+  stored-next F G xs i a (found l n) e = ap (λ v. sets xs i v) (e l) ∙ sets-append xs i (G a) (F l)
+  stored-next F G xs i a none e = refl
