@@ -2,7 +2,7 @@
 use mathlib.Core.List.{List, [], _∷_, _++_}
 use mathlib.Core.Path.{_≡_, refl, sym, ap, _∙_}
 use Prim.Native.Nat.{ℕ, zero, suc, _+_}
-use native.Mathlib.Nat.{add-zero}
+use native.Mathlib.Nat.{add-zero, zero-add, add-assoc}
 use native.Mathlib.Omega.{arith}
 use lib.ListN.{length, set}
 use lib.Seq.{sets}
@@ -11,6 +11,7 @@ use Rattle.mesh_text.specs.Text.{Listed}
 use Rattle.mesh_text.specs.Reading.{number, place, run, listing, stored}
 use Rattle.mesh_text.specs.declared.Number.the-variants as Number
 use Rattle.mesh_text.specs.declared.Place.the-variants as Place
+use Rattle.mesh_text.specs.declared.Run.{Run}
 use Rattle.mesh_text.specs.declared.Run.the-variants as Run
 use Rattle.mesh_text.specs.declared.ListedPoint.the-variants as ListedPoint
 
@@ -40,6 +41,10 @@ pub listing-none : (x : Found Listed) → listing x ≡ ListedPoint.None → x �
 listing-none (found l n) e = cc
 listing-none none e = refl
 
+-- what is counted on from c
+abbrev pub runFrom : {A : Type 0} → (List A → ℕ) → ℕ → Found (List A) → Run
+runFrom F c x = given (λ l n. Run.Of (c + F l) n) Run.None x
+
 module _ {A : Type 0} where
   pub place-at : (x : Found A) {n : ℕ} → place x ≡ Place.At n → (a : A) × (x ≡ found a n)
   place-at (found a m) e = (a, cc)
@@ -61,6 +66,15 @@ module _ {A : Type 0} where
   pub place-next : (a : A) (x : Found (List A)) → place (onward (λ l. pure (a ∷ l)) x) ≡ place x
   place-next a (found l n) = refl
   place-next a none = refl
+
+  pub run-next : (F : List A → ℕ) (c w : ℕ) (a : A) (x : Found (List A)) → ((l : List A) → F (a ∷ l) ≡ w + F l)
+      → runFrom F c (onward (λ l. pure (a ∷ l)) x) ≡ runFrom F (c + w) x
+  run-next F c w a (found l n) e = ap (λ v. Run.Of v n) (ap (λ v. c + v) (e l) ∙ sym (add-assoc c w (F l)))
+  run-next F c w a none e = refl
+
+  pub run-start : (F : List A → ℕ) (x : Found (List A)) → runFrom F 0 x ≡ run F x
+  run-start F (found l n) = ap (λ v. Run.Of v n) (zero-add (F l))
+  run-start F none = refl
 
   -- what is stored of one more element, then of the others
   pub stored-next : {B : Type 0} (F : List A → List B) (G : A → List B) (xs : List B) (i : ℕ) (a : A) (x : Found (List A)) → ((l : List A) → F (a ∷ l) ≡ G a ++ F l)

@@ -82,6 +82,21 @@ takes-times s u p (suc k) hp =
     takes-bind s 0 u (total u) p _ hp λ a.
     takes-bind s (u a + 0) (total u) (total u) (times k p) _ (takes-times s u p k hp) λ l. takes-pure s (total u l + (u a + 0)) (total u) (a ∷ l) (omega arith)
 
+-- what was found before the rest
+pub onward-found : {A B : Type 0} (f : A → Form B) (x : Found A) {b : B} {n : ℕ} → onward f x ≡ found b n
+    → (a : A) × (m : ℕ) × (x ≡ found a m) × (f a m ≡ found b n)
+onward-found f (found a m) e = (a, m, refl, e)
+onward-found f none e = let z : _≡_ {A = ℕ} 0 1 = cc in absurd (omega arith)
+
+pub length-times : {A : Type 0} (p : Form A) (k at : ℕ) (l : List A) (n : ℕ) → times k p at ≡ found l n → length l ≡ k
+unfolding times
+length-times p zero at l n e = let el : l ≡ [] = cc in ap length el
+length-times p (suc k) at l n e =
+    let (a, m, ep, ea) = onward-found _ (p at) e in
+    let (l′, m′, et, el) = onward-found _ (times k p m) ea in
+    let ll : l ≡ a ∷ l′ = cc in
+    ap length ll ∙ ap suc (length-times p k m l′ m′ et)
+
 module _ (s : List ℕ) where
   pub takes-literal : (t : List ℕ) → solid t ≡ true → Takes s 0 (λ a. length t) (literal s t)
   unfolding literal
@@ -160,3 +175,10 @@ module _ (s : List ℕ) where
   takes-coordinate =
       takes-bind s 0 (λ z. 1) _ (literal s (bytes " ")) _ (takes-literal (bytes " ") refl) λ z at h a n e.
       let r = takes-bits at h a n e in omega arith
+
+  pub takes-point : Takes s 0 (λ xyz. 0) (point s)
+  unfolding point
+  takes-point =
+      takes-bind s 0 _ _ (times 3 (coordinate s)) _ (takes-times s (λ v. 1) (coordinate s) 3 takes-coordinate) λ xyz.
+      takes-bind s _ (λ z. 2) _ (literal s (bytes "]\n")) _ (takes-literal (bytes "]\n") refl) λ z.
+      takes-pure s _ _ xyz (omega arith)
