@@ -182,3 +182,27 @@ module _ (s : List ℕ) where
       takes-bind s 0 _ _ (times 3 (coordinate s)) _ (takes-times s (λ v. 1) (coordinate s) 3 takes-coordinate) λ xyz.
       takes-bind s _ (λ z. 2) _ (literal s (bytes "]\n")) _ (takes-literal (bytes "]\n") refl) λ z.
       takes-pure s _ _ xyz (omega arith)
+
+  pub decimal-below : (at v n : ℕ) → decimal s at ≡ found v n → v < 4294967296
+  unfolding decimal decimalFrom
+  decimal-below at v n e =
+      let (d, m, ed, ev) = onward-found _ (digit s 10 at) e in
+      first d m (eqb d 0) ev
+    where
+      last : (b : Bool) (w m : ℕ) → ltb w 4294967296 ≡ b → choose b (pure w) (λ k. none) m ≡ found v n → v < 4294967296
+      last true w m h k = let wv : w ≡ v = cc in let l = ltb-true w 4294967296 h in omega arith
+      last false w m h k = let z : _≡_ {A = ℕ} 0 1 = cc in omega arith
+      first : (d m : ℕ) (b : Bool) → choose b (pure 0) (digits s (length s) d >>= λ w. choose (ltb w 4294967296) (pure w) (λ k. none)) m ≡ found v n → v < 4294967296
+      first d m true h = let zv : 0 ≡ v = cc in omega arith
+      first d m false h =
+          let (w, m′, ew, eo) = onward-found (λ w. choose (ltb w 4294967296) (pure w) (λ k. none)) (digits s (length s) d m) h in
+          last (ltb w 4294967296) w m′ refl eo
+
+  pub takes-listed : Takes s 0 (λ p. 0) (listed s)
+  unfolding listed
+  takes-listed =
+      takes-bind s 0 (λ v. 1) _ (decimal s) _ takes-decimal λ p.
+      takes-bind s _ (λ z. 1) _ (literal s (bytes " ")) _ (takes-literal (bytes " ") refl) λ z.
+      takes-bind s _ (λ v. 0) _ (bits s) _ takes-bits λ d.
+      takes-bind s _ (λ z. 1) _ (literal s (bytes "]")) _ (takes-literal (bytes "]") refl) λ y.
+      takes-pure s _ _ _ (omega arith)

@@ -245,3 +245,44 @@ fn points(s: &[u8], at: usize, xs: &mut [f64]) -> Run
     }
     Run::Of(k, i)
 }
+
+// A listed point after ` [`.
+fn listed(s: &[u8], at: usize) -> ListedPoint
+    requires { ⌜ at ≤ length (now s) ⌝ }
+    ensures { λ r. ⌜ r ≡ listing (listed (now (s .entry)) at) ⌝ }
+{
+    let Number::Is(p, i) = decimal(s, at) else {
+        return ListedPoint::None;
+    };
+    if !stands(s, i, b" ") {
+        return ListedPoint::None;
+    }
+    let Number::Is(d, j) = bits(s, i + 1) else {
+        return ListedPoint::None;
+    };
+    if !stands(s, j, b"]") {
+        return ListedPoint::None;
+    }
+    ListedPoint::Is(p as u32, d, j + 1)
+}
+
+// The listed points of a side, stored from n on, and how many they are.
+fn listed_points(s: &[u8], at: usize, ps: &mut [u32], ds: &mut [f64], n: usize) -> Run
+    requires { ⌜ (at ≤ length (now s)) × (n ≤ at) ⌝ }
+    ensures run { λ r. ⌜ r ≡ run length (many (now (s .entry)) (bytes " [") (listed (now (s .entry))) (length (now (s .entry))) at) ⌝ }
+    ensures points { λ r. ⌜ AtRun r (now (ps .exit) ≡ stored sidePoints (now (ps .entry)) n (many (now (s .entry)) (bytes " [") (listed (now (s .entry))) (length (now (s .entry))) at)) ⌝ }
+    ensures intervals { λ r. ⌜ AtRun r (now (ds .exit) ≡ stored sideIntervals (now (ds .entry)) n (many (now (s .entry)) (bytes " [") (listed (now (s .entry))) (length (now (s .entry))) at)) ⌝ }
+{
+    let mut i = at;
+    let mut k: usize = 0;
+    while stands(s, i, b" [") {
+        let ListedPoint::Is(p, d, j) = listed(s, i + 2) else {
+            return Run::None;
+        };
+        put_word(ps, n + k, p);
+        put_number(ds, n + k, float(d));
+        i = j;
+        k += 1;
+    }
+    Run::Of(k, i)
+}
