@@ -75,6 +75,11 @@ unfoldable pub total : {A : Type 0} → (A → ℕ) → List A → ℕ
 total u [] = 0
 total u (a ∷ l) = u a + total u l
 
+pub length-total : {A : Type 0} (u : A → ℕ) (l : List A) → ((a : A) → 1 ≤ u a) → length l ≤ total u l
+unfolding total
+length-total u [] h = omega arith
+length-total u (a ∷ l) h = let r = length-total u l h in let k = h a in omega arith
+
 pub takes-times : {A : Type 0} (s : List ℕ) (u : A → ℕ) (p : Form A) (k : ℕ) → Takes s 0 u p → Takes s 0 (total u) (times k p)
 unfolding times total
 takes-times s u p zero hp = takes-pure s 0 (total u) [] (omega arith)
@@ -206,3 +211,12 @@ module _ (s : List ℕ) where
       takes-bind s _ (λ v. 0) _ (bits s) _ takes-bits λ d.
       takes-bind s _ (λ z. 1) _ (literal s (bytes "]")) _ (takes-literal (bytes "]") refl) λ y.
       takes-pure s _ _ _ (omega arith)
+
+  pub takes-side : Takes s 0 (λ ps. length ps) (side s)
+  unfolding side
+  takes-side =
+      takes-bind s 0 (λ z. 2) _ (literal s (bytes " [")) _ (takes-literal (bytes " [") refl) λ z.
+      takes-bind s _ (λ v. 1) _ (decimal s) _ takes-decimal λ v.
+      takes-bind s _ _ _ (many s (bytes " [") (listed s) (length s)) _ (takes-many (bytes " [") (λ p. 0) (listed s) (length s) refl takes-listed) λ ps.
+      takes-bind s _ (λ z. 1) _ (literal s (bytes "]")) _ (takes-literal (bytes "]") refl) λ y.
+      takes-pure s _ _ ps (let h = length-total (λ p. 2 + 0) ps (λ p. omega arith) in omega arith)

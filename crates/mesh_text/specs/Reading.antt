@@ -38,12 +38,16 @@ unfoldable pub flat : {A B : Type 0} → (A → List B) → List A → List B
 flat f [] = []
 flat f (a ∷ l) = f a ++ flat f l
 
--- of each side, how many points it lists, as a word of 32 bits
+-- how many points a side lists, as a word of 32 bits: a side of a text within the limits lists no more
 abbrev pub lengthWord : List Listed → ℕ
 lengthWord ps = length ps % 4294967296
 
 abbrev pub sidePoints : List Listed → List ℕ
 sidePoints ps = map (λ (p : Listed). p .point) ps
+
+-- how many points the sides of a face list
+abbrev pub listedIn : List (List Listed) → ℕ
+listedIn sides = length (flat sidePoints sides)
 
 abbrev pub sideIntervals : List Listed → List Float
 sideIntervals ps = map (λ (p : Listed). float (p .interval)) ps

@@ -8,7 +8,7 @@ ghost use mathlib.Core.List.{map};
 ghost use lib.ListN.{length, getD, set};
 ghost use Rattle.mesh_text.specs.Form.{bytes, times};
 ghost use Rattle.mesh_text.specs.Text.{stands, digitValue, bits, decimalFrom, decimal, coordinate, point, listed, side, face, many};
-ghost use Rattle.mesh_text.specs.Reading.{float, flat, sidePoints, sideIntervals, lengthWord};
+ghost use Rattle.mesh_text.specs.Reading.{float, flat, sidePoints, sideIntervals, lengthWord, listedIn};
 ghost use Rattle.mesh_text.specs.Reading.{number, place, run, listing, facesOf, stored, AtPlace, AtRun, AtFaces};
 
 // How many points, faces and listed points a text has, or may have.
@@ -285,4 +285,49 @@ fn listed_points(s: &[u8], at: usize, ps: &mut [u32], ds: &mut [f64], n: usize) 
         k += 1;
     }
     Run::Of(k, i)
+}
+
+// A side: a space, its first point, which is not looked at, and its listed points, stored from n on.
+fn side(s: &[u8], at: usize, ps: &mut [u32], ds: &mut [f64], n: usize) -> Run
+    requires { ⌜ (at ≤ length (now s)) × (n ≤ at) ⌝ }
+    ensures run { λ r. ⌜ r ≡ run length (side (now (s .entry)) at) ⌝ }
+    ensures points { λ r. ⌜ AtRun r (now (ps .exit) ≡ stored sidePoints (now (ps .entry)) n (side (now (s .entry)) at)) ⌝ }
+    ensures intervals { λ r. ⌜ AtRun r (now (ds .exit) ≡ stored sideIntervals (now (ds .entry)) n (side (now (s .entry)) at)) ⌝ }
+{
+    if !stands(s, at, b" [") {
+        return Run::None;
+    }
+    let Number::Is(_, i) = decimal(s, at + 2) else {
+        return Run::None;
+    };
+    let Run::Of(k, j) = listed_points(s, i, ps, ds, n) else {
+        return Run::None;
+    };
+    if !stands(s, j, b"]") {
+        return Run::None;
+    }
+    Run::Of(k, j + 1)
+}
+
+// The four sides of a face: their lengths stored from f on, their points and intervals from n on, and how many points they list.
+fn sides(s: &[u8], at: usize, ls: &mut [u32], f: usize, ps: &mut [u32], ds: &mut [f64], n: usize) -> Run
+    requires { ⌜ (at ≤ length (now s)) × ((f ≤ at) × (n ≤ at)) ⌝ }
+    ensures run { λ r. ⌜ r ≡ run listedIn (times 4 (side (now (s .entry))) at) ⌝ }
+    ensures lengths { λ r. ⌜ AtRun r (now (ls .exit) ≡ stored (map lengthWord) (now (ls .entry)) f (times 4 (side (now (s .entry))) at)) ⌝ }
+    ensures points { λ r. ⌜ AtRun r (now (ps .exit) ≡ stored (flat sidePoints) (now (ps .entry)) n (times 4 (side (now (s .entry))) at)) ⌝ }
+    ensures intervals { λ r. ⌜ AtRun r (now (ds .exit) ≡ stored (flat sideIntervals) (now (ds .entry)) n (times 4 (side (now (s .entry))) at)) ⌝ }
+{
+    let mut i = at;
+    let mut c: usize = 0;
+    let mut k: usize = 0;
+    while k < 4 {
+        let Run::Of(m, j) = side(s, i, ps, ds, n + c) else {
+            return Run::None;
+        };
+        put_word(ls, f + k, (m % 4294967296) as u32);
+        i = j;
+        c += m;
+        k += 1;
+    }
+    Run::Of(c, i)
 }
