@@ -5,11 +5,12 @@ use mathlib.Core.Bool.{Bool, true, false, _&&_}
 use Prim.Native.Nat.{ℕ, zero, suc, _+_, _-_, _*_, _≤_, _<_}
 use native.Mathlib.Omega.{arith}
 use native.Mathlib.Numerals.{add-one}
-use lib.ListN.{length, getD, List·getD-eq-default}
+use lib.ListN.{length, getD, List·getD-eq-default, length-append, length-map}
 use lib.Dec.{T, eqb, ltb}
 use borrow.Author.Tests.{ltb-true, ltb-false, eqb-true}
 use Rattle.mesh_text.specs.Form.{bytes, Found, found, none, Form, onward, _>>=_, _>>_, pure, choose, times}
-use Rattle.mesh_text.specs.Text.{digitValue, value, stands, literal, digit, bits, digits, decimalFrom, decimal, many, coordinate, point, listed, side, face, mesh, text}
+use Rattle.mesh_text.specs.Text.{Listed, digitValue, value, stands, literal, digit, bits, digits, decimalFrom, decimal, many, coordinate, point, listed, side, face, mesh, text}
+use Rattle.mesh_text.specs.Reading.{flat, sidePoints, sideIntervals, listedIn}
 
 -- a byte other than 0 stands inside the text
 pub inside : (s : List ℕ) (i : ℕ) → 0 < getD s i 0 → i < length s
@@ -79,6 +80,24 @@ pub length-total : {A : Type 0} (u : A → ℕ) (l : List A) → ((a : A) → 1 
 unfolding total
 length-total u [] h = omega arith
 length-total u (a ∷ l) h = let r = length-total u l h in let k = h a in omega arith
+
+listed-total : (sides : List (List Listed)) → listedIn sides ≡ total (λ (ps : List Listed). length ps) sides
+unfolding total flat
+listed-total [] = refl
+listed-total (ps ∷ sides) =
+    length-append (sidePoints ps) (flat sidePoints sides)
+    ∙ ap (λ (v : ℕ). v + listedIn sides) (length-map ps _)
+    ∙ ap (λ (v : ℕ). length ps + v) (listed-total sides)
+
+-- a face lists as many intervals as points
+pub same-count : (sides : List (List Listed)) → length (flat sidePoints sides) ≡ length (flat sideIntervals sides)
+unfolding flat
+same-count [] = refl
+same-count (ps ∷ sides) =
+    length-append (sidePoints ps) (flat sidePoints sides)
+    ∙ ap (λ (v : ℕ). v + length (flat sidePoints sides)) (length-map ps _ ∙ sym (length-map ps _))
+    ∙ ap (λ (v : ℕ). length (sideIntervals ps) + v) (same-count sides)
+    ∙ sym (length-append (sideIntervals ps) (flat sideIntervals sides))
 
 pub takes-times : {A : Type 0} (s : List ℕ) (u : A → ℕ) (p : Form A) (k : ℕ) → Takes s 0 u p → Takes s 0 (total u) (times k p)
 unfolding times total
@@ -220,3 +239,16 @@ module _ (s : List ℕ) where
       takes-bind s _ _ _ (many s (bytes " [") (listed s) (length s)) _ (takes-many (bytes " [") (λ p. 0) (listed s) (length s) refl takes-listed) λ ps.
       takes-bind s _ (λ z. 1) _ (literal s (bytes "]")) _ (takes-literal (bytes "]") refl) λ y.
       takes-pure s _ _ ps (let h = length-total (λ p. 2 + 0) ps (λ p. omega arith) in omega arith)
+
+  pub takes-sides : Takes s 0 (λ sides. listedIn sides) (times 4 (side s))
+  takes-sides at h a n e =
+      let t = takes-times s (λ (ps : List Listed). length ps) (side s) 4 takes-side at h a n e in
+      let l = listed-total a in
+      omega arith
+
+  pub takes-face : Takes s 0 (λ sides. listedIn sides) (face s)
+  unfolding face
+  takes-face =
+      takes-bind s 0 _ _ (times 4 (side s)) _ takes-sides λ sides.
+      takes-bind s _ (λ z. 2) _ (literal s (bytes "]\n")) _ (takes-literal (bytes "]\n") refl) λ z.
+      takes-pure s _ _ sides (omega arith)

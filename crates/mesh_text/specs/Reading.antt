@@ -6,7 +6,7 @@
 --     Lists                        the four lent lists
 --     within c limits l            the counts are within the limits, and the lists have room
 --     readInto s limits l          the answer, and the lists after it
---     number place run listing facesOf x             the answers of the reader's parts
+--     number place run listing linesOf x             the answers of the reader's parts
 --     stored f l i x               what the parts leave in a lent list
 use mathlib.Core.List.{List, [], _∷_, _++_, map}
 use mathlib.Core.Bool.{Bool, true, false, _&&_, cond}
@@ -25,8 +25,8 @@ use Rattle.mesh_text.specs.declared.Run.{Run}
 use Rattle.mesh_text.specs.declared.Run.the-variants as Run
 use Rattle.mesh_text.specs.declared.ListedPoint.{ListedPoint}
 use Rattle.mesh_text.specs.declared.ListedPoint.the-variants as ListedPoint
-use Rattle.mesh_text.specs.declared.Faces.{Faces}
-use Rattle.mesh_text.specs.declared.Faces.the-variants as Faces
+use Rattle.mesh_text.specs.declared.Lines.{Lines}
+use Rattle.mesh_text.specs.declared.Lines.the-variants as Lines
 use Rattle.mesh_text.specs.declared.Counts.{Counts}
 use Rattle.mesh_text.specs.declared.Reading.{Reading}
 use Rattle.mesh_text.specs.declared.Reading.the-variants as Reading
@@ -114,8 +114,8 @@ run f x = given (λ a n. Run.Of (f a) n) Run.None x
 abbrev pub listing : Found Listed → ListedPoint
 listing x = given (λ p n. ListedPoint.Is (p .point) (p .interval) n) ListedPoint.None x
 
-abbrev pub facesOf : Found (List (List (List Listed))) → Faces
-facesOf x = given (λ fs n. Faces.Are (length fs) (length (flat (flat sidePoints) fs)) n) Faces.None x
+abbrev pub linesOf : Found (List (List (List Listed))) → Lines
+linesOf x = given (λ fs n. Lines.Are (length fs) (length (flat (flat sidePoints) fs)) n) Lines.None x
 
 -- the list l with the numbers f of what was found stored in it from i on
 abbrev pub stored : {A B : Type 0} → (A → List B) → List B → ℕ → Found A → List B
@@ -130,6 +130,6 @@ abbrev pub AtRun : Run → Type 0 → Type 0
 AtRun (Run.Of c n) P = P
 AtRun Run.None P = Unit {0}
 
-abbrev pub AtFaces : Faces → Type 0 → Type 0
-AtFaces (Faces.Are f c n) P = P
-AtFaces Faces.None P = Unit {0}
+abbrev pub AtLines : Lines → Type 0 → Type 0
+AtLines (Lines.Are f c n) P = P
+AtLines Lines.None P = Unit {0}

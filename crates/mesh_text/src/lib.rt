@@ -9,7 +9,7 @@ ghost use lib.ListN.{length, getD, set};
 ghost use Rattle.mesh_text.specs.Form.{bytes, times};
 ghost use Rattle.mesh_text.specs.Text.{stands, digitValue, bits, decimalFrom, decimal, coordinate, point, listed, side, face, many};
 ghost use Rattle.mesh_text.specs.Reading.{float, flat, sidePoints, sideIntervals, lengthWord, listedIn};
-ghost use Rattle.mesh_text.specs.Reading.{number, place, run, listing, facesOf, stored, AtPlace, AtRun, AtFaces};
+ghost use Rattle.mesh_text.specs.Reading.{number, place, run, listing, linesOf, stored, AtPlace, AtRun, AtLines};
 
 // How many points, faces and listed points a text has, or may have.
 pub struct Counts {
@@ -50,7 +50,7 @@ enum ListedPoint {
 }
 
 // How many faces and how many listed points stand there, and the place after them.
-enum Faces {
+enum Lines {
     Are(usize, usize, usize),
     None,
 }
@@ -330,4 +330,43 @@ fn sides(s: &[u8], at: usize, ls: &mut [u32], f: usize, ps: &mut [u32], ds: &mut
         k += 1;
     }
     Run::Of(c, i)
+}
+
+// A face line after `[face`: its four sides and the end of the line.
+fn face(s: &[u8], at: usize, ls: &mut [u32], f: usize, ps: &mut [u32], ds: &mut [f64], n: usize) -> Run
+    requires { ⌜ (at ≤ length (now s)) × ((f ≤ at) × (n ≤ at)) ⌝ }
+    ensures run { λ r. ⌜ r ≡ run listedIn (face (now (s .entry)) at) ⌝ }
+    ensures lengths { λ r. ⌜ AtRun r (now (ls .exit) ≡ stored (map lengthWord) (now (ls .entry)) f (face (now (s .entry)) at)) ⌝ }
+    ensures points { λ r. ⌜ AtRun r (now (ps .exit) ≡ stored (flat sidePoints) (now (ps .entry)) n (face (now (s .entry)) at)) ⌝ }
+    ensures intervals { λ r. ⌜ AtRun r (now (ds .exit) ≡ stored (flat sideIntervals) (now (ds .entry)) n (face (now (s .entry)) at)) ⌝ }
+{
+    let Run::Of(c, i) = sides(s, at, ls, f, ps, ds, n) else {
+        return Run::None;
+    };
+    if !stands(s, i, b"]\n") {
+        return Run::None;
+    }
+    Run::Of(c, i + 2)
+}
+
+// The face lines, how many they are, and how many points they list.
+fn faces(s: &[u8], at: usize, ls: &mut [u32], ps: &mut [u32], ds: &mut [f64]) -> Lines
+    requires { ⌜ at ≤ length (now s) ⌝ }
+    ensures faces { λ r. ⌜ r ≡ linesOf (many (now (s .entry)) (bytes "[face") (face (now (s .entry))) (length (now (s .entry))) at) ⌝ }
+    ensures lengths { λ r. ⌜ AtLines r (now (ls .exit) ≡ stored (flat (map lengthWord)) (now (ls .entry)) 0 (many (now (s .entry)) (bytes "[face") (face (now (s .entry))) (length (now (s .entry))) at)) ⌝ }
+    ensures points { λ r. ⌜ AtLines r (now (ps .exit) ≡ stored (flat (flat sidePoints)) (now (ps .entry)) 0 (many (now (s .entry)) (bytes "[face") (face (now (s .entry))) (length (now (s .entry))) at)) ⌝ }
+    ensures intervals { λ r. ⌜ AtLines r (now (ds .exit) ≡ stored (flat (flat sideIntervals)) (now (ds .entry)) 0 (many (now (s .entry)) (bytes "[face") (face (now (s .entry))) (length (now (s .entry))) at)) ⌝ }
+{
+    let mut i = at;
+    let mut k: usize = 0;
+    let mut c: usize = 0;
+    while stands(s, i, b"[face") {
+        let Run::Of(m, j) = face(s, i + 5, ls, 4 * k, ps, ds, c) else {
+            return Lines::None;
+        };
+        i = j;
+        k += 1;
+        c += m;
+    }
+    Lines::Are(k, c, i)
 }
