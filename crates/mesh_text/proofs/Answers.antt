@@ -8,11 +8,12 @@ use lib.ListN.{length, set}
 use lib.Seq.{sets}
 use Rattle.mesh_text.specs.Form.{Found, found, none, Form, onward, pure, given}
 use Rattle.mesh_text.specs.Text.{Listed}
-use Rattle.mesh_text.specs.Reading.{number, place, run, listing, stored}
+use Rattle.mesh_text.specs.Reading.{flat, sidePoints, number, place, run, listing, linesOf, stored}
 use Rattle.mesh_text.specs.declared.Number.the-variants as Number
 use Rattle.mesh_text.specs.declared.Place.the-variants as Place
 use Rattle.mesh_text.specs.declared.Run.{Run}
 use Rattle.mesh_text.specs.declared.Run.the-variants as Run
+use Rattle.mesh_text.specs.declared.Lines.the-variants as Lines
 use Rattle.mesh_text.specs.declared.ListedPoint.the-variants as ListedPoint
 
 pub sets-append : {B : Type 0} (xs : List B) (i : ℕ) (vs ws : List B) → sets xs i (vs ++ ws) ≡ sets (sets xs i vs) (i + length vs) ws
@@ -40,6 +41,15 @@ listing-is none e = cc
 pub listing-none : (x : Found Listed) → listing x ≡ ListedPoint.None → x ≡ none
 listing-none (found l n) e = cc
 listing-none none e = refl
+
+pub lines-are : (x : Found (List (List (List Listed)))) {f c n : ℕ} → linesOf x ≡ Lines.Are f c n
+    → (fs : List (List (List Listed))) × (x ≡ found fs n) × (length fs ≡ f) × (length (flat (flat sidePoints) fs) ≡ c)
+lines-are (found fs m) e = (fs, cc, cc, cc)
+lines-are none e = let z : _≡_ {A = ℕ} 0 1 = cc in absurd (omega arith)
+
+pub lines-none : (x : Found (List (List (List Listed)))) → linesOf x ≡ Lines.None → x ≡ none
+lines-none (found fs n) e = cc
+lines-none none e = refl
 
 -- what is counted on from c
 abbrev pub runFrom : {A : Type 0} → (List A → ℕ) → ℕ → Found (List A) → Run

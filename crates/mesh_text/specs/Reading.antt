@@ -27,6 +27,8 @@ use Rattle.mesh_text.specs.declared.ListedPoint.{ListedPoint}
 use Rattle.mesh_text.specs.declared.ListedPoint.the-variants as ListedPoint
 use Rattle.mesh_text.specs.declared.Lines.{Lines}
 use Rattle.mesh_text.specs.declared.Lines.the-variants as Lines
+use Rattle.mesh_text.specs.declared.Sizes.{Sizes}
+use Rattle.mesh_text.specs.declared.Sizes.the-variants as Sizes
 use Rattle.mesh_text.specs.declared.Counts.{Counts}
 use Rattle.mesh_text.specs.declared.Reading.{Reading}
 use Rattle.mesh_text.specs.declared.Reading.the-variants as Reading
@@ -59,6 +61,10 @@ coordinates m = flat (map float) (m .points)
 abbrev pub lengths : Mesh → List ℕ
 lengths m = flat (map length) (m .faces)
 
+-- the same in words of 32 bits
+abbrev pub lengthWords : Mesh → List ℕ
+lengthWords m = flat (map lengthWord) (m .faces)
+
 abbrev pub listedPoints : Mesh → List ℕ
 listedPoints m = flat (flat sidePoints) (m .faces)
 
@@ -83,23 +89,26 @@ filled m l = record {
     intervals = sets (l .intervals) 0 (intervals m)
   }
 
+-- within the limits and the room of the lists, and a length fits a word of 32 bits
 unfoldable pub within : Counts → Counts → Lists → Bool
 within c limits l =
-    leb (c .points) (limits .points) && (leb (c .faces) (limits .faces) && (leb (c .listed) (limits .listed)
+    leb (c .points) (limits .points) && (leb (c .faces) (limits .faces) && (leb (c .listed) (limits .listed) && (leb (c .listed) 4294967295
     && (leb (3 * c .points) (length (l .coordinates)) && (leb (4 * c .faces) (length (l .lengths))
-    && (leb (c .listed) (length (l .listed)) && leb (c .listed) (length (l .intervals)))))))
+    && (leb (c .listed) (length (l .listed)) && leb (c .listed) (length (l .intervals))))))))
 
 pub record Answer : Type 0 where
   pub reading : Reading
   pub lists : Lists
 
--- the form of the whole text is tested before anything is counted
+-- the form of the whole text is tested before anything is counted; a text that is not read leaves the lists as they are
 unfoldable pub readInto : List ℕ → Counts → Lists → Answer
-readInto s limits l = go (text s)
-  where
-    go : Found Mesh → Answer
-    go none = record { reading = Reading.NotText; lists = l }
-    go (found m n) = cond (within (counts m) limits l) (record { reading = Reading.Read (counts m); lists = filled m l }) (record { reading = Reading.OverLimits; lists = l })
+readInto s limits l =
+    given (λ m n.
+      cond (within (counts m) limits l)
+      (record { reading = Reading.Read (counts m); lists = filled m l })
+      (record { reading = Reading.OverLimits; lists = l }))
+    (record { reading = Reading.NotText; lists = l })
+    (text s)
 
 -- how the parts of the reader answer
 abbrev pub number : Found ℕ → Number
@@ -117,6 +126,9 @@ listing x = given (λ p n. ListedPoint.Is (p .point) (p .interval) n) ListedPoin
 abbrev pub linesOf : Found (List (List (List Listed))) → Lines
 linesOf x = given (λ fs n. Lines.Are (length fs) (length (flat (flat sidePoints) fs)) n) Lines.None x
 
+abbrev pub sizesOf : Found Mesh → Sizes
+sizesOf x = given (λ m n. Sizes.Of (length (m .points)) (length (m .faces)) (length (listedPoints m))) Sizes.None x
+
 -- the list l with the numbers f of what was found stored in it from i on
 abbrev pub stored : {A B : Type 0} → (A → List B) → List B → ℕ → Found A → List B
 stored f l i x = given (λ a n. sets l i (f a)) [] x
@@ -129,6 +141,10 @@ AtPlace Place.None P = Unit {0}
 abbrev pub AtRun : Run → Type 0 → Type 0
 AtRun (Run.Of c n) P = P
 AtRun Run.None P = Unit {0}
+
+abbrev pub AtSizes : Sizes → Type 0 → Type 0
+AtSizes (Sizes.Of p f c) P = P
+AtSizes Sizes.None P = Unit {0}
 
 abbrev pub AtLines : Lines → Type 0 → Type 0
 AtLines (Lines.Are f c n) P = P

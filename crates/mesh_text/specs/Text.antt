@@ -7,6 +7,7 @@
 --     decimal s            a decimal number below 4,294,967,296 with no leading zero
 --     many s t p k         zero or more of p, each after the bytes t; k is as many as there can be
 --     point listed side face s       the parts of the lines
+--     ends s at            the end line, which is the last
 --     text s               the whole text
 use mathlib.Core.List.{List, [], _∷_}
 use mathlib.Core.Bool.{Bool, true, _&&_, cond}
@@ -114,14 +115,16 @@ module _ (s : List ℕ) where
     literal (bytes "]\n")
     pure sides
 
+  -- `[end]` and byte 10, the very last bytes
+  unfoldable pub ends : ℕ → Bool
+  ends at = stands at (bytes "[end]\n") && eqb (at + 6) (length s)
+
   unfoldable pub mesh : Form Mesh
   mesh = do
     literal (bytes "[mesh 1]\n")
     ps ← many (bytes "[point") point (length s)
     fs ← many (bytes "[face") face (length s)
-    literal (bytes "[end]\n")
-    pure (record { points = ps; faces = fs })
+    λ at. choose (ends at) (pure (record { points = ps; faces = fs })) (λ n. none) at
 
-  -- the whole text: `[end]` and byte 10 are its very last bytes
   unfoldable pub text : Found Mesh
-  text = (mesh >>= λ m at. choose (eqb at (length s)) (pure m) (λ n. none) at) 0
+  text = mesh 0

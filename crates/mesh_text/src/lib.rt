@@ -7,15 +7,16 @@ ghost use Prim.Native.Nat.{_+_, _*_, _≤_, _<_};
 ghost use mathlib.Core.List.{map};
 ghost use lib.ListN.{length, getD, set};
 ghost use Rattle.mesh_text.specs.Form.{bytes, times};
-ghost use Rattle.mesh_text.specs.Text.{stands, digitValue, bits, decimalFrom, decimal, coordinate, point, listed, side, face, many};
+ghost use Rattle.mesh_text.specs.Text.{stands, digitValue, bits, decimalFrom, decimal, coordinate, point, listed, side, face, many, ends, text};
 ghost use Rattle.mesh_text.specs.Reading.{float, flat, sidePoints, sideIntervals, lengthWord, listedIn};
 ghost use Rattle.mesh_text.specs.Reading.{number, place, run, listing, linesOf, stored, AtPlace, AtRun, AtLines};
+ghost use Rattle.mesh_text.specs.Reading.{sizesOf, coordinates, lengthWords, listedPoints, intervals, AtSizes};
 
 // How many points, faces and listed points a text has, or may have.
 pub struct Counts {
-    pub points: u32,
-    pub faces: u32,
-    pub listed: u32,
+    pub points: usize,
+    pub faces: usize,
+    pub listed: usize,
 }
 
 // What reading a text answers. Not of the form is ground 1, over the limits ground 2.
@@ -52,6 +53,12 @@ enum ListedPoint {
 // How many faces and how many listed points stand there, and the place after them.
 enum Lines {
     Are(usize, usize, usize),
+    None,
+}
+
+// How many points, faces and listed points a whole text has.
+enum Sizes {
+    Of(usize, usize, usize),
     None,
 }
 
@@ -369,4 +376,38 @@ fn faces(s: &[u8], at: usize, ls: &mut [u32], ps: &mut [u32], ds: &mut [f64]) ->
         c += m;
     }
     Lines::Are(k, c, i)
+}
+
+// The whole text, its numbers stored in the lists as far as these have rows.
+fn scan(s: &[u8], xs: &mut [f64], ls: &mut [u32], ps: &mut [u32], ds: &mut [f64]) -> Sizes
+    ensures sizes { λ r. ⌜ r ≡ sizesOf (text (now (s .entry))) ⌝ }
+    ensures coordinates { λ r. ⌜ AtSizes r (now (xs .exit) ≡ stored coordinates (now (xs .entry)) 0 (text (now (s .entry)))) ⌝ }
+    ensures lengths { λ r. ⌜ AtSizes r (now (ls .exit) ≡ stored lengthWords (now (ls .entry)) 0 (text (now (s .entry)))) ⌝ }
+    ensures points { λ r. ⌜ AtSizes r (now (ps .exit) ≡ stored listedPoints (now (ps .entry)) 0 (text (now (s .entry)))) ⌝ }
+    ensures intervals { λ r. ⌜ AtSizes r (now (ds .exit) ≡ stored intervals (now (ds .entry)) 0 (text (now (s .entry)))) ⌝ }
+{
+    if !stands(s, 0, b"[mesh 1]\n") {
+        return Sizes::None;
+    }
+    let Run::Of(p, i) = points(s, 9, xs) else {
+        return Sizes::None;
+    };
+    let Lines::Are(f, c, j) = faces(s, i, ls, ps, ds) else {
+        return Sizes::None;
+    };
+    if !ends(s, j) {
+        return Sizes::None;
+    }
+    Sizes::Of(p, f, c)
+}
+
+// Whether the end line stands at a place and is the last of the text.
+fn ends(s: &[u8], at: usize) -> bool
+    requires { ⌜ at ≤ length (now s) ⌝ }
+    ensures { λ r. ⌜ r ≡ ends (now (s .entry)) at ⌝ }
+{
+    if !stands(s, at, b"[end]\n") {
+        return false;
+    }
+    at + 6 == s.len()
 }
