@@ -25,7 +25,7 @@ abbrev pub solid : List ℕ → Bool
 solid [] = true
 solid (b ∷ t) = ltb 0 b && solid t
 
-and-both : (a b : Bool) → a && b ≡ true → (a ≡ true) × (b ≡ true)
+pub and-both : (a b : Bool) → a && b ≡ true → (a ≡ true) × (b ≡ true)
 and-both true b h = (refl, h)
 and-both false b h = (h, cc)
 

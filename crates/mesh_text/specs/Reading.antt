@@ -4,7 +4,7 @@
 --     coordinates lengths listedPoints intervals m   the four lists that a text stands for
 --     counts m                     how many points, faces and listed points
 --     Lists                        the four lent lists
---     within c limits l            the counts are within the limits, and the lists have room
+--     within c limits xs ls ps ds  the counts are within the limits and the rooms of the lists
 --     readInto s limits l          the answer, and the lists after it
 --     number place run listing linesOf x             the answers of the reader's parts
 --     stored f l i x               what the parts leave in a lent list
@@ -27,8 +27,8 @@ use Rattle.mesh_text.specs.declared.ListedPoint.{ListedPoint}
 use Rattle.mesh_text.specs.declared.ListedPoint.the-variants as ListedPoint
 use Rattle.mesh_text.specs.declared.Lines.{Lines}
 use Rattle.mesh_text.specs.declared.Lines.the-variants as Lines
-use Rattle.mesh_text.specs.declared.Sizes.{Sizes}
-use Rattle.mesh_text.specs.declared.Sizes.the-variants as Sizes
+use Rattle.mesh_text.specs.declared.Total.{Total}
+use Rattle.mesh_text.specs.declared.Total.the-variants as Total
 use Rattle.mesh_text.specs.declared.Counts.{Counts}
 use Rattle.mesh_text.specs.declared.Reading.{Reading}
 use Rattle.mesh_text.specs.declared.Reading.the-variants as Reading
@@ -89,12 +89,11 @@ filled m l = record {
     intervals = sets (l .intervals) 0 (intervals m)
   }
 
--- within the limits and the room of the lists, and a length fits a word of 32 bits
-unfoldable pub within : Counts → Counts → Lists → Bool
-within c limits l =
+-- the counts c are within the limits and within the rooms of the four lists, and a length fits a word of 32 bits
+unfoldable pub within : Counts → Counts → ℕ → ℕ → ℕ → ℕ → Bool
+within c limits xs ls ps ds =
     leb (c .points) (limits .points) && (leb (c .faces) (limits .faces) && (leb (c .listed) (limits .listed) && (leb (c .listed) 4294967295
-    && (leb (3 * c .points) (length (l .coordinates)) && (leb (4 * c .faces) (length (l .lengths))
-    && (leb (c .listed) (length (l .listed)) && leb (c .listed) (length (l .intervals))))))))
+    && (leb (3 * c .points) xs && (leb (4 * c .faces) ls && (leb (c .listed) ps && leb (c .listed) ds))))))
 
 pub record Answer : Type 0 where
   pub reading : Reading
@@ -104,7 +103,7 @@ pub record Answer : Type 0 where
 unfoldable pub readInto : List ℕ → Counts → Lists → Answer
 readInto s limits l =
     given (λ m n.
-      cond (within (counts m) limits l)
+      cond (within (counts m) limits (length (l .coordinates)) (length (l .lengths)) (length (l .listed)) (length (l .intervals)))
       (record { reading = Reading.Read (counts m); lists = filled m l })
       (record { reading = Reading.OverLimits; lists = l }))
     (record { reading = Reading.NotText; lists = l })
@@ -126,8 +125,8 @@ listing x = given (λ p n. ListedPoint.Is (p .point) (p .interval) n) ListedPoin
 abbrev pub linesOf : Found (List (List (List Listed))) → Lines
 linesOf x = given (λ fs n. Lines.Are (length fs) (length (flat (flat sidePoints) fs)) n) Lines.None x
 
-abbrev pub sizesOf : Found Mesh → Sizes
-sizesOf x = given (λ m n. Sizes.Of (length (m .points)) (length (m .faces)) (length (listedPoints m))) Sizes.None x
+abbrev pub totalOf : Found Mesh → Total
+totalOf x = given (λ m n. Total.Of (length (m .points)) (length (m .faces)) (length (listedPoints m))) Total.None x
 
 -- the list l with the numbers f of what was found stored in it from i on
 abbrev pub stored : {A B : Type 0} → (A → List B) → List B → ℕ → Found A → List B
@@ -142,9 +141,9 @@ abbrev pub AtRun : Run → Type 0 → Type 0
 AtRun (Run.Of c n) P = P
 AtRun Run.None P = Unit {0}
 
-abbrev pub AtSizes : Sizes → Type 0 → Type 0
-AtSizes (Sizes.Of p f c) P = P
-AtSizes Sizes.None P = Unit {0}
+abbrev pub AtTotal : Total → Type 0 → Type 0
+AtTotal (Total.Of p f c) P = P
+AtTotal Total.None P = Unit {0}
 
 abbrev pub AtLines : Lines → Type 0 → Type 0
 AtLines (Lines.Are f c n) P = P

@@ -10,7 +10,8 @@ ghost use Rattle.mesh_text.specs.Form.{bytes, times};
 ghost use Rattle.mesh_text.specs.Text.{stands, digitValue, bits, decimalFrom, decimal, coordinate, point, listed, side, face, many, ends, text};
 ghost use Rattle.mesh_text.specs.Reading.{float, flat, sidePoints, sideIntervals, lengthWord, listedIn};
 ghost use Rattle.mesh_text.specs.Reading.{number, place, run, listing, linesOf, stored, AtPlace, AtRun, AtLines};
-ghost use Rattle.mesh_text.specs.Reading.{sizesOf, coordinates, lengthWords, listedPoints, intervals, AtSizes};
+ghost use Rattle.mesh_text.specs.Reading.{totalOf, coordinates, lengthWords, listedPoints, intervals, AtTotal};
+ghost use Rattle.mesh_text.specs.Reading.{within, Answer, readInto};
 
 // How many points, faces and listed points a text has, or may have.
 pub struct Counts {
@@ -57,7 +58,7 @@ enum Lines {
 }
 
 // How many points, faces and listed points a whole text has.
-enum Sizes {
+enum Total {
     Of(usize, usize, usize),
     None,
 }
@@ -379,26 +380,26 @@ fn faces(s: &[u8], at: usize, ls: &mut [u32], ps: &mut [u32], ds: &mut [f64]) ->
 }
 
 // The whole text, its numbers stored in the lists as far as these have rows.
-fn scan(s: &[u8], xs: &mut [f64], ls: &mut [u32], ps: &mut [u32], ds: &mut [f64]) -> Sizes
-    ensures sizes { λ r. ⌜ r ≡ sizesOf (text (now (s .entry))) ⌝ }
-    ensures coordinates { λ r. ⌜ AtSizes r (now (xs .exit) ≡ stored coordinates (now (xs .entry)) 0 (text (now (s .entry)))) ⌝ }
-    ensures lengths { λ r. ⌜ AtSizes r (now (ls .exit) ≡ stored lengthWords (now (ls .entry)) 0 (text (now (s .entry)))) ⌝ }
-    ensures points { λ r. ⌜ AtSizes r (now (ps .exit) ≡ stored listedPoints (now (ps .entry)) 0 (text (now (s .entry)))) ⌝ }
-    ensures intervals { λ r. ⌜ AtSizes r (now (ds .exit) ≡ stored intervals (now (ds .entry)) 0 (text (now (s .entry)))) ⌝ }
+fn scan(s: &[u8], xs: &mut [f64], ls: &mut [u32], ps: &mut [u32], ds: &mut [f64]) -> Total
+    ensures sizes { λ r. ⌜ r ≡ totalOf (text (now (s .entry))) ⌝ }
+    ensures coordinates { λ r. ⌜ AtTotal r (now (xs .exit) ≡ stored coordinates (now (xs .entry)) 0 (text (now (s .entry)))) ⌝ }
+    ensures lengths { λ r. ⌜ AtTotal r (now (ls .exit) ≡ stored lengthWords (now (ls .entry)) 0 (text (now (s .entry)))) ⌝ }
+    ensures points { λ r. ⌜ AtTotal r (now (ps .exit) ≡ stored listedPoints (now (ps .entry)) 0 (text (now (s .entry)))) ⌝ }
+    ensures intervals { λ r. ⌜ AtTotal r (now (ds .exit) ≡ stored intervals (now (ds .entry)) 0 (text (now (s .entry)))) ⌝ }
 {
     if !stands(s, 0, b"[mesh 1]\n") {
-        return Sizes::None;
+        return Total::None;
     }
     let Run::Of(p, i) = points(s, 9, xs) else {
-        return Sizes::None;
+        return Total::None;
     };
     let Lines::Are(f, c, j) = faces(s, i, ls, ps, ds) else {
-        return Sizes::None;
+        return Total::None;
     };
     if !ends(s, j) {
-        return Sizes::None;
+        return Total::None;
     }
-    Sizes::Of(p, f, c)
+    Total::Of(p, f, c)
 }
 
 // Whether the end line stands at a place and is the last of the text.
@@ -410,4 +411,76 @@ fn ends(s: &[u8], at: usize) -> bool
         return false;
     }
     at + 6 == s.len()
+}
+
+// How many points, faces and listed points a text has. Its numbers are stored nowhere.
+fn sizes(s: &[u8]) -> Total
+    ensures { λ r. ⌜ r ≡ totalOf (text (now (s .entry))) ⌝ }
+{
+    let mut xs = [0.0; 1];
+    let mut ls = [0u32; 1];
+    let mut ps = [0u32; 1];
+    let mut ds = [0.0; 1];
+    scan(s, &mut xs, &mut ls, &mut ps, &mut ds)
+}
+
+// Whether the counts are within the limits and within the rooms of the four lists.
+fn within(c: Counts, limits: Counts, xs: usize, ls: usize, ps: usize, ds: usize) -> bool
+    ensures { λ r. ⌜ r ≡ within c limits xs ls ps ds ⌝ }
+{
+    if limits.points < c.points {
+        return false;
+    }
+    if limits.faces < c.faces {
+        return false;
+    }
+    if limits.listed < c.listed {
+        return false;
+    }
+    if 4294967295 < c.listed {
+        return false;
+    }
+    if xs / 3 < c.points {
+        return false;
+    }
+    if ls / 4 < c.faces {
+        return false;
+    }
+    if ps < c.listed {
+        return false;
+    }
+    if ds < c.listed {
+        return false;
+    }
+    true
+}
+
+// Reads a text: the coordinates of its points, the lengths of its sides, the listed points and their intervals, each at the front of its list.
+// A text that is not of the form, or is over the limits or the room of the lists, leaves the lists as they are.
+pub fn read_text(
+    s: &[u8],
+    limits: Counts,
+    xs: &mut [f64],
+    ls: &mut [u32],
+    ps: &mut [u32],
+    ds: &mut [f64],
+) -> Reading
+    ensures { λ r. ⌜ _≡_ {A = Answer}
+        (record { reading = r; lists = record { coordinates = now (xs .exit); lengths = now (ls .exit); listed = now (ps .exit); intervals = now (ds .exit) } })
+        (readInto (now (s .entry)) limits
+        (record { coordinates = now (xs .entry); lengths = now (ls .entry); listed = now (ps .entry); intervals = now (ds .entry) })) ⌝ }
+{
+    let Total::Of(points, faces, listed) = sizes(s) else {
+        return Reading::NotText;
+    };
+    let c = Counts {
+        points,
+        faces,
+        listed,
+    };
+    if !within(c, limits, xs.len(), ls.len(), ps.len(), ds.len()) {
+        return Reading::OverLimits;
+    }
+    scan(s, xs, ls, ps, ds);
+    Reading::Read(c)
 }

@@ -10,12 +10,12 @@ use lib.Ieee.{Float}
 use Rattle.mesh_text.specs.Form.{bytes, Found, found, none, Form}
 use Rattle.mesh_text.specs.Text.{Listed, point, face, many, stands, ends, mesh, text}
 use Rattle.mesh_text.specs.Reading.{float, flat, sidePoints, sideIntervals, lengthWord, coordinates, lengthWords, listedPoints, intervals}
-use Rattle.mesh_text.specs.Reading.{run, linesOf, sizesOf, stored, AtRun, AtLines}
+use Rattle.mesh_text.specs.Reading.{run, linesOf, totalOf, stored, AtRun, AtLines}
 use Rattle.mesh_text.specs.declared.Run.{Run}
 use Rattle.mesh_text.specs.declared.Run.the-variants as Run
 use Rattle.mesh_text.specs.declared.Lines.{Lines}
 use Rattle.mesh_text.specs.declared.Lines.the-variants as Lines
-use Rattle.mesh_text.specs.declared.Sizes.the-variants as Sizes
+use Rattle.mesh_text.specs.declared.Total.the-variants as Total
 use Rattle.mesh_text.proofs.Laws.{Takes, takes-many, takes-point, takes-face, stands-inside}
 use Rattle.mesh_text.proofs.Turns.{literal-found, literal-none}
 use Rattle.mesh_text.proofs.Answers.{run-of, run-none, lines-are, lines-none}
@@ -27,7 +27,7 @@ abbrev faceLines : List ℕ → Form (List (List (List Listed)))
 faceLines s = many s (bytes "[face") (face s) (length s)
 
 module _ (s : List ℕ) where
-  pub no-head : stands s 0 (bytes "[mesh 1]\n") ≡ false → Sizes.None ≡ sizesOf (text s)
+  pub no-head : stands s 0 (bytes "[mesh 1]\n") ≡ false → Total.None ≡ totalOf (text s)
   unfolding mesh text
   no-head e = rw (literal-none s (bytes "[mesh 1]\n") 0 e)
 
@@ -36,7 +36,7 @@ module _ (s : List ℕ) where
     head-inside = stands-inside s (bytes "[mesh 1]\n") 0 refl (omega arith) e
 
     module _ {r : Run} (er : r ≡ run length (pointLines s 9)) where
-      pub no-points : r ≡ Run.None → Sizes.None ≡ sizesOf (text s)
+      pub no-points : r ≡ Run.None → Total.None ≡ totalOf (text s)
       unfolding mesh text
       no-points en = rw (literal-found s (bytes "[mesh 1]\n") 0 e, run-none length (pointLines s 9) (sym er ∙ en))
 
@@ -49,7 +49,7 @@ module _ (s : List ℕ) where
             takes-many s (bytes "[point") (λ l. 0) (point s) (length s) refl (takes-point s) 9 head-inside (points-read .0) i (points-read .1) .1
 
         module _ {q : Lines} (eq : q ≡ linesOf (faceLines s i)) where
-          pub no-faces : q ≡ Lines.None → Sizes.None ≡ sizesOf (text s)
+          pub no-faces : q ≡ Lines.None → Total.None ≡ totalOf (text s)
           unfolding mesh text
           no-faces en = rw (literal-found s (bytes "[mesh 1]\n") 0 e, points-read .1, lines-none (faceLines s i) (sym eq ∙ en))
 
@@ -60,7 +60,7 @@ module _ (s : List ℕ) where
             pub faces-inside : j ≤ length s
             faces-inside = takes-many s (bytes "[face") _ (face s) (length s) refl (takes-face s) i points-inside (faces-read .0) j (faces-read .1) .1
 
-            pub no-end : ends s j ≡ false → Sizes.None ≡ sizesOf (text s)
+            pub no-end : ends s j ≡ false → Total.None ≡ totalOf (text s)
             unfolding mesh text
             no-end en = rw (literal-found s (bytes "[mesh 1]\n") 0 e, points-read .1, faces-read .1, en)
 
@@ -73,7 +73,7 @@ module _ (s : List ℕ) where
                 → AtLines q (ls′ ≡ stored (flat (map lengthWord)) ls 0 (faceLines s i))
                 → AtLines q (ps′ ≡ stored (flat (flat sidePoints)) ps 0 (faceLines s i))
                 → AtLines q (ds′ ≡ stored (flat (flat sideIntervals)) ds 0 (faceLines s i))
-                → (Sizes.Of p f c ≡ sizesOf (text s))
+                → (Total.Of p f c ≡ totalOf (text s))
                 × ((xs′ ≡ stored coordinates xs 0 (text s))
                 × ((ls′ ≡ stored lengthWords ls 0 (text s)) × ((ps′ ≡ stored listedPoints ps 0 (text s)) × (ds′ ≡ stored intervals ds 0 (text s)))))
             whole ee xs ls ps ds ex el epp ed =
