@@ -6,10 +6,11 @@ use native.Mathlib.Nat.{add-zero, zero-add, add-assoc}
 use native.Mathlib.Omega.{arith}
 use lib.ListN.{length, set}
 use lib.Seq.{sets}
-use Rattle.mesh_text.specs.Form.{Found, found, none, Form, onward, pure, given}
+use Rattle.text_numbers.specs.Form.{Found, found, none, Form, onward, pure, given}
 use Rattle.mesh_text.specs.Text.{Listed}
-use Rattle.mesh_text.specs.Reading.{flat, sidePoints, number, place, run, listing, linesOf, stored}
-use Rattle.mesh_text.specs.declared.Number.the-variants as Number
+use Rattle.mesh_text.specs.Reading.{flat, sidePoints, place, run, listing, linesOf, stored}
+use Rattle.text_numbers.specs.Numbers.{number}
+use Rattle.text_numbers.specs.declared.Number.the-variants as Number
 use Rattle.mesh_text.specs.declared.Place.the-variants as Place
 use Rattle.mesh_text.specs.declared.Run.{Run}
 use Rattle.mesh_text.specs.declared.Run.the-variants as Run
@@ -21,14 +22,6 @@ sets-append xs i [] ws = rw add-zero
 sets-append xs i (v ∷ vs) ws =
     let e : suc i + length vs ≡ i + suc (length vs) = omega arith in
     sets-append (set xs i v) (suc i) vs ws ∙ ap (λ (k : ℕ). sets (sets (set xs i v) (suc i) vs) k ws) e
-
-pub number-is : (x : Found ℕ) {v n : ℕ} → number x ≡ Number.Is v n → x ≡ found v n
-number-is (found v n) e = cc
-number-is none e = cc
-
-pub number-none : (x : Found ℕ) → number x ≡ Number.None → x ≡ none
-number-none (found v n) e = cc
-number-none none e = refl
 
 pub listing-is : (x : Found Listed) {p d n : ℕ} → listing x ≡ ListedPoint.Is p d n → x ≡ found (record { point = p; interval = d }) n
 listing-is (found l m) {p} {d} {n} e =

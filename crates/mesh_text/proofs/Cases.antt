@@ -5,8 +5,10 @@ use mathlib.Core.Bool.{Bool, true, false}
 use Prim.Native.Nat.{ℕ}
 use Prim.Native.String.{String}
 use lib.ListN.{length}
-use Rattle.mesh_text.specs.Form.{bytes, Found, found, none, times}
-use Rattle.mesh_text.specs.Text.{Mesh, digitValue, value, stands, literal, digit, bits, digits, decimalFrom, decimal, many, coordinate, point, listed, side, face, ends, mesh, text}
+use Rattle.text_numbers.specs.Form.{bytes, Found, found, none, times}
+use Rattle.mesh_text.specs.Text.{Mesh, coordinate, point, listed, side, face, ends, mesh, text}
+use Rattle.text_numbers.specs.Numbers.{digitValue, value, digit, bits, digits, decimalFrom, decimal}
+use Rattle.text_numbers.specs.Form.{stands, literal, many}
 
 counts : Found Mesh → List ℕ
 counts (found m n) = length (m .points) ∷ length (m .faces) ∷ []

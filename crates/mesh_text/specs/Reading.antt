@@ -1,12 +1,11 @@
 -- What reading a text answers, and what it leaves in the lent lists.
---     float b                      the binary64 of a bit pattern
 --     flat f l                     the lists of l's elements joined
 --     coordinates lengths listedPoints intervals m   the four lists that a text stands for
 --     counts m                     how many points, faces and listed points
 --     Lists                        the four lent lists
 --     within c limits xs ls ps ds  the counts are within the limits and the rooms of the lists
 --     readInto s limits l          the answer, and the lists after it
---     number place run listing linesOf x             the answers of the reader's parts
+--     place run listing linesOf x             the answers of the reader's parts
 --     stored f l i x               what the parts leave in a lent list
 use mathlib.Core.List.{List, [], _∷_, _++_, map}
 use mathlib.Core.Bool.{Bool, true, false, _&&_, cond}
@@ -14,11 +13,10 @@ use Prim.Native.Nat.{ℕ, _+_, _*_, _%_}
 use lib.ListN.{length}
 use lib.Seq.{sets}
 use lib.Dec.{leb}
-use lib.Ieee.{Float, binary64, ofBits}
-use Rattle.mesh_text.specs.Form.{Found, found, none, given}
+use lib.Ieee.{Float}
+use Rattle.text_numbers.specs.Numbers.{float}
+use Rattle.text_numbers.specs.Form.{Found, found, none, given}
 use Rattle.mesh_text.specs.Text.{Mesh, Listed, text}
-use Rattle.mesh_text.specs.declared.Number.{Number}
-use Rattle.mesh_text.specs.declared.Number.the-variants as Number
 use Rattle.mesh_text.specs.declared.Place.{Place}
 use Rattle.mesh_text.specs.declared.Place.the-variants as Place
 use Rattle.mesh_text.specs.declared.Run.{Run}
@@ -32,9 +30,6 @@ use Rattle.mesh_text.specs.declared.Total.the-variants as Total
 use Rattle.mesh_text.specs.declared.Counts.{Counts}
 use Rattle.mesh_text.specs.declared.Reading.{Reading}
 use Rattle.mesh_text.specs.declared.Reading.the-variants as Reading
-
-abbrev pub float : ℕ → Float
-float b = ofBits binary64 b
 
 unfoldable pub flat : {A B : Type 0} → (A → List B) → List A → List B
 flat f [] = []
@@ -110,9 +105,6 @@ readInto s limits l =
     (text s)
 
 -- how the parts of the reader answer
-abbrev pub number : Found ℕ → Number
-number x = given (λ v n. Number.Is v n) Number.None x
-
 abbrev pub place : {A : Type 0} → Found A → Place
 place x = given (λ a n. Place.At n) Place.None x
 

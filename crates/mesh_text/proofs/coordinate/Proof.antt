@@ -4,16 +4,14 @@ use native.Mathlib.Omega.{arith}
 use borrow.Author.Tests.{not-true, not-false}
 use mathlib.Core.Bool.{true, false}
 use Rattle.mesh_text.specs.Text.{coordinate}
-use Rattle.mesh_text.specs.Form.{bytes}
-use Rattle.mesh_text.proofs.Laws.{stands-inside}
-use Rattle.mesh_text.proofs.Turns.{literal-found, literal-none}
+use Rattle.text_numbers.specs.Form.{bytes}
+use Rattle.text_numbers.proofs.Laws.{stands-inside}
+use Rattle.text_numbers.proofs.Turns.{literal-found, literal-none}
 use borrow.Author.Needs.{needs}
 use Rattle.mesh_text.proofs.coordinate.Statement.{statement}
 use Rattle.mesh_text.proofs.coordinate.Tie as tie
 use Rattle.mesh_text.proofs.coordinate.Reads as reads
 use Rattle.mesh_text.proofs.coordinate.Lts as lts
-use Rattle.mesh_text.proofs.bits.Reads as bits-reads
-use Rattle.mesh_text.proofs.stands.Reads as stands-reads
 
 -- src/lib.rt:188:23
 slice-aggregate-stands : tie.Need-slice-aggregate-stands

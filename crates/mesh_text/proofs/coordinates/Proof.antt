@@ -4,14 +4,13 @@ use borrow.Author.Needs.{needs}
 use native.Mathlib.Omega.{arith}
 use mathlib.Core.Path.{_≡_, sym, _∙_}
 use Prim.Native.Nat.{_-_}
-use Rattle.mesh_text.proofs.Answers.{number-is, number-none}
+use Rattle.text_numbers.proofs.Turns.{number-is, number-none}
 use Rattle.mesh_text.proofs.coordinates.Proof.Turn.{Coordinates, start, turn, stop, end}
 use Rattle.mesh_text.proofs.coordinates.Statement.{statement}
 use Rattle.mesh_text.proofs.coordinates.Tie as tie
 use Rattle.mesh_text.proofs.coordinates.Reads as reads
 use Rattle.mesh_text.proofs.coordinates.Lts as lts
 use Rattle.mesh_text.proofs.coordinate.Reads as coordinate-reads
-use Rattle.mesh_text.proofs.float.Reads as float-reads
 use Rattle.mesh_text.proofs.put_number.Reads as put-number-reads
 
 abbrev Inv-loop : tie.InvT-loop

@@ -7,7 +7,6 @@ use Rattle.mesh_text.proofs.ends.Statement.{statement}
 use Rattle.mesh_text.proofs.ends.Tie as tie
 use Rattle.mesh_text.proofs.ends.Reads as reads
 use Rattle.mesh_text.proofs.ends.Lts as lts
-use Rattle.mesh_text.proofs.stands.Reads as stands-reads
 
 -- src/lib.rt:409:23
 slice-aggregate-stands : tie.Need-slice-aggregate-stands

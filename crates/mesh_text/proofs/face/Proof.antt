@@ -10,7 +10,6 @@ use Rattle.mesh_text.proofs.face.Tie as tie
 use Rattle.mesh_text.proofs.face.Reads as reads
 use Rattle.mesh_text.proofs.face.Lts as lts
 use Rattle.mesh_text.proofs.sides.Reads as sides-reads
-use Rattle.mesh_text.proofs.stands.Reads as stands-reads
 
 -- src/lib.rt:343:25
 sides-requires : tie.Need-sides-requires

@@ -5,14 +5,13 @@ use native.Mathlib.Omega.{arith}
 use mathlib.Core.Path.{_≡_, sym, _∙_, refl}
 use Prim.Native.Nat.{_-_}
 use lib.ListN.{length}
-use Rattle.mesh_text.specs.Form.{bytes}
+use Rattle.text_numbers.specs.Form.{bytes}
 use Rattle.mesh_text.proofs.faces.Proof.Turn.{FacesSoFar, start, turn, stop, end, head-inside, line-longer}
 use Rattle.mesh_text.proofs.faces.Statement.{statement}
 use Rattle.mesh_text.proofs.faces.Tie as tie
 use Rattle.mesh_text.proofs.faces.Reads as reads
 use Rattle.mesh_text.proofs.faces.Lts as lts
 use Rattle.mesh_text.proofs.face.Reads as face-reads
-use Rattle.mesh_text.proofs.stands.Reads as stands-reads
 
 abbrev Inv-loop : tie.InvT-loop
 Inv-loop s at ls₀ ps₀ ds₀ i₀ k₀ c₀ t11 ls ps ds i k c = (t11 ≡ bytes "[face") × FacesSoFar s at ls₀ ps₀ ds₀ ls ps ds i k c

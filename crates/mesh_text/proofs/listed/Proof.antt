@@ -3,17 +3,14 @@ mod Parts
 use mathlib.Core.Path.{sym, _∙_}
 use native.Mathlib.Omega.{arith}
 use borrow.Author.Tests.{not-true, not-false}
-use Rattle.mesh_text.proofs.Laws.{decimal-below}
-use Rattle.mesh_text.proofs.Answers.{number-is, number-none}
+use Rattle.text_numbers.proofs.Laws.{decimal-below}
+use Rattle.text_numbers.proofs.Turns.{number-is, number-none}
 use Rattle.mesh_text.proofs.listed.Proof.Parts.{no-decimal, no-space, no-bits, no-end, whole, decimal-inside, space-inside, bits-inside}
 use borrow.Author.Needs.{needs}
 use Rattle.mesh_text.proofs.listed.Statement.{statement}
 use Rattle.mesh_text.proofs.listed.Tie as tie
 use Rattle.mesh_text.proofs.listed.Reads as reads
 use Rattle.mesh_text.proofs.listed.Lts as lts
-use Rattle.mesh_text.proofs.bits.Reads as bits-reads
-use Rattle.mesh_text.proofs.decimal.Reads as decimal-reads
-use Rattle.mesh_text.proofs.stands.Reads as stands-reads
 
 -- src/lib.rt:254:28
 decimal-requires : tie.Need-decimal-requires

@@ -5,18 +5,16 @@ use native.Mathlib.Omega.{arith}
 use mathlib.Core.Path.{_≡_, sym, _∙_, refl}
 use Prim.Native.Nat.{_-_}
 use lib.ListN.{length}
-use Rattle.mesh_text.specs.Form.{bytes}
+use Rattle.text_numbers.specs.Form.{bytes}
 use Rattle.mesh_text.proofs.Answers.{listing-is, listing-none}
 use Rattle.mesh_text.proofs.listed_points.Proof.Turn.{ListedSoFar, start, turn, stop, end, head-inside, listed-longer}
 use Rattle.mesh_text.proofs.listed_points.Statement.{statement}
 use Rattle.mesh_text.proofs.listed_points.Tie as tie
 use Rattle.mesh_text.proofs.listed_points.Reads as reads
 use Rattle.mesh_text.proofs.listed_points.Lts as lts
-use Rattle.mesh_text.proofs.float.Reads as float-reads
 use Rattle.mesh_text.proofs.listed.Reads as listed-reads
 use Rattle.mesh_text.proofs.put_number.Reads as put-number-reads
 use Rattle.mesh_text.proofs.put_word.Reads as put-word-reads
-use Rattle.mesh_text.proofs.stands.Reads as stands-reads
 
 abbrev Inv-loop : tie.InvT-loop
 Inv-loop s at ps₀ ds₀ n i₀ k₀ t11 ps ds i k = (t11 ≡ bytes " [") × ListedSoFar s at ps₀ ds₀ n ps ds i k

@@ -10,7 +10,6 @@ use Rattle.mesh_text.proofs.point.Tie as tie
 use Rattle.mesh_text.proofs.point.Reads as reads
 use Rattle.mesh_text.proofs.point.Lts as lts
 use Rattle.mesh_text.proofs.coordinates.Reads as coordinates-reads
-use Rattle.mesh_text.proofs.stands.Reads as stands-reads
 
 -- src/lib.rt:222:24
 coordinates-requires : tie.Need-coordinates-requires

@@ -5,14 +5,13 @@ use native.Mathlib.Omega.{arith}
 use mathlib.Core.Path.{_≡_, sym, _∙_, refl}
 use Prim.Native.Nat.{_-_}
 use lib.ListN.{length}
-use Rattle.mesh_text.specs.Form.{bytes}
+use Rattle.text_numbers.specs.Form.{bytes}
 use Rattle.mesh_text.proofs.points.Proof.Turn.{Points, start, turn, stop, end, head-inside, line-longer}
 use Rattle.mesh_text.proofs.points.Statement.{statement}
 use Rattle.mesh_text.proofs.points.Tie as tie
 use Rattle.mesh_text.proofs.points.Reads as reads
 use Rattle.mesh_text.proofs.points.Lts as lts
 use Rattle.mesh_text.proofs.point.Reads as point-reads
-use Rattle.mesh_text.proofs.stands.Reads as stands-reads
 
 abbrev Inv-loop : tie.InvT-loop
 Inv-loop s at xs₀ i₀ k₀ t7 xs i k = (t7 ≡ bytes "[point") × Points s at xs₀ xs i k

@@ -11,7 +11,6 @@ use Rattle.mesh_text.proofs.scan.Lts as lts
 use Rattle.mesh_text.proofs.ends.Reads as ends-reads
 use Rattle.mesh_text.proofs.faces.Reads as faces-reads
 use Rattle.mesh_text.proofs.points.Reads as points-reads
-use Rattle.mesh_text.proofs.stands.Reads as stands-reads
 
 -- src/lib.rt:389:22
 slice-aggregate-stands : tie.Need-slice-aggregate-stands

@@ -3,18 +3,16 @@ mod Parts
 use mathlib.Core.Path.{sym, _∙_, refl}
 use native.Mathlib.Omega.{arith}
 use borrow.Author.Tests.{not-true, not-false}
-use Rattle.mesh_text.specs.Form.{bytes}
-use Rattle.mesh_text.proofs.Laws.{stands-inside}
-use Rattle.mesh_text.proofs.Answers.{number-is, number-none}
+use Rattle.text_numbers.specs.Form.{bytes}
+use Rattle.text_numbers.proofs.Laws.{stands-inside}
+use Rattle.text_numbers.proofs.Turns.{number-is, number-none}
 use Rattle.mesh_text.proofs.side.Proof.Parts.{no-start, no-first, no-points, no-end, whole, first-inside, points-inside}
 use borrow.Author.Needs.{needs}
 use Rattle.mesh_text.proofs.side.Statement.{statement}
 use Rattle.mesh_text.proofs.side.Tie as tie
 use Rattle.mesh_text.proofs.side.Reads as reads
 use Rattle.mesh_text.proofs.side.Lts as lts
-use Rattle.mesh_text.proofs.decimal.Reads as decimal-reads
 use Rattle.mesh_text.proofs.listed_points.Reads as listed-points-reads
-use Rattle.mesh_text.proofs.stands.Reads as stands-reads
 
 -- src/lib.rt:297:23
 slice-aggregate-stands : tie.Need-slice-aggregate-stands

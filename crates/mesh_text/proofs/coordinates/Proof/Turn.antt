@@ -6,12 +6,13 @@ use native.Mathlib.Nat.{add-zero}
 use native.Mathlib.Omega.{arith}
 use lib.ListN.{length, set, length-set}
 use lib.Ieee.{Float}
-use Rattle.mesh_text.specs.Form.{Found, found, none, Form, onward, pure, times}
+use Rattle.text_numbers.specs.Form.{Found, found, none, Form, onward, pure, times}
 use Rattle.mesh_text.specs.Text.{coordinate}
-use Rattle.mesh_text.specs.Reading.{float, place, stored}
+use Rattle.text_numbers.specs.Numbers.{float}
+use Rattle.mesh_text.specs.Reading.{place, stored}
 use Rattle.mesh_text.specs.declared.Place.the-variants as Place
 use Rattle.mesh_text.proofs.Laws.{takes-coordinate}
-use Rattle.mesh_text.proofs.Turns.{times-found, times-none}
+use Rattle.text_numbers.proofs.Turns.{times-found, times-none}
 use Rattle.mesh_text.proofs.Answers.{place-next, stored-next}
 
 pub record Coordinates (s : List ℕ) (at : ℕ) (xs₀ : List Float) (n : ℕ) (xs : List Float) (i k : ℕ) : Type 0 where

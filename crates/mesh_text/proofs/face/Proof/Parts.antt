@@ -5,13 +5,14 @@ use mathlib.Core.Bool.{true, false}
 use Prim.Native.Nat.{ℕ, _+_, _≤_}
 use lib.ListN.{length}
 use lib.Ieee.{Float}
-use Rattle.mesh_text.specs.Form.{bytes, times}
-use Rattle.mesh_text.specs.Text.{side, face, stands}
+use Rattle.text_numbers.specs.Form.{bytes, times}
+use Rattle.mesh_text.specs.Text.{side, face}
+use Rattle.text_numbers.specs.Form.{stands}
 use Rattle.mesh_text.specs.Reading.{flat, run, stored, lengthWord, listedIn, sidePoints, sideIntervals, AtRun}
 use Rattle.mesh_text.specs.declared.Run.{Run}
 use Rattle.mesh_text.specs.declared.Run.the-variants as Run
 use Rattle.mesh_text.proofs.Laws.{takes-sides}
-use Rattle.mesh_text.proofs.Turns.{literal-found, literal-none}
+use Rattle.text_numbers.proofs.Turns.{literal-found, literal-none}
 use Rattle.mesh_text.proofs.Answers.{run-of, run-none}
 
 module _ (s : List ℕ) (at : ℕ) where

@@ -8,15 +8,17 @@ use native.Mathlib.Omega.{arith}
 use lib.ListN.{length, length-map, length-append}
 use lib.Seq.{sets, length-sets}
 use lib.Ieee.{Float}
-use Rattle.mesh_text.specs.Form.{bytes, Found, found, none, given, Form, onward, pure, times}
-use Rattle.mesh_text.specs.Text.{Listed, literal, side, face, many, stands}
+use Rattle.text_numbers.specs.Form.{bytes, Found, found, none, given, Form, onward, pure, times}
+use Rattle.mesh_text.specs.Text.{Listed, side, face}
+use Rattle.text_numbers.specs.Form.{literal, many, stands}
 use Rattle.mesh_text.specs.Reading.{flat, run, linesOf, stored, lengthWord, listedIn, sidePoints, sideIntervals, AtRun}
 use Rattle.mesh_text.specs.declared.Run.{Run}
 use Rattle.mesh_text.specs.declared.Run.the-variants as Run
 use Rattle.mesh_text.specs.declared.Lines.{Lines}
 use Rattle.mesh_text.specs.declared.Lines.the-variants as Lines
-use Rattle.mesh_text.proofs.Laws.{takes-face, stands-inside, onward-found, length-times, same-count}
-use Rattle.mesh_text.proofs.Turns.{many-found, many-none, many-stop}
+use Rattle.mesh_text.proofs.Laws.{takes-face, same-count}
+use Rattle.text_numbers.proofs.Laws.{stands-inside, onward-found, length-times}
+use Rattle.text_numbers.proofs.Turns.{many-found, many-none, many-stop}
 use Rattle.mesh_text.proofs.Answers.{run-of, run-none, stored-next}
 
 -- the face lines from a place on, at most k of them

@@ -7,12 +7,15 @@ use native.Mathlib.Nat.{add-zero}
 use native.Mathlib.Omega.{arith}
 use lib.ListN.{length, set, length-set}
 use lib.Ieee.{Float}
-use Rattle.mesh_text.specs.Form.{bytes, Found, found, none, Form, onward, pure}
-use Rattle.mesh_text.specs.Text.{Listed, listed, many, stands}
-use Rattle.mesh_text.specs.Reading.{float, run, stored, sidePoints, sideIntervals}
+use Rattle.text_numbers.specs.Form.{bytes, Found, found, none, Form, onward, pure}
+use Rattle.mesh_text.specs.Text.{Listed, listed}
+use Rattle.text_numbers.specs.Form.{many, stands}
+use Rattle.text_numbers.specs.Numbers.{float}
+use Rattle.mesh_text.specs.Reading.{run, stored, sidePoints, sideIntervals}
 use Rattle.mesh_text.specs.declared.Run.the-variants as Run
-use Rattle.mesh_text.proofs.Laws.{takes-listed, stands-inside}
-use Rattle.mesh_text.proofs.Turns.{many-found, many-none, many-stop}
+use Rattle.mesh_text.proofs.Laws.{takes-listed}
+use Rattle.text_numbers.proofs.Laws.{stands-inside}
+use Rattle.text_numbers.proofs.Turns.{many-found, many-none, many-stop}
 use Rattle.mesh_text.proofs.Answers.{runFrom, run-next, run-start, stored-next}
 
 -- the listed points from a place on, at most k of them

@@ -5,13 +5,16 @@ use mathlib.Core.Bool.{true, false}
 use Prim.Native.Nat.{ℕ, _+_, _≤_}
 use lib.ListN.{length}
 use lib.Ieee.{Float}
-use Rattle.mesh_text.specs.Form.{bytes, times}
-use Rattle.mesh_text.specs.Text.{coordinate, point, stands}
-use Rattle.mesh_text.specs.Reading.{float, place, stored, AtPlace}
+use Rattle.text_numbers.specs.Form.{bytes, times}
+use Rattle.mesh_text.specs.Text.{coordinate, point}
+use Rattle.text_numbers.specs.Form.{stands}
+use Rattle.text_numbers.specs.Numbers.{float}
+use Rattle.mesh_text.specs.Reading.{place, stored, AtPlace}
 use Rattle.mesh_text.specs.declared.Place.{Place}
 use Rattle.mesh_text.specs.declared.Place.the-variants as Place
-use Rattle.mesh_text.proofs.Laws.{takes-times, takes-coordinate}
-use Rattle.mesh_text.proofs.Turns.{literal-found, literal-none}
+use Rattle.text_numbers.proofs.Laws.{takes-times}
+use Rattle.mesh_text.proofs.Laws.{takes-coordinate}
+use Rattle.text_numbers.proofs.Turns.{literal-found, literal-none}
 use Rattle.mesh_text.proofs.Answers.{place-at, place-none}
 
 module _ (s : List ℕ) (at : ℕ) where

@@ -8,14 +8,17 @@ use native.Mathlib.Omega.{arith}
 use lib.ListN.{length, length-map}
 use lib.Seq.{sets, length-sets}
 use lib.Ieee.{Float}
-use Rattle.mesh_text.specs.Form.{bytes, Found, found, none, Form, onward, pure, times}
-use Rattle.mesh_text.specs.Text.{literal, coordinate, point, many, stands}
-use Rattle.mesh_text.specs.Reading.{float, flat, place, run, stored, AtPlace}
+use Rattle.text_numbers.specs.Form.{bytes, Found, found, none, Form, onward, pure, times}
+use Rattle.text_numbers.specs.Form.{literal, many, stands}
+use Rattle.mesh_text.specs.Text.{coordinate, point}
+use Rattle.text_numbers.specs.Numbers.{float}
+use Rattle.mesh_text.specs.Reading.{flat, place, run, stored, AtPlace}
 use Rattle.mesh_text.specs.declared.Place.{Place}
 use Rattle.mesh_text.specs.declared.Place.the-variants as Place
 use Rattle.mesh_text.specs.declared.Run.the-variants as Run
-use Rattle.mesh_text.proofs.Laws.{takes-point, stands-inside, onward-found, length-times}
-use Rattle.mesh_text.proofs.Turns.{many-found, many-none, many-stop}
+use Rattle.mesh_text.proofs.Laws.{takes-point}
+use Rattle.text_numbers.proofs.Laws.{stands-inside, onward-found, length-times}
+use Rattle.text_numbers.proofs.Turns.{many-found, many-none, many-stop}
 use Rattle.mesh_text.proofs.Answers.{place-at, place-none, runFrom, run-next, run-start, stored-next}
 
 -- the point lines from i on, at most k of them

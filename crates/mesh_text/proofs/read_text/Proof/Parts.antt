@@ -10,10 +10,10 @@ use lib.Seq.{sets}
 use lib.Dec.{leb}
 use lib.Ieee.{Float}
 use borrow.Author.Tests.{leb-true}
-use Rattle.mesh_text.specs.Form.{Found, found, none}
+use Rattle.text_numbers.specs.Form.{Found, found, none}
 use Rattle.mesh_text.specs.Text.{Mesh, Listed, text}
 use Rattle.mesh_text.specs.Reading.{flat, sidePoints, lengthWord, coordinates, lengths, lengthWords, listedPoints, intervals, counts, Lists, filled, within, Answer, readInto, totalOf, stored, AtTotal}
-use Rattle.mesh_text.proofs.Laws.{and-both}
+use Rattle.text_numbers.proofs.Laws.{and-both}
 use Rattle.mesh_text.specs.declared.Total.{Total}
 use Rattle.mesh_text.specs.declared.Total.the-variants as Total
 use Rattle.mesh_text.specs.declared.Counts.{Counts}

@@ -7,17 +7,20 @@ use Prim.Native.Nat.{ℕ, _+_, _≤_}
 use native.Mathlib.Omega.{arith}
 use lib.ListN.{length}
 use lib.Ieee.{Float}
-use Rattle.mesh_text.specs.Form.{bytes, Found, found, none, Form}
-use Rattle.mesh_text.specs.Text.{Listed, point, face, many, stands, ends, mesh, text}
-use Rattle.mesh_text.specs.Reading.{float, flat, sidePoints, sideIntervals, lengthWord, coordinates, lengthWords, listedPoints, intervals}
+use Rattle.text_numbers.specs.Form.{bytes, Found, found, none, Form}
+use Rattle.mesh_text.specs.Text.{Listed, point, face, ends, mesh, text}
+use Rattle.text_numbers.specs.Form.{many, stands}
+use Rattle.text_numbers.specs.Numbers.{float}
+use Rattle.mesh_text.specs.Reading.{flat, sidePoints, sideIntervals, lengthWord, coordinates, lengthWords, listedPoints, intervals}
 use Rattle.mesh_text.specs.Reading.{run, linesOf, totalOf, stored, AtRun, AtLines}
 use Rattle.mesh_text.specs.declared.Run.{Run}
 use Rattle.mesh_text.specs.declared.Run.the-variants as Run
 use Rattle.mesh_text.specs.declared.Lines.{Lines}
 use Rattle.mesh_text.specs.declared.Lines.the-variants as Lines
 use Rattle.mesh_text.specs.declared.Total.the-variants as Total
-use Rattle.mesh_text.proofs.Laws.{Takes, takes-many, takes-point, takes-face, stands-inside}
-use Rattle.mesh_text.proofs.Turns.{literal-found, literal-none}
+use Rattle.text_numbers.proofs.Laws.{Takes, takes-many, stands-inside}
+use Rattle.mesh_text.proofs.Laws.{takes-point, takes-face}
+use Rattle.text_numbers.proofs.Turns.{literal-found, literal-none}
 use Rattle.mesh_text.proofs.Answers.{run-of, run-none, lines-are, lines-none}
 
 abbrev pointLines : List ℕ → Form (List (List ℕ))

@@ -6,13 +6,16 @@ use Prim.Native.Nat.{ℕ, _+_, _≤_}
 use native.Mathlib.Omega.{arith}
 use lib.ListN.{length}
 use lib.Ieee.{Float}
-use Rattle.mesh_text.specs.Form.{bytes, Form, found, none}
-use Rattle.mesh_text.specs.Text.{Listed, decimal, listed, many, side, stands}
+use Rattle.text_numbers.specs.Form.{bytes, Form, found, none}
+use Rattle.mesh_text.specs.Text.{Listed, listed, side}
+use Rattle.text_numbers.specs.Numbers.{decimal}
+use Rattle.text_numbers.specs.Form.{many, stands}
 use Rattle.mesh_text.specs.Reading.{run, stored, sidePoints, sideIntervals, AtRun}
 use Rattle.mesh_text.specs.declared.Run.{Run}
 use Rattle.mesh_text.specs.declared.Run.the-variants as Run
-use Rattle.mesh_text.proofs.Laws.{takes-decimal, takes-many, takes-listed, stands-inside}
-use Rattle.mesh_text.proofs.Turns.{literal-found, literal-none}
+use Rattle.text_numbers.proofs.Laws.{takes-decimal, takes-many, stands-inside}
+use Rattle.mesh_text.proofs.Laws.{takes-listed}
+use Rattle.text_numbers.proofs.Turns.{literal-found, literal-none}
 use Rattle.mesh_text.proofs.Answers.{run-of, run-none}
 
 abbrev points : List ℕ → Form (List Listed)

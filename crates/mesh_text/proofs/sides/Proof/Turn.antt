@@ -8,13 +8,14 @@ use native.Mathlib.Omega.{arith}
 use lib.ListN.{length, set, length-set, length-map, length-append}
 use lib.Seq.{sets, length-sets}
 use lib.Ieee.{Float}
-use Rattle.mesh_text.specs.Form.{Found, found, none, Form, onward, pure, times}
+use Rattle.text_numbers.specs.Form.{Found, found, none, Form, onward, pure, times}
 use Rattle.mesh_text.specs.Text.{Listed, side}
-use Rattle.mesh_text.specs.Reading.{float, flat, run, stored, lengthWord, listedIn, sidePoints, sideIntervals, AtRun}
+use Rattle.text_numbers.specs.Numbers.{float}
+use Rattle.mesh_text.specs.Reading.{flat, run, stored, lengthWord, listedIn, sidePoints, sideIntervals, AtRun}
 use Rattle.mesh_text.specs.declared.Run.{Run}
 use Rattle.mesh_text.specs.declared.Run.the-variants as Run
 use Rattle.mesh_text.proofs.Laws.{takes-side}
-use Rattle.mesh_text.proofs.Turns.{times-found, times-none}
+use Rattle.text_numbers.proofs.Turns.{times-found, times-none}
 use Rattle.mesh_text.proofs.Answers.{run-of, run-none, runFrom, run-next, run-start, stored-next}
 
 pub record SidesSoFar (s : List ℕ) (at : ℕ) (ls₀ : List ℕ) (f : ℕ) (ps₀ : List ℕ) (ds₀ : List Float) (n : ℕ)

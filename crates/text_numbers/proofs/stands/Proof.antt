@@ -6,13 +6,13 @@ use mathlib.Core.Path.{_≡_, sym, _∙_, refl}
 use mathlib.Core.Bool.{false}
 use Prim.Native.Nat.{_≤_, _+_, _-_}
 use lib.ListN.{length, drop}
-use Rattle.mesh_text.specs.Text.{stands}
-use Rattle.mesh_text.proofs.stands.Proof.Turn.{stands-turn, stands-stop, stands-end, stands-start}
-use Rattle.mesh_text.proofs.stands.Statement.{statement}
-use Rattle.mesh_text.proofs.stands.Tie as tie
-use Rattle.mesh_text.proofs.stands.Reads as reads
-use Rattle.mesh_text.proofs.stands.Lts as lts
-use Rattle.mesh_text.proofs.byte.Reads as byte-reads
+use Rattle.text_numbers.specs.Form.{stands}
+use Rattle.text_numbers.proofs.stands.Proof.Turn.{stands-turn, stands-stop, stands-end, stands-start}
+use Rattle.text_numbers.proofs.stands.Statement.{statement}
+use Rattle.text_numbers.proofs.stands.Tie as tie
+use Rattle.text_numbers.proofs.stands.Reads as reads
+use Rattle.text_numbers.proofs.stands.Lts as lts
+use Rattle.text_numbers.proofs.byte.Reads as byte-reads
 
 abbrev Inv-loop : tie.InvT-loop
 Inv-loop s at t i₀ i = (i ≤ length t) × (stands s (at + i) (drop i t) ≡ stands s at t)

@@ -6,9 +6,14 @@
 --     choose t p q         p if the test holds, else q
 --     times k p            p, k times in a row
 --     given g d x          g of what was found, d if nothing was
+--     stands s at t        the bytes t stand in the text s from place `at` on; a byte past the end reads as 0, which stands in no form
+--     literal s t          exactly the bytes t
+--     many s t p k         zero or more of p, each after the bytes t; k is as many as there can be
 use mathlib.Core.List.{List, [], _∷_}
-use mathlib.Core.Bool.{Bool, true, false}
-use Prim.Native.Nat.{ℕ, zero, suc}
+use mathlib.Core.Bool.{Bool, true, false, _&&_}
+use Prim.Native.Nat.{ℕ, zero, suc, _+_}
+use lib.ListN.{length, getD}
+use lib.Dec.{eqb}
 use Prim.Native.Char.{Char, code}
 use Prim.Native.String.{String, [] as empty, _∷_ as first}
 
@@ -53,3 +58,23 @@ times (suc k) p = do
 abbrev pub given : {A R : Type 0} → (A → ℕ → R) → R → Found A → R
 given g d (found a n) = g a n
 given g d none = d
+
+module _ (s : List ℕ) where
+  unfoldable pub stands : ℕ → List ℕ → Bool
+  stands at [] = true
+  stands at (b ∷ t) = eqb (getD s at 0) b && stands (at + 1) t
+
+  unfoldable pub literal : List ℕ → Form (Unit {0})
+  literal t at = choose (stands at t) (λ n. found tt (n + length t)) (λ n. none) at
+
+  unfoldable pub many : {A : Type 0} → List ℕ → Form A → ℕ → Form (List A)
+  many t p zero = pure []
+  many t p (suc k) = λ at.
+    choose (stands at t)
+    (do
+      literal t
+      a ← p
+      rest ← many t p k
+      pure (a ∷ rest))
+    (pure [])
+    at

@@ -6,15 +6,15 @@ use native.Mathlib.Omega.{arith}
 use mathlib.Core.Path.{_≡_}
 use Prim.Native.Nat.{_≤_, _<_, _+_, _-_}
 use lib.ListN.{length}
-use Rattle.mesh_text.specs.Text.{decimalFrom}
-use Rattle.mesh_text.specs.Reading.{number}
-use Rattle.mesh_text.proofs.decimal_from.Proof.Turn.{rest, rest-start, rest-turn, rest-stop, rest-large, rest-inside}
-use Rattle.mesh_text.proofs.decimal_from.Statement.{statement}
-use Rattle.mesh_text.proofs.decimal_from.Tie as tie
-use Rattle.mesh_text.proofs.decimal_from.Reads as reads
-use Rattle.mesh_text.proofs.decimal_from.Lts as lts
-use Rattle.mesh_text.proofs.byte.Reads as byte-reads
-use Rattle.mesh_text.proofs.digit_value.Reads as digit-value-reads
+use Rattle.text_numbers.specs.Numbers.{decimalFrom}
+use Rattle.text_numbers.specs.Numbers.{number}
+use Rattle.text_numbers.proofs.decimal_from.Proof.Turn.{rest, rest-start, rest-turn, rest-stop, rest-large, rest-inside}
+use Rattle.text_numbers.proofs.decimal_from.Statement.{statement}
+use Rattle.text_numbers.proofs.decimal_from.Tie as tie
+use Rattle.text_numbers.proofs.decimal_from.Reads as reads
+use Rattle.text_numbers.proofs.decimal_from.Lts as lts
+use Rattle.text_numbers.proofs.byte.Reads as byte-reads
+use Rattle.text_numbers.proofs.digit_value.Reads as digit-value-reads
 
 abbrev Inv-loop : tie.InvT-loop
 Inv-loop s at first v₀ i₀ v i = 

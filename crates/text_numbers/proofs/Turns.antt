@@ -1,12 +1,15 @@
--- One turn of a repeated form, and what the answers of the parts make of it. Assumes nothing.
+-- One turn of a repeated form, and what an answer says of a form. Assumes nothing.
 use mathlib.Core.List.{List, [], _∷_}
 use mathlib.Core.Path.{_≡_, refl, sym, ap, _∙_}
 use mathlib.Core.Bool.{Bool, true, false}
 use Prim.Native.Nat.{ℕ, zero, suc, _+_, _*_, _≤_, _<_}
 use lib.ListN.{length, getD}
 use borrow.Author.Tests.{lt-ltb, le-ltb}
-use Rattle.mesh_text.specs.Form.{Found, found, none, Form, onward, _>>=_, pure, choose, times, given}
-use Rattle.mesh_text.specs.Text.{digitValue, stands, literal, digit, digits, many}
+use Rattle.text_numbers.specs.Form.{Found, found, none, Form, onward, _>>=_, pure, choose, times, given}
+use Rattle.text_numbers.specs.Numbers.{number}
+use Rattle.text_numbers.specs.declared.Number.the-variants as Number
+use Rattle.text_numbers.specs.Numbers.{digitValue, digit, digits}
+use Rattle.text_numbers.specs.Form.{stands, literal, many}
 
 pub given-pure : {A B R : Type 0} (g : B → ℕ → R) (d : R) (f : A → B) (x : Found A) → given g d (onward (λ a. pure (f a)) x) ≡ given (λ a n. g (f a) n) d x
 given-pure g d f (found a n) = refl
@@ -15,6 +18,14 @@ given-pure g d f none = refl
 pub given-same : {A R : Type 0} (g h : A → ℕ → R) (d : R) (x : Found A) → ((a : A) (n : ℕ) → g a n ≡ h a n) → given g d x ≡ given h d x
 given-same g h d (found a n) e = e a n
 given-same g h d none e = refl
+
+pub number-is : (x : Found ℕ) {v n : ℕ} → number x ≡ Number.Is v n → x ≡ found v n
+number-is (found v n) e = cc
+number-is none e = cc
+
+pub number-none : (x : Found ℕ) → number x ≡ Number.None → x ≡ none
+number-none (found v n) e = cc
+number-none none e = refl
 
 module _ {A : Type 0} (p : Form A) (at : ℕ) where
   pub times-found : (k : ℕ) {a : A} {n : ℕ} → p at ≡ found a n → times (suc k) p at ≡ onward (λ l. pure (a ∷ l)) (times k p n)

@@ -3,8 +3,8 @@ use borrow.Author.Needs.{needs}
 use mathlib.Core.Path.{sym}
 use lib.ListN.{List·getD-eq-default}
 use denote.Ref.{now}
-use Rattle.mesh_text.proofs.byte.Statement.{statement}
-use Rattle.mesh_text.proofs.byte.Tie as tie
+use Rattle.text_numbers.proofs.byte.Statement.{statement}
+use Rattle.text_numbers.proofs.byte.Tie as tie
 
 returns-2 : tie.Need-returns-2
 returns-2 c = sym (List·getD-eq-default (now (c .before .args .s)) 0 (c .if1 .left))

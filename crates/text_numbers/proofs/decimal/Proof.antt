@@ -1,15 +1,15 @@
 -- `decimal` meets its contract: the first digit says which case of the definition holds.
 mod First
 use mathlib.Core.Path.{_∙_}
-use Rattle.mesh_text.proofs.decimal.Proof.First.{first-none, first-zero, first-other, first-inside}
+use Rattle.text_numbers.proofs.decimal.Proof.First.{first-none, first-zero, first-other, first-inside}
 use borrow.Author.Needs.{needs}
-use Rattle.mesh_text.proofs.decimal.Statement.{statement}
-use Rattle.mesh_text.proofs.decimal.Tie as tie
-use Rattle.mesh_text.proofs.decimal.Reads as reads
-use Rattle.mesh_text.proofs.decimal.Lts as lts
-use Rattle.mesh_text.proofs.byte.Reads as byte-reads
-use Rattle.mesh_text.proofs.decimal_from.Reads as decimal-from-reads
-use Rattle.mesh_text.proofs.digit_value.Reads as digit-value-reads
+use Rattle.text_numbers.proofs.decimal.Statement.{statement}
+use Rattle.text_numbers.proofs.decimal.Tie as tie
+use Rattle.text_numbers.proofs.decimal.Reads as reads
+use Rattle.text_numbers.proofs.decimal.Lts as lts
+use Rattle.text_numbers.proofs.byte.Reads as byte-reads
+use Rattle.text_numbers.proofs.decimal_from.Reads as decimal-from-reads
+use Rattle.text_numbers.proofs.digit_value.Reads as digit-value-reads
 
 -- src/lib.rt:139:29
 byte-requires : tie.Need-byte-requires

@@ -9,13 +9,13 @@ use native.Mathlib.Omega.{arith}
 use lib.ListN.{length, getD}
 use lib.Dec.{ltb}
 use borrow.Author.Tests.{lt-ltb, le-ltb, ltb-true, ltb-false}
-use Rattle.mesh_text.specs.Form.{Found, found, none, Form, onward, _>>=_, pure, choose}
-use Rattle.mesh_text.specs.Text.{digits, decimalFrom, digit, digitValue}
-use Rattle.mesh_text.specs.Reading.{number}
-use Rattle.mesh_text.specs.declared.Number.{Number}
-use Rattle.mesh_text.specs.declared.Number.the-variants as Number
-use Rattle.mesh_text.proofs.Laws.{digit-inside}
-use Rattle.mesh_text.proofs.Turns.{digit-found}
+use Rattle.text_numbers.specs.Form.{Found, found, none, Form, onward, _>>=_, pure, choose}
+use Rattle.text_numbers.specs.Numbers.{digits, decimalFrom, digit, digitValue}
+use Rattle.text_numbers.specs.Numbers.{number}
+use Rattle.text_numbers.specs.declared.Number.{Number}
+use Rattle.text_numbers.specs.declared.Number.the-variants as Number
+use Rattle.text_numbers.proofs.Laws.{digit-inside}
+use Rattle.text_numbers.proofs.Turns.{digit-found}
 
 abbrev pub rest : List ℕ → ℕ → ℕ → Form ℕ
 rest s k v = digits s k v >>= λ w. choose (ltb w 4294967296) (pure w) (λ at. none)

@@ -5,16 +5,16 @@ use native.Mathlib.Omega.{arith}
 use mathlib.Core.Path.{_≡_}
 use Prim.Native.Nat.{_≤_, _<_, _+_, _-_, _^_}
 use lib.ListN.{length}
-use Rattle.mesh_text.specs.Form.{times}
-use Rattle.mesh_text.specs.Text.{bits, digit}
-use Rattle.mesh_text.specs.Reading.{number}
-use Rattle.mesh_text.proofs.bits.Proof.Turn.{numberOf, bits-start, bits-turn, bits-none, bits-end, bits-inside, next-fits, next-below}
-use Rattle.mesh_text.proofs.bits.Statement.{statement}
-use Rattle.mesh_text.proofs.bits.Tie as tie
-use Rattle.mesh_text.proofs.bits.Reads as reads
-use Rattle.mesh_text.proofs.bits.Lts as lts
-use Rattle.mesh_text.proofs.byte.Reads as byte-reads
-use Rattle.mesh_text.proofs.digit_value.Reads as digit-value-reads
+use Rattle.text_numbers.specs.Form.{times}
+use Rattle.text_numbers.specs.Numbers.{bits, digit}
+use Rattle.text_numbers.specs.Numbers.{number}
+use Rattle.text_numbers.proofs.bits.Proof.Turn.{numberOf, bits-start, bits-turn, bits-none, bits-end, bits-inside, next-fits, next-below}
+use Rattle.text_numbers.proofs.bits.Statement.{statement}
+use Rattle.text_numbers.proofs.bits.Tie as tie
+use Rattle.text_numbers.proofs.bits.Reads as reads
+use Rattle.text_numbers.proofs.bits.Lts as lts
+use Rattle.text_numbers.proofs.byte.Reads as byte-reads
+use Rattle.text_numbers.proofs.digit_value.Reads as digit-value-reads
 
 abbrev Inv-loop : tie.InvT-loop
 Inv-loop s at v₀ i₀ k₀ v i k = 

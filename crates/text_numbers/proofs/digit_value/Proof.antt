@@ -3,9 +3,9 @@ use borrow.Author.Needs.{needs}
 use borrow.Author.Tests.{lt-ltb, le-ltb}
 use mathlib.Core.Path.{ap}
 use Prim.Native.Nat.{ℕ, _-_}
-use Rattle.mesh_text.specs.Text.{digitValue}
-use Rattle.mesh_text.proofs.digit_value.Statement.{statement}
-use Rattle.mesh_text.proofs.digit_value.Tie as tie
+use Rattle.text_numbers.specs.Numbers.{digitValue}
+use Rattle.text_numbers.proofs.digit_value.Statement.{statement}
+use Rattle.text_numbers.proofs.digit_value.Tie as tie
 
 returns : tie.Need-returns
 unfolding digitValue

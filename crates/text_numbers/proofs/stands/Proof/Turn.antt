@@ -10,7 +10,7 @@ use lib.ListN.{length, getD, drop, drop-of-length-le}
 use lib.Seq.{drop-cons}
 use lib.Dec.{eqb}
 use borrow.Author.Tests.{eq-eqb, ne-eqb}
-use Rattle.mesh_text.specs.Text.{stands}
+use Rattle.text_numbers.specs.Form.{stands}
 
 pub stands-start : (s : List ℕ) (at : ℕ) (t : List ℕ) → stands s (at + 0) (drop 0 t) ≡ stands s at t
 stands-start s at t = rw add-zero

@@ -1,13 +1,13 @@
 -- `float` meets its contract: above the pattern of infinity, the sign left out, stand the patterns of NaNs.
 mod Pattern
 use mathlib.Core.Path.{sym}
-use Rattle.mesh_text.proofs.float.Proof.Pattern.{nan-above, no-nan-below, zero-by-zero}
+use Rattle.text_numbers.proofs.float.Proof.Pattern.{nan-above, no-nan-below, zero-by-zero}
 use mathlib.Core.Path.{_∙_}
 use borrow.Author.Needs.{needs}
-use Rattle.mesh_text.proofs.float.Statement.{statement}
-use Rattle.mesh_text.proofs.float.Tie as tie
-use Rattle.mesh_text.proofs.float.Reads as reads
-use Rattle.mesh_text.proofs.float.Lts as lts
+use Rattle.text_numbers.proofs.float.Statement.{statement}
+use Rattle.text_numbers.proofs.float.Tie as tie
+use Rattle.text_numbers.proofs.float.Reads as reads
+use Rattle.text_numbers.proofs.float.Lts as lts
 
 -- src/lib.rt:160:9
 returns : tie.Need-returns
