@@ -9,9 +9,6 @@ use Rattle.text_numbers.specs.Form.{bytes}
 use Rattle.mesh_text.proofs.faces.Proof.Turn.{FacesSoFar, start, turn, stop, end, head-inside, line-longer}
 use Rattle.mesh_text.proofs.faces.Statement.{statement}
 use Rattle.mesh_text.proofs.faces.Tie as tie
-use Rattle.mesh_text.proofs.faces.Reads as reads
-use Rattle.mesh_text.proofs.faces.Lts as lts
-use Rattle.mesh_text.proofs.face.Reads as face-reads
 
 abbrev Inv-loop : tie.InvT-loop
 Inv-loop s at ls₀ ps₀ ds₀ i₀ k₀ c₀ t11 ls ps ds i k c = (t11 ≡ bytes "[face") × FacesSoFar s at ls₀ ps₀ ds₀ ls ps ds i k c
@@ -19,83 +16,54 @@ Inv-loop s at ls₀ ps₀ ds₀ i₀ k₀ c₀ t11 ls ps ds i k c = (t11 ≡ byt
 abbrev μ-loop : tie.MeasureT-loop
 μ-loop s at ls₀ ps₀ ds₀ i₀ k₀ c₀ t11 ls ps ds i k c = length s - i
 
--- src/lib.rt:363:5
 loop-holds : tie.Need-loop-holds Inv-loop μ-loop
 loop-holds c = (refl, start _ _ _ _ _ (c .before .before .before .before .pre))
 
--- src/lib.rt:363:24
-slice-aggregate-stands : tie.Need-slice-aggregate-stands Inv-loop μ-loop
-slice-aggregate-stands c = search needs
-
--- src/lib.rt:363:11
 stands-requires : tie.Need-stands-requires Inv-loop μ-loop
 stands-requires c κs = c .before .loop .inv .1 .inside
 
--- src/lib.rt:364:37
 add-face : tie.Need-add-face Inv-loop μ-loop
 add-face c = let h = head-inside _ _ _ _ _ _ _ _ _ _ _ (c .before .before .before .loop .inv .1) (sym (c .before .stands .ensures) ∙ c .if1 .taken) in omega arith
 
--- src/lib.rt:364:48
 mul-face : tie.Need-mul-face Inv-loop μ-loop
 mul-face c = let h = head-inside _ _ _ _ _ _ _ _ _ _ _ (c .before .before .before .before .loop .inv .1) (sym (c .before .before .stands .ensures) ∙ c .before .if1 .taken) in let k = c .before .before .before .before .loop .inv .1 .counted in omega arith
 
--- src/lib.rt:364:29
 face-requires : tie.Need-face-requires Inv-loop μ-loop
 face-requires c κs = let h = head-inside _ _ _ _ _ _ _ _ _ _ _ (c .before .before .before .before .before .before .loop .inv .1) (sym (c .before .before .before .before .stands .ensures) ∙ c .before .before .before .if1 .taken) in let k = c .before .before .before .before .before .before .loop .inv .1 .counted in let l = c .before .before .before .before .before .before .loop .inv .1 .listed in omega arith
 
--- src/lib.rt:364:21
-enum-known-m : tie.Need-enum-known-m Inv-loop μ-loop
-enum-known-m c = search needs
-
--- src/lib.rt:365:13
-enum-told : tie.Need-enum-told Inv-loop μ-loop
-enum-told c = search needs
-
--- src/lib.rt:365:13
 same-length : tie.Need-same-length Inv-loop μ-loop
 same-length c = c .before .before .before .before .before .before .before .before .face .kept .1 .1 .0 ∙ c .before .before .before .before .before .before .before .before .before .before .before .before .before .before .before .loop .inv .1 .same-lengths
 
--- src/lib.rt:365:13
 same-length-2 : tie.Need-same-length-2 Inv-loop μ-loop
 same-length-2 c = c .before .before .before .before .before .before .before .before .face .kept .1 .1 .1 .1 .0 ∙ c .before .before .before .before .before .before .before .before .before .before .before .before .before .before .before .loop .inv .1 .same-points
 
--- src/lib.rt:365:13
 same-length-3 : tie.Need-same-length-3 Inv-loop μ-loop
 same-length-3 c = c .before .before .before .before .before .before .before .before .face .kept .1 .1 .1 .1 .1 .0 ∙ c .before .before .before .before .before .before .before .before .before .before .before .before .before .before .before .loop .inv .1 .same-intervals
 
--- src/lib.rt:365:13
 returns : tie.Need-returns Inv-loop μ-loop
 returns c = (stop _ _ _ _ _ _ _ _ _ _ _ (c .before .before .before .before .before .before .before .before .before .before .before .before .before .before .before .loop .inv .1) (sym (c .before .before .before .before .before .before .before .before .before .before .before .before .before .stands .ensures) ∙ c .before .before .before .before .before .before .before .before .before .before .before .before .if1 .taken) (c .before .before .before .before .before .before .before .before .face .ensures .0) (c .enum-told .given .1), (tt, (tt, tt)))
 
--- src/lib.rt:368:9
 add-k : tie.Need-add-k Inv-loop μ-loop
 add-k c = let h = line-longer _ _ _ _ _ _ _ _ _ _ _ (c .before .before .before .before .before .before .before .before .before .before .before .before .before .before .before .before .loop .inv .1) (sym (c .before .before .before .before .before .before .before .before .before .before .before .before .before .before .stands .ensures) ∙ c .before .before .before .before .before .before .before .before .before .before .before .before .before .if1 .taken) (c .before .before .before .before .before .before .before .before .before .face .ensures .0) (c .before .m .given .1) in let k = c .before .before .before .before .before .before .before .before .before .before .before .before .before .before .before .before .loop .inv .1 .counted in omega arith
 
--- src/lib.rt:369:9
 add-c : tie.Need-add-c Inv-loop μ-loop
 add-c c = let h = line-longer _ _ _ _ _ _ _ _ _ _ _ (c .before .before .before .before .before .before .before .before .before .before .before .before .before .before .before .before .loop .inv .1) (sym (c .before .before .before .before .before .before .before .before .before .before .before .before .before .before .stands .ensures) ∙ c .before .before .before .before .before .before .before .before .before .before .before .before .before .if1 .taken) (c .before .before .before .before .before .before .before .before .before .face .ensures .0) (c .before .m .given .1) in let k = c .before .before .before .before .before .before .before .before .before .before .before .before .before .before .before .before .loop .inv .1 .listed in omega arith
 
--- src/lib.rt:363:5
 loop-less : tie.Need-loop-less Inv-loop μ-loop
 loop-less c = let h = line-longer _ _ _ _ _ _ _ _ _ _ _ (c .before .before .before .before .before .before .before .before .before .before .before .before .before .before .before .before .loop .inv .1) (sym (c .before .before .before .before .before .before .before .before .before .before .before .before .before .before .stands .ensures) ∙ c .before .before .before .before .before .before .before .before .before .before .before .before .before .if1 .taken) (c .before .before .before .before .before .before .before .before .before .face .ensures .0) (c .before .m .given .1) in omega arith
 
--- src/lib.rt:363:5
 loop-again : tie.Need-loop-again Inv-loop μ-loop
 loop-again c = (refl, turn _ _ _ _ _ _ _ _ _ _ _ (c .before .before .before .before .before .before .before .before .before .before .before .before .before .before .before .before .loop .inv .1) (sym (c .before .before .before .before .before .before .before .before .before .before .before .before .before .before .stands .ensures) ∙ c .before .before .before .before .before .before .before .before .before .before .before .before .before .if1 .taken) (c .before .before .before .before .before .before .before .before .before .face .ensures .0) (c .before .m .given .1) (c .before .before .before .before .before .before .before .before .before .face .ensures .1 .0) (c .before .before .before .before .before .before .before .before .before .face .ensures .1 .1 .0) (c .before .before .before .before .before .before .before .before .before .face .ensures .1 .1 .1))
 
--- src/lib.rt:353:1
 same-length-4 : tie.Need-same-length-4 Inv-loop μ-loop
 same-length-4 c = c .before .before .before .loop .inv .1 .same-lengths
 
--- src/lib.rt:353:1
 same-length-5 : tie.Need-same-length-5 Inv-loop μ-loop
 same-length-5 c = c .before .before .before .loop .inv .1 .same-points
 
--- src/lib.rt:353:1
 same-length-6 : tie.Need-same-length-6 Inv-loop μ-loop
 same-length-6 c = c .before .before .before .loop .inv .1 .same-intervals
 
--- src/lib.rt:353:1
 returns-2 : tie.Need-returns-2 Inv-loop μ-loop
 returns-2 c = end _ _ _ _ _ _ _ _ _ _ _ (c .before .before .before .loop .inv .1) (sym (c .before .stands .ensures) ∙ c .if1 .left)
 
@@ -106,13 +74,13 @@ faces-spec =
     Inv-loop
     μ-loop
     loop-holds
-    slice-aggregate-stands
+    (λ c. search needs)
     stands-requires
     add-face
     mul-face
     face-requires
-    enum-known-m
-    enum-told
+    (λ c. search needs)
+    (λ c. search needs)
     same-length
     same-length-2
     same-length-3

@@ -7,10 +7,6 @@ use Prim.Native.Nat.{_-_}
 use Rattle.mesh_text.proofs.sides.Proof.Turn.{SidesSoFar, start, turn, stop, end, side-longer}
 use Rattle.mesh_text.proofs.sides.Statement.{statement}
 use Rattle.mesh_text.proofs.sides.Tie as tie
-use Rattle.mesh_text.proofs.sides.Reads as reads
-use Rattle.mesh_text.proofs.sides.Lts as lts
-use Rattle.mesh_text.proofs.put_word.Reads as put-word-reads
-use Rattle.mesh_text.proofs.side.Reads as side-reads
 
 abbrev Inv-loop : tie.InvT-loop
 Inv-loop s at ls₀ f ps₀ ds₀ n i₀ c₀ k₀ ls ps ds i c k = SidesSoFar s at ls₀ f ps₀ ds₀ n ls ps ds i c k
@@ -18,83 +14,51 @@ Inv-loop s at ls₀ f ps₀ ds₀ n i₀ c₀ k₀ ls ps ds i c k = SidesSoFar s
 abbrev μ-loop : tie.MeasureT-loop
 μ-loop s at ls₀ f ps₀ ds₀ n i₀ c₀ k₀ ls ps ds i c k = 4 - k
 
--- src/lib.rt:323:5
 loop-holds : tie.Need-loop-holds Inv-loop μ-loop
 loop-holds c = start _ _ _ _ _ _ _ (c .before .before .before .before .pre .0) (c .before .before .before .before .pre .1 .1)
 
--- src/lib.rt:324:48
 add-side : tie.Need-add-side Inv-loop μ-loop
 add-side c = let h = c .before .before .before .loop .inv .inside in let k = c .before .before .before .loop .inv .counted in omega arith
 
--- src/lib.rt:324:29
 side-requires : tie.Need-side-requires Inv-loop μ-loop
 side-requires c κs = (c .before .before .before .loop .inv .inside, c .before .before .before .loop .inv .counted)
 
--- src/lib.rt:324:21
-enum-known-m : tie.Need-enum-known-m Inv-loop μ-loop
-enum-known-m c = search needs
-
--- src/lib.rt:325:13
-enum-told : tie.Need-enum-told Inv-loop μ-loop
-enum-told c = search needs
-
--- src/lib.rt:325:13
 same-length : tie.Need-same-length Inv-loop μ-loop
 same-length c = c .before .before .before .before .before .before .before .before .before .before .loop .inv .same-lengths
 
--- src/lib.rt:325:13
 same-length-2 : tie.Need-same-length-2 Inv-loop μ-loop
 same-length-2 c = c .before .before .before .before .before .before .side .kept .1 .1 .0 ∙ c .before .before .before .before .before .before .before .before .before .before .loop .inv .same-points
 
--- src/lib.rt:325:13
 same-length-3 : tie.Need-same-length-3 Inv-loop μ-loop
 same-length-3 c = c .before .before .before .before .before .before .side .kept .1 .1 .1 .0 ∙ c .before .before .before .before .before .before .before .before .before .before .loop .inv .same-intervals
 
--- src/lib.rt:325:13
 returns : tie.Need-returns Inv-loop μ-loop
 returns c = (stop _ _ _ _ _ _ _ _ _ _ _ _ _ (c .before .before .before .before .before .before .before .before .before .before .loop .inv) (c .before .before .before .before .before .before .before .before .before .loop-test .taken) (c .before .before .before .before .before .before .side .ensures .0) (c .enum-told .given .1), (tt, (tt, tt)))
 
--- src/lib.rt:327:22
 add-put-word : tie.Need-add-put-word Inv-loop μ-loop
 add-put-word c = let h = c .before .before .before .before .before .before .before .before .before .before .before .before .before .before .before .before .before .pre .0 in let k = c .before .before .before .before .before .before .before .before .before .before .before .before .before .before .before .before .before .pre .1 .0 in let t = c .before .before .before .before .before .before .before .before .before .before .before .loop-test .taken in omega arith
 
--- src/lib.rt:327:29
-cast-put-word : tie.Need-cast-put-word Inv-loop μ-loop
-cast-put-word c = search needs
-
--- src/lib.rt:327:9
-put-word-requires : tie.Need-put-word-requires Inv-loop μ-loop
-put-word-requires c κs = search needs
-
--- src/lib.rt:329:9
 add-c : tie.Need-add-c Inv-loop μ-loop
 add-c c = let h = side-longer _ _ _ _ _ _ _ _ _ _ _ _ _ (c .before .before .before .before .before .before .before .before .before .before .before .before .before .before .before .loop .inv) (c .before .before .before .before .before .before .before .before .before .before .before .before .before .before .loop-test .taken) (c .before .before .before .before .before .before .before .before .before .before .before .side .ensures .0) (c .before .before .before .before .before .m .given .1) in omega arith
 
--- src/lib.rt:330:9
 add-k : tie.Need-add-k Inv-loop μ-loop
 add-k c = let t = c .before .before .before .before .before .before .before .before .before .before .before .before .before .before .loop-test .taken in omega arith
 
--- src/lib.rt:323:5
 loop-less : tie.Need-loop-less Inv-loop μ-loop
 loop-less c = let t = c .before .before .before .before .before .before .before .before .before .before .before .before .before .before .loop-test .taken in omega arith
 
--- src/lib.rt:323:5
 loop-again : tie.Need-loop-again Inv-loop μ-loop
 loop-again c = turn _ _ _ _ _ _ _ _ _ _ _ _ _ (c .before .before .before .before .before .before .before .before .before .before .before .before .before .before .before .loop .inv) (c .before .before .before .before .before .before .before .before .before .before .before .before .before .before .loop-test .taken) (c .before .before .before .before .before .before .before .before .before .before .before .side .ensures .0) (c .before .before .before .before .before .m .given .1) (c .before .before .put-word .ensures) (c .before .before .before .before .before .before .before .before .before .before .before .side .ensures .1 .0) (c .before .before .before .before .before .before .before .before .before .before .before .side .ensures .1 .1)
 
--- src/lib.rt:313:1
 same-length-4 : tie.Need-same-length-4 Inv-loop μ-loop
 same-length-4 c = c .before .loop .inv .same-lengths
 
--- src/lib.rt:313:1
 same-length-5 : tie.Need-same-length-5 Inv-loop μ-loop
 same-length-5 c = c .before .loop .inv .same-points
 
--- src/lib.rt:313:1
 same-length-6 : tie.Need-same-length-6 Inv-loop μ-loop
 same-length-6 c = c .before .loop .inv .same-intervals
 
--- src/lib.rt:313:1
 returns-2 : tie.Need-returns-2 Inv-loop μ-loop
 returns-2 c = end _ _ _ _ _ _ _ _ _ _ _ _ _ (c .before .loop .inv) (c .loop-test .left)
 
@@ -107,15 +71,15 @@ sides-spec =
     loop-holds
     add-side
     side-requires
-    enum-known-m
-    enum-told
+    (λ c. search needs)
+    (λ c. search needs)
     same-length
     same-length-2
     same-length-3
     returns
     add-put-word
-    cast-put-word
-    put-word-requires
+    (λ c. search needs)
+    (λ c κs. search needs)
     add-c
     add-k
     loop-less

@@ -5,50 +5,39 @@ use Rattle.mesh_text.specs.Reading.{within}
 use Rattle.mesh_text.proofs.within.Proof.Room.{room-three, room-four, over-three, over-four}
 use Rattle.mesh_text.proofs.within.Statement.{statement}
 use Rattle.mesh_text.proofs.within.Tie as tie
-use Rattle.mesh_text.proofs.within.Reads as reads
-use Rattle.mesh_text.proofs.within.Lts as lts
 
--- src/lib.rt:432:9
 returns : tie.Need-returns
 unfolding within
 returns c = simp (lt-leb _ _ (c .if1 .taken))
 
--- src/lib.rt:435:9
 returns-2 : tie.Need-returns-2
 unfolding within
 returns-2 c = simp (le-leb _ _ (c .before .before .before .if1 .left), lt-leb _ _ (c .if2 .taken))
 
--- src/lib.rt:438:9
 returns-3 : tie.Need-returns-3
 unfolding within
 returns-3 c = simp (le-leb _ _ (c .before .before .before .before .before .before .if1 .left), le-leb _ _ (c .before .before .before .if2 .left), lt-leb _ _ (c .if3 .taken))
 
--- src/lib.rt:441:9
 returns-4 : tie.Need-returns-4
 unfolding within
 returns-4 c = simp (le-leb _ _ (c .before .before .before .before .before .before .before .before .if1 .left), le-leb _ _ (c .before .before .before .before .before .if2 .left), le-leb _ _ (c .before .before .if3 .left), lt-leb _ _ (c .if4 .taken))
 
--- src/lib.rt:444:9
 returns-5 : tie.Need-returns-5
 unfolding within
 returns-5 c = simp (le-leb _ _ (c .before .before .before .before .before .before .before .before .before .before .if1 .left), le-leb _ _ (c .before .before .before .before .before .before .before .if2 .left), le-leb _ _ (c .before .before .before .before .if3 .left), le-leb _ _ (c .before .before .if4 .left), lt-leb _ _ (over-three _ _ (c .if5 .taken)))
 
--- src/lib.rt:447:9
 returns-6 : tie.Need-returns-6
 unfolding within
 returns-6 c = simp (le-leb _ _ (c .before .before .before .before .before .before .before .before .before .before .before .before .if1 .left), le-leb _ _ (c .before .before .before .before .before .before .before .before .before .if2 .left), le-leb _ _ (c .before .before .before .before .before .before .if3 .left), le-leb _ _ (c .before .before .before .before .if4 .left), le-leb _ _ (room-three _ _ (c .before .before .if5 .left)), lt-leb _ _ (over-four _ _ (c .if6 .taken)))
 
--- src/lib.rt:450:9
 returns-7 : tie.Need-returns-7
 unfolding within
 returns-7 c = simp (le-leb _ _ (c .before .before .before .before .before .before .before .before .before .before .before .before .before .before .if1 .left), le-leb _ _ (c .before .before .before .before .before .before .before .before .before .before .before .if2 .left), le-leb _ _ (c .before .before .before .before .before .before .before .before .if3 .left), le-leb _ _ (c .before .before .before .before .before .before .if4 .left), le-leb _ _ (room-three _ _ (c .before .before .before .before .if5 .left)), le-leb _ _ (room-four _ _ (c .before .before .if6 .left)), lt-leb _ _ (c .if7 .taken))
 
--- src/lib.rt:453:9
 returns-8 : tie.Need-returns-8
 unfolding within
 returns-8 c = simp (le-leb _ _ (c .before .before .before .before .before .before .before .before .before .before .before .before .before .before .before .before .if1 .left), le-leb _ _ (c .before .before .before .before .before .before .before .before .before .before .before .before .before .if2 .left), le-leb _ _ (c .before .before .before .before .before .before .before .before .before .before .if3 .left), le-leb _ _ (c .before .before .before .before .before .before .before .before .if4 .left), le-leb _ _ (room-three _ _ (c .before .before .before .before .before .before .if5 .left)), le-leb _ _ (room-four _ _ (c .before .before .before .before .if6 .left)), le-leb _ _ (c .before .before .if7 .left), lt-leb _ _ (c .if8 .taken))
 
--- src/lib.rt:428:1
 returns-9 : tie.Need-returns-9
 unfolding within
 returns-9 c = simp (le-leb _ _ (c .before .before .before .before .before .before .before .before .before .before .before .before .before .before .before .before .if1 .left), le-leb _ _ (c .before .before .before .before .before .before .before .before .before .before .before .before .before .if2 .left), le-leb _ _ (c .before .before .before .before .before .before .before .before .before .before .if3 .left), le-leb _ _ (c .before .before .before .before .before .before .before .before .if4 .left), le-leb _ _ (room-three _ _ (c .before .before .before .before .before .before .if5 .left)), le-leb _ _ (room-four _ _ (c .before .before .before .before .if6 .left)), le-leb _ _ (c .before .before .if7 .left), le-leb _ _ (c .if8 .left))

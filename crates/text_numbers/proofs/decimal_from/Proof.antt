@@ -11,10 +11,6 @@ use Rattle.text_numbers.specs.Numbers.{number}
 use Rattle.text_numbers.proofs.decimal_from.Proof.Turn.{rest, rest-start, rest-turn, rest-stop, rest-large, rest-inside}
 use Rattle.text_numbers.proofs.decimal_from.Statement.{statement}
 use Rattle.text_numbers.proofs.decimal_from.Tie as tie
-use Rattle.text_numbers.proofs.decimal_from.Reads as reads
-use Rattle.text_numbers.proofs.decimal_from.Lts as lts
-use Rattle.text_numbers.proofs.byte.Reads as byte-reads
-use Rattle.text_numbers.proofs.digit_value.Reads as digit-value-reads
 
 abbrev Inv-loop : tie.InvT-loop
 Inv-loop s at first v₀ i₀ v i = 
@@ -23,41 +19,17 @@ Inv-loop s at first v₀ i₀ v i =
 abbrev μ-loop : tie.MeasureT-loop
 μ-loop s at first v₀ i₀ v i = length s - i
 
--- src/lib.rt:123:5
 loop-holds : tie.Need-loop-holds Inv-loop μ-loop
 loop-holds c = (omega arith, c .before .pre .0, rest-start _ _ _)
 
--- src/lib.rt:124:29
-byte-requires : tie.Need-byte-requires Inv-loop μ-loop
-byte-requires c κs = search needs
-
--- src/lib.rt:124:13
-digit-value-requires : tie.Need-digit-value-requires Inv-loop μ-loop
-digit-value-requires c κs = search needs
-
--- src/lib.rt:126:13
 returns : tie.Need-returns Inv-loop μ-loop
 returns c = rest-stop _ _ _ _ _ (c .before .before .before .before .loop .inv .2) (c .before .digit-value .ensures) (c .before .before .byte .ensures) (c .if1 .taken) (c .before .before .before .loop-test .taken)
 
--- src/lib.rt:128:13
-mul-v : tie.Need-mul-v Inv-loop μ-loop
-mul-v c = search needs
-
--- src/lib.rt:128:13
-add-v : tie.Need-add-v Inv-loop μ-loop
-add-v c = search needs
-
--- src/lib.rt:129:9
-add-i : tie.Need-add-i Inv-loop μ-loop
-add-i c = search needs
-
--- src/lib.rt:123:5
 loop-less : tie.Need-loop-less Inv-loop μ-loop
 loop-less c = 
     let h = rest-inside (c .before .before .before .before .before .before .args .s .now) (c .before .before .before .before .loop .i) (c .before .digit-value .ensures) (c .before .before .byte .ensures) (c .if1 .left) in
     omega arith
 
--- src/lib.rt:123:5
 loop-again : tie.Need-loop-again Inv-loop μ-loop
 loop-again c = 
     let h = rest-inside (c .before .before .before .before .before .before .args .s .now) (c .before .before .before .before .loop .i) (c .before .digit-value .ensures) (c .before .before .byte .ensures) (c .if1 .left) in
@@ -65,7 +37,6 @@ loop-again c =
     , omega arith
     , rest-turn _ _ _ _ _ (c .before .before .before .before .loop .inv .2) (c .before .before .before .before .loop .inv .0) h (c .before .digit-value .ensures) (c .before .before .byte .ensures) (c .if1 .left))
 
--- src/lib.rt:117:1
 returns-2 : tie.Need-returns-2 Inv-loop μ-loop
 returns-2 c = rest-large _ _ _ _ _ (c .before .loop .inv .2) (c .loop-test .left)
 
@@ -76,12 +47,12 @@ decimal-from-spec =
     Inv-loop
     μ-loop
     loop-holds
-    byte-requires
-    digit-value-requires
+    (λ c κs. search needs)
+    (λ c κs. search needs)
     returns
-    mul-v
-    add-v
-    add-i
+    (λ c. search needs)
+    (λ c. search needs)
+    (λ c. search needs)
     loop-less
     loop-again
     returns-2)
