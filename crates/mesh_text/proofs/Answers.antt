@@ -2,10 +2,11 @@
 use mathlib.Core.List.{List, [], _∷_, _++_}
 use mathlib.Core.Path.{_≡_, refl, sym, ap, _∙_}
 use Prim.Native.Nat.{ℕ, zero, suc, _+_}
-use native.Mathlib.Nat.{add-zero, zero-add, add-assoc}
+use native.Mathlib.Nat.{zero-add, add-assoc}
 use native.Mathlib.Omega.{arith}
-use lib.ListN.{length, set}
+use lib.ListN.{length}
 use lib.Seq.{sets}
+use Rattle.text_numbers.proofs.Stores.{sets-append}
 use Rattle.text_numbers.specs.Form.{Found, found, none, Form, onward, pure, given}
 use Rattle.mesh_text.specs.Text.{Listed}
 use Rattle.mesh_text.specs.Reading.{flat, sidePoints, place, run, listing, linesOf, stored}
@@ -16,12 +17,6 @@ use Rattle.mesh_text.specs.declared.Run.{Run}
 use Rattle.mesh_text.specs.declared.Run.the-variants as Run
 use Rattle.mesh_text.specs.declared.Lines.the-variants as Lines
 use Rattle.mesh_text.specs.declared.ListedPoint.the-variants as ListedPoint
-
-pub sets-append : {B : Type 0} (xs : List B) (i : ℕ) (vs ws : List B) → sets xs i (vs ++ ws) ≡ sets (sets xs i vs) (i + length vs) ws
-sets-append xs i [] ws = rw add-zero
-sets-append xs i (v ∷ vs) ws =
-    let e : suc i + length vs ≡ i + suc (length vs) = omega arith in
-    sets-append (set xs i v) (suc i) vs ws ∙ ap (λ (k : ℕ). sets (sets (set xs i v) (suc i) vs) k ws) e
 
 pub listing-is : (x : Found Listed) {p d n : ℕ} → listing x ≡ ListedPoint.Is p d n → x ≡ found (record { point = p; interval = d }) n
 listing-is (found l m) {p} {d} {n} e =

@@ -1,0 +1,184 @@
+use Prim.Native.Nat.{ℕ, _<_}
+use borrow.Fn.Kinds.{In}
+use borrow.Fn.PlainCycle.{Measures, is, falls, and}
+use Rattle.mesh_answers.proofs.write_decimal.Reads as write-decimal
+use Rattle.mesh_answers.proofs.write_decimal.Kinds as write-decimal-kinds
+use Rattle.mesh_answers.proofs.+write_decimal.Lts-write_decimal as write-decimal-lts
+use Rattle.mesh_answers.proofs.byte_of.Reads as byte-of-reads
+use Rattle.mesh_answers.proofs.+write_decimal.{statement}
+use Rattle.mesh_answers.proofs.+write_decimal.Tie.{close}
+
+abbrev μ-write-decimal : Measures 1 write-decimal-kinds.ps ℕ
+μ-write-decimal κs a = ?
+
+abbrev write-decimal-at : ℕ → In 1 write-decimal-kinds.ps
+write-decimal-at t =
+    and 1 write-decimal-kinds.ps (is 1 write-decimal-kinds.ps μ-write-decimal t) write-decimal.Pre
+
+abbrev write-decimal-below : ℕ → In 1 write-decimal-kinds.ps
+write-decimal-below t =
+    and
+    1
+    write-decimal-kinds.ps
+    (falls 1 write-decimal-kinds.ps _<_ μ-write-decimal t)
+    write-decimal.Pre
+
+-- src/lib.rt:50:9
+write-decimal-returns : (t : ℕ) → write-decimal-lts.Need-returns (
+  byte-of-reads.Asked,
+  byte-of-reads.Learnt,
+  write-decimal-below t,
+  write-decimal.Post,
+) (write-decimal-at t) write-decimal.Post
+write-decimal-returns t c = ?
+
+-- src/lib.rt:53:27
+write-decimal-add-byte-of : (t : ℕ) → write-decimal-lts.Need-add-byte-of (
+  byte-of-reads.Asked,
+  byte-of-reads.Learnt,
+  write-decimal-below t,
+  write-decimal.Post,
+) (write-decimal-at t) write-decimal.Post
+write-decimal-add-byte-of t c = ?
+
+-- src/lib.rt:53:19
+write-decimal-byte-of-requires : (t : ℕ) → write-decimal-lts.Need-byte-of-requires (
+  byte-of-reads.Asked,
+  byte-of-reads.Learnt,
+  write-decimal-below t,
+  write-decimal.Post,
+) (write-decimal-at t) write-decimal.Post
+write-decimal-byte-of-requires t c κs = ?
+
+-- src/lib.rt:53:9
+write-decimal-slice-write-out : (t : ℕ) → write-decimal-lts.Need-slice-write-out (
+  byte-of-reads.Asked,
+  byte-of-reads.Learnt,
+  write-decimal-below t,
+  write-decimal.Post,
+) (write-decimal-at t) write-decimal.Post
+write-decimal-slice-write-out t c = ?
+
+-- src/lib.rt:54:16
+write-decimal-add-result : (t : ℕ) → write-decimal-lts.Need-add-result (
+  byte-of-reads.Asked,
+  byte-of-reads.Learnt,
+  write-decimal-below t,
+  write-decimal.Post,
+) (write-decimal-at t) write-decimal.Post
+write-decimal-add-result t c = ?
+
+-- src/lib.rt:54:9
+write-decimal-same-length : (t : ℕ) → write-decimal-lts.Need-same-length (
+  byte-of-reads.Asked,
+  byte-of-reads.Learnt,
+  write-decimal-below t,
+  write-decimal.Post,
+) (write-decimal-at t) write-decimal.Post
+write-decimal-same-length t c = ?
+
+-- src/lib.rt:54:9
+write-decimal-returns-2 : (t : ℕ) → write-decimal-lts.Need-returns-2 (
+  byte-of-reads.Asked,
+  byte-of-reads.Learnt,
+  write-decimal-below t,
+  write-decimal.Post,
+) (write-decimal-at t) write-decimal.Post
+write-decimal-returns-2 t c = ?
+
+-- src/lib.rt:56:44
+write-decimal-sub-write-decimal : (t : ℕ) → write-decimal-lts.Need-sub-write-decimal (
+  byte-of-reads.Asked,
+  byte-of-reads.Learnt,
+  write-decimal-below t,
+  write-decimal.Post,
+) (write-decimal-at t) write-decimal.Post
+write-decimal-sub-write-decimal t c = ?
+
+-- src/lib.rt:56:9
+write-decimal-write-decimal-requires : (t : ℕ) → write-decimal-lts.Need-write-decimal-requires (
+  byte-of-reads.Asked,
+  byte-of-reads.Learnt,
+  write-decimal-below t,
+  write-decimal.Post,
+) (write-decimal-at t) write-decimal.Post
+write-decimal-write-decimal-requires t c κs = ?
+
+-- src/lib.rt:57:22
+write-decimal-add-byte-of-2 : (t : ℕ) → write-decimal-lts.Need-add-byte-of-2 (
+  byte-of-reads.Asked,
+  byte-of-reads.Learnt,
+  write-decimal-below t,
+  write-decimal.Post,
+) (write-decimal-at t) write-decimal.Post
+write-decimal-add-byte-of-2 t c = ?
+
+-- src/lib.rt:57:14
+write-decimal-byte-of-requires-2 : (t : ℕ) → write-decimal-lts.Need-byte-of-requires-2 (
+  byte-of-reads.Asked,
+  byte-of-reads.Learnt,
+  write-decimal-below t,
+  write-decimal.Post,
+) (write-decimal-at t) write-decimal.Post
+write-decimal-byte-of-requires-2 t c κs = ?
+
+-- src/lib.rt:57:5
+write-decimal-slice-write-out-2 : (t : ℕ) → write-decimal-lts.Need-slice-write-out-2 (
+  byte-of-reads.Asked,
+  byte-of-reads.Learnt,
+  write-decimal-below t,
+  write-decimal.Post,
+) (write-decimal-at t) write-decimal.Post
+write-decimal-slice-write-out-2 t c = ?
+
+-- src/lib.rt:58:5
+write-decimal-add-result-2 : (t : ℕ) → write-decimal-lts.Need-add-result-2 (
+  byte-of-reads.Asked,
+  byte-of-reads.Learnt,
+  write-decimal-below t,
+  write-decimal.Post,
+) (write-decimal-at t) write-decimal.Post
+write-decimal-add-result-2 t c = ?
+
+-- src/lib.rt:45:1
+write-decimal-same-length-2 : (t : ℕ) → write-decimal-lts.Need-same-length-2 (
+  byte-of-reads.Asked,
+  byte-of-reads.Learnt,
+  write-decimal-below t,
+  write-decimal.Post,
+) (write-decimal-at t) write-decimal.Post
+write-decimal-same-length-2 t c = ?
+
+-- src/lib.rt:45:1
+write-decimal-returns-3 : (t : ℕ) → write-decimal-lts.Need-returns-3 (
+  byte-of-reads.Asked,
+  byte-of-reads.Learnt,
+  write-decimal-below t,
+  write-decimal.Post,
+) (write-decimal-at t) write-decimal.Post
+write-decimal-returns-3 t c = ?
+
+pub +write-decimal-spec : {M : Type 1} → statement M
++write-decimal-spec = close μ-write-decimal λ t. write-decimal-lts.spec (
+  byte-of-reads.Asked,
+  byte-of-reads.Learnt,
+  write-decimal-below t,
+  write-decimal.Post,
+)
+    (write-decimal-at t)
+    write-decimal.Post
+    (write-decimal-returns t)
+    (write-decimal-add-byte-of t)
+    (write-decimal-byte-of-requires t)
+    (write-decimal-slice-write-out t)
+    (write-decimal-add-result t)
+    (write-decimal-same-length t)
+    (write-decimal-returns-2 t)
+    (write-decimal-sub-write-decimal t)
+    (write-decimal-write-decimal-requires t)
+    (write-decimal-add-byte-of-2 t)
+    (write-decimal-byte-of-requires-2 t)
+    (write-decimal-slice-write-out-2 t)
+    (write-decimal-add-result-2 t)
+    (write-decimal-same-length-2 t)
+    (write-decimal-returns-3 t)
