@@ -72,7 +72,7 @@ write-hex-slice-write-out : (t : ℕ) → write-hex-lts.Need-slice-write-out (
   hex-byte-reads.Learnt,
 ) (write-hex-at t) write-hex.Post
 write-hex-slice-write-out t c = 
-    let h = c .before .before .before .before .before .before .if1 .left in
+    let h = c .before .before .before .before .before .if1 .left in
     let e = c .before .before .before .write-hex .ensures .0 in
     let l = length-hex (c .before .before .before .before .before .before .before .args .k - 1) (c .before .before .before .before .before .before .before .args .n / 16) in
     let s = c .before .before .before .write-hex .kept .0 in
@@ -87,7 +87,7 @@ write-hex-add-result : (t : ℕ) → write-hex-lts.Need-add-result (
   hex-byte-reads.Learnt,
 ) (write-hex-at t) write-hex.Post
 write-hex-add-result t c = 
-    let h = c .before .before .before .before .before .before .if1 .left in
+    let h = c .before .before .before .before .before .if1 .left in
     let e = c .before .before .before .write-hex .ensures .0 in
     let l = length-hex (c .before .before .before .before .before .before .before .args .k - 1) (c .before .before .before .before .before .before .before .args .n / 16) in
     let p = c .before .before .before .before .before .before .before .pre .1 in
@@ -109,7 +109,7 @@ write-hex-returns-2 : (t : ℕ) → write-hex-lts.Need-returns-2 (
   hex-byte-reads.Asked,
   hex-byte-reads.Learnt,
 ) (write-hex-at t) write-hex.Post
-write-hex-returns-2 t c = hex-last _ _ _ _ (c .before .before .before .before .before .before .if1 .left) (c .before .before .before .write-hex .ensures) (c .hex-byte .ensures)
+write-hex-returns-2 t c = hex-last _ _ _ _ (c .before .before .before .before .before .if1 .left) (c .before .before .before .write-hex .ensures) (c .hex-byte .ensures)
 
 pub +write-hex-spec : {M : Type 1} → statement M
 +write-hex-spec = close μ-write-hex λ t. write-hex-lts.spec (

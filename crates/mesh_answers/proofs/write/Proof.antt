@@ -2,11 +2,11 @@
 mod Turn
 use borrow.Author.Needs.{needs}
 use native.Mathlib.Omega.{arith}
-use mathlib.Core.Path.{_≡_}
+use mathlib.Core.Path.{_≡_, _∙_}
 use Prim.Native.Nat.{_≤_, _+_, _-_}
-use lib.ListN.{length, drop}
+use lib.ListN.{length, drop, length-set}
 use lib.Seq.{sets}
-use Rattle.mesh_answers.proofs.write.Proof.Turn.{start, turn, end, same}
+use Rattle.mesh_answers.proofs.write.Proof.Turn.{start, turn, end}
 use Rattle.mesh_answers.proofs.write.Statement.{statement}
 use Rattle.mesh_answers.proofs.write.Tie as tie
 use Rattle.mesh_answers.proofs.write.Reads as reads
@@ -20,7 +20,7 @@ abbrev μ-loop : tie.MeasureT-loop
 
 -- src/lib.rt:18:5
 loop-holds : tie.Need-loop-holds Inv-loop μ-loop
-loop-holds c = (search needs, search needs, start _ _ _)
+loop-holds c = (search needs, search needs, start (c .args .out .now) (c .args .at) (c .args .t .now))
 
 -- src/lib.rt:19:23
 shared-slice-read-out : tie.Need-shared-slice-read-out Inv-loop μ-loop
@@ -44,7 +44,7 @@ loop-less c = search needs
 
 -- src/lib.rt:18:5
 loop-again : tie.Need-loop-again Inv-loop μ-loop
-loop-again c = (search needs, same _ _ _ (c .before .before .loop .inv .1), turn _ _ _ _ _ (c .before .before .loop .inv .2) (c .before .loop-test .taken))
+loop-again c = (search needs, length-set (c .before .before .loop .out) _ _ ∙ c .before .before .loop .inv .1, turn _ _ _ _ _ (c .before .before .loop .inv .2) (c .before .loop-test .taken))
 
 -- src/lib.rt:22:5
 add-result : tie.Need-add-result Inv-loop μ-loop

@@ -5,14 +5,11 @@ use Prim.Native.Nat.{ℕ, suc, _+_, _≤_, _<_}
 use native.Mathlib.Nat.{add-zero}
 use native.Mathlib.Numerals.{add-one}
 use native.Mathlib.Omega.{arith}
-use lib.ListN.{length, getD, set, drop, drop-of-length-le, length-set}
+use lib.ListN.{length, getD, set, drop, drop-of-length-le}
 use lib.Seq.{sets, drop-cons}
 
 pub start : (out : List ℕ) (at : ℕ) (t : List ℕ) → sets out (at + 0) (drop 0 t) ≡ sets out at t
 start out at t = rw add-zero
-
-pub same : (out : List ℕ) (i b : ℕ) {n : ℕ} → length out ≡ n → length (set out i b) ≡ n
-same out i b e = length-set out i b ∙ e
 
 module _ (out₀ : List ℕ) (at : ℕ) (t : List ℕ) (out : List ℕ) (i : ℕ) where
   pub turn : sets out (at + i) (drop i t) ≡ sets out₀ at t → i < length t → sets (set out (at + i) (getD t i 0)) (at + (i + 1)) (drop (i + 1) t) ≡ sets out₀ at t
