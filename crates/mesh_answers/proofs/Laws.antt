@@ -10,7 +10,7 @@ use lib.Seq.{sets}
 use lib.Dec.{ltb}
 use borrow.Author.Tests.{lt-ltb, le-ltb}
 use Rattle.text_numbers.proofs.Stores.{sets-append}
-use Rattle.mesh_answers.specs.Lines.{decimalDigits, hexByte, hexBytes}
+use Rattle.mesh_answers.specs.Lines.{decimalDigits, hexByte, hexBytes, numberField, bitsField, Written}
 
 pub length-hex : (k n : ℕ) → length (hexBytes k n) ≡ k
 unfolding hexBytes
@@ -31,42 +31,55 @@ length-decimal (suc k) n = go (ltb n 10) (length-decimal k (n / 10))
 
 -- no digit
 module _ (out : List ℕ) (at k n : ℕ) (e : k ≡ 0) where
-  pub hex-none : (at ≡ at + length (hexBytes k n)) × (out ≡ sets out at (hexBytes k n))
+  pub hex-none : Written out at (hexBytes k n) at out
   unfolding hexBytes
-  hex-none = (rw (e, add-zero), rw e)
+  hex-none = rw e (record { place = sym (add-zero at); list = refl })
 
-  pub decimal-none : (at ≡ at + length (decimalDigits k n)) × (out ≡ sets out at (decimalDigits k n))
+  pub decimal-none : Written out at (decimalDigits k n) at out
   unfolding decimalDigits
-  decimal-none = (rw (e, add-zero), rw e)
+  decimal-none = rw e (record { place = sym (add-zero at); list = refl })
 
--- a last digit b at i, after the digits xs in the list out′
-last-digit : (out : List ℕ) (at : ℕ) (xs : List ℕ) (b : ℕ) {i : ℕ} {out′ : List ℕ} → i ≡ at + length xs → out′ ≡ sets out at xs
-    → (i + 1 ≡ at + length (xs ++ (b ∷ []))) × (set out′ i b ≡ sets out at (xs ++ (b ∷ [])))
-last-digit out at xs b {i} {out′} ei eo =
-    let a = length-append xs (b ∷ []) in
-    (omega arith, rw (ei, eo) (sym (sets-append out at xs (b ∷ []))))
+-- one run of bytes after another
+pub written-append : {out : List ℕ} {at : ℕ} {xs : List ℕ} {i : ℕ} {o1 : List ℕ} {ys : List ℕ} {j : ℕ} {o2 : List ℕ}
+    → Written out at xs i o1 → Written o1 i ys j o2 → Written out at (xs ++ ys) j o2
+written-append {out} {at} {xs} {i} {o1} {ys} {j} {o2} a b =
+    let ea = a .place in
+    let eb = b .place in
+    let l = length-append xs ys in
+    record {
+      place = omega arith;
+      list = b .list ∙ ap (λ (o : List ℕ). sets o i ys) (a .list) ∙ ap (λ (k : ℕ). sets (sets out at xs) k ys) ea ∙ sym (sets-append out at xs ys)
+    }
+
+-- one byte
+written-byte : (out : List ℕ) (i b : ℕ) → Written out i (b ∷ []) (i + 1) (set out i b)
+written-byte out i b = record { place = refl; list = refl }
 
 module _ (out : List ℕ) (at k n : ℕ) (e : k ≡ 0 → ⊥) where
   from-one : k ≡ suc (k - 1)
   from-one = omega arith
 
-  pub hex-last : {i b : ℕ} {out′ : List ℕ} → (i ≡ at + length (hexBytes (k - 1) (n / 16))) × (out′ ≡ sets out at (hexBytes (k - 1) (n / 16))) → b ≡ hexByte (n % 16)
-      → (i + 1 ≡ at + length (hexBytes k n)) × (set out′ i b ≡ sets out at (hexBytes k n))
+  pub hex-last : {i b : ℕ} {out′ : List ℕ} → Written out at (hexBytes (k - 1) (n / 16)) i out′ → b ≡ hexByte (n % 16) → Written out at (hexBytes k n) (i + 1) (set out′ i b)
   unfolding hexBytes
-  hex-last h eb =
+  hex-last {i} {b} {out′} h eb =
       let ek : hexBytes k n ≡ hexBytes (k - 1) (n / 16) ++ (hexByte (n % 16) ∷ []) = ap (λ (j : ℕ). hexBytes j n) from-one in
-      rw (ek, eb) (last-digit out at (hexBytes (k - 1) (n / 16)) (hexByte (n % 16)) (h .0) (h .1))
+      rw (ek, eb) (written-append h (written-byte out′ i (hexByte (n % 16))))
 
-  pub decimal-one : n < 10 → {b : ℕ} → b ≡ 48 + n → (at + 1 ≡ at + length (decimalDigits k n)) × (set out at b ≡ sets out at (decimalDigits k n))
+  pub decimal-one : n < 10 → {b : ℕ} → b ≡ 48 + n → Written out at (decimalDigits k n) (at + 1) (set out at b)
   unfolding decimalDigits
   decimal-one h eb =
       let ek : decimalDigits k n ≡ (48 + n) ∷ [] = ap (λ (j : ℕ). decimalDigits j n) from-one ∙ (rw (lt-ltb n 10 h)) in
-      rw (ek, eb) (refl, refl)
+      rw (ek, eb) (written-byte out at (48 + n))
 
-  pub decimal-last : 10 ≤ n → {i b : ℕ} {out′ : List ℕ}
-      → (i ≡ at + length (decimalDigits (k - 1) (n / 10))) × (out′ ≡ sets out at (decimalDigits (k - 1) (n / 10))) → b ≡ 48 + n % 10
-      → (i + 1 ≡ at + length (decimalDigits k n)) × (set out′ i b ≡ sets out at (decimalDigits k n))
+  pub decimal-last : 10 ≤ n → {i b : ℕ} {out′ : List ℕ} → Written out at (decimalDigits (k - 1) (n / 10)) i out′ → b ≡ 48 + n % 10
+      → Written out at (decimalDigits k n) (i + 1) (set out′ i b)
   unfolding decimalDigits
-  decimal-last h {i} {b} d eb =
+  decimal-last h {i} {b} {out′} d eb =
       let ek : decimalDigits k n ≡ decimalDigits (k - 1) (n / 10) ++ ((48 + n % 10) ∷ []) = ap (λ (j : ℕ). decimalDigits j n) from-one ∙ (rw (le-ltb n 10 h)) in
-      rw (ek, eb) (last-digit out at (decimalDigits (k - 1) (n / 10)) (48 + n % 10) (d .0) (d .1))
+      rw (ek, eb) (written-append d (written-byte out′ i (48 + n % 10)))
+
+pub length-number : (n : ℕ) → length (numberField n) ≤ 21
+length-number n = let h = length-decimal 20 n in omega arith
+
+pub length-bits : (b : ℕ) → length (bitsField b) ≡ 17
+length-bits b = ap suc (length-hex 16 b)

@@ -5,10 +5,13 @@
 --     stepLine p e f       how many points, edges and faces after the step
 --     atLine x y z         where point 0 is after the step, by the bits of its coordinates
 --     refusedLine n        the ground of a refusal
+--     Written              what a writer leaves
 use mathlib.Core.List.{List, [], _∷_, _++_}
+use mathlib.Core.Path.{_≡_}
 use mathlib.Core.Bool.{cond}
 use Prim.Native.Nat.{ℕ, zero, suc, _+_, _/_, _%_}
-use Prim.Native.String.{String}
+use lib.ListN.{length}
+use lib.Seq.{sets}
 use lib.Dec.{ltb}
 use Rattle.text_numbers.specs.Form.{bytes}
 
@@ -27,18 +30,31 @@ unfoldable pub hexBytes : ℕ → ℕ → List ℕ
 hexBytes zero n = []
 hexBytes (suc k) n = hexBytes k (n / 16) ++ (hexByte (n % 16) ∷ [])
 
--- three numbers after a head
-abbrev pub countsLine : List ℕ → ℕ → ℕ → ℕ → List ℕ
-countsLine t p e f = t ++ (decimalBytes p ++ (bytes " " ++ (decimalBytes e ++ (bytes " " ++ (decimalBytes f ++ bytes "]\n")))))
+-- a space and a number
+abbrev pub numberField : ℕ → List ℕ
+numberField n = bytes " " ++ decimalBytes n
+
+-- a space and the bits of a binary64
+abbrev pub bitsField : ℕ → List ℕ
+bitsField b = bytes " " ++ hexBytes 16 b
+
+-- three fields after a head
+abbrev pub threeFields : List ℕ → List ℕ → List ℕ → List ℕ → List ℕ
+threeFields t a b c = (((t ++ a) ++ b) ++ c) ++ bytes "]\n"
 
 abbrev pub meshLine : ℕ → ℕ → ℕ → List ℕ
-meshLine p e f = countsLine (bytes "[mesh ") p e f
+meshLine p e f = threeFields (bytes "[mesh") (numberField p) (numberField e) (numberField f)
 
 abbrev pub stepLine : ℕ → ℕ → ℕ → List ℕ
-stepLine p e f = countsLine (bytes "[step ") p e f
+stepLine p e f = threeFields (bytes "[step") (numberField p) (numberField e) (numberField f)
 
 abbrev pub atLine : ℕ → ℕ → ℕ → List ℕ
-atLine x y z = bytes "[at 0 " ++ (hexBytes 16 x ++ (bytes " " ++ (hexBytes 16 y ++ (bytes " " ++ (hexBytes 16 z ++ bytes "]\n")))))
+atLine x y z = threeFields (bytes "[at 0") (bitsField x) (bitsField y) (bitsField z)
 
 abbrev pub refusedLine : ℕ → List ℕ
-refusedLine n = bytes "[refused " ++ (decimalBytes n ++ bytes "]\n")
+refusedLine n = (bytes "[refused" ++ numberField n) ++ bytes "]\n"
+
+-- the bytes xs stand in the list out′ from a place on, all else is as in out, and r is the place after them
+pub record Written (out : List ℕ) (at : ℕ) (xs : List ℕ) (r : ℕ) (out′ : List ℕ) : Type 0 where
+  pub place : r ≡ at + length xs
+  pub list : out′ ≡ sets out at xs

@@ -141,7 +141,7 @@ write-decimal-slice-write-out-2 : (t : ℕ) → write-decimal-lts.Need-slice-wri
 ) (write-decimal-at t) write-decimal.Post
 write-decimal-slice-write-out-2 t c = 
     let h = c .before .before .before .before .before .before .if1 .left in
-    let e = c .before .before .before .write-decimal .ensures .0 in
+    let e = c .before .before .before .write-decimal .ensures .place in
     let l = length-decimal (c .before .before .before .before .before .before .before .before .args .k - 1) (c .before .before .before .before .before .before .before .before .args .n / 10) in
     let s = c .before .before .before .write-decimal .kept .0 in
     let p = c .before .before .before .before .before .before .before .before .pre .1 in
@@ -156,7 +156,7 @@ write-decimal-add-result-2 : (t : ℕ) → write-decimal-lts.Need-add-result-2 (
 ) (write-decimal-at t) write-decimal.Post
 write-decimal-add-result-2 t c = 
     let h = c .before .before .before .before .before .before .if1 .left in
-    let e = c .before .before .before .write-decimal .ensures .0 in
+    let e = c .before .before .before .write-decimal .ensures .place in
     let l = length-decimal (c .before .before .before .before .before .before .before .before .args .k - 1) (c .before .before .before .before .before .before .before .before .args .n / 10) in
     let s = c .before .before .before .write-decimal .kept .0 in
     let p = c .before .before .before .before .before .before .before .before .pre .1 in

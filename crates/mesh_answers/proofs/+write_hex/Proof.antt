@@ -73,7 +73,7 @@ write-hex-slice-write-out : (t : ℕ) → write-hex-lts.Need-slice-write-out (
 ) (write-hex-at t) write-hex.Post
 write-hex-slice-write-out t c = 
     let h = c .before .before .before .before .before .if1 .left in
-    let e = c .before .before .before .write-hex .ensures .0 in
+    let e = c .before .before .before .write-hex .ensures .place in
     let l = length-hex (c .before .before .before .before .before .before .before .args .k - 1) (c .before .before .before .before .before .before .before .args .n / 16) in
     let s = c .before .before .before .write-hex .kept .0 in
     let p = c .before .before .before .before .before .before .before .pre .1 in
@@ -88,7 +88,7 @@ write-hex-add-result : (t : ℕ) → write-hex-lts.Need-add-result (
 ) (write-hex-at t) write-hex.Post
 write-hex-add-result t c = 
     let h = c .before .before .before .before .before .if1 .left in
-    let e = c .before .before .before .write-hex .ensures .0 in
+    let e = c .before .before .before .write-hex .ensures .place in
     let l = length-hex (c .before .before .before .before .before .before .before .args .k - 1) (c .before .before .before .before .before .before .before .args .n / 16) in
     let p = c .before .before .before .before .before .before .before .pre .1 in
     omega arith

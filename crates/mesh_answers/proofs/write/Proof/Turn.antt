@@ -7,6 +7,7 @@ use native.Mathlib.Numerals.{add-one}
 use native.Mathlib.Omega.{arith}
 use lib.ListN.{length, getD, set, drop, drop-of-length-le}
 use lib.Seq.{sets, drop-cons}
+use Rattle.mesh_answers.specs.Lines.{Written}
 
 pub start : (out : List ℕ) (at : ℕ) (t : List ℕ) → sets out (at + 0) (drop 0 t) ≡ sets out at t
 start out at t = rw add-zero
@@ -19,5 +20,5 @@ module _ (out₀ : List ℕ) (at : ℕ) (t : List ℕ) (out : List ℕ) (i : ℕ
       ∙ ap (λ (j : ℕ). sets (set out (at + i) (getD t i 0)) j (drop (suc i) t)) e
       ∙ (rw (drop-cons t i 0 h) at inv)
 
-  pub end : i ≤ length t → sets out (at + i) (drop i t) ≡ sets out₀ at t → length t ≤ i → (at + i ≡ at + length t) × (out ≡ sets out₀ at t)
-  end h inv g = (omega arith, rw (drop-of-length-le t g) at inv)
+  pub end : i ≤ length t → sets out (at + i) (drop i t) ≡ sets out₀ at t → length t ≤ i → Written out₀ at t (at + i) out
+  end h inv g = record { place = omega arith; list = rw (drop-of-length-le t g) at inv }
