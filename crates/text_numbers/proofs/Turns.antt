@@ -15,10 +15,6 @@ pub given-pure : {A B R : Type 0} (g : B → ℕ → R) (d : R) (f : A → B) (x
 given-pure g d f (found a n) = refl
 given-pure g d f none = refl
 
-pub given-same : {A R : Type 0} (g h : A → ℕ → R) (d : R) (x : Found A) → ((a : A) (n : ℕ) → g a n ≡ h a n) → given g d x ≡ given h d x
-given-same g h d (found a n) e = e a n
-given-same g h d none e = refl
-
 pub number-is : (x : Found ℕ) {v n : ℕ} → number x ≡ Number.Is v n → x ≡ found v n
 number-is (found v n) e = cc
 number-is none e = cc
@@ -66,3 +62,13 @@ module _ (s : List ℕ) where
     unfolding many
     many-stop zero e = refl
     many-stop (suc k) e = rw e
+
+module _ (s : List ℕ) (v i : ℕ) where
+  pub digits-turn : (k : ℕ) → digitValue (getD s i 0) < 10 → digits s (suc k) v i ≡ digits s k (v * 10 + digitValue (getD s i 0)) (i + 1)
+  unfolding digits
+  digits-turn k h = rw (lt-ltb _ _ h, digit-found s 10 i h)
+
+  pub digits-stop : (k : ℕ) → 10 ≤ digitValue (getD s i 0) → digits s k v i ≡ found v i
+  unfolding digits
+  digits-stop zero h = refl
+  digits-stop (suc k) h = rw (le-ltb _ _ h)

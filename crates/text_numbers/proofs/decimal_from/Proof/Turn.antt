@@ -15,7 +15,7 @@ use Rattle.text_numbers.specs.Numbers.{number}
 use Rattle.text_numbers.specs.declared.Number.{Number}
 use Rattle.text_numbers.specs.declared.Number.the-variants as Number
 use Rattle.text_numbers.proofs.Laws.{digit-inside}
-use Rattle.text_numbers.proofs.Turns.{digit-found}
+use Rattle.text_numbers.proofs.Turns.{digits-turn, digits-stop}
 
 abbrev pub rest : List ℕ → ℕ → ℕ → Form ℕ
 rest s k v = digits s k v >>= λ w. choose (ltb w 4294967296) (pure w) (λ at. none)
@@ -23,16 +23,6 @@ rest s k v = digits s k v >>= λ w. choose (ltb w 4294967296) (pure w) (λ at. n
 pub rest-start : (s : List ℕ) (first at : ℕ) → number (rest s (length s - (at - at)) first at) ≡ number (decimalFrom s first at)
 unfolding decimalFrom
 rest-start s first at = let e : length s - (at - at) ≡ length s = omega arith in rw e
-
-module _ (s : List ℕ) (v i : ℕ) where
-  digits-turn : (k : ℕ) → digitValue (getD s i 0) < 10 → digits s (suc k) v i ≡ digits s k (v * 10 + digitValue (getD s i 0)) (i + 1)
-  unfolding digits
-  digits-turn k h = rw (lt-ltb _ _ h, digit-found s 10 i h)
-
-  digits-stop : (k : ℕ) → 10 ≤ digitValue (getD s i 0) → digits s k v i ≡ found v i
-  unfolding digits
-  digits-stop zero h = refl
-  digits-stop (suc k) h = rw (le-ltb _ _ h)
 
 -- digits only make a number larger
 digits-grow : (s : List ℕ) (k v i w n : ℕ) → digits s k v i ≡ found w n → v ≤ w
