@@ -48,7 +48,7 @@ written-append {out} {at} {xs} {i} {o1} {ys} {j} {o2} a b =
     let l = length-append xs ys in
     record {
       place = omega arith;
-      list = b .list ∙ ap (λ (o : List ℕ). sets o i ys) (a .list) ∙ ap (λ (k : ℕ). sets (sets out at xs) k ys) ea ∙ sym (sets-append out at xs ys)
+      list = b .list ∙ ap (λ (o : List ℕ). sets o i ys) (a .list) ∙ ap (λ (k : ℕ). sets (sets out at xs) k ys) ea ∙ sym (sets-append out at xs ys);
     }
 
 -- one byte

@@ -177,12 +177,12 @@ module _ (s : List ℕ) where
       let z : 0 * 10 + digitValue b ≡ digitValue b = omega arith in
       let en : at + 1 + length xs ≡ at + suc (length xs) = omega arith in
       let all : digits s (length s) (digitValue b) (at + 1) ≡ found n (at + suc (length xs)) =
-          ap (λ (m : ℕ). digits s m (digitValue b) (at + 1)) fuel
-          ∙ digits-read xs (at + 1) (digitValue b) k (d .1) es
-          ∙ ap (λ (w : ℕ). digits s k (value 10 w (map digitValue xs)) (at + 1 + length xs)) (sym z)
-          ∙ ap (λ (w : ℕ). digits s k w (at + 1 + length xs)) ev
-          ∙ ap (λ (m : ℕ). digits s k n m) en
-          ∙ digits-stop s n (at + suc (length xs)) k g in
+      ap (λ (m : ℕ). digits s m (digitValue b) (at + 1)) fuel
+      ∙ digits-read xs (at + 1) (digitValue b) k (d .1) es
+      ∙ ap (λ (w : ℕ). digits s k (value 10 w (map digitValue xs)) (at + 1 + length xs)) (sym z)
+      ∙ ap (λ (w : ℕ). digits s k w (at + 1 + length xs)) ev
+      ∙ ap (λ (m : ℕ). digits s k n m) en
+      ∙ digits-stop s n (at + suc (length xs)) k g in
       rw (digit-found s 10 at db, eb, ne-eqb (digitValue b) 0 nz, all, lt-ltb n 4294967296 hn)
 
   zero-read : (at : ℕ) → stands s at (48 ∷ []) ≡ true → decimal s at ≡ found 0 (at + 1)

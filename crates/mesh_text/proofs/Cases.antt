@@ -20,10 +20,10 @@ cube = refl
 
 -- no points, no faces; a face and no point; empty sides; 4294967295, as a listed and as a first point; a NaN, which is of the form
 good : map sizes (
-    "[mesh 1]\n[end]\n" ∷ 
-    "[mesh 1]\n[face [0 [0 3ff0000000000000]] [0] [0] [0]]\n[end]\n" ∷ 
-    "[mesh 1]\n[face [0] [7] [0] [0]]\n[end]\n" ∷ 
-    "[mesh 1]\n[face [4294967295 [4294967295 3ff0000000000000]] [0] [0] [0]]\n[end]\n" ∷ 
+    "[mesh 1]\n[end]\n" ∷
+    "[mesh 1]\n[face [0 [0 3ff0000000000000]] [0] [0] [0]]\n[end]\n" ∷
+    "[mesh 1]\n[face [0] [7] [0] [0]]\n[end]\n" ∷
+    "[mesh 1]\n[face [4294967295 [4294967295 3ff0000000000000]] [0] [0] [0]]\n[end]\n" ∷
     "[mesh 1]\n[point 7ff8000000000000 7ff0000000000000 fff0000000000000]\n[end]\n" ∷ [])
     ≡ (0 ∷ 0 ∷ 0 ∷ []) ∷ (0 ∷ 1 ∷ 1 ∷ []) ∷ (0 ∷ 1 ∷ 0 ∷ []) ∷ (0 ∷ 1 ∷ 1 ∷ []) ∷ (1 ∷ 0 ∷ 0 ∷ []) ∷ []
 unfolding sizes digitValue value stands literal digit bits digits decimalFrom decimal many coordinate point listed side face ends mesh text times flat
@@ -35,30 +35,30 @@ good = refl
 -- with no interval; a leading zero; a leading zero of a first point; 4294967296 as a listed point; 4294967296 as a first point; a
 -- number of twenty digits; a sign
 bad : map sizes (
-    "" ∷ 
-    "[" ∷ 
-    "[mesh 1]\n" ∷ 
-    "[mesh 1]\n[end]" ∷ 
-    "[mesh 1]\n[end]\n\n" ∷ 
-    "[mesh 2]\n[end]\n" ∷ 
-    "[mesh 10]\n[end]\n" ∷ 
-    "[mesh 1]\r\n[end]\r\n" ∷ 
-    "[mesh  1]\n[end]\n" ∷ 
-    "[mesh 1]\n[point 3ff0000000000000 bff0000000000000" ∷ 
-    "[mesh 1]\n[point 3FF0000000000000 bff0000000000000 0000000000000000]\n[end]\n" ∷ 
-    "[mesh 1]\n[point 3ff000000000000 bff0000000000000 0000000000000000]\n[end]\n" ∷ 
-    "[mesh 1]\n[point 3ff00000000000000 bff0000000000000 0000000000000000]\n[end]\n" ∷ 
-    "[mesh 1]\n[point 3ff0000000000000 bff0000000000000]\n[end]\n" ∷ 
-    "[mesh 1]\n[face [0 [0 3ff0000000000000]] [0] [0] [0]]\n[point 3ff0000000000000 bff0000000000000 0000000000000000]\n[end]\n" ∷ 
-    "[mesh 1]\n[face [0] [0] [0]]\n[end]\n" ∷ 
-    "[mesh 1]\n[face [0] [0] [0] [0] [0]]\n[end]\n" ∷ 
-    "[mesh 1]\n[face [] [0] [0] [0]]\n[end]\n" ∷ 
-    "[mesh 1]\n[face [0 [1]] [0] [0] [0]]\n[end]\n" ∷ 
-    "[mesh 1]\n[face [0 [01 3ff0000000000000]] [0] [0] [0]]\n[end]\n" ∷ 
-    "[mesh 1]\n[face [00 [0 3ff0000000000000]] [0] [0] [0]]\n[end]\n" ∷ 
-    "[mesh 1]\n[face [0 [4294967296 3ff0000000000000]] [0] [0] [0]]\n[end]\n" ∷ 
-    "[mesh 1]\n[face [4294967296 [0 3ff0000000000000]] [0] [0] [0]]\n[end]\n" ∷ 
-    "[mesh 1]\n[face [0 [18446744073709551616 3ff0000000000000]] [0] [0] [0]]\n[end]\n" ∷ 
+    "" ∷
+    "[" ∷
+    "[mesh 1]\n" ∷
+    "[mesh 1]\n[end]" ∷
+    "[mesh 1]\n[end]\n\n" ∷
+    "[mesh 2]\n[end]\n" ∷
+    "[mesh 10]\n[end]\n" ∷
+    "[mesh 1]\r\n[end]\r\n" ∷
+    "[mesh  1]\n[end]\n" ∷
+    "[mesh 1]\n[point 3ff0000000000000 bff0000000000000" ∷
+    "[mesh 1]\n[point 3FF0000000000000 bff0000000000000 0000000000000000]\n[end]\n" ∷
+    "[mesh 1]\n[point 3ff000000000000 bff0000000000000 0000000000000000]\n[end]\n" ∷
+    "[mesh 1]\n[point 3ff00000000000000 bff0000000000000 0000000000000000]\n[end]\n" ∷
+    "[mesh 1]\n[point 3ff0000000000000 bff0000000000000]\n[end]\n" ∷
+    "[mesh 1]\n[face [0 [0 3ff0000000000000]] [0] [0] [0]]\n[point 3ff0000000000000 bff0000000000000 0000000000000000]\n[end]\n" ∷
+    "[mesh 1]\n[face [0] [0] [0]]\n[end]\n" ∷
+    "[mesh 1]\n[face [0] [0] [0] [0] [0]]\n[end]\n" ∷
+    "[mesh 1]\n[face [] [0] [0] [0]]\n[end]\n" ∷
+    "[mesh 1]\n[face [0 [1]] [0] [0] [0]]\n[end]\n" ∷
+    "[mesh 1]\n[face [0 [01 3ff0000000000000]] [0] [0] [0]]\n[end]\n" ∷
+    "[mesh 1]\n[face [00 [0 3ff0000000000000]] [0] [0] [0]]\n[end]\n" ∷
+    "[mesh 1]\n[face [0 [4294967296 3ff0000000000000]] [0] [0] [0]]\n[end]\n" ∷
+    "[mesh 1]\n[face [4294967296 [0 3ff0000000000000]] [0] [0] [0]]\n[end]\n" ∷
+    "[mesh 1]\n[face [0 [18446744073709551616 3ff0000000000000]] [0] [0] [0]]\n[end]\n" ∷
     "[mesh 1]\n[face [0 [-1 3ff0000000000000]] [0] [0] [0]]\n[end]\n" ∷ [])
     ≡ replicate 25 []
 unfolding sizes digitValue value stands literal digit bits digits decimalFrom decimal many coordinate point listed side face ends mesh text times flat

@@ -78,11 +78,11 @@ pub record Lists : Type 0 where
 -- each list with what the text stands for at its front
 abbrev pub filled : Mesh → Lists → Lists
 filled m l = record {
-    coordinates = sets (l .coordinates) 0 (coordinates m);
-    lengths = sets (l .lengths) 0 (lengths m);
-    listed = sets (l .listed) 0 (listedPoints m);
-    intervals = sets (l .intervals) 0 (intervals m)
-  }
+  coordinates = sets (l .coordinates) 0 (coordinates m);
+  lengths = sets (l .lengths) 0 (lengths m);
+  listed = sets (l .listed) 0 (listedPoints m);
+  intervals = sets (l .intervals) 0 (intervals m);
+}
 
 -- the counts c are within the limits and within the rooms of the four lists, and a length fits a word of 32 bits
 unfoldable pub within : Counts → Counts → ℕ → ℕ → ℕ → ℕ → Bool
@@ -98,9 +98,9 @@ pub record Answer : Type 0 where
 unfoldable pub readInto : List ℕ → Counts → Lists → Answer
 readInto s limits l =
     given (λ m n.
-      cond (within (counts m) limits (length (l .coordinates)) (length (l .lengths)) (length (l .listed)) (length (l .intervals)))
-      (record { reading = Reading.Read (counts m); lists = filled m l })
-      (record { reading = Reading.OverLimits; lists = l }))
+    cond (within (counts m) limits (length (l .coordinates)) (length (l .lengths)) (length (l .listed)) (length (l .intervals)))
+    (record { reading = Reading.Read (counts m); lists = filled m l })
+    (record { reading = Reading.OverLimits; lists = l }))
     (record { reading = Reading.NotText; lists = l })
     (text s)
 

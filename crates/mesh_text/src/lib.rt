@@ -16,7 +16,6 @@ ghost use Rattle.text_numbers.specs.Numbers.{number};
 ghost use Rattle.mesh_text.specs.Reading.{place, run, listing, linesOf, stored, AtPlace, AtRun, AtLines};
 ghost use Rattle.mesh_text.specs.Reading.{totalOf, coordinates, lengthWords, listedPoints, intervals, AtTotal};
 ghost use Rattle.mesh_text.specs.Reading.{within, Answer, readInto};
-
 use text_numbers::Number;
 use text_numbers::bits;
 use text_numbers::decimal;
@@ -212,7 +211,15 @@ fn side(s: &[u8], at: usize, ps: &mut [u32], ds: &mut [f64], n: usize) -> Run
 }
 
 // The four sides of a face: their lengths stored from f on, their points and intervals from n on, and how many points they list.
-fn sides(s: &[u8], at: usize, ls: &mut [u32], f: usize, ps: &mut [u32], ds: &mut [f64], n: usize) -> Run
+fn sides(
+    s: &[u8],
+    at: usize,
+    ls: &mut [u32],
+    f: usize,
+    ps: &mut [u32],
+    ds: &mut [f64],
+    n: usize,
+) -> Run
     requires { ⌜ (at ≤ length (now s)) × ((f ≤ at) × (n ≤ at)) ⌝ }
     ensures run { λ r. ⌜ r ≡ run listedIn (times 4 (side (now (s .entry))) at) ⌝ }
     ensures lengths { λ r. ⌜ AtRun r (now (ls .exit) ≡ stored (map lengthWord) (now (ls .entry)) f (times 4 (side (now (s .entry))) at)) ⌝ }
@@ -235,7 +242,15 @@ fn sides(s: &[u8], at: usize, ls: &mut [u32], f: usize, ps: &mut [u32], ds: &mut
 }
 
 // A face line after `[face`: its four sides and the end of the line.
-fn face(s: &[u8], at: usize, ls: &mut [u32], f: usize, ps: &mut [u32], ds: &mut [f64], n: usize) -> Run
+fn face(
+    s: &[u8],
+    at: usize,
+    ls: &mut [u32],
+    f: usize,
+    ps: &mut [u32],
+    ds: &mut [f64],
+    n: usize,
+) -> Run
     requires { ⌜ (at ≤ length (now s)) × ((f ≤ at) × (n ≤ at)) ⌝ }
     ensures run { λ r. ⌜ r ≡ run listedIn (face (now (s .entry)) at) ⌝ }
     ensures lengths { λ r. ⌜ AtRun r (now (ls .exit) ≡ stored (map lengthWord) (now (ls .entry)) f (face (now (s .entry)) at)) ⌝ }

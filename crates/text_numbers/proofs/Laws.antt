@@ -146,7 +146,7 @@ module _ (s : List ℕ) where
   takes-digits (suc k) v at =
       takes-choose s 0 _ (ltb (digitValue (getD s at 0)) 10) _ _
       (takes-bind s 0 (λ d. 1) _ (digit s 10) _ (takes-digit 10 (omega arith)) λ d b h a n e.
-        let r = takes-digits k (v * 10 + d) b h a n e in omega arith)
+      let r = takes-digits k (v * 10 + d) b h a n e in omega arith)
       (takes-pure s 0 _ v (omega arith))
       at
 
@@ -185,6 +185,7 @@ module _ (s : List ℕ) where
       last : (b : Bool) (w m : ℕ) → ltb w 4294967296 ≡ b → choose b (pure w) (λ k. none) m ≡ found v n → v < 4294967296
       last true w m h k = let wv : w ≡ v = cc in let l = ltb-true w 4294967296 h in omega arith
       last false w m h k = let z : _≡_ {A = ℕ} 0 1 = cc in omega arith
+
       first : (d m : ℕ) (b : Bool) → choose b (pure 0) (digits s (length s) d >>= λ w. choose (ltb w 4294967296) (pure w) (λ k. none)) m ≡ found v n → v < 4294967296
       first d m true h = let zv : 0 ≡ v = cc in omega arith
       first d m false h =

@@ -34,7 +34,6 @@ onward f (found a n) = f a n
 onward f none = none
 
 infixl 10 _>>=_ _>>_
-
 abbrev pub _>>=_ : {A B : Type 0} → Form A → (A → Form B) → Form B
 _>>=_ p f = λ at. onward f (p at)
 
@@ -70,11 +69,11 @@ module _ (s : List ℕ) where
   unfoldable pub many : {A : Type 0} → List ℕ → Form A → ℕ → Form (List A)
   many t p zero = pure []
   many t p (suc k) = λ at.
-    choose (stands at t)
-    (do
-      literal t
-      a ← p
-      rest ← many t p k
-      pure (a ∷ rest))
-    (pure [])
-    at
+      choose (stands at t)
+      (do
+        literal t
+        a ← p
+        rest ← many t p k
+        pure (a ∷ rest))
+      (pure [])
+      at

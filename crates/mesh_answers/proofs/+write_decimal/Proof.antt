@@ -108,7 +108,7 @@ write-decimal-write-decimal-requires : (t : ℕ) → write-decimal-lts.Need-writ
   write-decimal-below t,
   write-decimal.Post,
 ) (write-decimal-at t) write-decimal.Post
-write-decimal-write-decimal-requires t c κs = 
+write-decimal-write-decimal-requires t c κs =
     let h = c .before .before .if1 .left in
     let m = c .before .before .before .before .pre .0 in
     let p = c .before .before .before .before .pre .1 in
@@ -139,7 +139,7 @@ write-decimal-slice-write-out-2 : (t : ℕ) → write-decimal-lts.Need-slice-wri
   write-decimal-below t,
   write-decimal.Post,
 ) (write-decimal-at t) write-decimal.Post
-write-decimal-slice-write-out-2 t c = 
+write-decimal-slice-write-out-2 t c =
     let h = c .before .before .before .before .before .before .if1 .left in
     let e = c .before .before .before .write-decimal .ensures .place in
     let l = length-decimal (c .before .before .before .before .before .before .before .before .args .k - 1) (c .before .before .before .before .before .before .before .before .args .n / 10) in
@@ -154,7 +154,7 @@ write-decimal-add-result-2 : (t : ℕ) → write-decimal-lts.Need-add-result-2 (
   write-decimal-below t,
   write-decimal.Post,
 ) (write-decimal-at t) write-decimal.Post
-write-decimal-add-result-2 t c = 
+write-decimal-add-result-2 t c =
     let h = c .before .before .before .before .before .before .if1 .left in
     let e = c .before .before .before .write-decimal .ensures .place in
     let l = length-decimal (c .before .before .before .before .before .before .before .before .args .k - 1) (c .before .before .before .before .before .before .before .before .args .n / 10) in

@@ -49,7 +49,7 @@ write-hex-write-hex-requires : (t : ℕ) → write-hex-lts.Need-write-hex-requir
   hex-byte-reads.Asked,
   hex-byte-reads.Learnt,
 ) (write-hex-at t) write-hex.Post
-write-hex-write-hex-requires t c κs = 
+write-hex-write-hex-requires t c κs =
     let h = c .before .if1 .left in
     let m = c .before .before .before .pre .0 in
     let p = c .before .before .before .pre .1 in
@@ -71,7 +71,7 @@ write-hex-slice-write-out : (t : ℕ) → write-hex-lts.Need-slice-write-out (
   hex-byte-reads.Asked,
   hex-byte-reads.Learnt,
 ) (write-hex-at t) write-hex.Post
-write-hex-slice-write-out t c = 
+write-hex-slice-write-out t c =
     let h = c .before .before .before .before .before .if1 .left in
     let e = c .before .before .before .write-hex .ensures .place in
     let l = length-hex (c .before .before .before .before .before .before .before .args .k - 1) (c .before .before .before .before .before .before .before .args .n / 16) in
@@ -86,7 +86,7 @@ write-hex-add-result : (t : ℕ) → write-hex-lts.Need-add-result (
   hex-byte-reads.Asked,
   hex-byte-reads.Learnt,
 ) (write-hex-at t) write-hex.Post
-write-hex-add-result t c = 
+write-hex-add-result t c =
     let h = c .before .before .before .before .before .if1 .left in
     let e = c .before .before .before .write-hex .ensures .place in
     let l = length-hex (c .before .before .before .before .before .before .before .args .k - 1) (c .before .before .before .before .before .before .before .args .n / 16) in

@@ -23,7 +23,7 @@ write-bits-requires c κs = search needs
 
 -- src/lib.rt:124:9
 write-bits-requires-2 : tie.Need-write-bits-requires-2
-write-bits-requires-2 c κs = 
+write-bits-requires-2 c κs =
     let p = c .before .before .before .before .before .before .before .before .before .before .before .pre in
     let e0 = c .before .before .before .before .before .before .before .write .ensures .place in
     let k0 = c .before .before .before .before .before .before .before .write .kept .0 in
@@ -34,7 +34,7 @@ write-bits-requires-2 c κs =
 
 -- src/lib.rt:125:9
 write-bits-requires-3 : tie.Need-write-bits-requires-3
-write-bits-requires-3 c κs = 
+write-bits-requires-3 c κs =
     let p = c .before .before .before .before .before .before .before .before .before .before .before .before .before .before .before .pre in
     let e0 = c .before .before .before .before .before .before .before .before .before .before .before .write .ensures .place in
     let k0 = c .before .before .before .before .before .before .before .before .before .before .before .write .kept .0 in
@@ -52,7 +52,7 @@ slice-aggregate-write-2 c = search needs
 
 -- src/lib.rt:126:5
 write-requires-2 : tie.Need-write-requires-2
-write-requires-2 c κs = 
+write-requires-2 c κs =
     let p = c .before .before .before .before .before .before .before .before .before .before .before .before .before .before .before .before .before .before .before .before .pre in
     let e0 = c .before .before .before .before .before .before .before .before .before .before .before .before .before .before .before .before .write .ensures .place in
     let k0 = c .before .before .before .before .before .before .before .before .before .before .before .before .before .before .before .before .write .kept .0 in

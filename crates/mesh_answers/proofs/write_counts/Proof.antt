@@ -19,7 +19,7 @@ write-number-requires c κs = search needs
 
 -- src/lib.rt:96:9
 write-number-requires-2 : tie.Need-write-number-requires-2
-write-number-requires-2 c κs = 
+write-number-requires-2 c κs =
     let p = c .before .before .before .before .before .before .before .before .before .before .before .pre in
     let e0 = c .before .before .before .before .before .before .before .write .ensures .place in
     let k0 = c .before .before .before .before .before .before .before .write .kept .0 in
@@ -30,7 +30,7 @@ write-number-requires-2 c κs =
 
 -- src/lib.rt:97:9
 write-number-requires-3 : tie.Need-write-number-requires-3
-write-number-requires-3 c κs = 
+write-number-requires-3 c κs =
     let p = c .before .before .before .before .before .before .before .before .before .before .before .before .before .before .before .pre in
     let e0 = c .before .before .before .before .before .before .before .before .before .before .before .write .ensures .place in
     let k0 = c .before .before .before .before .before .before .before .before .before .before .before .write .kept .0 in
@@ -48,7 +48,7 @@ slice-aggregate-write c = search needs
 
 -- src/lib.rt:98:5
 write-requires-2 : tie.Need-write-requires-2
-write-requires-2 c κs = 
+write-requires-2 c κs =
     let p = c .before .before .before .before .before .before .before .before .before .before .before .before .before .before .before .before .before .before .before .before .pre in
     let e0 = c .before .before .before .before .before .before .before .before .before .before .before .before .before .before .before .before .write .ensures .place in
     let k0 = c .before .before .before .before .before .before .before .before .before .before .before .before .before .before .before .before .write .kept .0 in

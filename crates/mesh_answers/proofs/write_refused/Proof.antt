@@ -27,7 +27,7 @@ slice-aggregate-write-2 c = search needs
 
 -- src/lib.rt:136:5
 write-requires-2 : tie.Need-write-requires-2
-write-requires-2 c κs = 
+write-requires-2 c κs =
     let p = c .before .before .before .before .before .before .before .before .before .before .before .before .pre in
     let e0 = c .before .before .before .before .before .before .before .before .write .ensures .place in
     let k0 = c .before .before .before .before .before .before .before .before .write .kept .0 in

@@ -13,7 +13,7 @@ use Rattle.text_numbers.proofs.bits.Statement.{statement}
 use Rattle.text_numbers.proofs.bits.Tie as tie
 
 abbrev Inv-loop : tie.InvT-loop
-Inv-loop s at v₀ i₀ k₀ v i k = 
+Inv-loop s at v₀ i₀ k₀ v i k =
     (k ≤ 16) × (i ≤ length s) × (v < 16 ^ k) × (numberOf v (times (16 - k) (digit s 16) i) ≡ number (bits s at))
 
 abbrev μ-loop : tie.MeasureT-loop
@@ -34,11 +34,12 @@ add-v : tie.Need-add-v Inv-loop μ-loop
 add-v c = record { fits = next-fits _ _ _ (c .before .before .before .loop-test .taken) (c .before .before .before .before .loop .inv .2) (c .if1 .left) }
 
 loop-again : tie.Need-loop-again Inv-loop μ-loop
-loop-again c = 
-    (search needs
-    , bits-inside (c .before .before .before .before .before .before .args .s .now) (c .before .before .before .before .loop .i) (c .before .digit-value .ensures) (c .before .before .byte .ensures) (c .if1 .left)
-    , next-below _ _ _ (c .before .before .before .before .loop .inv .2) (c .if1 .left)
-    , bits-turn _ _ _ _ _ (c .before .before .before .before .loop .inv .3) (c .before .before .before .loop-test .taken) (c .before .digit-value .ensures) (c .before .before .byte .ensures) (c .if1 .left))
+loop-again c = (
+  search needs,
+  bits-inside (c .before .before .before .before .before .before .args .s .now) (c .before .before .before .before .loop .i) (c .before .digit-value .ensures) (c .before .before .byte .ensures) (c .if1 .left),
+  next-below _ _ _ (c .before .before .before .before .loop .inv .2) (c .if1 .left),
+  bits-turn _ _ _ _ _ (c .before .before .before .before .loop .inv .3) (c .before .before .before .loop-test .taken) (c .before .digit-value .ensures) (c .before .before .byte .ensures) (c .if1 .left),
+)
 
 returns-2 : tie.Need-returns-2 Inv-loop μ-loop
 returns-2 c = bits-end _ _ _ _ _ (c .before .loop .inv .3) (c .loop-test .left)

@@ -13,7 +13,7 @@ use Rattle.text_numbers.proofs.decimal_from.Statement.{statement}
 use Rattle.text_numbers.proofs.decimal_from.Tie as tie
 
 abbrev Inv-loop : tie.InvT-loop
-Inv-loop s at first v₀ i₀ v i = 
+Inv-loop s at first v₀ i₀ v i =
     (at ≤ i) × (i ≤ length s) × (number (rest s (length s - (i - at)) v i) ≡ number (decimalFrom s first at))
 
 abbrev μ-loop : tie.MeasureT-loop
@@ -26,16 +26,17 @@ returns : tie.Need-returns Inv-loop μ-loop
 returns c = rest-stop _ _ _ _ _ (c .before .before .before .before .loop .inv .2) (c .before .digit-value .ensures) (c .before .before .byte .ensures) (c .if1 .taken) (c .before .before .before .loop-test .taken)
 
 loop-less : tie.Need-loop-less Inv-loop μ-loop
-loop-less c = 
+loop-less c =
     let h = rest-inside (c .before .before .before .before .before .before .args .s .now) (c .before .before .before .before .loop .i) (c .before .digit-value .ensures) (c .before .before .byte .ensures) (c .if1 .left) in
     omega arith
 
 loop-again : tie.Need-loop-again Inv-loop μ-loop
-loop-again c = 
-    let h = rest-inside (c .before .before .before .before .before .before .args .s .now) (c .before .before .before .before .loop .i) (c .before .digit-value .ensures) (c .before .before .byte .ensures) (c .if1 .left) in
-    (omega arith
-    , omega arith
-    , rest-turn _ _ _ _ _ (c .before .before .before .before .loop .inv .2) (c .before .before .before .before .loop .inv .0) h (c .before .digit-value .ensures) (c .before .before .byte .ensures) (c .if1 .left))
+loop-again c =
+    let h = rest-inside (c .before .before .before .before .before .before .args .s .now) (c .before .before .before .before .loop .i) (c .before .digit-value .ensures) (c .before .before .byte .ensures) (c .if1 .left) in (
+      omega arith,
+      omega arith,
+      rest-turn _ _ _ _ _ (c .before .before .before .before .loop .inv .2) (c .before .before .before .before .loop .inv .0) h (c .before .digit-value .ensures) (c .before .before .byte .ensures) (c .if1 .left),
+    )
 
 returns-2 : tie.Need-returns-2 Inv-loop μ-loop
 returns-2 c = rest-large _ _ _ _ _ (c .before .loop .inv .2) (c .loop-test .left)

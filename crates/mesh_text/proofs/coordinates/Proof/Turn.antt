@@ -42,7 +42,7 @@ module _ (s : List ℕ) (at : ℕ) (xs₀ : List Float) (n : ℕ) (xs : List Flo
             ap (λ (v : List Float). stored (map float) v (n + (k + 1)) rest) (ey ∙ ap (set xs (n + k)) ex)
             ∙ ap (λ (m : ℕ). stored (map float) (set xs (n + k) (float b)) m rest) l
             ∙ sym (stored-next (map float) (λ (v : ℕ). float v ∷ []) xs (n + k) b rest (λ v. refl))
-            ∙ (rw (f, t) at (inv .list))
+            ∙ (rw (f, t) at (inv .list));
       }
 
   pub stop : k < 3 → coordinate s i ≡ none → Place.None ≡ place (times 3 (coordinate s) at)

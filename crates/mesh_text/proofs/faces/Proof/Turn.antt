@@ -75,7 +75,7 @@ start s at ls₀ ps₀ ds₀ h =
       lines = rw e (lines-start (facesFrom s (length s) at));
       lengths = rw e refl;
       points = rw e refl;
-      intervals = rw e refl
+      intervals = rw e refl;
     }
 
 module _ (s : List ℕ) (at : ℕ) (ls₀ ps₀ : List ℕ) (ds₀ : List Float) (ls ps : List ℕ) (ds : List Float) (i k c : ℕ)
@@ -154,5 +154,5 @@ module _ (s : List ℕ) (at : ℕ) (ls₀ ps₀ : List ℕ) (ds₀ : List Float)
                 ap (λ (v : List Float). stored (flat (flat sideIntervals)) v (c + m) rest) ed′
                 ∙ ap (λ (v : ℕ). stored (flat (flat sideIntervals)) (sets ds c (flat sideIntervals a)) v rest) nd
                 ∙ sym (stored-next (flat (flat sideIntervals)) (flat sideIntervals) ds c a rest (λ l. refl))
-                ∙ (rw (fuel, t) at (inv .intervals))
+                ∙ (rw (fuel, t) at (inv .intervals));
           }

@@ -41,7 +41,7 @@ start s at ps₀ ds₀ n h hn =
       same-intervals = refl;
       run = rw e (run-start length (listedFrom s (length s) at));
       points = rw (e, add-zero) refl;
-      intervals = rw (e, add-zero) refl
+      intervals = rw (e, add-zero) refl;
     }
 
 module _ (s : List ℕ) (at : ℕ) (ps₀ : List ℕ) (ds₀ : List Float) (n : ℕ) (ps : List ℕ) (ds : List Float) (i k : ℕ)
@@ -91,5 +91,5 @@ module _ (s : List ℕ) (at : ℕ) (ps₀ : List ℕ) (ds₀ : List Float) (n : 
                 ap (λ (v : List Float). stored sideIntervals v (n + (k + 1)) rest) (ed ∙ ap (set ds (n + k)) ex)
                 ∙ ap (λ (m : ℕ). stored sideIntervals (set ds (n + k) (float d)) m rest) en
                 ∙ sym (stored-next sideIntervals (λ (b : Listed). float (b .interval) ∷ []) ds (n + k) a rest (λ l. refl))
-                ∙ (rw (fuel, t) at (inv .intervals))
+                ∙ (rw (fuel, t) at (inv .intervals));
           }

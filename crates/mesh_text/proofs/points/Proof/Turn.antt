@@ -92,5 +92,5 @@ module _ (s : List ℕ) (at : ℕ) (xs₀ : List Float) (xs : List Float) (i k :
                 ap (λ (v : List Float). stored (flat (map float)) v (3 * (k + 1)) rest) ey
                 ∙ ap (λ (m : ℕ). stored (flat (map float)) (sets xs (3 * k) (map float a)) m rest) en
                 ∙ sym (stored-next (flat (map float)) (map float) xs (3 * k) a rest (λ l. refl))
-                ∙ (rw (fuel, t) at (inv .list))
+                ∙ (rw (fuel, t) at (inv .list));
           }

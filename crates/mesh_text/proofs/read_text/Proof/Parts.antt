@@ -91,5 +91,5 @@ module _ (s : List ℕ) (limits : Counts) (l : Lists) {r : Total} (er : r ≡ to
         let ed″ = rw (eo, et) at ed in
         rw (et, ec, ew) (λ i. record {
           reading = Reading.Read (record { points = p; faces = f; listed = c });
-          lists = record { coordinates = ex″ i; lengths = el″ i; listed = ep″ i; intervals = ed″ i }
+          lists = record { coordinates = ex″ i; lengths = el″ i; listed = ep″ i; intervals = ed″ i };
         })

@@ -80,8 +80,13 @@ module _ (s : List ℕ) where
                 × ((xs′ ≡ stored coordinates xs 0 (text s))
                 × ((ls′ ≡ stored lengthWords ls 0 (text s)) × ((ps′ ≡ stored listedPoints ps 0 (text s)) × (ds′ ≡ stored intervals ds 0 (text s)))))
             whole ee xs ls ps ds ex el epp ed =
-                let t = read ee in
-                (rw (t, points-read .2, faces-read .2, faces-read .3)
-                , (rw t (rw (ep, points-read .1) at ex)
-                , (rw t (rw (ef, faces-read .1) at el)
-                , (rw t (rw (ef, faces-read .1) at epp), rw t (rw (ef, faces-read .1) at ed)))))
+                let t = read ee in (
+                  rw (t, points-read .2, faces-read .2, faces-read .3),
+                  (
+                    rw t (rw (ep, points-read .1) at ex),
+                    (
+                      rw t (rw (ef, faces-read .1) at el),
+                      (rw t (rw (ef, faces-read .1) at epp), rw t (rw (ef, faces-read .1) at ed)),
+                    ),
+                  ),
+                )

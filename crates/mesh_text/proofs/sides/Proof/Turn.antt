@@ -44,7 +44,7 @@ start s at ls₀ f ps₀ ds₀ n h hn =
       run = run-start listedIn (times 4 (side s) at);
       lengths = rw add-zero refl;
       points = rw add-zero refl;
-      intervals = rw add-zero refl
+      intervals = rw add-zero refl;
     }
 
 module _ (s : List ℕ) (at : ℕ) (ls₀ : List ℕ) (f : ℕ) (ps₀ : List ℕ) (ds₀ : List Float) (n : ℕ) (ls ps : List ℕ) (ds : List Float) (i c k : ℕ)
@@ -55,9 +55,10 @@ module _ (s : List ℕ) (at : ℕ) (ls₀ : List ℕ) (f : ℕ) (ps₀ : List �
       × ((ps ≡ stored (flat sidePoints) ps₀ n (times 4 (side s) at)) × (ds ≡ stored (flat sideIntervals) ds₀ n (times 4 (side s) at))))
   unfolding times flat
   end hk =
-      let e : 4 - k ≡ 0 = omega arith in
-      (ap (λ v. Run.Of v i) (sym (add-zero c)) ∙ (rw e at (inv .run))
-      , (rw e at (inv .lengths), (rw e at (inv .points), rw e at (inv .intervals))))
+      let e : 4 - k ≡ 0 = omega arith in (
+        ap (λ v. Run.Of v i) (sym (add-zero c)) ∙ (rw e at (inv .run)),
+        (rw e at (inv .lengths), (rw e at (inv .points), rw e at (inv .intervals))),
+      )
 
   module _ (hk : k < 4) where
     fuel : 4 - k ≡ suc (4 - (k + 1))
@@ -120,5 +121,5 @@ module _ (s : List ℕ) (at : ℕ) (ls₀ : List ℕ) (f : ℕ) (ps₀ : List �
                 ap (λ (v : List Float). stored (flat sideIntervals) v (n + (c + m)) rest) ed′
                 ∙ ap (λ (v : ℕ). stored (flat sideIntervals) (sets ds (n + c) (sideIntervals a)) v rest) nd
                 ∙ sym (stored-next (flat sideIntervals) sideIntervals ds (n + c) a rest (λ l. refl))
-                ∙ (rw (fuel, t) at (inv .intervals))
+                ∙ (rw (fuel, t) at (inv .intervals));
           }
