@@ -1,0 +1,6 @@
+pub mod Intervals
+pub mod Sums
+pub mod FacePoint
+pub mod EdgePoint
+pub mod OldPoint
+pub mod Fits
