@@ -5,10 +5,10 @@
 --     rowsFor c t              the tables t have the rows of a mesh with the counts c
 --     withinCeilings c         at most 65,536 points, 131,072 edges and 65,536 faces
 --     roomFor c m t            room for the mesh with the counts c, in the tables m and in scratch t
---     firstRows c t            the rows of the tables t that the counts c count
+--     firstRows c t            the rows of the tables t that the counts c count: of a mesh with its counts, the mesh
 --     zeroedRows c t           the tables t with these rows zeroed
 --     overRows c n t           the tables t with these rows taken from n
---     made m c order t         the refined mesh, made in the tables t; or the word that a position is not finite
+--     made m c order t         the refined mesh of m, made in the tables t; or the word that a position is not finite
 --     Outcome                  the answer, the tables afterwards, the scratch tables afterwards
 --     step m c order t         the step of the mesh in the tables m with the counts c, in the order handed in, by scratch t
 -- All further rows are untouched: `zeroedRows` and `overRows` leave them as they are.
@@ -128,7 +128,8 @@ unfolding ended made firstRows
 stepIf false once room m c order t = refusal NotClosed m t
 stepIf true false room m c order t = refusal NotEachFaceOnce m t
 stepIf true true false m c order t = refusal NoRoom m t
-stepIf true true true m c order t = ended m (refinedCounts c) t (made m c order (firstRows (refinedCounts c) t))
+stepIf true true true m c order t =
+    ended m (refinedCounts c) t (made (firstRows c m) c order (firstRows (refinedCounts c) t))
 
 unfoldable pub step : Mesh → Counts → List ℕ → Mesh → Outcome
 unfolding audit eachFaceOnce roomFor stepIf
