@@ -16,7 +16,8 @@
 --     Naming k n hs n'         the names n' that a list of steps makes of the names n, if k steps were accepted before
 --     StepClaim l h            what is claimed of one step
 --     EachStep l hs            it holds of each step of a list
---     TwoRuns a as b bs        what is claimed of two runs
+--     NamedRun c m hs          the names that a run makes, begun with row numbers
+--     TwoRuns c a b hsA hsB    what is claimed of two runs
 --     Demand3                  the claim
 use mathlib.Core.Path.{_≡_}
 use mathlib.Core.Bool.{true}
@@ -83,7 +84,7 @@ unfoldable pub inNumberedOrder : Lent → List Mesh → List Handed
 unfolding numbered
 inNumberedOrder l [] = []
 inNumberedOrder l (t ∷ ts) =
-    let h = record { order = numbered (l .counts .faces); scratch = t } in h ∷ inNumberedOrder (after l h) ts
+    let h : Handed = record { order = numbered (l .counts .faces); scratch = t } in h ∷ inNumberedOrder (after l h) ts
 
 -- ---- names
 
@@ -150,16 +151,12 @@ module _ {first : Counts} where
   Renamed k NoRoom n n' = SameNames n n'
   Renamed k NotFinite n n' = SameNames n n'
 
-  pub data Naming : ℕ → {l l' : Lent} → NamedMesh first l → List Handed → NamedMesh first l' → Type 0 where
-    begin : {k : ℕ} {l : Lent} {n : NamedMesh first l} → Naming k n [] n
+  pub data Naming : ℕ → (l : Lent) → NamedMesh first l → List Handed → (l' : Lent) → NamedMesh first l' → Type 0 where
+    begin : {k : ℕ} {l : Lent} {n : NamedMesh first l} → Naming k l n [] l n
     then :
         {k : ℕ} {l l'' : Lent} {n : NamedMesh first l} {h : Handed} {hs : List Handed} {n' : NamedMesh first (after l h)}
-        {n'' : NamedMesh first l''} → Renamed k (outcome l h .answer) n n' → Naming (oneMore (outcome l h .answer) k) n' hs n'' →
-        Naming k n (h ∷ hs) n''
-
--- In the first mesh a row's name is its number.
-abbrev pub firstNames : (l : Lent) → NamedMesh (l .counts) l → Type 0
-firstNames l n = n .names ≡ givenNames
+        {n'' : NamedMesh first l''} → Renamed k (outcome l h .answer) n n' →
+        Naming (oneMore (outcome l h .answer) k) (after l h) n' hs l'' n'' → Naming k l n (h ∷ hs) l'' n''
 
 -- ---- what is claimed
 
@@ -176,10 +173,44 @@ pub record StepClaim (l : Lent) (h : Handed) : Type 0 where
   pub refused : (g : ℕ) → numberOf (outcome l h .answer) ≡ some g → after l h ≡ l
 
 pub data EachStep : Lent → List Handed → Type 0 where
-  none : {l : Lent} → EachStep l []
-  each : {l : Lent} {h : Handed} {hs : List Handed} → StepClaim l h → EachStep (after l h) hs → EachStep l (h ∷ hs)
+  noSteps : {l : Lent} → EachStep l []
+  eachStep : {l : Lent} {h : Handed} {hs : List Handed} → StepClaim l h → EachStep (after l h) hs → EachStep l (h ∷ hs)
 
-pub record TwoRuns (first : Counts) (a : Lent) (as : List Handed) (b : Lent) (bs : List Handed) : Type 0 where
-  -- each step of A and of B
-  pub steps-of-A : EachStep a as
-  pub steps-of-B : EachStep b bs
+-- The tables m with the mesh of the counts c in them.
+abbrev pub lent : Mesh → Counts → Lent
+lent m c = record { tables = m; counts = c }
+
+-- the mesh that a list of steps makes of the mesh with the counts c in the tables m, with document 01's names
+pub record NamedRun (c : Counts) (m : Mesh) (hs : List Handed) : Type 0 where
+  pub begun : NamedMesh c (lent m c)
+  -- In the first mesh a row's name is its number.
+  pub given : begun .names ≡ givenNames
+  pub ended : NamedMesh c (run (lent m c) hs)
+  pub naming : Naming 0 (lent m c) begun hs (run (lent m c) hs) ended
+
+-- Two runs, of the steps as from the tables a and of the steps bs from the tables b, the mesh of the counts c in both.
+pub record TwoRuns (c : Counts) (a b : Mesh) (hsA hsB : List Handed) : Type 0 where
+  -- After each step the mesh is closed; each accepted step is the refinement in the order handed in, each refused one changes
+  -- nothing.
+  pub steps-A : EachStep (lent a c) hsA
+  pub steps-B : EachStep (lent b c) hsB
+  -- There are names, and they are settled.
+  pub named-A : NamedRun c a hsA
+  pub named-B : NamedRun c b hsB
+  -- With as many accepted steps the two meshes are shared.
+  pub shared :
+      accepted (lent a c) hsA ≡ accepted (lent b c) hsB → (n : NamedRun c a hsA) (n' : NamedRun c b hsB) →
+      Shared (stage (n .ended)) (stage (n' .ended))
+  -- With at most one accepted step every position agrees too, bit for bit.
+  pub positions :
+      accepted (lent a c) hsA ≡ accepted (lent b c) hsB → accepted (lent a c) hsA ≤ 1 → (n : NamedRun c a hsA) (n' : NamedRun c b hsB) →
+      (p : Row (run (lent a c) hsA .counts .points)) (p' : Row (run (lent b c) hsB .counts .points)) →
+      n .ended .names .point p ≡ n' .ended .names .point p' →
+      positionAt (run (lent a c) hsA .tables .positions) (p .0) ≡ positionAt (run (lent b c) hsB .tables .positions) (p' .0)
+
+-- One accepted mesh stands in tables of any lengths, those of A and those of B. A visits in numbered order and is handed the
+-- scratch tables ts, one for each step; B is handed any orders and any scratch tables.
+abbrev pub Demand3 : Type 0
+Demand3 =
+    (c : Counts) (a b : Mesh) → audit a (c .points) (c .edges) (c .faces) ≡ true → firstRows c a ≡ firstRows c b →
+    (ts : List Mesh) (hs : List Handed) → TwoRuns c a b (inNumberedOrder (lent a c) ts) hs
