@@ -3,6 +3,7 @@
 --     acw-fits, cw-fits              one step about a point comes to an edge that fits
 --     neighbours-fit                 the neighbours of an edge that fits have intervals
 --     around-below, border-fits      a place counted round, and the edge of a border there
+--     radial-edge-fits, radial-next-fits, face-between-fits      an edge about a point, the next one, the face between them
 use mathlib.Core.Bool.{Bool, true, false, cond}
 use mathlib.Core.List.{List}
 use Prim.Native.Nat.{ℕ, _+_, _-_, _*_, _≤_, _<_}
@@ -12,10 +13,11 @@ use mathlib.Core.Path.{_≡_, refl}
 use lib.Dec.{eqb, ltb}
 use lib.ListN.{getD, length}
 use lib.Ieee.{Float}
+use Rattle.t_spline.specs.Edge.{commonFace}
 use Rattle.tables.specs.Records.{edgeAt}
 use Rattle.position_rules.specs.Intervals.{acwAbout, cwAbout}
 use Rattle.position_rules.specs.FacePoint.{around}
-use Rattle.position_rules.specs.Fits.{EdgesFit, EdgeFits, BorderFits, NeighboursFit}
+use Rattle.position_rules.specs.Fits.{EdgesFit, EdgeFits, BorderFits, NeighboursFit, RadialFits}
 
 cond-below : (b : Bool) (i j n : ℕ) → i < n → j < n → cond b i j < n
 cond-below true i j n h k = h
@@ -59,3 +61,19 @@ module _ (es : List ℕ) (is : List Float) where
 
   pub border-fits : (bs : List ℕ) (n j : ℕ) → BorderFits es is bs n → j < n + n → EdgeFits es is (getD bs (around n j) 0)
   border-fits bs n j h l = record { rows = h .rows; fit = h .fit; below = h .edges-below (around n j) (around-below n j l) }
+
+module _ (es : List ℕ) (is new : List Float) (es′ fs′ : List ℕ) where
+  pub radial-edge-fits : (r : ℕ) → RadialFits es is r new es′ fs′ → EdgeFits es is r
+  radial-edge-fits r h = record { rows = h .edges; fit = h .fit .fit; below = h .below }
+
+  pub radial-next-fits : (p r : ℕ) → RadialFits es is r new es′ fs′ → RadialFits es is (acwAbout es p r) new es′ fs′
+  radial-next-fits p r h =
+      record { edges = h .edges; faces = h .faces; fit = h .fit; below = acw-below es is (h .edges) p r (h .fit .fit) (h .below) }
+
+  -- the face between the edge r and the next one has its row and its place
+  pub face-between-fits : (p r f : ℕ) → RadialFits es is r new es′ fs′
+      → f ≡ commonFace (edgeAt es is r) (edgeAt es is (acwAbout es p r))
+      → (f * 5 + 5 ≤ length fs′) × (getD fs′ (f * 5 + 1) 0 * 3 + 3 ≤ length new)
+  face-between-fits p r f h e =
+      let l : f < h .faces = rw e (h .fit .common-below p r (h .below)) in
+      (h .fit .new-fit .face-row f l, h .fit .new-fit .face-place f l)

@@ -1,1 +1,5 @@
+pub mod Audited
+pub mod Cases
+pub mod FacePoint
 pub mod Fits
+pub mod Sums

@@ -1,11 +1,11 @@
 -- The edge point (document 01, "Edge point", equations 13 to 15). Here ps, es and is are the tables of positions, edges and
--- intervals.
+-- intervals, and fp f is the face point of face f.
 --     share                a part of a denominator, 0 if the denominator is small
 --     shares is edge       aL and aR: the sums of the neighbours on either side over twice the sum of all four
 --     middle               m: both ends weighted, or the midpoint if the denominator is small
 --     edgeMiddle           m of edge e, each end weighted by d + A2 + C2 about that end
 --     blend                m (1 - aR - aL) + aL times the left face point + aR times the right one
---     edgePoint            the edge point of edge e from the points of its left and its right face
+--     edgePoint            the edge point of edge e
 use mathlib.Core.Bool.{cond}
 use mathlib.Core.List.{List}
 use Prim.Native.Nat.{ℕ, _+_, _*_}
@@ -54,7 +54,7 @@ blend m a left right =
     sum (sum (product m (sub binary64 (sub binary64 (ofBits binary64 0x3ff0000000000000) (a .right)) (a .left))) (product left (a .left)))
     (product right (a .right))
 
-unfoldable pub edgePoint : List Float → List ℕ → List Float → Position → Position → ℕ → Position
-edgePoint ps es is left right e =
+unfoldable pub edgePoint : List Float → List ℕ → List Float → (ℕ → Position) → ℕ → Position
+edgePoint ps es is fp e =
     let edge : TnurccEdge = edgeAt es is e in
-    blend (edgeMiddle ps es is (edge .origin) (edge .dest) e) (shares is edge) left right
+    blend (edgeMiddle ps es is (edge .origin) (edge .dest) e) (shares is edge) (fp (edge .«face_left»)) (fp (edge .«face_right»))

@@ -5,9 +5,10 @@
 --     windowWeight         the weight of the window p0 .. p4 that begins at place i
 --     facePoint            the weighted sum of the middle points p2 over the sum of the weights, of n windows
 --     around n j           the place j, counted round n places
+--     faceMesh ps es is fs a mesh of which the points' own words are not looked at
 --     facePointOf m ne f   the face point of face f, by the walk about it along the edges below ne
 use mathlib.Core.Bool.{cond}
-use mathlib.Core.List.{List, map}
+use mathlib.Core.List.{List, [], map}
 use Prim.Native.Nat.{ℕ, _+_, _-_}
 use lib.Dec.{ltb}
 use lib.ListN.{getD, length}
@@ -45,6 +46,9 @@ overWeight s = quotient (s .sum) (s .weight)
 
 unfoldable pub facePoint : List Float → List ℕ → List Float → (ℕ → ℕ) → (ℕ → ℕ) → ℕ → Position
 facePoint ps es is pt ed n = overWeight (windowSum ps es is pt ed n)
+
+abbrev pub faceMesh : List Float → List ℕ → List Float → List ℕ → Mesh
+faceMesh ps es is fs = record { positions = ps; points = []; edges = es; intervals = is; faces = fs }
 
 abbrev pub around : ℕ → ℕ → ℕ
 around n j = cond (ltb j n) j (j - n)

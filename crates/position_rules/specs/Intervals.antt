@@ -7,19 +7,24 @@
 --     threeTerms es is p e     d + A2 + C2 of e about p
 -- Every sum here and in the rules is taken from left to right, and rounded at each addition.
 use mathlib.Core.Bool.{cond}
-use mathlib.Core.List.{List}
-use Prim.Native.Nat.{ℕ, _+_, _*_}
+use mathlib.Core.List.{List, []}
+use Prim.Native.Nat.{ℕ}
 use lib.Dec.{eqb}
 use lib.ListN.{getD}
 use lib.Ieee.{Float, nan, add, binary64}
+use Rattle.tables.specs.Mesh.{Mesh, origin, leftAcw, rightAcw}
+use Rattle.audited_meshes.specs.Walks.{acwOfPoint}
+use Rattle.walks.specs.Steps.{faceTables}
 
 -- LeftCw at the origin, RightCw at the destination
 unfoldable pub acwAbout : List ℕ → ℕ → ℕ → ℕ
-acwAbout es p e = cond (eqb (getD es (e * 8) 0) p) (getD es (e * 8 + 4) 0) (getD es (e * 8 + 6) 0)
+acwAbout es p e = acwOfPoint (faceTables es []) p e
 
 -- RightAcw at the origin, LeftAcw at the destination
 unfoldable pub cwAbout : List ℕ → ℕ → ℕ → ℕ
-cwAbout es p e = cond (eqb (getD es (e * 8) 0) p) (getD es (e * 8 + 7) 0) (getD es (e * 8 + 5) 0)
+cwAbout es p e =
+    let m : Mesh = faceTables es [] in
+    cond (eqb (origin m e) p) (rightAcw m e) (leftAcw m e)
 
 abbrev pub A1 : List ℕ → List Float → ℕ → ℕ → Float
 A1 es is p e = getD is (acwAbout es p e) nan

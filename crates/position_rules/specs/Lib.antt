@@ -3,4 +3,6 @@ pub mod Sums
 pub mod FacePoint
 pub mod EdgePoint
 pub mod OldPoint
+pub mod Rules
+pub mod Places
 pub mod Fits

@@ -5,9 +5,11 @@ ghost use lib.ListN.{length};
 ghost use Rattle.positions.specs.Position.{placedAt};
 ghost use Rattle.t_spline.specs.Edge.{connectionOf};
 ghost use Rattle.position_rules.specs.EdgePoint.{share, shares, neighbour, middle, edgeMiddle, blend, edgePoint};
+ghost use Rattle.position_rules.specs.Places.{facePointAt};
 ghost use Rattle.position_rules.specs.Fits.{EdgeFits, EdgePointFits, NeighboursFit};
 use crate::Shares;
 use crate::intervals::three_terms;
+use crate::places::load_face_point;
 use positions::Placed;
 use positions::Position;
 use positions::is_small;
@@ -82,12 +84,21 @@ fn blend(m: Position, a: Shares, left: Position, right: Position) -> Position
     m.times(1.0 - a.right - a.left).plus(left.times(a.left)).plus(right.times(a.right))
 }
 
-// The edge point of edge e from the points of its left and its right face.
-pub fn edge_point(positions: &[f64], edges: &[u32], intervals: &[f64], left: Position, right: Position, e: usize) -> Placed
-    requires { ⌜ EdgePointFits (now positions) (now edges) (now intervals) e ⌝ }
-    ensures { λ r. ⌜ r ≡ placedAt (edgePoint (now (positions .entry)) (now (edges .entry)) (now (intervals .entry)) left right e) ⌝ }
+// The edge point of edge e, from the face points that stand in the new table of positions.
+pub fn edge_point(
+    positions: &[f64],
+    edges: &[u32],
+    intervals: &[f64],
+    places: &[f64],
+    quads: &[u32],
+    e: usize,
+) -> Placed
+    requires { ⌜ EdgePointFits (now positions) (now edges) (now intervals) (now places) (now quads) e ⌝ }
+    ensures { λ r. ⌜ r ≡ placedAt (edgePoint (now (positions .entry)) (now (edges .entry)) (now (intervals .entry)) (facePointAt (now (places .entry)) (now (quads .entry))) e) ⌝ }
 {
     let edge = load_edge(edges, intervals, e);
     let m = edge_middle(positions, edges, intervals, index(edge.origin), index(edge.dest), e);
+    let left = load_face_point(places, quads, index(edge.face_left));
+    let right = load_face_point(places, quads, index(edge.face_right));
     blend(m, shares(intervals, edge), left, right).placed()
 }

@@ -1,13 +1,10 @@
 // The face point.
 ghost use mathlib.Core.Path.{_≡_};
-ghost use mathlib.Core.List.{List, []};
-ghost use Prim.Native.Nat.{ℕ, _+_, _*_, _≤_, _<_};
-ghost use lib.ListN.{getD, length};
-ghost use lib.Ieee.{Float};
+ghost use Prim.Native.Nat.{_<_};
+ghost use lib.ListN.{getD};
 ghost use Rattle.positions.specs.Position.{placedAt};
-ghost use Rattle.tables.specs.Mesh.{Mesh};
-ghost use Rattle.position_rules.specs.FacePoint.{sixTerms, windowWeight, windowSum, around, facePoint};
-ghost use Rattle.position_rules.specs.Fits.{EdgeFits, BorderFits};
+ghost use Rattle.position_rules.specs.FacePoint.{sixTerms, windowWeight, windowSum, around, facePointOf, faceMesh};
+ghost use Rattle.position_rules.specs.Fits.{EdgeFits, BorderFits, PointsFit, FacePointFits};
 use crate::WeightedSum;
 use crate::intervals::a2;
 use crate::intervals::c2;
@@ -16,6 +13,7 @@ use positions::Placed;
 use positions::Position;
 use tables::index;
 use tables::load_position;
+use walks::t_nurcc_face::border;
 
 // d, A2 and C2 of edge e about p, then those of edge g about q.
 fn six_terms(edges: &[u32], intervals: &[f64], p: usize, e: usize, q: usize, g: usize) -> f64
@@ -56,4 +54,43 @@ fn window_weight(edges: &[u32], intervals: &[f64], points: &[u32; 68], border: &
     let first = six_terms(edges, intervals, index(points[i + 3]), e2, index(points[i]), e0);
     let second = six_terms(edges, intervals, index(points[i + 1]), e1, index(points[i + 4]), e3);
     first * second
+}
+
+// The sum of the middle points of n windows at their weights. The Rust sums the weights from -0.
+fn window_sum(
+    positions: &[f64],
+    edges: &[u32],
+    intervals: &[f64],
+    points: &[u32; 68],
+    border: &[u32; 64],
+    n: usize,
+) -> WeightedSum
+    requires { ⌜ BorderFits (now edges) (now intervals) (now border) n ⌝ }
+    requires { ⌜ PointsFit (now positions) (now points) n ⌝ }
+    ensures { λ r. ⌜ r ≡ windowSum (now (positions .entry)) (now (edges .entry)) (now (intervals .entry)) (λ j. getD (now (points .entry)) j 0) (λ j. getD (now (border .entry)) (around n j) 0) n ⌝ }
+{
+    let mut s = WeightedSum {
+        sum: Position::origin(),
+        weight: -0.0,
+    };
+    let mut i = 0;
+    while i < n {
+        let w = window_weight(edges, intervals, points, border, n, i);
+        let p = load_position(positions, index(points[i + 2]));
+        s = s.with_term(p, w);
+        i += 1;
+    }
+    s
+}
+
+// The face point of face f, by the walk about it along the edges below ne.
+pub fn face_point(positions: &[f64], edges: &[u32], intervals: &[f64], faces: &[u32], ne: usize, f: usize) -> Placed
+    requires { ⌜ FacePointFits (now positions) (now edges) (now intervals) (now faces) ne f ⌝ }
+    ensures { λ r. ⌜ r ≡ placedAt (facePointOf (faceMesh (now (positions .entry)) (now (edges .entry)) (now (intervals .entry)) (now (faces .entry))) ne f) ⌝ }
+{
+    let border = border(edges, faces, ne, f);
+    let bp = border.points;
+    let be = border.edges;
+    let s = window_sum(positions, edges, intervals, &bp, &be, border.n);
+    s.sum.over(s.weight).placed()
 }

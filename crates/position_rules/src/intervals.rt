@@ -5,18 +5,14 @@ ghost use lib.ListN.{length};
 ghost use Rattle.position_rules.specs.Intervals.{acwAbout, cwAbout, A1, A2, C1, C2, threeTerms};
 ghost use Rattle.position_rules.specs.Fits.{EdgeFits};
 use tables::index;
+use walks::t_nurcc_control_point::acw_of_point;
 
 // The edge one step anticlockwise about p from e.
 pub fn acw_about(edges: &[u32], p: usize, e: usize) -> usize
     requires { ⌜ e * 8 + 8 ≤ length (now edges) ⌝ }
     ensures { λ r. ⌜ r ≡ acwAbout (now (edges .entry)) p e ⌝ }
 {
-    let b = e * 8;
-    if index(edges[b]) == p {
-        index(edges[b + 4])
-    } else {
-        index(edges[b + 6])
-    }
+    index(acw_of_point(edges, p, e))
 }
 
 // The edge one step clockwise about p from e.

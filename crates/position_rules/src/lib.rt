@@ -6,9 +6,11 @@ ghost use mathlib.Core.Path.{_≡_};
 ghost use Rattle.position_rules.specs.Sums.{withTerm};
 use positions::Position;
 
-mod edge_point;
-mod face_point;
-mod intervals;
+pub mod edge_point;
+pub mod face_point;
+pub mod intervals;
+pub mod old_point;
+pub mod places;
 
 // A sum of weighted positions, and the sum of their weights.
 pub struct WeightedSum {

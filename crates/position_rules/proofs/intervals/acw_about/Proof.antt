@@ -1,87 +1,25 @@
--- acw_about meets its contract: the two answers are the two cases of the definition.
+-- acw_about meets its contract: the step is that of the walks.
 use Rattle.position_rules.specs.Intervals.{acwAbout}
-use borrow.Author.Tests.{eq-eqb, ne-eqb}
-use mathlib.Core.Path.{sym, _∙_}
 use borrow.Author.Needs.{needs}
 use Rattle.position_rules.proofs.intervals.acw_about.Statement.{statement}
 use Rattle.position_rules.proofs.intervals.acw_about.Tie as tie
 use Rattle.position_rules.proofs.intervals.acw_about.Reads as reads
 use Rattle.position_rules.proofs.intervals.acw_about.Lts as lts
 use Rattle.tables.proofs.index.Reads as index-reads
+use Rattle.walks.proofs.t_nurcc_control_point.acw_of_point.Reads as acw-of-point-reads
 
--- src/intervals.rt:14:13
-mul-b : tie.Need-mul-b
-mul-b c = search needs
+-- src/intervals.rt:15:11
+acw-of-point-requires : tie.Need-acw-of-point-requires
+acw-of-point-requires c κs = search needs
 
--- src/intervals.rt:15:14
-mul-index : tie.Need-mul-index
-mul-index c = search needs
-
--- src/intervals.rt:15:14
-shared-slice-read-index : tie.Need-shared-slice-read-index
-shared-slice-read-index c = search needs
-
--- src/intervals.rt:15:8
+-- src/intervals.rt:15:5
 index-requires : tie.Need-index-requires
 index-requires c κs = search needs
 
--- src/intervals.rt:16:21
-add-index : tie.Need-add-index
-add-index c = search needs
-
--- src/intervals.rt:16:15
-mul-index-2 : tie.Need-mul-index-2
-mul-index-2 c = search needs
-
--- src/intervals.rt:16:15
-shared-slice-read-index-2 : tie.Need-shared-slice-read-index-2
-shared-slice-read-index-2 c = search needs
-
--- src/intervals.rt:16:9
-index-requires-2 : tie.Need-index-requires-2
-index-requires-2 c κs = search needs
-
--- src/intervals.rt:18:21
-add-index-2 : tie.Need-add-index-2
-add-index-2 c = search needs
-
--- src/intervals.rt:18:15
-mul-index-3 : tie.Need-mul-index-3
-mul-index-3 c = search needs
-
--- src/intervals.rt:18:15
-shared-slice-read-index-3 : tie.Need-shared-slice-read-index-3
-shared-slice-read-index-3 c = search needs
-
--- src/intervals.rt:18:9
-index-requires-3 : tie.Need-index-requires-3
-index-requires-3 c κs = search needs
-
--- src/intervals.rt:10:1
+-- src/intervals.rt:11:1
 returns : tie.Need-returns
 unfolding acwAbout
-returns c = rw (eq-eqb _ _ (sym (c .before .before .before .index .ensures) ∙ c .before .before .if1 .taken)) (c .index2 .ensures)
-
--- src/intervals.rt:10:1
-returns-2 : tie.Need-returns-2
-unfolding acwAbout
-returns-2 c = rw (ne-eqb _ _ (λ e. c .before .before .if1 .left (c .before .before .before .index .ensures ∙ e))) (c .index3 .ensures)
+returns c = rw (c .index .ensures, c .before .acw-of-point .ensures)
 
 pub acw-about-spec : {M : Type 1} → statement M
-acw-about-spec =
-    tie.close
-    (tie.spec
-    mul-b
-    mul-index
-    shared-slice-read-index
-    index-requires
-    add-index
-    mul-index-2
-    shared-slice-read-index-2
-    index-requires-2
-    add-index-2
-    mul-index-3
-    shared-slice-read-index-3
-    index-requires-3
-    returns
-    returns-2)
+acw-about-spec = tie.close (tie.spec acw-of-point-requires index-requires returns)
