@@ -16,14 +16,14 @@ use Rattle.positions.specs.declared.Position.{Position}
 use Rattle.positions.specs.declared.Placed.{Placed}
 use Rattle.positions.specs.declared.Placed.the-variants.{At, NotFinite}
 use Rattle.positions.specs.Position.{placedAt}
-use Rattle.tables.specs.Mesh.{Mesh, leftFace, rightFace}
+use Rattle.tables.specs.Mesh.{Mesh}
 use Rattle.tables.specs.Rows.{putRow}
-use Rattle.tables.specs.Records.{positionAt}
 use Rattle.tables.specs.declared.Counts.{Counts}
 use Rattle.refined_meshes.specs.State.{State}
 use Rattle.position_rules.specs.FacePoint.{facePointOf}
 use Rattle.position_rules.specs.EdgePoint.{edgePoint}
 use Rattle.position_rules.specs.OldPoint.{oldPoint}
+use Rattle.position_rules.specs.Places.{edgePointAt, facePointAt}
 
 -- corner 0 of the new face in row f
 abbrev pub facePointRow : State → ℕ → ℕ
@@ -54,19 +54,16 @@ abbrev pub facePointRule : Mesh → Counts → ℕ → List Float → Position
 unfolding facePointOf
 facePointRule m c f ps = facePointOf m (c .edges) f
 
--- read from the mesh and the two face points
+-- read from the mesh and the face points
 abbrev pub edgePointRule : Mesh → State → ℕ → List Float → Position
 unfolding edgePoint
-edgePointRule m s e ps =
-    edgePoint (m .positions) (m .edges) (m .intervals) (positionAt ps (facePointRow s (leftFace m e)))
-    (positionAt ps (facePointRow s (rightFace m e))) e
+edgePointRule m s e ps = edgePoint (m .positions) (m .edges) (m .intervals) (facePointAt ps (s .faces)) e
 
 -- read from the mesh, the edge points and the face points
 abbrev pub oldPointRule : Mesh → State → ℕ → List Float → Position
 unfolding oldPoint
 oldPointRule m s p ps =
-    oldPoint (m .positions) (m .points) (m .edges) (m .intervals) (λ e. positionAt ps (edgePointRow s e))
-    (λ f. positionAt ps (facePointRow s f)) p
+    oldPoint (m .positions) (m .points) (m .edges) (m .intervals) (edgePointAt ps (s .edges)) (facePointAt ps (s .faces)) p
 
 unfoldable pub placedAll : Mesh → Counts → State → List Float → Placing
 unfolding placed
