@@ -1,5 +1,6 @@
 pub mod Audited
 pub mod Cases
+pub mod Claims
 pub mod FacePoint
 pub mod Fits
 pub mod Sums

@@ -6,3 +6,4 @@ pub mod OldPoint
 pub mod Rules
 pub mod Places
 pub mod Fits
+pub mod Claims
