@@ -30,8 +30,12 @@ module _ (ps : List Float) (es : List ℕ) (is : List Float) (fs : List ℕ) (ne
   pub border-edges-fit : (b : FaceBorder) → b ≡ border (faceTables es fs) ne f → BorderFits es is (b .edges) (b .n)
   border-edges-fit b e = rw (e, border-back (faceTables es fs) ne f (h .border) (h .walked))
       (record {
-        rows = ne; fit = h .fit; at-least-3 = h .at-least-3; at-most-64 = h .at-most-64;
-        edges-below = λ j l. rw (getD-padded 64 (h .border) j) (h .edges-below j l) })
+        rows = ne;
+        fit = h .fit;
+        at-least-3 = h .at-least-3;
+        at-most-64 = h .at-most-64;
+        edges-below = λ j l. rw (getD-padded 64 (h .border) j) (h .edges-below j l);
+      })
 
   point-there : (j : ℕ) → j < length (h .border) → getD (borderOf (faceTables es fs) f (back (h .border)) .points) j 0 * 3 + 3 ≤ length ps
   point-there j l =
@@ -75,9 +79,9 @@ module _ (ps : List Float) (es : List ℕ) (is : List Float) (fs : List ℕ) (ne
 
   -- what is read from the arrays is read from the lists that they hold
   sum-of-arrays :
-    windowSum ps es is (λ j. getD (padded 68 (again 4 (map (firstPoint (faceTables es fs) f) (h .border)))) j 0)
+      windowSum ps es is (λ j. getD (padded 68 (again 4 (map (firstPoint (faceTables es fs) f) (h .border)))) j 0)
       (λ j. getD (padded 64 (h .border)) (around (length (h .border)) j) 0) (length (h .border))
-    ≡ windowSum ps es is (λ j. getD (again 4 (map (firstPoint (faceTables es fs) f) (h .border))) j 0)
+      ≡ windowSum ps es is (λ j. getD (again 4 (map (firstPoint (faceTables es fs) f) (h .border))) j 0)
       (λ j. getD (h .border) (around (length (h .border)) j) 0) (length (h .border))
   sum-of-arrays =
       let bp : List ℕ = again 4 (map (firstPoint (faceTables es fs) f) (h .border)) in
@@ -91,5 +95,5 @@ module _ (ps : List Float) (es : List ℕ) (is : List Float) (fs : List ℕ) (ne
   facePoint-of-border b s e q =
       let Sum : FaceBorder → WeightedSum = λ x. windowSum ps es is (λ j. getD (x .points) j 0) (λ j. getD (x .edges) (around (x .n) j) 0) (x .n) in
       let arrays : s ≡ Sum (borderOf (faceTables es fs) f (back (h .border))) =
-        q ∙ ap Sum (e ∙ border-back (faceTables es fs) ne f (h .border) (h .walked)) in
+      q ∙ ap Sum (e ∙ border-back (faceTables es fs) ne f (h .border) (h .walked)) in
       ap overWeight (arrays ∙ sum-of-arrays) ∙ sym about

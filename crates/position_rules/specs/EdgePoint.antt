@@ -38,7 +38,8 @@ unfoldable pub shares : List Float → TnurccEdge → Shares
 shares is edge =
     record {
       left = share (add binary64 (neighbour is edge LeftAcw) (neighbour is edge LeftCw)) (twiceNeighbours is edge);
-      right = share (add binary64 (neighbour is edge RightAcw) (neighbour is edge RightCw)) (twiceNeighbours is edge) }
+      right = share (add binary64 (neighbour is edge RightAcw) (neighbour is edge RightCw)) (twiceNeighbours is edge);
+    }
 
 -- o at the weight wo and t at the weight wt
 abbrev pub middle : Position → Float → Position → Float → Position
