@@ -2,7 +2,7 @@
 --     border-edges-fit           its edges are there
 --     border-points-fit          its points are there, the first four again too
 --     facePoint-of-border        the sum over the windows of that border gives the face point
-use mathlib.Core.Path.{_≡_, refl, sym, _∙_, ap, ap₂, subst, fun-ext}
+use mathlib.Core.Path.{_≡_, sym, _∙_, ap, ap₂, subst, fun-ext}
 use mathlib.Core.Bool.{Bool, true, false, cond}
 use mathlib.Core.List.{List, map}
 use Prim.Native.Nat.{ℕ, _+_, _-_, _*_, _≤_, _<_}
@@ -11,16 +11,15 @@ use native.Mathlib.Decide.{decLt}
 use lib.Dec.{eqb}
 use lib.ListN.{getD, length}
 use lib.Ieee.{Float}
-use Rattle.tables.specs.Mesh.{Mesh, origin, dest, leftFace}
+use Rattle.tables.specs.Mesh.{leftFace}
 use Rattle.audited_meshes.specs.Walks.{back, edgesOf, faceWalk, firstPoint}
 use Rattle.walks.specs.Steps.{faceTables}
 use Rattle.walks.specs.Border.{padded, again, borderOf, border}
 use Rattle.walks.specs.declared.FaceBorder.{FaceBorder}
 use Rattle.walks.proofs.Laws.{getD-padded, border-back, border-point, border-point-again}
-use Rattle.positions.specs.Position.{placedAt}
 use Rattle.position_rules.specs.declared.WeightedSum.{WeightedSum}
 use Rattle.position_rules.specs.FacePoint.{windowSum, overWeight, around, facePoint, facePointAbout, facePointOf, faceMesh}
-use Rattle.position_rules.specs.Fits.{EdgesFit, BorderFits, PointsFit, FacePointFits}
+use Rattle.position_rules.specs.Fits.{BorderFits, PointsFit, FacePointFits}
 
 cond-there : (b : Bool) (i j n : ℕ) → i * 3 + 3 ≤ n → j * 3 + 3 ≤ n → cond b i j * 3 + 3 ≤ n
 cond-there true i j n h k = h

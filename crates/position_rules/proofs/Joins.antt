@@ -1,28 +1,27 @@
 -- Where the sum of the intervals on either side of an edge of a face overflows, the face point is not finite: that sum is in the
 -- first factor of a window's weight. Assumes nothing.
 use mathlib.Core.Path.{_≡_, refl, sym, _∙_, ap, subst}
-use mathlib.Core.Bool.{Bool, true, false, _&&_, true≢false}
+use mathlib.Core.Bool.{Bool, true, false}
 use mathlib.Core.List.{List, map}
-use mathlib.Core.Logic.{_⊎_, inl, inr}
+use mathlib.Core.Logic.{inl, inr}
 use Prim.Native.Nat.{ℕ, zero, suc, _+_, _-_, _*_, _≤_, _<_}
 use native.Mathlib.Nat.{le-refl}
 use native.Mathlib.Omega.{arith}
 use lib.Dec.{T}
 use borrow.Author.Tests.{lt-ltb}
 use lib.ListN.{getD, length}
-use lib.Ieee.{Float, nan, add, mul, div, fits, binary64}
+use lib.Ieee.{Float, nan, add, fits, binary64}
 use lib.Ieee.Scale.{finite}
 use lib.Ieee.Positive.{num, den}
 use Rattle.positions.specs.Position.{finitePosition}
 use Rattle.tables.specs.Mesh.{Mesh, interval}
-use Rattle.tables.specs.Records.{positionAt}
 use Rattle.audited_meshes.specs.Walks.{back, edgesOf, faceWalk, firstPoint}
 use Rattle.audited_meshes.specs.Audit.{intervalFit}
 use Rattle.audited_meshes.specs.Audited.{Audited}
 use Rattle.walks.specs.Border.{again}
-use Rattle.position_rules.specs.Intervals.{acwAbout, cwAbout, A2, C2, threeTerms}
+use Rattle.position_rules.specs.Intervals.{A2, C2, threeTerms}
 use Rattle.position_rules.specs.FacePoint.{sixTerms, windowWeight, windowSum, overWeight, around, facePoint, facePointAbout, facePointOf}
-use Rattle.position_rules.specs.Fits.{EdgesFit, EdgeFits, FacePointFits}
+use Rattle.position_rules.specs.Fits.{EdgesFit, FacePointFits}
 use Rattle.position_rules.specs.Claims.{Found, FiniteJoins}
 use Rattle.position_rules.proofs.Audited.{edges-fit, face-point-fits}
 use Rattle.position_rules.proofs.Fits.{acw-below, cw-below, around-below}

@@ -8,7 +8,7 @@
 --     edgePoint            the edge point of edge e
 use mathlib.Core.Bool.{cond}
 use mathlib.Core.List.{List}
-use Prim.Native.Nat.{ℕ, _+_, _*_}
+use Prim.Native.Nat.{ℕ}
 use lib.ListN.{getD}
 use lib.Ieee.{Float, nan, add, sub, mul, div, ofBits, binary64}
 use Rattle.positions.specs.declared.Position.{Position}

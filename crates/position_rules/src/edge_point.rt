@@ -81,12 +81,9 @@ fn edge_middle(
 {
     let wo = three_terms(edges, intervals, o, e);
     let wt = three_terms(edges, intervals, t, e);
-    middle(
-        load_position(positions, o),
-        wo,
-        load_position(positions, t),
-        wt,
-    )
+    let from = load_position(positions, o);
+    let to = load_position(positions, t);
+    middle(from, wo, to, wt)
 }
 
 // m (1 - aR - aL) + aL times the left face point + aR times the right one.

@@ -21,10 +21,10 @@ fn six_terms(edges: &[u32], intervals: &[f64], p: usize, e: usize, q: usize, g: 
     requires { ⌜ EdgeFits (now edges) (now intervals) g ⌝ }
     ensures { λ r. ⌜ r ≡ sixTerms (now (edges .entry)) (now (intervals .entry)) p e q g ⌝ }
 {
-    three_terms(edges, intervals, p, e)
-        + intervals[g]
-        + a2(edges, intervals, q, g)
-        + c2(edges, intervals, q, g)
+    let three = three_terms(edges, intervals, p, e);
+    let a = a2(edges, intervals, q, g);
+    let c = c2(edges, intervals, q, g);
+    three + intervals[g] + a + c
 }
 
 // The place j, counted round n places.

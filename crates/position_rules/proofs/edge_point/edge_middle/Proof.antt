@@ -1,4 +1,3 @@
--- edge_middle meets its contract.
 use Rattle.position_rules.specs.EdgePoint.{edgeMiddle}
 use borrow.Author.Needs.{needs}
 use Rattle.position_rules.proofs.edge_point.edge_middle.Statement.{statement}

@@ -1,9 +1,5 @@
 use Rattle.position_rules.proofs.Fits.{neighbours-fit}
-use Rattle.position_rules.specs.Fits.{NeighboursFit}
 use Rattle.position_rules.specs.EdgePoint.{edgePoint}
-use Rattle.t_spline.specs.declared.TnurccEdge.{TnurccEdge}
-use Prim.Native.Nat.{_+_, _*_, _≤_}
-use mathlib.Core.Path.{_≡_, _∙_, ap}
 use borrow.Author.Needs.{needs}
 use Rattle.position_rules.proofs.edge_point.edge_point.Statement.{statement}
 use Rattle.position_rules.proofs.edge_point.edge_point.Tie as tie

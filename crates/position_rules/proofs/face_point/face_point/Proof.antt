@@ -1,7 +1,7 @@
 -- face_point meets its contract: the border is the one of the definition, and so is the sum over its windows.
 use Rattle.position_rules.proofs.FacePoint.{border-edges-fit, border-points-fit, facePoint-of-border}
 use Rattle.positions.specs.Position.{placedAt}
-use mathlib.Core.Path.{_∙_, ap, sym}
+use mathlib.Core.Path.{ap}
 use borrow.Author.Needs.{needs}
 use Rattle.position_rules.proofs.face_point.face_point.Statement.{statement}
 use Rattle.position_rules.proofs.face_point.face_point.Tie as tie

@@ -1,9 +1,8 @@
 -- window_weight meets its contract: the product of the two sums, each of the edges and points that the definition names.
 use Rattle.position_rules.proofs.Fits.{around-below, border-fits}
-use Rattle.position_rules.specs.FacePoint.{windowWeight, around}
+use Rattle.position_rules.specs.FacePoint.{windowWeight}
 use native.Mathlib.Nat.{lt-of-lt-of-le}
 use native.Mathlib.Omega.{arith}
-use Prim.Native.Nat.{ℕ, _+_, _≤_, _<_}
 use borrow.Author.Needs.{needs}
 use Rattle.position_rules.proofs.face_point.window_weight.Statement.{statement}
 use Rattle.position_rules.proofs.face_point.window_weight.Tie as tie

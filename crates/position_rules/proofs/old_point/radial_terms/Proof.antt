@@ -1,8 +1,6 @@
 -- radial_terms meets its contract: the two terms are those of the definition.
 use Rattle.position_rules.proofs.Fits.{acw-fits, radial-edge-fits, face-between-fits}
 use Rattle.position_rules.specs.OldPoint.{radialTerms}
-use Rattle.position_rules.specs.Fits.{EdgeFits}
-use mathlib.Core.Path.{sym, _∙_, ap}
 use borrow.Author.Needs.{needs}
 use Rattle.position_rules.proofs.old_point.radial_terms.Statement.{statement}
 use Rattle.position_rules.proofs.old_point.radial_terms.Tie as tie
