@@ -4,17 +4,16 @@
 --     half-fit                        half of a number that fits is finite, with the sign bit clear, and no greater
 -- A number x is at most y where num x / den x is at most num y / den y.
 use mathlib.Core.Path.{_≡_, refl, sym, _∙_, ap, subst}
-use mathlib.Core.Bool.{Bool, true, false, not, _&&_, _||_, cond, Bool·beq, true≢false, false≢true}
-use Prim.Native.Nat.{ℕ, zero, suc, _+_, _-_, _*_, _%_, _^_, _≤_, _<_, zero-le}
-use native.Mathlib.Nat.{le-refl, le-trans, le-of-eq, le-of-lt, lt-of-lt-of-le, mul-pos, mul-one, one-mul, zero-mul, mul-zero, add-zero, add-mul, mul-comm, mul-assoc, mul-left-comm, mul-right-comm, mul-le-mul-right, mul-le-mul-left, add-le-add, mul-lt-mul-of-pos-right, lt-of-mul-lt-mul-right, not-le-of-lt}
+use mathlib.Core.Bool.{Bool, true, false, not, _&&_, _||_, cond, true≢false, false≢true}
+use Prim.Native.Nat.{ℕ, zero, suc, _+_, _-_, _*_, _%_, _^_, _≤_, _<_}
+use native.Mathlib.Nat.{le-of-eq, le-of-lt, mul-pos, mul-one, one-mul, zero-mul, add-mul, mul-comm, mul-assoc, mul-left-comm, mul-right-comm, mul-le-mul-right, mul-lt-mul-of-pos-right, lt-of-mul-lt-mul-right, not-le-of-lt}
 use native.Mathlib.Omega.{arith}
 use native.Mathlib.Decide.{decLt}
 use lib.IntN.{ℤ, pos, negsuc}
 use lib.Dec.{T, ltb, eqb, leb, ltb→lt, eqb→eq, leb→le}
 use lib.Pow.{pow-add, pow-pos, pow-lt}
-use lib.Ieee.{Float, nan, inf, fin, Format, binary64, prec, emax, low, up, down, odd, units, round, sum, add, mul, div, le, fits, ofBits}
-use lib.Ieee.Bits.{is-true}
-use lib.Ieee.Fits.{up-pos, down-pos, round-is, add-fits, and-l, and-r}
+use lib.Ieee.{Float, nan, inf, fin, binary64, prec, emax, low, up, down, odd, units, round, sum, add, mul, div, le, fits, ofBits}
+use lib.Ieee.Fits.{down-pos, round-is, add-fits}
 use lib.Ieee.Exact.{HasValue, odd-sign, round-exact}
 use lib.Ieee.Order.{round-mono}
 use lib.Ieee.Positive.{num, den, den-pos, value→cross, through}
@@ -225,8 +224,10 @@ own x h k =
     let r = round binary64 false (num x) (den x) in
     let v : HasValue r false (num x) (den x) = own-round x h k in
     record {
-      own-fit = value-fit r (num x) (den x) v; own-finite = value-finite r (num x) (den x) v;
-      own-value = value→cross r (num x) (den x) v }
+      own-fit = value-fit r (num x) (den x) v;
+      own-finite = value-finite r (num x) (den x) v;
+      own-value = value→cross r (num x) (den x) v;
+    }
 
 less-than-sum : (a b c d : ℕ) → a * (c * d) ≤ (a * d + b * c) * c
 less-than-sum a b c d =
@@ -240,9 +241,9 @@ add-at-least x y h k l f =
     let o : Own x = own x h k in
     let r = round binary64 false (num x) (den x) in
     let above : T (le r (add binary64 x y)) =
-      subst (λ z. T (le r z)) (sym (add-round x y h l))
-      (round-mono binary64 (num x) (den x) (num x * den y + num y * den x) (den x * den y) (den-pos x) (mul-pos (den-pos x) (den-pos y))
-      (less-than-sum (num x) (num y) (den x) (den y))) in
+    subst (λ z. T (le r z)) (sym (add-round x y h l))
+    (round-mono binary64 (num x) (den x) (num x * den y + num y * den x) (den x * den y) (den-pos x) (mul-pos (den-pos x) (den-pos y))
+    (less-than-sum (num x) (num y) (den x) (den y))) in
     at-most-trans x r (add binary64 x y) (le-of-eq (sym (o .own-value)))
     (at-most-of-le r (add binary64 x y) (o .own-fit) (add-fit x y h l f) above)
 
@@ -316,12 +317,13 @@ half-fit d h k = go (finite (half d)) refl
     go true f =
         let hh : intervalFit (half d) ≡ true = rw (half-round d h) (round-fit _ _ (sym (ap finite (half-round d h)) ∙ f)) in
         let below : T (le (half d) (round binary64 false (num d) (den d))) =
-          subst (λ z. T (le z (round binary64 false (num d) (den d)))) (sym (half-round d h))
-          (round-mono binary64 (num d * (1 * 1)) (den d * 2) (num d) (den d) (mul-pos (den-pos d) (omega arith)) (den-pos d) less) in
+        subst (λ z. T (le z (round binary64 false (num d) (den d)))) (sym (half-round d h))
+        (round-mono binary64 (num d * (1 * 1)) (den d * 2) (num d) (den d) (mul-pos (den-pos d) (omega arith)) (den-pos d) less) in
         record {
           is-fit = hh;
           at-most = at-most-trans (half d) (round binary64 false (num d) (den d)) d
-            (at-most-of-le (half d) (round binary64 false (num d) (den d)) hh (o .own-fit) below) (le-of-eq (o .own-value)) }
+              (at-most-of-le (half d) (round binary64 false (num d) (den d)) hh (o .own-fit) below) (le-of-eq (o .own-value));
+        }
     go false f =
         absurd (true≢false (sym (o .own-finite)
         ∙ round-lost (num d * (1 * 1)) (den d * 2) (num d) (den d) (mul-pos (den-pos d) (omega arith)) (den-pos d) less (sym (ap finite (half-round d h)) ∙ f)))

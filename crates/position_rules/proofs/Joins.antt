@@ -1,32 +1,30 @@
 -- Where the sum of the intervals on either side of an edge of a face overflows, the face point is not finite: that sum is in the
 -- first factor of a window's weight. Assumes nothing.
 use mathlib.Core.Path.{_≡_, refl, sym, _∙_, ap, subst}
-use mathlib.Core.Bool.{Bool, true, false, _&&_, true≢false}
+use mathlib.Core.Bool.{Bool, true, false}
 use mathlib.Core.List.{List, map}
-use mathlib.Core.Logic.{_⊎_, inl, inr}
-use Prim.Native.Nat.{ℕ, zero, suc, _+_, _-_, _*_, _≤_, _<_}
+use mathlib.Core.Logic.{inl, inr}
+use Prim.Native.Nat.{ℕ, zero, suc, _+_, _-_, _*_, _<_}
 use native.Mathlib.Nat.{le-refl}
 use native.Mathlib.Omega.{arith}
 use lib.Dec.{T}
 use borrow.Author.Tests.{lt-ltb}
 use lib.ListN.{getD, length}
-use lib.Ieee.{Float, nan, add, mul, div, fits, binary64}
+use lib.Ieee.{Float, nan, add, fits, binary64}
 use lib.Ieee.Scale.{finite}
 use lib.Ieee.Positive.{num, den}
 use Rattle.positions.specs.Position.{finitePosition}
-use Rattle.tables.specs.Mesh.{Mesh, interval}
-use Rattle.tables.specs.Records.{positionAt}
-use Rattle.audited_meshes.specs.Walks.{back, edgesOf, faceWalk, firstPoint}
+use Rattle.tables.specs.Mesh.{interval}
+use Rattle.audited_meshes.specs.Walks.{edgesOf, firstPoint}
 use Rattle.audited_meshes.specs.Audit.{intervalFit}
-use Rattle.audited_meshes.specs.Audited.{Audited}
 use Rattle.walks.specs.Border.{again}
-use Rattle.position_rules.specs.Intervals.{acwAbout, cwAbout, A2, C2, threeTerms}
+use Rattle.position_rules.specs.Intervals.{A2, C2, threeTerms}
 use Rattle.position_rules.specs.FacePoint.{sixTerms, windowWeight, windowSum, overWeight, around, facePoint, facePointAbout, facePointOf}
-use Rattle.position_rules.specs.Fits.{EdgesFit, EdgeFits, FacePointFits}
-use Rattle.position_rules.specs.Claims.{Found, FiniteJoins}
-use Rattle.position_rules.proofs.Audited.{edges-fit, face-point-fits}
+use Rattle.position_rules.specs.Fits.{EdgesFit}
+use Rattle.position_rules.specs.Claims.{Found, JoiningFits}
+use Rattle.position_rules.proofs.Audited.{edges-fit, border-of}
 use Rattle.position_rules.proofs.Fits.{acw-below, cw-below, around-below}
-use Rattle.position_rules.proofs.Floats.{AtMost, add-lost, add-lost-right, mul-lost, mul-lost-right, div-lost, sum-lost, half-fit}
+use Rattle.position_rules.proofs.Floats.{AtMost, add-fit, add-lost, add-lost-right, mul-lost, mul-lost-right, div-lost, sum-lost, half-fit}
 use Rattle.position_rules.proofs.Sums.{windowSum-more}
 
 -- what is found is finite with the sign bit clear, and no greater
@@ -76,25 +74,16 @@ module _ (ps : List Float) (es : List ℕ) (is : List Float) (pt ed : ℕ → �
       subst (λ i. finitePosition (overWeight (windowSum ps es is pt ed i)) ≡ false) all
       (rw (div-lost _ _ (sum-x-lost k) (weight-lost k)))
 
--- the border of a face of an audited mesh
-record Border (ne : ℕ) (es : List ℕ) : Type 0 where
-  at-least-3 : 3 ≤ length es
-  edges-below : (j : ℕ) → j < length es → getD es j 0 < ne
-
-border-of : (m : Mesh) (np ne nf f : ℕ) (es : List ℕ) → Audited m np ne nf → f < nf → faceWalk m ne f ≡ back es → Border ne es
-unfolding faceWalk
-border-of m np ne nf f es a l came =
-    let h : FacePointFits (m .positions) (m .edges) (m .intervals) (m .faces) ne f = face-point-fits m np ne nf a f l in
-    let one : back (h .border) ≡ back es = sym (h .walked) ∙ came in
-    let same : h .border ≡ es = cc in
-    subst (λ bs. Border ne bs) same (record { at-least-3 = h .at-least-3; edges-below = h .edges-below })
-
 around-same : (n j : ℕ) → j < n → around n j ≡ j
 around-same n j l = rw (lt-ltb j n l)
 
-pub finite-joins : FiniteJoins
+pub joining-fits : JoiningFits
 unfolding windowWeight facePointOf facePointAbout
-finite-joins m np ne nf f es w next previous a held l came b x y whole = go (finite (add binary64 next previous)) refl
+joining-fits m np ne nf f es w next previous a held l came b x y whole =
+    add-fit next previous
+    (found-is _ next (a .interval-fit _ (below (w + 2) (omega (arith, border-of m np ne nf f es a l came .at-least-3)))) (held _) x .found-fit)
+    (found-is _ previous (a .interval-fit _ (border-of m np ne nf f es a l came .edges-below w b)) (held _) y .found-fit)
+    (go (finite (add binary64 next previous)) refl)
   where
     pt : ℕ → ℕ
     pt j = getD (again 4 (map (firstPoint m f) es)) j 0
@@ -115,6 +104,7 @@ finite-joins m np ne nf f es w next previous a held l came b x y whole = go (fin
     at-walk : facePointOf m ne f ≡ facePoint (m .positions) (m .edges) (m .intervals) pt ed (length es)
     at-walk = ap (λ z. facePointAbout m f (edgesOf z)) came
 
+    -- the sum is finite, since otherwise the face point would not be
     go : (v : Bool) → finite (add binary64 next previous) ≡ v → v ≡ true
     go true e = refl
     go false e =
