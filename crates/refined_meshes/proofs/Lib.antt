@@ -14,5 +14,7 @@ pub mod Runs
 pub mod Renumbered
 pub mod Refines
 pub mod Fits
+pub mod Intervals
+pub mod After
 pub mod Records
 pub mod Cases
