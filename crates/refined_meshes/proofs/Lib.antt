@@ -16,5 +16,6 @@ pub mod Refines
 pub mod Fits
 pub mod Intervals
 pub mod After
+pub mod Laws
 pub mod Records
 pub mod Cases
