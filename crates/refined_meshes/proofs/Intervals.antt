@@ -7,7 +7,7 @@ use mathlib.Core.Bool.{Bool, true, false, _&&_, cond, false≢true}
 use Prim.Native.Nat.{ℕ, zero, suc, _+_, _*_, _%_, _^_, _≤_, _<_}
 use native.Mathlib.Nat.{mul-pos, zero-mul}
 use native.Mathlib.Omega.{arith}
-use lib.IntN.{ℤ, negsuc}
+use lib.IntN.{ℤ}
 use lib.Dec.{T, eqb, ltb, leb, ltb→lt}
 use lib.Ieee.{Float, nan, inf, fin, Format, binary64, prec, emax, low, up, down, odd, units, round, add, sum, mul, le, fits, ofBits}
 use lib.Ieee.Scale.{finite}
@@ -103,8 +103,8 @@ size-of-fit zero k p = zero-below (up k) (2 ^ 1023 * 2) (down k) (down-pos k) tt
   where
     zero-below : (u q d : ℕ) → 0 < d → T (ltb 0 q) → 0 * u < q * d
     zero-below u q d h l = rw zero-mul (mul-pos (ltb→lt 0 q l) h)
-size-of-fit (suc n) k p = ltb→lt (suc n * up k) (2 ^ 1023 * 2 * down k) 
-      (and-r (eqb (suc n % 2) 1 && ltb (suc n) (2 ^ 53) && leb (down k) (2 ^ 1074)) (ltb (suc n * up k) (2 ^ 1023 * 2 * down k)) (subst T (sym p) tt))
+size-of-fit (suc n) k p = ltb→lt (suc n * up k) (2 ^ 1023 * 2 * down k)
+    (and-r (eqb (suc n % 2) 1 && ltb (suc n) (2 ^ 53) && leb (down k) (2 ^ 1074)) (ltb (suc n * up k) (2 ^ 1023 * 2 * down k)) (subst T (sym p) tt))
 
 pub halves-fit : HalvesFit
 halves-fit nan p q = absurd (false≢true p)
@@ -112,8 +112,8 @@ halves-fit (inf s) p q = absurd (false≢true p)
 halves-fit (fin true n k) p q = absurd (false≢true p)
 halves-fit (fin false n k) p q =
     fit-of-clear (half (fin false n k)) (clear-half (fin false n k) p)
-      (finite-below (half (fin false n k)) top (clear-half (fin false n k) p) finite-top
-        (subst (λ x. T (le x top)) (sym (half-is n k))
-          (unfold top in
-          round-mono binary64 (n * up k * 1) (down k * 2) (2 ^ 1023) 1 (mul-pos (down-pos k) (ltb→lt 0 2 tt)) (ltb→lt 0 1 tt)
-            (half-below (n * up k) (down k) (2 ^ 1023) (size-of-fit n k q)))))
+    (finite-below (half (fin false n k)) top (clear-half (fin false n k) p) finite-top
+    (subst (λ x. T (le x top)) (sym (half-is n k))
+    (unfold top in
+    round-mono binary64 (n * up k * 1) (down k * 2) (2 ^ 1023) 1 (mul-pos (down-pos k) (ltb→lt 0 2 tt)) (ltb→lt 0 1 tt)
+    (half-below (n * up k) (down k) (2 ^ 1023) (size-of-fit n k q)))))

@@ -6,12 +6,10 @@
 --     pointNo edgeNo faceNo         the rows of the kinds
 --     pointsBefore edgesBefore facesBefore k     the rows taken before turn k
 --     splitsBefore k i              the edges split at turn k before place i
-use mathlib.Core.Path.{_≡_, refl, sym, _∙_, ap, subst}
-use mathlib.Core.Bool.{Bool, true, false, cond, false≢true}
-use mathlib.Core.Logic.{_⊎_, inl, inr}
+use mathlib.Core.Path.{_≡_, refl, sym, _∙_, ap}
+use mathlib.Core.Bool.{Bool, true, false, cond}
 use Prim.Native.Nat.{ℕ, zero, suc, _+_, _-_, _*_, _≤_, _<_}
 use native.Mathlib.Omega.{arith}
-use native.Mathlib.Bridge.{le-prop}
 use native.Mathlib.Decide.{decLt, ℕ-discrete}
 use lib.Dec.{eqb, ltb}
 use borrow.Author.Tests.{ltb-true, ltb-false, lt-ltb, le-ltb, eq-eqb, ne-eqb}
@@ -26,25 +24,25 @@ use Rattle.closed_meshes.proofs.Groupoid.{identity}
 use Rattle.closed_meshes.proofs.Isomorphisms.{to-injective}
 use Rattle.closed_meshes.proofs.Sums.{place-below as sum-below, place-unique, place-found}
 use Rattle.audited_meshes.specs.Folds.{one}
-use Rattle.refined_meshes.proofs.Places.{dartAt, place, face-dartAt, place-dartAt, dartAt-place, place-below, place-injective, dartAt-zero}
+use Rattle.refined_meshes.proofs.Places.{dartAt, place, face-dartAt, place-dartAt, dartAt-place, place-below, place-injective}
 
 -- Numbers that are injective, below n and onto the numbers below n count the rows of a type.
 counted :
-  {A : Type 0} {a : ℕ} (n : ℕ) → Bijection A (Row a) → (g : A → ℕ) → ((x y : A) → g x ≡ g y → x ≡ y) → ((x : A) → g x < n)
-  → ((r : ℕ) → r < n → (x : A) × (g x ≡ r)) → n ≡ a
+    {A : Type 0} {a : ℕ} (n : ℕ) → Bijection A (Row a) → (g : A → ℕ) → ((x y : A) → g x ≡ g y → x ≡ y) → ((x : A) → g x < n)
+    → ((r : ℕ) → r < n → (x : A) × (g x ≡ r)) → n ≡ a
 counted {A} {a} n b g injective below onto =
     let up : n ≤ a =
-          rows-le n a (λ r. b .to (onto (r .0) (r .1) .0)) λ r s e.
-            row-path r s
-              (sym (onto (r .0) (r .1) .1) ∙ ap g (to-injective b _ _ e) ∙ onto (s .0) (s .1) .1) in
+    rows-le n a (λ r. b .to (onto (r .0) (r .1) .0)) λ r s e.
+    row-path r s
+    (sym (onto (r .0) (r .1) .1) ∙ ap g (to-injective b _ _ e) ∙ onto (s .0) (s .1) .1) in
     let down : a ≤ n =
-          rows-le a n (λ r. (g (b .from r), below (b .from r))) λ r s e.
-            sym (b .to-from r) ∙ ap (b .to) (injective _ _ (ap (λ x. x .0) e)) ∙ b .to-from s in
+    rows-le a n (λ r. (g (b .from r), below (b .from r))) λ r s e.
+    sym (b .to-from r) ∙ ap (b .to) (injective _ _ (ap (λ x. x .0) e)) ∙ b .to-from s in
     omega arith
 
 -- A row of a sum is settled by its term and its number in the term.
 slot-unique :
-  (g : ℕ → ℕ) (k k' r r' : ℕ) → r < g k → r' < g k' → sumTo k g + r ≡ sumTo k' g + r' → (k ≡ k') × (r ≡ r')
+    (g : ℕ → ℕ) (k k' r r' : ℕ) → r < g k → r' < g k' → sumTo k g + r ≡ sumTo k' g + r' → (k ≡ k') × (r ≡ r')
 slot-unique g k k' r r' h h' e =
     let i : k ≡ k' = place-unique g k k' r r' h h' e in
     let s : sumTo k g ≡ sumTo k' g = ap (λ x. sumTo x g) i in
@@ -200,7 +198,7 @@ module _ {np ne nf : ℕ} {t : Mesh (Row np) (Row ne) (Row nf)} (c : Closed t) (
       let i : place c (lead e) < sizeAt k = rw (sizeAt-when (face t (lead e))) (place-below c (lead e)) in
       let s : splitAt k (place c (lead e)) ≡ 1 = splitAt-when (lead e) ∙ ap one (leads-lead e) in
       let b : sumTo (place c (lead e)) (splitAt k) + 0 < sumTo (sizeAt k) (splitAt k) =
-            sum-below (splitAt k) (place c (lead e)) (sizeAt k) 0 i (omega arith) in
+      sum-below (splitAt k) (place c (lead e)) (sizeAt k) 0 i (omega arith) in
       omega arith
 
   slotOf-injective : (e e' : Row ne) → turnOf e ≡ turnOf e' → slotOf e ≡ slotOf e' → e ≡ e'
@@ -212,9 +210,9 @@ module _ {np ne nf : ℕ} {t : Mesh (Row np) (Row ne) (Row nf)} (c : Closed t) (
       let a' : splitAt k' (place c (lead e')) ≡ 1 = splitAt-when (lead e') ∙ ap one (leads-lead e') in
       let a'' : splitAt k (place c (lead e')) ≡ 1 = ap (λ x. splitAt x (place c (lead e'))) h ∙ a' in
       let s' : sumTo (place c (lead e')) (splitAt k) ≡ sumTo (place c (lead e')) (splitAt k') =
-            ap (λ x. sumTo (place c (lead e')) (splitAt x)) h in
+      ap (λ x. sumTo (place c (lead e')) (splitAt x)) h in
       let i : place c (lead e) ≡ place c (lead e') =
-            place-unique (splitAt k) (place c (lead e)) (place c (lead e')) 0 0 (omega arith) (omega arith) (omega arith) in
+      place-unique (splitAt k) (place c (lead e)) (place c (lead e')) 0 0 (omega arith) (omega arith) (omega arith) in
       sym (edge-lead e) ∙ ap edge (place-injective c (lead e) (lead e') (when-injective _ _ h) i) ∙ edge-lead e'
 
   -- The number r below the splits of turn k is the slot of an edge.
@@ -256,7 +254,7 @@ module _ {np ne nf : ℕ} {t : Mesh (Row np) (Row ne) (Row nf)} (c : Closed t) (
   pointNo-below (old p) = omega (arith, p .1)
   pointNo-below (mid e) =
       let b = sum-below (λ j. suc (splits j)) (turnOf e) nf (suc (slotOf e)) (unfold turnOf in when-below (face t (lead e)))
-            (omega (arith, slotOf-below e)) in
+      (omega (arith, slotOf-below e)) in
       omega arith
   pointNo-below (facePoint f) =
       let b = sum-below (λ j. suc (splits j)) (when f) nf 0 (when-below f) (omega arith) in omega arith
@@ -269,16 +267,16 @@ module _ {np ne nf : ℕ} {t : Mesh (Row np) (Row ne) (Row nf)} (c : Closed t) (
   pointNo-injective (mid e) (old p) h = absurd (omega (arith, p .1))
   pointNo-injective (mid e) (mid e') h =
       let u = slot-unique (λ j. suc (splits j)) (turnOf e) (turnOf e') (suc (slotOf e)) (suc (slotOf e'))
-            (omega (arith, slotOf-below e)) (omega (arith, slotOf-below e')) (omega arith) in
+      (omega (arith, slotOf-below e)) (omega (arith, slotOf-below e')) (omega arith) in
       ap mid (slotOf-injective e e' (u .0) (omega (arith, u .1)))
   pointNo-injective (mid e) (facePoint f) h =
       let u = slot-unique (λ j. suc (splits j)) (turnOf e) (when f) (suc (slotOf e)) 0
-            (omega (arith, slotOf-below e)) (omega arith) (omega arith) in
+      (omega (arith, slotOf-below e)) (omega arith) (omega arith) in
       absurd (omega (arith, u .1))
   pointNo-injective (facePoint f) (old p) h = absurd (omega (arith, p .1))
   pointNo-injective (facePoint f) (mid e) h =
       let u = slot-unique (λ j. suc (splits j)) (when f) (turnOf e) 0 (suc (slotOf e))
-            (omega arith) (omega (arith, slotOf-below e)) (omega arith) in
+      (omega arith) (omega (arith, slotOf-below e)) (omega arith) in
       absurd (omega (arith, u .1))
   pointNo-injective (facePoint f) (facePoint g) h =
       let u = slot-unique (λ j. suc (splits j)) (when f) (when g) 0 0 (omega arith) (omega arith) (omega arith) in
@@ -289,12 +287,13 @@ module _ {np ne nf : ℕ} {t : Mesh (Row np) (Row ne) (Row nf)} (c : Closed t) (
   pointNo-onto r h = go (decLt r np)
     where
       new : (k : ℕ) → k < nf → (s : ℕ) → s < suc (splits k) → sumTo k (λ j. suc (splits j)) + s ≡ r - np → np ≤ r
-        → (x : NewPoint (Row np) (Row ne) (Row nf)) × (pointNo x ≡ r)
+          → (x : NewPoint (Row np) (Row ne) (Row nf)) × (pointNo x ≡ r)
       new k l zero b e n =
           (facePoint (order .from (k, l)), rw (when-from (k, l)) (omega arith))
       new k l (suc s) b e n =
           let g = slot-found k l s (omega arith) in
           (mid (g .0), rw (g .1, g .2) (omega arith))
+
       go : Dec (r < np) → (x : NewPoint (Row np) (Row ne) (Row nf)) × (pointNo x ≡ r)
       go (yes l) = (old (r, l), refl)
       go (no l) =
@@ -304,7 +303,7 @@ module _ {np ne nf : ℕ} {t : Mesh (Row np) (Row ne) (Row nf)} (c : Closed t) (
   pub points-counted : pointsBefore nf ≡ np + ne + nf
   points-counted =
       counted (pointsBefore nf) (count-points (identity (Row np)) (identity (Row ne)) (identity (Row nf))) pointNo pointNo-injective
-        pointNo-below pointNo-onto
+      pointNo-below pointNo-onto
 
   -- ---- edges
 
@@ -320,7 +319,7 @@ module _ {np ne nf : ℕ} {t : Mesh (Row np) (Row ne) (Row nf)} (c : Closed t) (
   edgeNo-below (org e) = omega (arith, e .1)
   edgeNo-below (dst e) =
       let b = sum-below (λ j. splits j + sizeAt j) (turnOf e) nf (slotOf e) (unfold turnOf in when-below (face t (lead e)))
-            (omega (arith, slotOf-below e)) in
+      (omega (arith, slotOf-below e)) in
       omega arith
   edgeNo-below (join d) =
       let b = sum-below (λ j. splits j + sizeAt j) (when (face t d)) nf (edgeSlot d) (when-below (face t d)) (edgeSlot-below d) in
@@ -334,22 +333,22 @@ module _ {np ne nf : ℕ} {t : Mesh (Row np) (Row ne) (Row nf)} (c : Closed t) (
   edgeNo-injective (dst e) (org e') h = absurd (omega (arith, e' .1))
   edgeNo-injective (dst e) (dst e') h =
       let u = slot-unique (λ j. splits j + sizeAt j) (turnOf e) (turnOf e') (slotOf e) (slotOf e')
-            (omega (arith, slotOf-below e)) (omega (arith, slotOf-below e')) (omega arith) in
+      (omega (arith, slotOf-below e)) (omega (arith, slotOf-below e')) (omega arith) in
       ap dst (slotOf-injective e e' (u .0) (u .1))
   edgeNo-injective (dst e) (join d) h =
       let u = slot-unique (λ j. splits j + sizeAt j) (turnOf e) (when (face t d)) (slotOf e) (edgeSlot d)
-            (omega (arith, slotOf-below e)) (edgeSlot-below d) (omega arith) in
+      (omega (arith, slotOf-below e)) (edgeSlot-below d) (omega arith) in
       let s : splits (turnOf e) ≡ splits (when (face t d)) = ap splits (u .0) in
       absurd (omega (arith, u .1, slotOf-below e))
   edgeNo-injective (join d) (org e) h = absurd (omega (arith, e .1))
   edgeNo-injective (join d) (dst e) h =
       let u = slot-unique (λ j. splits j + sizeAt j) (when (face t d)) (turnOf e) (edgeSlot d) (slotOf e)
-            (edgeSlot-below d) (omega (arith, slotOf-below e)) (omega arith) in
+      (edgeSlot-below d) (omega (arith, slotOf-below e)) (omega arith) in
       let s : splits (when (face t d)) ≡ splits (turnOf e) = ap splits (u .0) in
       absurd (omega (arith, u .1, slotOf-below e))
   edgeNo-injective (join d) (join d') h =
       let u = slot-unique (λ j. splits j + sizeAt j) (when (face t d)) (when (face t d')) (edgeSlot d) (edgeSlot d')
-            (edgeSlot-below d) (edgeSlot-below d') (omega arith) in
+      (edgeSlot-below d) (edgeSlot-below d') (omega arith) in
       let s : splits (when (face t d)) ≡ splits (when (face t d')) = ap splits (u .0) in
       ap join (place-injective c d d' (when-injective _ _ (u .0)) (omega (arith, u .1)))
 
@@ -358,7 +357,7 @@ module _ {np ne nf : ℕ} {t : Mesh (Row np) (Row ne) (Row nf)} (c : Closed t) (
   edgeNo-onto r h = go (decLt r ne)
     where
       new : (k : ℕ) → k < nf → (s : ℕ) → s < splits k + sizeAt k → sumTo k (λ j. splits j + sizeAt j) + s ≡ r - ne → ne ≤ r
-        → Dec (s < splits k) → (x : NewEdge (Row ne)) × (edgeNo x ≡ r)
+          → Dec (s < splits k) → (x : NewEdge (Row ne)) × (edgeNo x ≡ r)
       new k l s b e n (yes q) =
           let g = slot-found k l s q in (dst (g .0), rw (g .1, g .2) (omega arith))
       new k l s b e n (no q) =
@@ -368,6 +367,7 @@ module _ {np ne nf : ℕ} {t : Mesh (Row np) (Row ne) (Row nf)} (c : Closed t) (
           let w : when (face t (dartAt c f i)) ≡ k = ap when (face-dartAt c f i) ∙ when-from (k, l) in
           let p : place c (dartAt c f i) ≡ i = place-dartAt c f i (omega arith) in
           (join (dartAt c f i), rw (w, p) (omega arith))
+
       go : Dec (r < ne) → (x : NewEdge (Row ne)) × (edgeNo x ≡ r)
       go (yes l) = (org (r, l), refl)
       go (no l) =
@@ -416,9 +416,9 @@ module _ {np ne nf : ℕ} {t : Mesh (Row np) (Row ne) (Row nf)} (c : Closed t) (
           absurd (omega (arith, face t d' .1))
       go (no h) (no h') =
           let q : facesBefore (when (face t d)) + (place c d - 1) ≡ facesBefore (when (face t d')) + (place c d' - 1) =
-                sym (faceNo-later d h) ∙ e ∙ faceNo-later d' h' in
+          sym (faceNo-later d h) ∙ e ∙ faceNo-later d' h' in
           let u = slot-unique (λ j. sizeAt j - 1) (when (face t d)) (when (face t d')) (place c d - 1) (place c d' - 1)
-                (faceSlot-below d h) (faceSlot-below d' h') (omega arith) in
+          (faceSlot-below d h) (faceSlot-below d' h') (omega arith) in
           place-injective c d d' (when-injective _ _ (u .0)) (omega (arith, u .1))
 
   faceNo-onto : (r : ℕ) → r < facesBefore nf → (d : Dart (Row ne)) × (faceNo d ≡ r)
@@ -427,9 +427,10 @@ module _ {np ne nf : ℕ} {t : Mesh (Row np) (Row ne) (Row nf)} (c : Closed t) (
     where
       go : Dec (r < nf) → (d : Dart (Row ne)) × (faceNo d ≡ r)
       go (yes l) =
-          let f : Row nf = (r, l) in
-          (dartAt c f 0,
-            faceNo-first (dartAt c f 0) (place-dartAt c f 0 (omega (arith, c .size-low f))) ∙ ap (λ x. x .0) (face-dartAt c f 0))
+          let f : Row nf = (r, l) in (
+            dartAt c f 0,
+            faceNo-first (dartAt c f 0) (place-dartAt c f 0 (omega (arith, c .size-low f))) ∙ ap (λ x. x .0) (face-dartAt c f 0),
+          )
       go (no l) =
           let g = place-found (λ j. sizeAt j - 1) nf (r - nf) (omega arith) in
           let f : Row nf = order .from (g .0, g .1) in

@@ -2,30 +2,29 @@
 --     RingIs r f          the ring r is that of the face f: by place it has the rows of the kinds
 --     putRing-edges ..    what stands in the tables once the ring is written
 use mathlib.Core.Path.{_≡_, refl, sym, _∙_, ap, subst}
-use mathlib.Core.Bool.{Bool, true, false, cond}
-use mathlib.Core.List.{List}
-use mathlib.Core.Logic.{_⊎_, inl, inr, _≢_}
-use Prim.Native.Nat.{ℕ, suc, _+_, _-_, _*_, _≤_, _<_}
+use mathlib.Core.Bool.{Bool, true, false}
+use mathlib.Core.Logic.{_≢_}
+use Prim.Native.Nat.{ℕ, _+_, _-_, _*_, _<_}
 use native.Mathlib.Omega.{arith}
 use lib.ListN.{getD}
 use lib.Ieee.{nan}
 use Rattle.t_spline.specs.declared.TnurccEdge.{TnurccEdge}
 use Rattle.closed_meshes.specs.Mesh.{Mesh as MeshOver, Dart, lft, rgt, edge, first, face}
 use Rattle.closed_meshes.specs.Closed.{Closed}
-use Rattle.closed_meshes.specs.Refinement.{NewPoint, old, mid, facePoint, NewEdge, org, dst, join, firstHalf, secondHalf}
+use Rattle.closed_meshes.specs.Refinement.{NewPoint, mid, facePoint, NewEdge, org, dst, join, firstHalf, secondHalf}
 use Rattle.closed_meshes.specs.Renumbering.{Bijection, Row}
 use Rattle.closed_meshes.proofs.NewDarts.{start-half, end-half, inward, outward}
 use Rattle.tables.specs.Mesh.{Mesh}
 use Rattle.audited_meshes.specs.Walks.{firstPoint}
 use Rattle.refined_meshes.specs.Turns.{turns}
-use Rattle.refined_meshes.specs.State.{State, edgeOf, putEdge, putPoint, putFace, take}
-use Rattle.refined_meshes.specs.Ring.{Ring, nextPlace, prevPlace, joinRow, faceRow, onLeft, withSide, putSide, putJoin, putFirst, putSecond, putNewFace, putFacePoint}
+use Rattle.refined_meshes.specs.State.{State, putEdge, putPoint, putFace, take}
+use Rattle.refined_meshes.specs.Ring.{Ring, nextPlace, prevPlace, joinRow, faceRow, onLeft, putSide, putJoin, putFirst, putSecond, putNewFace, putFacePoint}
 use Rattle.refined_meshes.specs.Visits.{putRing}
 use Rattle.refined_meshes.specs.Fits.{Room}
 use Rattle.refined_meshes.proofs.Places.{dartAt, place, face-dartAt, place-dartAt, dartAt-place, place-below, dartAt-next, dartAt-prev, nextPlace-below, prevPlace-below}
 use Rattle.refined_meshes.proofs.Numbering.{pointNo, edgeNo, faceNo, pointNo-injective, edgeNo-injective, faceNo-injective, pointNo-fits, edgeNo-fits, faceNo-fits}
-use Rattle.refined_meshes.proofs.Words.{Ends, Side, PointWords, FaceWords, ends, side, pointOf, faceOf, edgeFrom, dartOf, room-putEdge, room-putFace, room-putPoint, room-putSide, ends-putEdge, left-putEdge, right-putEdge, ends-putEdge-other, side-putEdge-other, ends-putSide, side-putSide, side-putSide-other, faceOf-putFace, faceOf-putFace-other, pointOf-putPoint, pointOf-putPoint-other}
-use Rattle.refined_meshes.proofs.Target.{isLeft, found, joint, endsAt, firstSide, secondSide, outSide, inSide, centreAt, faceAt, rowOf, rowOf-injective, edge-rowOf, row-start, row-end, kind, oldDart, Kind, starting, inner, outer, ending, kind-start, kind-end, oldDart-start, oldDart-end}
+use Rattle.refined_meshes.proofs.Words.{Ends, Side, ends, side, pointOf, faceOf, edgeFrom, dartOf, room-putEdge, room-putFace, room-putPoint, room-putSide, ends-putEdge, left-putEdge, right-putEdge, ends-putEdge-other, side-putEdge-other, ends-putSide, side-putSide, side-putSide-other, faceOf-putFace, faceOf-putFace-other, pointOf-putPoint, pointOf-putPoint-other}
+use Rattle.refined_meshes.proofs.Target.{isLeft, found, endsAt, firstSide, secondSide, outSide, inSide, centreAt, faceAt, rowOf, rowOf-injective, row-start, row-end, kind, oldDart, starting, inner, outer, ending, kind-start, kind-end, oldDart-start, oldDart-end}
 use Rattle.refined_meshes.proofs.Turns.{turns-cong, turns-view, turns-stay, turns-ok, turns-other, turns-same}
 
 -- a side of an edge
@@ -61,7 +60,7 @@ module _ (m : Mesh) {np ne nf : ℕ} {t : MeshOver (Row np) (Row ne) (Row nf)} (
   newFaceAt : Dart (Row ne) → State → State
   newFaceAt d s =
       putFace (faceNo c order d) (edgeNo c order (firstHalf d)) (pointNo c order (facePoint (face t d)))
-        (pointNo c order (mid (edge (c .prev d)))) (first t d .0) (pointNo c order (mid (edge d))) s
+      (pointNo c order (mid (edge (c .prev d)))) (first t d .0) (pointNo c order (mid (edge d))) s
 
   module _ (r : Ring) (f : Row nf) (is : RingIs r f) (i : ℕ) (below : i < c .size f) (s : State) where
     abbrev here : Dart (Row ne)
@@ -83,29 +82,55 @@ module _ (m : Mesh) {np ne nf : ℕ} {t : MeshOver (Row np) (Row ne) (Row nf)} (
     join-at : putJoin r i s ≡ joinAt here s
     unfolding putJoin joinAt endsAt outSide inSide
     join-at =
-        rw (at-next (joinRow r) (λ x. edgeNo c order (join x)) (is .join-is), at-prev (joinRow r) (λ x. edgeNo c order (join x)) (is .join-is),
-          at-next (faceRow r) (faceNo c order) (is .face-is), is .join-is i below, is .face-is i below, is .first-is i below,
-          is .second-is i below, is .mid-is i below, is .centre-is,
+        rw (
+          at-next (joinRow r) (λ x. edgeNo c order (join x)) (is .join-is),
+          at-prev (joinRow r) (λ x. edgeNo c order (join x)) (is .join-is),
+          at-next (faceRow r) (faceNo c order) (is .face-is),
+          is .join-is i below,
+          is .face-is i below,
+          is .first-is i below,
+          is .second-is i below,
+          is .mid-is i below,
+          is .centre-is,
           at-next (λ k. getD (r .found) k nan) (found m c order) (is .found-is),
-          at-prev (λ k. getD (r .found) k nan) (found m c order) (is .found-is), face-dartAt c f i)
+          at-prev (λ k. getD (r .found) k nan) (found m c order) (is .found-is),
+          face-dartAt c f i,
+        )
 
     first-at : putFirst m r i s ≡ halfAt firstHalf (firstSide c order) here s
     unfolding putFirst halfAt firstSide
     first-at =
-        rw (is .left-is i below, is .first-is i below, is .face-is i below, is .join-is i below,
-          at-prev (λ k. getD (r .seconds) k 0) (λ x. edgeNo c order (secondHalf x)) (is .second-is))
+        rw (
+          is .left-is i below,
+          is .first-is i below,
+          is .face-is i below,
+          is .join-is i below,
+          at-prev (λ k. getD (r .seconds) k 0) (λ x. edgeNo c order (secondHalf x)) (is .second-is),
+        )
 
     second-at : putSecond m r i s ≡ halfAt secondHalf (secondSide c order) here s
     unfolding putSecond halfAt secondSide
     second-at =
-        rw (is .left-is i below, is .second-is i below, at-next (faceRow r) (faceNo c order) (is .face-is), is .join-is i below,
-          at-next (λ k. getD (r .firsts) k 0) (λ x. edgeNo c order (firstHalf x)) (is .first-is))
+        rw (
+          is .left-is i below,
+          is .second-is i below,
+          at-next (faceRow r) (faceNo c order) (is .face-is),
+          is .join-is i below,
+          at-next (λ k. getD (r .firsts) k 0) (λ x. edgeNo c order (firstHalf x)) (is .first-is),
+        )
 
     face-at : putNewFace m r i s ≡ newFaceAt here s
     unfolding putNewFace newFaceAt
     face-at =
-        rw (is .face-is i below, is .first-is i below, is .centre-is, is .point-is i below, is .mid-is i below,
-          at-prev (λ k. getD (r .mids) k 0) (λ x. pointNo c order (mid (edge x))) (is .mid-is), face-dartAt c f i)
+        rw (
+          is .face-is i below,
+          is .first-is i below,
+          is .centre-is,
+          is .point-is i below,
+          is .mid-is i below,
+          at-prev (λ k. getD (r .mids) k 0) (λ x. pointNo c order (mid (edge x))) (is .mid-is),
+          face-dartAt c f i,
+        )
 
   -- ---- the whole ring
 
@@ -121,11 +146,11 @@ module _ (m : Mesh) {np ne nf : ℕ} {t : MeshOver (Row np) (Row ne) (Row nf)} (
     pub centre : pointOf s' (pointNo c order (facePoint f)) ≡ centreAt c order f
     -- all else is as it was
     pub other-ends :
-      (x : NewEdge (Row ne)) → ((d : Dart (Row ne)) → face t d ≡ f → x ≢ join d) → ends s' (edgeNo c order x) ≡ ends s (edgeNo c order x)
+        (x : NewEdge (Row ne)) → ((d : Dart (Row ne)) → face t d ≡ f → x ≢ join d) → ends s' (edgeNo c order x) ≡ ends s (edgeNo c order x)
     pub other-side : (y : Dart (NewEdge (Row ne))) → face t (oldDart y) ≢ f → side s' (rowOf c order y) ≡ side s (rowOf c order y)
     pub other-face : (d : Dart (Row ne)) → face t d ≢ f → faceOf s' (faceNo c order d) ≡ faceOf s (faceNo c order d)
     pub other-point :
-      (x : NewPoint (Row np) (Row ne) (Row nf)) → x ≢ facePoint f → pointOf s' (pointNo c order x) ≡ pointOf s (pointNo c order x)
+        (x : NewPoint (Row np) (Row ne) (Row nf)) → x ≢ facePoint f → pointOf s' (pointNo c order x) ≡ pointOf s (pointNo c order x)
 
   abbrev Fit : State → Type 0
   Fit s = Room (np + ne + nf) (4 * ne) (2 * ne) s
@@ -160,49 +185,52 @@ module _ (m : Mesh) {np ne nf : ℕ} {t : MeshOver (Row np) (Row ne) (Row nf)} (
     join-ok i s o = room-putEdge s (edgeNo c order (join (dartAt c f i))) (joinEdge (dartAt c f i)) o
 
     join-other :
-      (i : ℕ) (s : State) (x : NewEdge (Row ne)) → i < n → Fit s → x ≢ join (dartAt c f i)
-      → parts (joinAt (dartAt c f i) s) x ≡ parts s x
+        (i : ℕ) (s : State) (x : NewEdge (Row ne)) → i < n → Fit s → x ≢ join (dartAt c f i)
+        → parts (joinAt (dartAt c f i) s) x ≡ parts s x
     unfolding joinAt parts
     join-other i s x l o k =
         let k' : edgeNo c order x ≢ edgeNo c order (join (dartAt c f i)) = λ q. k (edgeNo-injective c order _ _ q) in
         let r : TnurccEdge = joinEdge (dartAt c f i) in
-        λ j.
-          (ends-putEdge-other s _ _ k' r j, side-putEdge-other s _ (lft (edgeNo c order x)) k' r j,
-            side-putEdge-other s _ (rgt (edgeNo c order x)) k' r j)
+        λ j. (
+          ends-putEdge-other s _ _ k' r j,
+          side-putEdge-other s _ (lft (edgeNo c order x)) k' r j,
+          side-putEdge-other s _ (rgt (edgeNo c order x)) k' r j,
+        )
 
     join-same :
-      (i : ℕ) (s : State) → i < n → Fit s
-      → parts (joinAt (dartAt c f i) s) (join (dartAt c f i))
+        (i : ℕ) (s : State) → i < n → Fit s
+        → parts (joinAt (dartAt c f i) s) (join (dartAt c f i))
         ≡ (endsAt m c order (join (dartAt c f i)), outSide c order (dartAt c f i), inSide c order (dartAt c f i))
     unfolding joinAt parts
     join-same i s l o =
         let d : Dart (Row ne) = dartAt c f i in
         let b : edgeNo c order (join d) < 4 * ne = edgeNo-fits c order (join d) in
-        λ j.
-          (ends-putEdge s o (edgeNo c order (join d)) b (endsAt m c order (join d)) (outSide c order d) (inSide c order d) j,
-            left-putEdge s o (edgeNo c order (join d)) b (endsAt m c order (join d)) (outSide c order d) (inSide c order d) j,
-            right-putEdge s o (edgeNo c order (join d)) b (endsAt m c order (join d)) (outSide c order d) (inSide c order d) j)
+        λ j. (
+          ends-putEdge s o (edgeNo c order (join d)) b (endsAt m c order (join d)) (outSide c order d) (inSide c order d) j,
+          left-putEdge s o (edgeNo c order (join d)) b (endsAt m c order (join d)) (outSide c order d) (inSide c order d) j,
+          right-putEdge s o (edgeNo c order (join d)) b (endsAt m c order (join d)) (outSide c order d) (inSide c order d) j,
+        )
 
     joins-fit : (s : State) → Fit s → Fit (joins s)
     unfolding joins
     joins-fit s o = turns-ok {K = Row nf} {B = ℕ} (λ i. joinAt (dartAt c f i)) Fit join-ok (λ x k. 0) (λ i. f) n s o
 
     joins-same : (s : State) → Fit s → (d : Dart (Row ne)) → face t d ≡ f
-      → parts (joins s) (join d) ≡ (endsAt m c order (join d), outSide c order d, inSide c order d)
+        → parts (joins s) (join d) ≡ (endsAt m c order (join d), outSide c order d, inSide c order d)
     unfolding joins
     joins-same s o d q =
         subst (λ x. parts (turns n (λ i. joinAt (dartAt c f i)) s) (join x) ≡ (endsAt m c order (join x), outSide c order x, inSide c order x))
-          (at-place d q .1)
-          (turns-same (λ i. joinAt (dartAt c f i)) Fit join-ok parts (λ i. join (dartAt c f i)) n
-            (λ i. (endsAt m c order (join (dartAt c f i)), outSide c order (dartAt c f i), inSide c order (dartAt c f i)))
-            join-same join-other (λ i j a b e. places-differ i j a b (cc)) s o (place c d) (at-place d q .0))
+        (at-place d q .1)
+        (turns-same (λ i. joinAt (dartAt c f i)) Fit join-ok parts (λ i. join (dartAt c f i)) n
+        (λ i. (endsAt m c order (join (dartAt c f i)), outSide c order (dartAt c f i), inSide c order (dartAt c f i)))
+        join-same join-other (λ i j a b e. places-differ i j a b (cc)) s o (place c d) (at-place d q .0))
 
     joins-other : (s : State) → Fit s → (x : NewEdge (Row ne)) → ((d : Dart (Row ne)) → face t d ≡ f → x ≢ join d)
-      → parts (joins s) x ≡ parts s x
+        → parts (joins s) x ≡ parts s x
     unfolding joins
     joins-other s o x k =
         turns-other (λ i. joinAt (dartAt c f i)) Fit join-ok parts (λ i. join (dartAt c f i)) n join-other s o x
-          (λ i l. k (dartAt c f i) (face-dartAt c f i))
+        (λ i l. k (dartAt c f i) (face-dartAt c f i))
 
     -- ---- the halves on the side of f
 
@@ -211,64 +239,64 @@ module _ (m : Mesh) {np ne nf : ℕ} {t : MeshOver (Row np) (Row ne) (Row nf)} (
 
     -- h d is the half of d that is written, y d its dart on d's side, v d what is written there
     module _
-      (h : Dart (Row ne) → NewEdge (Row ne)) (y : Dart (Row ne) → Dart (NewEdge (Row ne)))
-      (row-is : (d : Dart (Row ne)) → dartOf (isLeft d) (edgeNo c order (h d)) ≡ rowOf c order (y d))
-      (old-is : (d : Dart (Row ne)) → oldDart (y d) ≡ d) (v : Dart (Row ne) → Side)
+        (h : Dart (Row ne) → NewEdge (Row ne)) (y : Dart (Row ne) → Dart (NewEdge (Row ne)))
+        (row-is : (d : Dart (Row ne)) → dartOf (isLeft d) (edgeNo c order (h d)) ≡ rowOf c order (y d))
+        (old-is : (d : Dart (Row ne)) → oldDart (y d) ≡ d) (v : Dart (Row ne) → Side)
       where
-      halves : State → State
-      halves s = turns n (λ i. halfAt h v (dartAt c f i)) s
+        halves : State → State
+        halves s = turns n (λ i. halfAt h v (dartAt c f i)) s
 
-      half-ok : (i : ℕ) (s : State) → Fit s → Fit (halfAt h v (dartAt c f i) s)
-      unfolding halfAt
-      half-ok i s o =
-          let d : Dart (Row ne) = dartAt c f i in
-          room-putSide s o (edgeNo c order (h d)) (edgeNo-fits c order (h d)) (v d .face) (v d .acw) (v d .cw) (isLeft d)
+        half-ok : (i : ℕ) (s : State) → Fit s → Fit (halfAt h v (dartAt c f i) s)
+        unfolding halfAt
+        half-ok i s o =
+            let d : Dart (Row ne) = dartAt c f i in
+            room-putSide s o (edgeNo c order (h d)) (edgeNo-fits c order (h d)) (v d .face) (v d .acw) (v d .cw) (isLeft d)
 
-      half-same : (i : ℕ) (s : State) → i < n → Fit s → sideAt (halfAt h v (dartAt c f i) s) (y (dartAt c f i)) ≡ v (dartAt c f i)
-      unfolding halfAt sideAt
-      half-same i s l o =
-          let d : Dart (Row ne) = dartAt c f i in
-          ap (side (halfAt h v d s)) (sym (row-is d))
-          ∙ side-putSide s o (edgeNo c order (h d)) (edgeNo-fits c order (h d)) (v d .face) (v d .acw) (v d .cw) (isLeft d)
+        half-same : (i : ℕ) (s : State) → i < n → Fit s → sideAt (halfAt h v (dartAt c f i) s) (y (dartAt c f i)) ≡ v (dartAt c f i)
+        unfolding halfAt sideAt
+        half-same i s l o =
+            let d : Dart (Row ne) = dartAt c f i in
+            ap (side (halfAt h v d s)) (sym (row-is d))
+            ∙ side-putSide s o (edgeNo c order (h d)) (edgeNo-fits c order (h d)) (v d .face) (v d .acw) (v d .cw) (isLeft d)
 
-      half-other :
-        (i : ℕ) (s : State) (x : Dart (NewEdge (Row ne))) → i < n → Fit s → x ≢ y (dartAt c f i)
-        → sideAt (halfAt h v (dartAt c f i) s) x ≡ sideAt s x
-      unfolding halfAt sideAt
-      half-other i s x l o k =
-          let d : Dart (Row ne) = dartAt c f i in
-          side-putSide-other s o (edgeNo c order (h d)) (edgeNo-fits c order (h d)) (v d .face) (v d .acw) (v d .cw) (isLeft d) (rowOf c order x)
+        half-other :
+            (i : ℕ) (s : State) (x : Dart (NewEdge (Row ne))) → i < n → Fit s → x ≢ y (dartAt c f i)
+            → sideAt (halfAt h v (dartAt c f i) s) x ≡ sideAt s x
+        unfolding halfAt sideAt
+        half-other i s x l o k =
+            let d : Dart (Row ne) = dartAt c f i in
+            side-putSide-other s o (edgeNo c order (h d)) (edgeNo-fits c order (h d)) (v d .face) (v d .acw) (v d .cw) (isLeft d) (rowOf c order x)
             (λ q. k (rowOf-injective c order _ _ (q ∙ row-is d)))
 
-      half-ends : (i : ℕ) (s : State) (e : ℕ) → Fit s → ends (halfAt h v (dartAt c f i) s) e ≡ ends s e
-      unfolding halfAt
-      half-ends i s e o =
-          let d : Dart (Row ne) = dartAt c f i in
-          ends-putSide s o (edgeNo c order (h d)) (edgeNo-fits c order (h d)) (v d .face) (v d .acw) (v d .cw) (isLeft d) e
+        half-ends : (i : ℕ) (s : State) (e : ℕ) → Fit s → ends (halfAt h v (dartAt c f i) s) e ≡ ends s e
+        unfolding halfAt
+        half-ends i s e o =
+            let d : Dart (Row ne) = dartAt c f i in
+            ends-putSide s o (edgeNo c order (h d)) (edgeNo-fits c order (h d)) (v d .face) (v d .acw) (v d .cw) (isLeft d) e
 
-      half-injective : (i j : ℕ) → i < n → j < n → y (dartAt c f i) ≡ y (dartAt c f j) → i ≡ j
-      half-injective i j a b q = places-differ i j a b (sym (old-is _) ∙ ap oldDart q ∙ old-is _)
+        half-injective : (i j : ℕ) → i < n → j < n → y (dartAt c f i) ≡ y (dartAt c f j) → i ≡ j
+        half-injective i j a b q = places-differ i j a b (sym (old-is _) ∙ ap oldDart q ∙ old-is _)
 
-      halves-fit : (s : State) → Fit s → Fit (halves s)
-      unfolding halves
-      halves-fit s o = turns-ok {K = Row nf} {B = ℕ} (λ i. halfAt h v (dartAt c f i)) Fit half-ok (λ x k. 0) (λ i. f) n s o
+        halves-fit : (s : State) → Fit s → Fit (halves s)
+        unfolding halves
+        halves-fit s o = turns-ok {K = Row nf} {B = ℕ} (λ i. halfAt h v (dartAt c f i)) Fit half-ok (λ x k. 0) (λ i. f) n s o
 
-      halves-ends : (s : State) → Fit s → (e : ℕ) → ends (halves s) e ≡ ends s e
-      unfolding halves
-      halves-ends s o e = turns-stay n (λ i. halfAt h v (dartAt c f i)) Fit half-ok (λ x. ends x e) (λ i x q. half-ends i x e q) s o
+        halves-ends : (s : State) → Fit s → (e : ℕ) → ends (halves s) e ≡ ends s e
+        unfolding halves
+        halves-ends s o e = turns-stay n (λ i. halfAt h v (dartAt c f i)) Fit half-ok (λ x. ends x e) (λ i x q. half-ends i x e q) s o
 
-      halves-same : (s : State) → Fit s → (d : Dart (Row ne)) → face t d ≡ f → sideAt (halves s) (y d) ≡ v d
-      unfolding halves
-      halves-same s o d q =
-          subst (λ x. sideAt (turns n (λ i. halfAt h v (dartAt c f i)) s) (y x) ≡ v x) (at-place d q .1)
+        halves-same : (s : State) → Fit s → (d : Dart (Row ne)) → face t d ≡ f → sideAt (halves s) (y d) ≡ v d
+        unfolding halves
+        halves-same s o d q =
+            subst (λ x. sideAt (turns n (λ i. halfAt h v (dartAt c f i)) s) (y x) ≡ v x) (at-place d q .1)
             (turns-same (λ i. halfAt h v (dartAt c f i)) Fit half-ok sideAt (λ i. y (dartAt c f i)) n (λ i. v (dartAt c f i)) half-same half-other
-              half-injective s o (place c d) (at-place d q .0))
+            half-injective s o (place c d) (at-place d q .0))
 
-      halves-other :
-        (s : State) → Fit s → (x : Dart (NewEdge (Row ne))) → ((i : ℕ) → x ≢ y (dartAt c f i)) → sideAt (halves s) x ≡ sideAt s x
-      unfolding halves
-      halves-other s o x k =
-          turns-other (λ i. halfAt h v (dartAt c f i)) Fit half-ok sideAt (λ i. y (dartAt c f i)) n half-other s o x (λ i l. k i)
+        halves-other :
+            (s : State) → Fit s → (x : Dart (NewEdge (Row ne))) → ((i : ℕ) → x ≢ y (dartAt c f i)) → sideAt (halves s) x ≡ sideAt s x
+        unfolding halves
+        halves-other s o x k =
+            turns-other (λ i. halfAt h v (dartAt c f i)) Fit half-ok sideAt (λ i. y (dartAt c f i)) n half-other s o x (λ i l. k i)
 
     -- ---- the new faces
 
@@ -280,13 +308,13 @@ module _ (m : Mesh) {np ne nf : ℕ} {t : MeshOver (Row np) (Row ne) (Row nf)} (
     face-ok i s o = room-putFace s _ _ _ _ _ _ o
 
     face-same :
-      (i : ℕ) (s : State) → i < n → Fit s → faceOf (newFaceAt (dartAt c f i) s) (faceNo c order (dartAt c f i)) ≡ faceAt c order (dartAt c f i)
+        (i : ℕ) (s : State) → i < n → Fit s → faceOf (newFaceAt (dartAt c f i) s) (faceNo c order (dartAt c f i)) ≡ faceAt c order (dartAt c f i)
     unfolding newFaceAt faceAt
     face-same i s l o = faceOf-putFace s o _ _ _ _ _ _ (faceNo-fits c order (dartAt c f i))
 
     face-other :
-      (i : ℕ) (s : State) (d : Dart (Row ne)) → i < n → Fit s → d ≢ dartAt c f i
-      → faceOf (newFaceAt (dartAt c f i) s) (faceNo c order d) ≡ faceOf s (faceNo c order d)
+        (i : ℕ) (s : State) (d : Dart (Row ne)) → i < n → Fit s → d ≢ dartAt c f i
+        → faceOf (newFaceAt (dartAt c f i) s) (faceNo c order d) ≡ faceOf s (faceNo c order d)
     unfolding newFaceAt
     face-other i s d l o k = faceOf-putFace-other s _ _ _ _ _ _ _ (λ q. k (faceNo-injective c order _ _ q))
 
@@ -298,15 +326,15 @@ module _ (m : Mesh) {np ne nf : ℕ} {t : MeshOver (Row np) (Row ne) (Row nf)} (
     unfolding newFaces
     newFaces-same s o d q =
         subst (λ x. faceOf (turns n (λ i. newFaceAt (dartAt c f i)) s) (faceNo c order x) ≡ faceAt c order x) (at-place d q .1)
-          (turns-same (λ i. newFaceAt (dartAt c f i)) Fit face-ok (λ x d. faceOf x (faceNo c order d)) (λ i. dartAt c f i) n
-            (λ i. faceAt c order (dartAt c f i)) face-same face-other places-differ s o (place c d) (at-place d q .0))
+        (turns-same (λ i. newFaceAt (dartAt c f i)) Fit face-ok (λ x d. faceOf x (faceNo c order d)) (λ i. dartAt c f i) n
+        (λ i. faceAt c order (dartAt c f i)) face-same face-other places-differ s o (place c d) (at-place d q .0))
 
     newFaces-other :
-      (s : State) → Fit s → (d : Dart (Row ne)) → face t d ≢ f → faceOf (newFaces s) (faceNo c order d) ≡ faceOf s (faceNo c order d)
+        (s : State) → Fit s → (d : Dart (Row ne)) → face t d ≢ f → faceOf (newFaces s) (faceNo c order d) ≡ faceOf s (faceNo c order d)
     unfolding newFaces
     newFaces-other s o d k =
         turns-other (λ i. newFaceAt (dartAt c f i)) Fit face-ok (λ x d. faceOf x (faceNo c order d)) (λ i. dartAt c f i) n face-other s o d
-          (λ i l. not-on d k i)
+        (λ i l. not-on d k i)
 
     -- ---- all of it
 
@@ -341,11 +369,11 @@ module _ (m : Mesh) {np ne nf : ℕ} {t : MeshOver (Row np) (Row ne) (Row nf)} (
       stages =
           ap (λ k. turns k (putNewFace m r) (turns k (putSecond m r) (turns k (putFirst m r) (turns k (putJoin r) s)))) (is .size-is)
           ∙ ap (λ x. turns n (putNewFace m r) (turns n (putSecond m r) (turns n (putFirst m r) x)))
-              (turns-cong n (putJoin r) (λ i. joinAt (dartAt c f i)) (λ i x l. join-at r f is i l x) s)
+          (turns-cong n (putJoin r) (λ i. joinAt (dartAt c f i)) (λ i x l. join-at r f is i l x) s)
           ∙ ap (λ x. turns n (putNewFace m r) (turns n (putSecond m r) x))
-              (turns-cong n (putFirst m r) (λ i. halfAt firstHalf (firstSide c order) (dartAt c f i)) (λ i x l. first-at r f is i l x) s1)
+          (turns-cong n (putFirst m r) (λ i. halfAt firstHalf (firstSide c order) (dartAt c f i)) (λ i x l. first-at r f is i l x) s1)
           ∙ ap (λ x. turns n (putNewFace m r) x)
-              (turns-cong n (putSecond m r) (λ i. halfAt secondHalf (secondSide c order) (dartAt c f i)) (λ i x l. second-at r f is i l x) s2)
+          (turns-cong n (putSecond m r) (λ i. halfAt secondHalf (secondSide c order) (dartAt c f i)) (λ i x l. second-at r f is i l x) s2)
           ∙ turns-cong n (putNewFace m r) (λ i. newFaceAt (dartAt c f i)) (λ i x l. face-at r f is i l x) s3
 
       abbrev s5 : State
@@ -396,16 +424,13 @@ module _ (m : Mesh) {np ne nf : ℕ} {t : MeshOver (Row np) (Row ne) (Row nf)} (
 
       -- a dart that is no half of f's on its side
       sides-kept :
-        (x : Dart (NewEdge (Row ne))) → ((i : ℕ) → x ≢ start-half (dartAt c f i)) → ((i : ℕ) → x ≢ end-half (dartAt c f i))
-        → sideAt s5 x ≡ sideAt s1 x
+          (x : Dart (NewEdge (Row ne))) → ((i : ℕ) → x ≢ start-half (dartAt c f i)) → ((i : ℕ) → x ≢ end-half (dartAt c f i))
+          → sideAt s5 x ≡ sideAt s1 x
       unfolding sideAt
       sides-kept x a b =
           sides-stay (rowOf c order x)
           ∙ halves-other secondHalf end-half (row-end c order) oldDart-end (secondSide c order) s2 o2 x b
           ∙ halves-other firstHalf start-half (row-start c order) oldDart-start (firstSide c order) s1 o1 x a
-
-      other-kind : (x y : Dart (NewEdge (Row ne))) → kind x ≢ kind y → x ≢ y
-      other-kind x y k q = k (ap kind q)
 
       start-not-end : (d : Dart (Row ne)) (i : ℕ) → start-half d ≢ end-half (dartAt c f i)
       start-not-end d i q = let z : starting ≡ ending = sym (kind-start d) ∙ ap kind q ∙ kind-end (dartAt c f i) in kinds-clash z
@@ -438,15 +463,9 @@ module _ (m : Mesh) {np ne nf : ℕ} {t : MeshOver (Row np) (Row ne) (Row nf)} (
       other-sides : (x : Dart (NewEdge (Row ne))) → face t (oldDart x) ≢ f → sideAt s5 x ≡ sideAt s x
       other-sides x k =
           sides-kept x
-            (λ i q. not-on (oldDart x) k i (ap oldDart q ∙ oldDart-start (dartAt c f i)))
-            (λ i q. not-on (oldDart x) k i (ap oldDart q ∙ oldDart-end (dartAt c f i)))
+          (λ i q. not-on (oldDart x) k i (ap oldDart q ∙ oldDart-start (dartAt c f i)))
+          (λ i q. not-on (oldDart x) k i (ap oldDart q ∙ oldDart-end (dartAt c f i)))
           ∙ joins-side x (not-join x k)
-
-      end-not-start : (d : Dart (Row ne)) (i : ℕ) → end-half d ≢ start-half (dartAt c f i)
-      end-not-start d i q =
-          let z : ending ≡ starting = sym (kind-end d) ∙ ap kind q ∙ kind-start (dartAt c f i) in
-          let w : _≡_ {A = ℕ} 0 1 = cc in
-          omega arith
 
       first-new : (d : Dart (Row ne)) → face t d ≡ f → sideAt s5 (start-half d) ≡ firstSide c order d
       unfolding sideAt
@@ -475,7 +494,7 @@ module _ (m : Mesh) {np ne nf : ℕ} {t : MeshOver (Row np) (Row ne) (Row nf)} (
       join-ends-new d q = ends-kept _ ∙ (unfold parts in ap (λ p. p .0) (joins-same s o d q))
 
       join-ends-old :
-        (x : NewEdge (Row ne)) → ((d : Dart (Row ne)) → face t d ≡ f → x ≢ join d) → ends s5 (edgeNo c order x) ≡ ends s (edgeNo c order x)
+          (x : NewEdge (Row ne)) → ((d : Dart (Row ne)) → face t d ≡ f → x ≢ join d) → ends s5 (edgeNo c order x) ≡ ends s (edgeNo c order x)
       join-ends-old x k = ends-kept _ ∙ (unfold parts in ap (λ p. p .0) (joins-other s o x k))
 
       o5 : Fit s5
@@ -508,12 +527,12 @@ module _ (m : Mesh) {np ne nf : ℕ} {t : MeshOver (Row np) (Row ne) (Row nf)} (
       ringed-taken =
           record {
             room =
-              record {
-                points-room = o5 .points-room;
-                edges-room = o5 .edges-room;
-                intervals-room = o5 .intervals-room;
-                faces-room = o5 .faces-room
-              };
+                record {
+                  points-room = o5 .points-room;
+                  edges-room = o5 .edges-room;
+                  intervals-room = o5 .intervals-room;
+                  faces-room = o5 .faces-room;
+                };
             join-ends = λ d q. ends-take _ ∙ join-ends-new d q;
             first-half = λ d q. side-take _ ∙ first-new d q;
             second-half = λ d q. side-take _ ∙ second-new d q;
@@ -525,8 +544,8 @@ module _ (m : Mesh) {np ne nf : ℕ} {t : MeshOver (Row np) (Row ne) (Row nf)} (
             other-side = λ x k. side-take _ ∙ other-sides x k;
             other-face = λ d k. face-take _ ∙ faces-last _ ∙ newFaces-other s3 o3 d k ∙ faces-stay _;
             other-point =
-              λ x k.
-                point-take _ ∙ pointOf-putPoint-other s4 _ _ _ _ _ (λ q. k (pointNo-injective c order _ _ q)) ∙ points-stay _
+                λ x k.
+                point-take _ ∙ pointOf-putPoint-other s4 _ _ _ _ _ (λ q. k (pointNo-injective c order _ _ q)) ∙ points-stay _;
           }
         where
           centre-new : pointOf s5 (pointNo c order (facePoint f)) ≡ centreAt c order f
@@ -547,7 +566,7 @@ pub taken-putRing : (m : Mesh) (r : Ring) (s : State) → taken (putRing m r s) 
 unfolding putRing putFacePoint putPoint putNewFace putFace putSecond putFirst putJoin putEdge
 taken-putRing m r s =
     ap (λ (k : Taken). (k .0 + 0, k .1 + r .size, k .2 + (r .size - 1)))
-      (turns-view (r .size) (putNewFace m r) taken (λ j x. refl) _
-        ∙ turns-view (r .size) (putSecond m r) taken (λ j x. refl) _
-        ∙ turns-view (r .size) (putFirst m r) taken (λ j x. refl) _
-        ∙ turns-view (r .size) (putJoin r) taken (λ j x. refl) s)
+    (turns-view (r .size) (putNewFace m r) taken (λ j x. refl) _
+    ∙ turns-view (r .size) (putSecond m r) taken (λ j x. refl) _
+    ∙ turns-view (r .size) (putFirst m r) taken (λ j x. refl) _
+    ∙ turns-view (r .size) (putJoin r) taken (λ j x. refl) s)

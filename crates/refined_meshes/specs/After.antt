@@ -34,8 +34,8 @@ pub record PointRows (np ne nf : ℕ) (m' : Mesh) : Type 0 where
   pub centres-differ : (f g : ℕ) → f < nf → g < nf → corner m' f 0 ≡ corner m' g 0 → f ≡ g
   pub mid-no-centre : (e f : ℕ) → e < ne → f < nf → dest m' e ≢ corner m' f 0
   pub covered :
-    (p : ℕ) → p < np + ne + nf →
-    (p < np) ⊎ (((e : ℕ) × (e < ne) × (dest m' e ≡ p)) ⊎ ((f : ℕ) × (f < nf) × (corner m' f 0 ≡ p)))
+      (p : ℕ) → p < np + ne + nf →
+      (p < np) ⊎ (((e : ℕ) × (e < ne) × (dest m' e ≡ p)) ⊎ ((f : ℕ) × (f < nf) × (corner m' f 0 ≡ p)))
 
 module _ (m : Mesh) (np ne nf : ℕ) (h : HoldsClosed m np ne nf) (order : List ℕ) (m' : Mesh) where
   abbrev pub SignsClear : Type 0

@@ -14,7 +14,7 @@ use Rattle.audited_meshes.specs.Audit.{pointRows, edgeRows, faceRows}
 use Rattle.audited_meshes.specs.Walks.{edgesOf, passed, faceWalk, firstPoint}
 use Rattle.audited_meshes.specs.Rows.{HoldsClosed}
 use Rattle.refined_meshes.specs.State.{State, edgeOf, take, copied}
-use Rattle.refined_meshes.specs.Ring.{Ring, faceRow}
+use Rattle.refined_meshes.specs.Ring.{Ring}
 use Rattle.refined_meshes.specs.Order.{EachOnce}
 use Rattle.refined_meshes.specs.Visits.{foundOn, splitAll, ringOf, visits, refinedRows}
 
@@ -44,11 +44,11 @@ pub record VisitFits (m : Mesh) (np ne nf f : ℕ) (s : State) : Type 0 where
   -- before each place, and the rows of an edge that is split there
   pub split-room : (i : ℕ) → i ≤ passed (faceWalk m ne f) → Room (np + ne + nf) (4 * ne) (2 * ne) (splitSome m np ne f i s)
   pub mid-fits :
-    (i : ℕ) → i < passed (faceWalk m ne f) → edgeOf (splitSome m np ne f i s) (getD (edgesOf (faceWalk m ne f)) i 0) .dest < np
-    → splitSome m np ne f i s .pointsTaken < np + ne + nf
+      (i : ℕ) → i < passed (faceWalk m ne f) → edgeOf (splitSome m np ne f i s) (getD (edgesOf (faceWalk m ne f)) i 0) .dest < np
+      → splitSome m np ne f i s .pointsTaken < np + ne + nf
   pub half-fits :
-    (i : ℕ) → i < passed (faceWalk m ne f) → edgeOf (splitSome m np ne f i s) (getD (edgesOf (faceWalk m ne f)) i 0) .dest < np
-    → splitSome m np ne f i s .edgesTaken < 4 * ne
+      (i : ℕ) → i < passed (faceWalk m ne f) → edgeOf (splitSome m np ne f i s) (getD (edgesOf (faceWalk m ne f)) i 0) .dest < np
+      → splitSome m np ne f i s .edgesTaken < 4 * ne
   -- the rows of the ring
   pub joins-fit : ringAt m np ne f s .joinsFrom + passed (faceWalk m ne f) ≤ 4 * ne
   pub faces-fit : ringAt m np ne f s .facesFrom + (passed (faceWalk m ne f) - 1) ≤ 2 * ne
