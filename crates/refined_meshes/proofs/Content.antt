@@ -19,7 +19,7 @@ use Rattle.closed_meshes.proofs.NewDarts.{start-half, end-half, inward, outward
 use Rattle.tables.specs.Mesh.{Mesh, mark}
 use Rattle.refined_meshes.specs.State.{State, take}
 use Rattle.refined_meshes.specs.Split.{split}
-use Rattle.refined_meshes.specs.Fits.{Room}
+use Rattle.refined_meshes.specs.Fits.{RoomFor}
 use Rattle.refined_meshes.proofs.Numbering.{when, pointNo, edgeNo, faceNo, pointNo-injective, edgeNo-injective, pointNo-fits, edgeNo-fits}
 use Rattle.refined_meshes.proofs.Words.{ends, side, pointOf, faceOf}
 use Rattle.refined_meshes.proofs.Target.{endsOld, endsAt, firstSide, secondSide, outSide, inSide, midAt, centreAt, faceAt, rowOf, edge-rowOf}
@@ -57,7 +57,7 @@ module _ (m : Mesh) {np ne nf : ℕ} {t : MeshOver (Row np) (Row ne) (Row nf)} (
     pub start-found : Unchanged S s p ⊎ Latest S s p
 
   pub record Content (S : Row ne → Type 0) (k : ℕ) (s : State) : Type 0 where
-    pub room : Room (np + ne + nf) (4 * ne) (2 * ne) s
+    pub room : RoomFor np ne nf s
     pub whole : (e : Row ne) → ¬ S e → ends s (edgeNo c order (org e)) ≡ endsOld m c order e
     pub origin-half : (e : Row ne) → S e → ends s (edgeNo c order (org e)) ≡ endsAt m c order (org e)
     pub destination-half : (e : Row ne) → S e → ends s (edgeNo c order (dst e)) ≡ endsAt m c order (dst e)

@@ -7,6 +7,8 @@ pub mod Split
 pub mod Content
 pub mod Splits
 pub mod Ring
+pub mod Loops
+pub mod Ringed
 pub mod Perimeters
 pub mod Visits
 pub mod Orders

@@ -24,7 +24,7 @@ use Rattle.audited_meshes.specs.Rows.{Stands, HoldsClosed}
 use Rattle.refined_meshes.specs.State.{State, copied}
 use Rattle.refined_meshes.specs.Order.{EachOnce}
 use Rattle.refined_meshes.specs.Visits.{visits, visit, visitAlong}
-use Rattle.refined_meshes.specs.Fits.{Room}
+use Rattle.refined_meshes.specs.Fits.{RoomFor}
 use Rattle.refined_meshes.proofs.Places.{dartAt, place, face-dartAt, place-dartAt}
 use Rattle.refined_meshes.proofs.Numbering.{when, when-from, pointsBefore, edgesBefore, facesBefore, edgeNo, faceNo, faceNo-first, faceNo-fits}
 use Rattle.refined_meshes.proofs.Words.{ends, pointOf}
@@ -65,7 +65,7 @@ module _ {m : Mesh} {np ne nf : ℕ} {u : Mesh} (r : Rooms m np ne nf u) where
   faces-copied : (nf * 5 ≤ length (m .faces)) × (2 * ne * 5 ≤ length (u .faces)) × (nf * 5 ≤ length (u .faces))
   faces-copied = omega (arith, r)
 
-  pub rooms : Room (np + ne + nf) (4 * ne) (2 * ne) (copied m np ne nf u)
+  pub rooms : RoomFor np ne nf (copied m np ne nf u)
   unfolding copied
   rooms =
       record {

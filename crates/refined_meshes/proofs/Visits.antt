@@ -31,7 +31,8 @@ use Rattle.refined_meshes.proofs.Target.{isLeft, found, endsOld, endsAt
 use Rattle.refined_meshes.proofs.Turns.{getD-filled}
 use Rattle.refined_meshes.proofs.Content.{link, Done, Latest, Unchanged, OldPoint, Content, content-same, content-taken}
 use Rattle.refined_meshes.proofs.Splits.{Past, turnOf-leads, turnOf-follows, Splitting, splitting-some}
-use Rattle.refined_meshes.proofs.Ring.{RingIs, Ringed, ringed, taken, taken-putRing}
+use Rattle.refined_meshes.proofs.Ring.{RingIs}
+use Rattle.refined_meshes.proofs.Ringed.{Ringed, ringed, taken, taken-putRing}
 use Rattle.refined_meshes.proofs.Perimeters.{left-of-dart, point-of-dart}
 
 module _ (m : Mesh) {np ne nf : ℕ} {t : MeshOver (Row np) (Row ne) (Row nf)} (c : Closed t) (order : Bijection (Row nf) (Row nf)) where
