@@ -18,7 +18,8 @@ use Rattle.refined_meshes.specs.Ring.{Ring}
 use Rattle.refined_meshes.specs.Visits.{foundOn, ringOf, visits, refinedRows}
 use Rattle.refined_meshes.specs.Fits.{splitSome, ringAt, VisitFits, VisitsFit, AllTaken}
 use Rattle.refined_meshes.proofs.Places.{dartAt}
-use Rattle.refined_meshes.proofs.Numbering.{when, when-from, pointNo, edgeNo, faceNo, pointNo-fits, edgeNo-fits, faceNo-fits, points-counted, edges-counted, faces-counted}
+use Rattle.refined_meshes.proofs.Leads.{when, when-from}
+use Rattle.refined_meshes.proofs.Numbering.{pointNo, edgeNo, faceNo, pointNo-fits, edgeNo-fits, faceNo-fits, points-counted, edges-counted, faces-counted}
 use Rattle.refined_meshes.proofs.Splits.{Splitting, splitting-some, split-rows}
 use Rattle.refined_meshes.proofs.Ring.{RingIs}
 use Rattle.refined_meshes.proofs.Perimeters.{perimeter-size, perimeter-edge}

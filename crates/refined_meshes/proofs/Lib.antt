@@ -1,10 +1,12 @@
 pub mod Places
+pub mod Leads
 pub mod Numbering
 pub mod Words
 pub mod Turns
 pub mod Target
 pub mod Split
 pub mod Content
+pub mod SplitStep
 pub mod Splits
 pub mod Ring
 pub mod Loops

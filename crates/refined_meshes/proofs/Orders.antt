@@ -17,7 +17,7 @@ use Rattle.closed_meshes.specs.Renumbering.{Bijection, Row}
 use Rattle.closed_meshes.proofs.Counting.{row-path, injective-onto, bijection}
 use Rattle.closed_meshes.proofs.Isomorphisms.{inverse}
 use Rattle.refined_meshes.specs.Order.{EachOnce, turnIn}
-use Rattle.refined_meshes.proofs.Numbering.{when, when-below, from-when}
+use Rattle.refined_meshes.proofs.Leads.{when, when-below, from-when}
 
 -- What stands at place k is found, at k or before.
 turnIn-found : (gs : List ℕ) (k f : ℕ) → k < length gs → getD gs k 0 ≡ f → (turnIn gs f ≤ k) × (getD gs (turnIn gs f) 0 ≡ f)

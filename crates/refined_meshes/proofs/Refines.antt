@@ -27,7 +27,8 @@ use Rattle.refined_meshes.specs.Visits.{refinedRows, visits}
 use Rattle.refined_meshes.specs.Refines.{Refines, StartOfOld, VisitsRefine}
 use Rattle.refined_meshes.specs.Refines as Claims
 use Rattle.refined_meshes.proofs.Places.{dartAt, place, face-dartAt, dartAt-prev, dartAt-zero}
-use Rattle.refined_meshes.proofs.Numbering.{when, when-below, when-injective, leads, lead, turnOf, pointNo, edgeNo, faceNo, pointNo-injective, edgeNo-injective, faceNo-injective, pointNo-fits, edgeNo-fits, faceNo-fits, faceNo-first}
+use Rattle.refined_meshes.proofs.Leads.{when, when-below, when-injective, leads, lead}
+use Rattle.refined_meshes.proofs.Numbering.{turnOf, pointNo, edgeNo, faceNo, pointNo-injective, edgeNo-injective, faceNo-injective, pointNo-fits, edgeNo-fits, faceNo-fits, faceNo-first}
 use Rattle.refined_meshes.proofs.Words.{Side, ends, side, pointOf, faceOf}
 use Rattle.refined_meshes.proofs.Target.{found, joint, endsAt, firstSide, secondSide, outSide, inSide, midAt, centreAt, faceAt, rowOf}
 use Rattle.refined_meshes.proofs.Content.{Done, Latest, Unchanged}

@@ -26,7 +26,8 @@ use Rattle.refined_meshes.specs.Order.{EachOnce}
 use Rattle.refined_meshes.specs.Visits.{visits, visit, visitAlong}
 use Rattle.refined_meshes.specs.Fits.{RoomFor}
 use Rattle.refined_meshes.proofs.Places.{dartAt, place, face-dartAt, place-dartAt}
-use Rattle.refined_meshes.proofs.Numbering.{when, when-from, pointsBefore, edgesBefore, facesBefore, edgeNo, faceNo, faceNo-first, faceNo-fits}
+use Rattle.refined_meshes.proofs.Leads.{when, when-from}
+use Rattle.refined_meshes.proofs.Numbering.{pointsBefore, edgesBefore, facesBefore, edgeNo, faceNo, faceNo-first, faceNo-fits}
 use Rattle.refined_meshes.proofs.Words.{ends, pointOf}
 use Rattle.refined_meshes.proofs.Target.{endsOld}
 use Rattle.refined_meshes.proofs.Turns.{turns-keep}

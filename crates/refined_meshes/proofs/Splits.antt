@@ -24,11 +24,13 @@ use Rattle.refined_meshes.specs.State.{State, edgeOf, putEdge, putPoint,
 use Rattle.refined_meshes.specs.Split.{split, splitIf, splitWhole}
 use Rattle.refined_meshes.specs.Visits.{splitAll}
 use Rattle.refined_meshes.proofs.Places.{dartAt, place, face-dartAt, place-dartAt, place-injective}
-use Rattle.refined_meshes.proofs.Numbering.{when, when-injective, leads, lead, leads-lead, lead-edge, lead-across, edge-lead, splitAt, splitAt-when, splitsBefore, splits, sizeAt, turnOf, slotOf, slotOf-below, pointsBefore, edgesBefore, facesBefore, pointNo, edgeNo, pointNo-fits, edgeNo-fits}
+use Rattle.refined_meshes.proofs.Leads.{when, when-injective, leads, lead, leads-lead, lead-edge, lead-across, edge-lead, splitAt, splitAt-when, splitsBefore, splits, sizeAt}
+use Rattle.refined_meshes.proofs.Numbering.{turnOf, slotOf, slotOf-below, pointsBefore, edgesBefore, facesBefore, pointNo, edgeNo, pointNo-fits, edgeNo-fits}
 use Rattle.refined_meshes.proofs.Words.{ends}
 use Rattle.refined_meshes.proofs.Target.{endsOld, endsAt}
 use Rattle.refined_meshes.proofs.Turns.{turns-keep}
-use Rattle.refined_meshes.proofs.Content.{Content, content-same, content-split}
+use Rattle.refined_meshes.proofs.Content.{Content, content-same}
+use Rattle.refined_meshes.proofs.SplitStep.{content-split}
 
 module _ {np ne nf : ℕ} {t : MeshOver (Row np) (Row ne) (Row nf)} (c : Closed t) (order : Bijection (Row nf) (Row nf)) where
   abbrev pub Past : ℕ → ℕ → Row ne → Type 0

@@ -20,7 +20,8 @@ use Rattle.closed_meshes.proofs.NewDarts.{start-half, end-half}
 use Rattle.tables.specs.Mesh.{Mesh, interval}
 use Rattle.refined_meshes.specs.Split.{half}
 use Rattle.refined_meshes.proofs.Places.{dartAt}
-use Rattle.refined_meshes.proofs.Numbering.{leads, pointNo, edgeNo, faceNo, edgeNo-injective}
+use Rattle.refined_meshes.proofs.Leads.{leads}
+use Rattle.refined_meshes.proofs.Numbering.{pointNo, edgeNo, faceNo, edgeNo-injective}
 use Rattle.refined_meshes.proofs.Words.{Ends, Side, PointWords, FaceWords, dartOf}
 
 -- ---- kinds of new darts

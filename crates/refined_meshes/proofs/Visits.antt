@@ -25,7 +25,8 @@ use Rattle.refined_meshes.specs.Ring.{Ring, onLeft, firstHalfOf, secondH
 use Rattle.refined_meshes.specs.Split.{half}
 use Rattle.refined_meshes.specs.Visits.{foundOn, splitAll, ringOf, putRing, visitAlong}
 use Rattle.refined_meshes.proofs.Places.{dartAt, face-dartAt, place-dartAt, place-below}
-use Rattle.refined_meshes.proofs.Numbering.{when, when-injective, leads, lead, lead-edge, sizeAt, sizeAt-when, splits, splitsBefore, turnOf, pointsBefore, edgesBefore, facesBefore, pointNo, edgeNo, faceNo}
+use Rattle.refined_meshes.proofs.Leads.{when, when-injective, leads, lead, lead-edge, sizeAt, sizeAt-when, splits, splitsBefore}
+use Rattle.refined_meshes.proofs.Numbering.{turnOf, pointsBefore, edgesBefore, facesBefore, pointNo, edgeNo, faceNo}
 use Rattle.refined_meshes.proofs.Words.{ends, side, pointOf}
 use Rattle.refined_meshes.proofs.Target.{isLeft, found, endsOld, endsAt, centreAt, rowOf, oldDart}
 use Rattle.refined_meshes.proofs.Turns.{getD-filled}
