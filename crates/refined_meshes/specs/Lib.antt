@@ -1,0 +1,5 @@
+pub mod Turns
+pub mod State
+pub mod Split
+pub mod Ring
+pub mod Visits
