@@ -62,6 +62,24 @@ module _
         step-last = place-last;
       }
 
+-- the dart of class x and rank j, whose edge number is i
+pub record DartAt
+    {D C : Type 0} {step : D → D} {cls : D → C} {start : C → D} {len : C → ℕ} (c : Cycles step cls start len) (num : D → ℕ) (x : C) (i j : ℕ) : Type 0 where
+  pub dart : D
+  pub dart-cls : cls dart ≡ x
+  pub dart-rank : c .rank dart ≡ j
+  pub dart-num : num dart ≡ i
+
+-- the walk about class x: it passes the edges of the darts of x in the order of their ranks
+pub record ClassWalk
+    {D C : Type 0} {step : D → D} {cls : D → C} {start : C → D} {len : C → ℕ} (c : Cycles step cls start len) (num : D → ℕ) (x : C)
+    (stepOf : ℕ → ℕ) (On : ℕ → Type 0) : Type 0 where
+  pub edges : List ℕ
+  pub passes : Passes stepOf On (num (start x)) (num (start x)) edges
+  pub length-is : length edges ≡ len x
+  pub passed : (y : D) → cls y ≡ x → 0 < occurrences (num y) edges
+  pub dart-at : (j : ℕ) → j < length edges → DartAt c num x (getD edges j 0) j
+
 -- a cycle whose step can be undone, and one class x of it; edges of darts of x are On, and stepOf goes as the step does
 module _
     {D C : Type 0} {step : D → D} {cls : D → C} {start : C → D} {len : C → ℕ} (c : Cycles step cls start len)
@@ -71,11 +89,11 @@ module _
     (num-step : (d : D) → cls d ≡ x → stepOf (num d) ≡ num (step d))
     (on : (d : D) → cls d ≡ x → On (num d)) where
   -- the edges of the k darts from d on
-  pub edgesFrom : ℕ → D → List ℕ
+  edgesFrom : ℕ → D → List ℕ
   edgesFrom zero d = []
   edgesFrom (suc k) d = num d ∷ edgesFrom k (step d)
 
-  pub length-edgesFrom : (k : ℕ) (d : D) → length (edgesFrom k d) ≡ k
+  length-edgesFrom : (k : ℕ) (d : D) → length (edgesFrom k d) ≡ k
   unfolding edgesFrom
   length-edgesFrom zero d = refl
   length-edgesFrom (suc k) d = ap suc (length-edgesFrom k (step d))
@@ -114,22 +132,14 @@ module _
   len-positive : 0 < len x
   len-positive = omega (arith, subst (λ y. c .rank (start x) < len y) (c .cls-start x) (c .rank-below (start x)))
 
-  -- The walk about the class passes the edges of its darts, from the start on.
-  pub passes-of-cycle : Passes stepOf On (num (start x)) (num (start x)) (edgesFrom (len x) (start x))
+  passes-of-cycle : Passes stepOf On (num (start x)) (num (start x)) (edgesFrom (len x) (start x))
   passes-of-cycle = go (len x) refl
     where
       go : (n : ℕ) → len x ≡ n → Passes stepOf On (num (start x)) (num (start x)) (edgesFrom n (start x))
       go zero e = absurd (omega (arith, len-positive))
       go (suc k) e = passes-from k (start x) (before-start k e)
 
-  -- The dart at place j of the list.
-  pub record DartAt (i j : ℕ) : Type 0 where
-    pub dart : D
-    pub dart-cls : cls dart ≡ x
-    pub dart-rank : c .rank dart ≡ j
-    pub dart-num : num dart ≡ i
-
-  dart-from : (k : ℕ) (d : D) → Before k d → (j : ℕ) → j < k → DartAt (getD (edgesFrom k d) j 0) (c .rank d + j)
+  dart-from : (k : ℕ) (d : D) → Before k d → (j : ℕ) → j < k → DartAt c num x (getD (edgesFrom k d) j 0) (c .rank d + j)
   unfolding Before edgesFrom
   dart-from zero d b j l = absurd (omega arith)
   dart-from (suc k) d b zero l = record { dart = d; dart-cls = b .0; dart-rank = omega arith; dart-num = refl }
@@ -138,10 +148,10 @@ module _
       let r = dart-from (suc k) (step d) (before-next k d b) j (omega arith) in
       record { dart = r .dart; dart-cls = r .dart-cls; dart-rank = omega (arith, r .dart-rank, rank-next k d b); dart-num = r .dart-num }
 
-  pub dart-of-place : (j : ℕ) → j < len x → DartAt (getD (edgesFrom (len x) (start x)) j 0) j
+  dart-of-place : (j : ℕ) → j < len x → DartAt c num x (getD (edgesFrom (len x) (start x)) j 0) j
   dart-of-place j l = go (len x) refl l
     where
-      go : (n : ℕ) → len x ≡ n → j < n → DartAt (getD (edgesFrom n (start x)) j 0) j
+      go : (n : ℕ) → len x ≡ n → j < n → DartAt c num x (getD (edgesFrom n (start x)) j 0) j
       go zero e l = absurd (omega arith)
       go (suc k) e l =
           let r = dart-from (suc k) (start x) (before-start k e) j l in
@@ -168,10 +178,19 @@ module _
           later l (yes e) = subst (λ i. 0 < occurrences i (num d ∷ rest)) e (omega (arith, occurrences-here (num d) rest))
           later l (no h) = omega (arith, occurrences-there (num y) (num d) rest h)
 
-  -- It passes the edge of each dart of the class.
-  pub passed-of-cycle : (y : D) → cls y ≡ x → 0 < occurrences (num y) (edgesFrom (len x) (start x))
+  passed-of-cycle : (y : D) → cls y ≡ x → 0 < occurrences (num y) (edgesFrom (len x) (start x))
   passed-of-cycle y cy = go (len x) refl
     where
       go : (n : ℕ) → len x ≡ n → 0 < occurrences (num y) (edgesFrom n (start x))
       go zero e = absurd (omega (arith, len-positive))
       go (suc k) e = in-from k (start x) (before-start k e) y cy (omega (arith, c .rank-start x))
+
+  pub walk-of-cycle : ClassWalk c num x stepOf On
+  walk-of-cycle =
+      record {
+        edges = edgesFrom (len x) (start x);
+        passes = passes-of-cycle;
+        length-is = length-edgesFrom (len x) (start x);
+        passed = passed-of-cycle;
+        dart-at = λ j l. dart-of-place j (subst (λ n. j < n) (length-edgesFrom (len x) (start x)) l);
+      }

@@ -2,19 +2,18 @@
 -- if the tables hold a closed mesh. Assumes nothing.
 use mathlib.Core.Path.{_≡_, refl, sym, _∙_, ap, subst, subst₂, subst₃}
 use mathlib.Core.List.{List, map}
-use mathlib.Core.Logic.{_⊎_, inl, inr, _≢_, Iff·trans}
+use mathlib.Core.Logic.{_⊎_, inl, inr, Iff·trans}
 use mathlib.Core.Option.{Option, some}
 use mathlib.Core.Option
 use Prim.Native.Nat.{ℕ, zero, suc, _<_}
 use native.Mathlib.Omega.{arith}
 use lib.ListN.{length, getD, length-map}
-use borrow.Author.Tests.{eq-eqb, ne-eqb}
 use Rattle.closed_meshes.specs.Mesh.{Mesh as MeshOver, Place, place0, place1, place2, place3, Dart, lft, rgt, edge, flip, first, second, face, acw, cw}
 use Rattle.closed_meshes.specs.Closed.{Closed}
 use Rattle.closed_meshes.specs.Renumbering.{Row}
 use Rattle.closed_meshes.proofs.Counting.{row-path}
-use Rattle.closed_meshes.proofs.Darts.{edge-flip, flip-flip, dart-of-face, dart-of-first, face-next, face-prev}
-use Rattle.tables.specs.Mesh.{Mesh, none, valence, start, origin, dest, leftFace, rightFace, leftCw, leftAcw, rightCw, rightAcw, faceStart, corner}
+use Rattle.closed_meshes.proofs.Darts.{edge-flip, flip-flip, face-next, face-prev}
+use Rattle.tables.specs.Mesh.{Mesh, none, start, origin, dest, leftFace, rightFace, leftCw, leftAcw, rightCw, rightAcw, faceStart, corner}
 use Rattle.audited_meshes.specs.Folds.{occurrences}
 use Rattle.audited_meshes.specs.Walks.{acwOfFace, cwOfFace, acwOfPoint, firstPoint}
 use Rattle.audited_meshes.specs.Audited.{Borders, Touches, SameEnds, Distinct, Passes, EdgeInRange, AcwLinks, CwLinks, FaceWalked, PointWalked, Audited}
@@ -22,9 +21,10 @@ use Rattle.audited_meshes.specs.Rows.{place, cornerWord, Stands, Fit}
 use Rattle.audited_meshes.specs.Claims.{AuditIsClosed}
 use Rattle.audited_meshes.proofs.Walks.{passes-once}
 use Rattle.audited_meshes.proofs.Positions.{getD-map-below}
-use Rattle.audited_meshes.proofs.Cycles.{edgesFrom, length-edgesFrom, passes-of-cycle, dart-of-place, passed-of-cycle}
+use Rattle.audited_meshes.proofs.Cycles.{ClassWalk, walk-of-cycle}
 use Rattle.audited_meshes.proofs.Audited.{audit-is-audited}
 use Rattle.audited_meshes.proofs.Rows.{rows, rows-stand, rows-fit}
+use Rattle.audited_meshes.proofs.Darts.{number, num, Seen, acwOfFace-dart, cwOfFace-dart, acwOfPoint-dart, firstPoint-dart, borders-dart, touches-first, dart-of-borders, dart-of-touches, settled-on-face, settled-at-point}
 use Rattle.audited_meshes.proofs.Closed.{closed-rows}
 
 -- the place with a number
@@ -41,77 +41,25 @@ cornerWord-fit Option.none = inr refl
 cornerWord-fit (some p) = inl (p .1)
 
 module _ (m : Mesh) {np ne nf : ℕ} (t : MeshOver (Row np) (Row ne) (Row nf)) (s : Stands m t) (c : Closed t) where
-  -- the edge number of a dart
-  num : Dart (Row ne) → ℕ
-  num d = edge d .0
-
-  -- ---- what stands at a dart's edge
-
-  leftFace-differs : (e : Row ne) → leftFace m (e .0) ≢ t .right e .0
-  leftFace-differs e h = c .sides-differ e (row-path _ _ (sym (s .leftFace-stands e) ∙ h))
-
-  origin-differs : (e : Row ne) → origin m (e .0) ≢ t .dest e .0
-  origin-differs e h = c .ends-differ e (row-path _ _ (sym (s .origin-stands e) ∙ h))
-
-  acwOfFace-dart : (d : Dart (Row ne)) → acwOfFace m (face t d .0) (num d) ≡ acw t d .0
-  unfolding num
-  acwOfFace-dart (lft e) = rw (eq-eqb (leftFace m (e .0)) (t .left e .0) (s .leftFace-stands e)) (s .leftAcw-stands e)
-  acwOfFace-dart (rgt e) = rw (ne-eqb (leftFace m (e .0)) (t .right e .0) (leftFace-differs e)) (s .rightAcw-stands e)
-
-  cwOfFace-dart : (d : Dart (Row ne)) → cwOfFace m (face t d .0) (num d) ≡ cw t d .0
-  unfolding num
-  cwOfFace-dart (lft e) = rw (eq-eqb (leftFace m (e .0)) (t .left e .0) (s .leftFace-stands e)) (s .leftCw-stands e)
-  cwOfFace-dart (rgt e) = rw (ne-eqb (leftFace m (e .0)) (t .right e .0) (leftFace-differs e)) (s .rightCw-stands e)
-
-  acwOfPoint-dart : (d : Dart (Row ne)) → acwOfPoint m (first t d .0) (num d) ≡ cw t d .0
-  unfolding num
-  acwOfPoint-dart (lft e) = rw (eq-eqb (origin m (e .0)) (t .origin e .0) (s .origin-stands e)) (s .leftCw-stands e)
-  acwOfPoint-dart (rgt e) = rw (ne-eqb (origin m (e .0)) (t .dest e .0) (origin-differs e)) (s .rightCw-stands e)
-
-  firstPoint-dart : (d : Dart (Row ne)) → firstPoint m (face t d .0) (num d) ≡ first t d .0
-  unfolding num
-  firstPoint-dart (lft e) = rw (eq-eqb (leftFace m (e .0)) (t .left e .0) (s .leftFace-stands e)) (s .origin-stands e)
-  firstPoint-dart (rgt e) = rw (ne-eqb (leftFace m (e .0)) (t .right e .0) (leftFace-differs e)) (s .dest-stands e)
-
-  borders-dart : (d : Dart (Row ne)) → Borders m (face t d .0) (num d)
-  unfolding num
-  borders-dart (lft e) = inl (s .leftFace-stands e)
-  borders-dart (rgt e) = inr (s .rightFace-stands e)
-
-  touches-first : (d : Dart (Row ne)) → Touches m (first t d .0) (num d)
-  unfolding num
-  touches-first (lft e) = inl (s .origin-stands e)
-  touches-first (rgt e) = inr (s .dest-stands e)
-
-  -- an edge that borders a face has a dart there, and one that touches a point a dart from there
-  dart-of-borders : (f : Row nf) (e : Row ne) → Borders m (f .0) (e .0) → (d : Dart (Row ne)) × (num d ≡ e .0) × (face t d ≡ f)
-  unfolding num
-  dart-of-borders f e (inl h) = (lft e, refl, row-path _ _ (sym (s .leftFace-stands e) ∙ h))
-  dart-of-borders f e (inr h) = (rgt e, refl, row-path _ _ (sym (s .rightFace-stands e) ∙ h))
-
-  dart-of-touches : (p : Row np) (e : Row ne) → Touches m (p .0) (e .0) → (d : Dart (Row ne)) × (num d ≡ e .0) × (first t d ≡ p)
-  unfolding num
-  dart-of-touches p e (inl h) = (lft e, refl, row-path _ _ (sym (s .origin-stands e) ∙ h))
-  dart-of-touches p e (inr h) = (rgt e, refl, row-path _ _ (sym (s .dest-stands e) ∙ h))
+  seen : Seen m t
+  seen = record { stands = s; ends-differ = c .ends-differ; sides-differ = c .sides-differ }
 
   num-next : (d : Dart (Row ne)) → num (c .next d) ≡ acw t d .0
-  unfolding num
-  num-next d = ap (λ (e : Row ne). e .0) (c .edge-next d)
+  num-next d = ap number (c .edge-next d)
 
   num-prev : (d : Dart (Row ne)) → num (c .prev d) ≡ cw t d .0
-  unfolding num
-  num-prev d = ap (λ (e : Row ne). e .0) (c .edge-prev d)
+  num-prev d = ap number (c .edge-prev d)
 
   -- ---- the links
 
   acw-links : (d : Dart (Row ne)) → AcwLinks m (num d) (second t d .0) (face t d .0) (num (c .next d))
   acw-links d =
       record {
-        touches-end = subst (λ (p : Row np). Touches m (p .0) (num (c .next d))) (c .first-next d) (touches-first (c .next d));
-        borders-face = subst (λ (f : Row nf). Borders m (f .0) (num (c .next d))) (face-next c d) (borders-dart (c .next d));
+        touches-end = subst (λ (p : Row np). Touches m (p .0) (num (c .next d))) (c .first-next d) (touches-first seen (c .next d));
+        borders-face = subst (λ (f : Row nf). Borders m (f .0) (num (c .next d))) (face-next c d) (borders-dart seen (c .next d));
         links-back =
             ap (λ (f : Row nf). cwOfFace m (f .0) (num (c .next d))) (sym (face-next c d))
-            ∙ cwOfFace-dart (c .next d)
+            ∙ cwOfFace-dart seen (c .next d)
             ∙ sym (num-prev (c .next d))
             ∙ ap num (c .prev-next d);
       }
@@ -119,81 +67,61 @@ module _ (m : Mesh) {np ne nf : ℕ} (t : MeshOver (Row np) (Row ne) (Row nf)) (
   cw-links : (d : Dart (Row ne)) → CwLinks m (num d) (face t d .0) (num (c .prev d))
   cw-links d =
       record {
-        borders-face = subst (λ (f : Row nf). Borders m (f .0) (num (c .prev d))) (face-prev c d) (borders-dart (c .prev d));
+        borders-face = subst (λ (f : Row nf). Borders m (f .0) (num (c .prev d))) (face-prev c d) (borders-dart seen (c .prev d));
         links-back =
             ap (λ (f : Row nf). acwOfFace m (f .0) (num (c .prev d))) (sym (face-prev c d))
-            ∙ acwOfFace-dart (c .prev d)
+            ∙ acwOfFace-dart seen (c .prev d)
             ∙ sym (num-next (c .prev d))
             ∙ ap num (c .next-prev d);
       }
 
   left-acw : (e : Row ne) → AcwLinks m (e .0) (dest m (e .0)) (leftFace m (e .0)) (leftAcw m (e .0))
-  unfolding num
   left-acw e =
       subst₃ (λ p f a. AcwLinks m (e .0) p f a) (sym (s .dest-stands e)) (sym (s .leftFace-stands e)) (num-next (lft e) ∙ sym (s .leftAcw-stands e))
       (acw-links (lft e))
 
   right-acw : (e : Row ne) → AcwLinks m (e .0) (origin m (e .0)) (rightFace m (e .0)) (rightAcw m (e .0))
-  unfolding num
   right-acw e =
       subst₃ (λ p f a. AcwLinks m (e .0) p f a) (sym (s .origin-stands e)) (sym (s .rightFace-stands e)) (num-next (rgt e) ∙ sym (s .rightAcw-stands e))
       (acw-links (rgt e))
 
   left-cw : (e : Row ne) → CwLinks m (e .0) (leftFace m (e .0)) (leftCw m (e .0))
-  unfolding num
   left-cw e =
       subst₂ (λ f a. CwLinks m (e .0) f a) (sym (s .leftFace-stands e)) (num-prev (lft e) ∙ sym (s .leftCw-stands e)) (cw-links (lft e))
 
   right-cw : (e : Row ne) → CwLinks m (e .0) (rightFace m (e .0)) (rightCw m (e .0))
-  unfolding num
   right-cw e =
       subst₂ (λ f a. CwLinks m (e .0) f a) (sym (s .rightFace-stands e)) (num-prev (rgt e) ∙ sym (s .rightCw-stands e)) (cw-links (rgt e))
 
   -- ---- the walks
 
-  settled-on-face : (d d′ : Dart (Row ne)) → num d ≡ num d′ → face t d ≡ face t d′ → d ≡ d′
-  unfolding num
-  settled-on-face d d′ e f = dart-of-face c d d′ (row-path _ _ e) f
-
-  settled-at-point : (d d′ : Dart (Row ne)) → num d ≡ num d′ → first t d ≡ first t d′ → d ≡ d′
-  unfolding num
-  settled-at-point d d′ e p = dart-of-first c d d′ (row-path _ _ e) p
-
   module _ (f : Row nf) where
     face-num-step : (d : Dart (Row ne)) → face t d ≡ f → acwOfFace m (f .0) (num d) ≡ num (c .next d)
-    face-num-step d h = ap (λ (f : Row nf). acwOfFace m (f .0) (num d)) (sym h) ∙ acwOfFace-dart d ∙ sym (num-next d)
+    face-num-step d h = ap (λ (f : Row nf). acwOfFace m (f .0) (num d)) (sym h) ∙ acwOfFace-dart seen d ∙ sym (num-next d)
 
     on-face : (d : Dart (Row ne)) → face t d ≡ f → (num d < ne) × Borders m (f .0) (num d)
-    unfolding num
-    on-face d h = (edge d .1, subst (λ (f : Row nf). Borders m (f .0) (num d)) h (borders-dart d))
+    on-face d h = (edge d .1, subst (λ (f : Row nf). Borders m (f .0) (num d)) h (borders-dart seen d))
+
+    around-face : ClassWalk (c .about-faces) num f (acwOfFace m (f .0)) (λ e. (e < ne) × Borders m (f .0) e)
+    around-face =
+        walk-of-cycle (c .about-faces) (c .prev) (c .next-prev) num (settled-on-face seen) f (acwOfFace m (f .0))
+        (λ e. (e < ne) × Borders m (f .0) e) face-num-step on-face
 
     face-edges : List ℕ
-    face-edges =
-        edgesFrom (c .about-faces) (c .prev) (c .next-prev) num settled-on-face f (acwOfFace m (f .0)) (λ e. (e < ne) × Borders m (f .0) e) face-num-step on-face
-        (c .size f) (c .faceDart f)
+    face-edges = around-face .edges
 
     face-passes : Passes (acwOfFace m (f .0)) (λ e. (e < ne) × Borders m (f .0) e) (faceStart m (f .0)) (faceStart m (f .0)) face-edges
-    unfolding num face-edges
+    unfolding face-edges
     face-passes =
         subst (λ i. Passes (acwOfFace m (f .0)) (λ e. (e < ne) × Borders m (f .0) e) i i face-edges)
-        (ap (λ (e : Row ne). e .0) (c .edge-faceDart f) ∙ sym (s .faceStart-stands f))
-        (passes-of-cycle (c .about-faces) (c .prev) (c .next-prev) num settled-on-face f (acwOfFace m (f .0)) (λ e. (e < ne) × Borders m (f .0) e) face-num-step on-face)
-
-    length-face-edges : length face-edges ≡ c .size f
-    unfolding face-edges
-    length-face-edges =
-        length-edgesFrom (c .about-faces) (c .prev) (c .next-prev) num settled-on-face f (acwOfFace m (f .0)) (λ e. (e < ne) × Borders m (f .0) e) face-num-step on-face
-        (c .size f) (c .faceDart f)
-
-    face-passed : (d : Dart (Row ne)) → face t d ≡ f → 0 < occurrences (num d) face-edges
-    unfolding face-edges
-    face-passed =
-        passed-of-cycle (c .about-faces) (c .prev) (c .next-prev) num settled-on-face f (acwOfFace m (f .0)) (λ e. (e < ne) × Borders m (f .0) e) face-num-step on-face
+        (ap number (c .edge-faceDart f) ∙ sym (s .faceStart-stands f))
+        (around-face .passes)
 
     face-each-once : (e : ℕ) → e < ne → Borders m (f .0) e → occurrences e face-edges ≡ 1
+    unfolding face-edges
     face-each-once e l b =
-        let d = dart-of-borders f (e, l) b in
-        let on : 0 < occurrences e face-edges = subst (λ i. 0 < occurrences i face-edges) (d .1) (face-passed (d .0) (d .2)) in
+        let d = dart-of-borders seen f (e, l) b in
+        let on : 0 < occurrences e face-edges = subst (λ i. 0 < occurrences i face-edges) (ap number (d .1)) (around-face .passed (d .0) (d .2)) in
         omega (arith, passes-once _ _ _ _ face-edges face-passes e)
 
     -- the point at place j of the border is the first point of a dart of rank j
@@ -203,8 +131,7 @@ module _ (m : Mesh) {np ne nf : ℕ} (t : MeshOver (Row np) (Row ne) (Row nf)) (
     first-at : (j : ℕ) → j < length face-edges → FirstAt j
     unfolding face-edges FirstAt
     first-at j l =
-        let r = dart-of-place (c .about-faces) (c .prev) (c .next-prev) num settled-on-face f (acwOfFace m (f .0)) (λ e. (e < ne) × Borders m (f .0) e) face-num-step on-face
-        j (omega (arith, length-face-edges)) in
+        let r = around-face .dart-at j l in
         let d = r .dart in (
           d,
           r .dart-cls,
@@ -212,7 +139,7 @@ module _ (m : Mesh) {np ne nf : ℕ} (t : MeshOver (Row np) (Row ne) (Row nf)) (
           getD-map-below (firstPoint m (f .0)) face-edges j l
               ∙ ap (firstPoint m (f .0)) (sym (r .dart-num))
               ∙ ap (λ (f : Row nf). firstPoint m (f .0) (num d)) (sym (r .dart-cls))
-              ∙ firstPoint-dart d,
+              ∙ firstPoint-dart seen d,
         )
 
     no-point-twice : Distinct (map (firstPoint m (f .0)) face-edges)
@@ -226,14 +153,15 @@ module _ (m : Mesh) {np ne nf : ℕ} (t : MeshOver (Row np) (Row ne) (Row nf)) (
         omega arith
 
     face-walk : FaceWalked m ne (f .0)
+    unfolding face-edges
     face-walk =
         record {
           edges = face-edges;
           passes = face-passes;
           each-once = face-each-once;
           no-point-twice = no-point-twice;
-          at-least-3 = omega (arith, length-face-edges, c .size-low f);
-          at-most-64 = omega (arith, length-face-edges, c .size-high f);
+          at-least-3 = omega (arith, around-face .length-is, c .size-low f);
+          at-most-64 = omega (arith, around-face .length-is, c .size-high f);
         }
 
   -- one step anticlockwise about a point, and what undoes it
@@ -246,63 +174,55 @@ module _ (m : Mesh) {np ne nf : ℕ} (t : MeshOver (Row np) (Row ne) (Row nf)) (
 
   module _ (p : Row np) where
     point-num-step : (d : Dart (Row ne)) → first t d ≡ p → acwOfPoint m (p .0) (num d) ≡ num (flip (c .prev d))
-    unfolding num
     point-num-step d h =
-        ap (λ (p : Row np). acwOfPoint m (p .0) (num d)) (sym h) ∙ acwOfPoint-dart d ∙ sym (num-prev d) ∙ ap (λ (e : Row ne). e .0) (sym (edge-flip (c .prev d)))
+        ap (λ (p : Row np). acwOfPoint m (p .0) (num d)) (sym h) ∙ acwOfPoint-dart seen d ∙ sym (num-prev d) ∙ ap number (sym (edge-flip (c .prev d)))
 
     at-point : (d : Dart (Row ne)) → first t d ≡ p → (num d < ne) × Touches m (p .0) (num d)
-    unfolding num
-    at-point d h = (edge d .1, subst (λ (p : Row np). Touches m (p .0) (num d)) h (touches-first d))
+    at-point d h = (edge d .1, subst (λ (p : Row np). Touches m (p .0) (num d)) h (touches-first seen d))
+
+    around-point : ClassWalk (c .about-points) num p (acwOfPoint m (p .0)) (λ e. (e < ne) × Touches m (p .0) e)
+    around-point =
+        walk-of-cycle (c .about-points) turn turn-back num (settled-at-point seen) p (acwOfPoint m (p .0))
+        (λ e. (e < ne) × Touches m (p .0) e) point-num-step at-point
 
     point-edges : List ℕ
-    point-edges =
-        edgesFrom (c .about-points) turn turn-back num settled-at-point p (acwOfPoint m (p .0)) (λ e. (e < ne) × Touches m (p .0) e) point-num-step at-point
-        (t .valence p) (c .pointDart p)
+    point-edges = around-point .edges
 
     point-passes : Passes (acwOfPoint m (p .0)) (λ e. (e < ne) × Touches m (p .0) e) (start m (p .0)) (start m (p .0)) point-edges
-    unfolding num point-edges
+    unfolding point-edges
     point-passes =
         subst (λ i. Passes (acwOfPoint m (p .0)) (λ e. (e < ne) × Touches m (p .0) e) i i point-edges)
-        (ap (λ (e : Row ne). e .0) (c .edge-pointDart p) ∙ sym (s .start-stands p))
-        (passes-of-cycle (c .about-points) turn turn-back num settled-at-point p (acwOfPoint m (p .0)) (λ e. (e < ne) × Touches m (p .0) e) point-num-step at-point)
-
-    length-point-edges : length point-edges ≡ t .valence p
-    unfolding point-edges
-    length-point-edges =
-        length-edgesFrom (c .about-points) turn turn-back num settled-at-point p (acwOfPoint m (p .0)) (λ e. (e < ne) × Touches m (p .0) e) point-num-step at-point
-        (t .valence p) (c .pointDart p)
-
-    point-passed : (d : Dart (Row ne)) → first t d ≡ p → 0 < occurrences (num d) point-edges
-    unfolding point-edges
-    point-passed =
-        passed-of-cycle (c .about-points) turn turn-back num settled-at-point p (acwOfPoint m (p .0)) (λ e. (e < ne) × Touches m (p .0) e) point-num-step at-point
+        (ap number (c .edge-pointDart p) ∙ sym (s .start-stands p))
+        (around-point .passes)
 
     point-each-once : (e : ℕ) → e < ne → Touches m (p .0) e → occurrences e point-edges ≡ 1
+    unfolding point-edges
     point-each-once e l b =
-        let d = dart-of-touches p (e, l) b in
-        let on : 0 < occurrences e point-edges = subst (λ i. 0 < occurrences i point-edges) (d .1) (point-passed (d .0) (d .2)) in
+        let d = dart-of-touches seen p (e, l) b in
+        let on : 0 < occurrences e point-edges = subst (λ i. 0 < occurrences i point-edges) (ap number (d .1)) (around-point .passed (d .0) (d .2)) in
         omega (arith, passes-once _ _ _ _ point-edges point-passes e)
 
     point-walk : PointWalked m ne (p .0)
+    unfolding point-edges
     point-walk =
         record {
           edges = point-edges;
           passes = point-passes;
           each-once = point-each-once;
-          at-least-2 = omega (arith, length-point-edges, c .valence-low p);
-          is-valence = length-point-edges ∙ sym (s .valence-stands p);
+          at-least-2 = omega (arith, around-point .length-is, c .valence-low p);
+          is-valence = around-point .length-is ∙ sym (s .valence-stands p);
         }
 
   -- ---- the rest
 
   one-edge : (e i : ℕ) → e < ne → i < ne → SameEnds m e i → e ≡ i
   one-edge e i l k (inl h) =
-      ap (λ (x : Row ne). x .0)
+      ap number
       (c .one-edge (lft (e, l)) (lft (i, k))
       (row-path _ _ (sym (s .origin-stands (e, l)) ∙ h .0 ∙ s .origin-stands (i, k)))
       (row-path _ _ (sym (s .dest-stands (e, l)) ∙ h .1 ∙ s .dest-stands (i, k))))
   one-edge e i l k (inr h) =
-      ap (λ (x : Row ne). x .0)
+      ap number
       (c .one-edge (lft (e, l)) (rgt (i, k))
       (row-path _ _ (sym (s .origin-stands (e, l)) ∙ h .0 ∙ s .dest-stands (i, k)))
       (row-path _ _ (sym (s .dest-stands (e, l)) ∙ h .1 ∙ s .origin-stands (i, k))))
@@ -339,8 +259,8 @@ module _ (m : Mesh) {np ne nf : ℕ} (t : MeshOver (Row np) (Row ne) (Row nf)) (
         y-finite = fit .y-finite;
         z-finite = fit .z-finite;
         interval-fit = fit .interval-fit;
-        ends-differ = λ e l h. origin-differs (e, l) (h ∙ s .dest-stands (e, l));
-        sides-differ = λ e l h. leftFace-differs (e, l) (h ∙ s .rightFace-stands (e, l));
+        ends-differ = λ e l h. c .ends-differ (e, l) (row-path _ _ (sym (s .origin-stands (e, l)) ∙ h ∙ s .dest-stands (e, l)));
+        sides-differ = λ e l h. c .sides-differ (e, l) (row-path _ _ (sym (s .leftFace-stands (e, l)) ∙ h ∙ s .rightFace-stands (e, l)));
         one-edge = one-edge;
         left-acw = λ e l. left-acw (e, l);
         right-acw = λ e l. right-acw (e, l);

@@ -8,6 +8,7 @@ pub mod Quick
 pub mod Positions
 pub mod Cycles
 pub mod Rows
+pub mod Darts
 pub mod Closed
 pub mod Holds
 pub mod Meshes
