@@ -19,13 +19,13 @@ module _ (g : ℕ → ℕ) where
       go ih (yes h') = omega (arith, ih h')
       go ih (no h') = let e : k ≡ suc n = omega arith in rw e (omega arith)
 
-  place-below : (k n r : ℕ) → k < n → r < g k → sumTo k g + r < sumTo n g
+  pub place-below : (k n r : ℕ) → k < n → r < g k → sumTo k g + r < sumTo n g
   place-below k n r h l =
       let le : sumTo (suc k) g ≤ sumTo n g = sumTo-le (suc k) n h in
       let e : sumTo (suc k) g ≡ sumTo k g + g k = unfold sumTo in refl in
       omega arith
 
-  place-unique : (k k' r r' : ℕ) → r < g k → r' < g k' → sumTo k g + r ≡ sumTo k' g + r' → k ≡ k'
+  pub place-unique : (k k' r r' : ℕ) → r < g k → r' < g k' → sumTo k g + r ≡ sumTo k' g + r' → k ≡ k'
   place-unique k k' r r' l l' e = go (decLt k k') (decLt k' k)
     where
       go : Dec (k < k') → Dec (k' < k) → k ≡ k'
@@ -33,7 +33,7 @@ module _ (g : ℕ → ℕ) where
       go (no h) (yes h') = let b : sumTo k' g + r' < sumTo k g = place-below k' k r' h' l' in omega arith
       go (no h) (no h') = omega arith
 
-  place-found : (n x : ℕ) → x < sumTo n g → (k : ℕ) × (k < n) × (r : ℕ) × (r < g k) × (sumTo k g + r ≡ x)
+  pub place-found : (n x : ℕ) → x < sumTo n g → (k : ℕ) × (k < n) × (r : ℕ) × (r < g k) × (sumTo k g + r ≡ x)
   unfolding sumTo
   place-found zero x h = absurd (omega arith)
   place-found (suc n) x h = go (λ h'. place-found n x h') (decLt x (sumTo n g))

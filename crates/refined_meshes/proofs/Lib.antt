@@ -1,2 +1,4 @@
+pub mod Places
+pub mod Numbering
 pub mod Records
 pub mod Cases
