@@ -65,11 +65,11 @@ pub fn prev_place(n: usize, i: usize) -> usize
 }
 
 // Whether face f is on the left of the edge e, in a mesh's table of edges.
-pub fn on_left(mesh: &[u32], f: usize, e: usize) -> bool
-    requires { ⌜ e * 8 + 8 ≤ length (now mesh) ⌝ }
-    ensures { λ r. ⌜ r ≡ eqb (getD (now (mesh .entry)) (e * 8 + 2) 0) f ⌝ }
+pub fn on_left(oldedges: &[u32], f: usize, e: usize) -> bool
+    requires { ⌜ e * 8 + 8 ≤ length (now oldedges) ⌝ }
+    ensures { λ r. ⌜ r ≡ eqb (getD (now (oldedges .entry)) (e * 8 + 2) 0) f ⌝ }
 {
-    index(mesh[e * 8 + 2]) == f
+    index(oldedges[e * 8 + 2]) == f
 }
 
 // The half of the edge e at its first point, where the face is on its left or its right.
@@ -112,12 +112,12 @@ pub fn found_on(intervals: &[f64], perimeter: &[u32; 64], n: usize) -> [f64; 64]
 }
 
 // What stands at the places of the perimeter of face f, once it is split.
-pub fn places(mesh: &[u32], edges: &[u32], perimeter: &[u32; 64], f: usize, n: usize) -> RingPlaces
+pub fn places(oldedges: &[u32], edges: &[u32], perimeter: &[u32; 64], f: usize, n: usize) -> RingPlaces
     requires { ⌜ n ≤ 64 ⌝ }
-    requires { ⌜ Rows (now mesh) (now perimeter) n ⌝ }
+    requires { ⌜ Rows (now oldedges) (now perimeter) n ⌝ }
     requires { ⌜ Rows (now edges) (now perimeter) n ⌝ }
-    ensures { λ r. ⌜ r .firsts ≡ filled n (λ i. firstOf (now (mesh .entry)) (now (edges .entry)) f (getD (now (perimeter .entry)) i 0)) (replicate 64 0) ⌝ }
-    ensures { λ r. ⌜ r .seconds ≡ filled n (λ i. secondOf (now (mesh .entry)) (now (edges .entry)) f (getD (now (perimeter .entry)) i 0)) (replicate 64 0) ⌝ }
+    ensures { λ r. ⌜ r .firsts ≡ filled n (λ i. firstOf (now (oldedges .entry)) (now (edges .entry)) f (getD (now (perimeter .entry)) i 0)) (replicate 64 0) ⌝ }
+    ensures { λ r. ⌜ r .seconds ≡ filled n (λ i. secondOf (now (oldedges .entry)) (now (edges .entry)) f (getD (now (perimeter .entry)) i 0)) (replicate 64 0) ⌝ }
     ensures { λ r. ⌜ r .mids ≡ filled n (λ i. getD (now (edges .entry)) (getD (now (perimeter .entry)) i 0 * 8 + 1) 0) (replicate 64 0) ⌝ }
 {
     let mut firsts = [0u32; 64];
@@ -127,7 +127,7 @@ pub fn places(mesh: &[u32], edges: &[u32], perimeter: &[u32; 64], f: usize, n: u
     while i < n {
         let e = perimeter[i];
         let row = index(e);
-        let left = on_left(mesh, f, row);
+        let left = on_left(oldedges, f, row);
         firsts[i] = first_half(edges, left, e);
         seconds[i] = second_half(edges, left, e);
         mids[i] = edges[row * 8 + 1];
@@ -217,112 +217,112 @@ fn put_side(edges: &mut [u32], left: bool, e: u32, f: u32, acw: u32, cw: u32)
 
 // Stores the first half at place i on the side of the face.
 fn put_first(
-    mesh: &[u32], edges: &mut [u32], perimeter: &[u32; 64], firsts: &[u32; 64], seconds: &[u32; 64], rows: RingRows, i: usize)
+    oldedges: &[u32], edges: &mut [u32], perimeter: &[u32; 64], firsts: &[u32; 64], seconds: &[u32; 64], rows: RingRows, i: usize)
     requires { ⌜ Small rows ⌝ }
     requires { ⌜ i < rows .size ⌝ }
-    requires { ⌜ getD (now perimeter) i 0 * 8 + 8 ≤ length (now mesh) ⌝ }
+    requires { ⌜ getD (now perimeter) i 0 * 8 + 8 ≤ length (now oldedges) ⌝ }
     requires { ⌜ getD (now firsts) i 0 * 8 + 8 ≤ length (now edges) ⌝ }
     ensures { λ _. ⌜
         ((ms ps fs : List ℕ) (ds is : List Float) (c : Counts) →
         _≡_ {A = State}
         (tablesOf ps (now (edges .exit)) is fs c)
-        (putFirst (faceTables (now (mesh .entry)) []) (ring rows (now (perimeter .entry)) (now (firsts .entry)) (now (seconds .entry)) ms ds) i
+        (putFirst (faceTables (now (oldedges .entry)) []) (ring rows (now (perimeter .entry)) (now (firsts .entry)) (now (seconds .entry)) ms ds) i
             (tablesOf ps (now (edges .entry)) is fs c))) ⌝ }
 {
-    let left = on_left(mesh, rows.face, index(perimeter[i]));
+    let left = on_left(oldedges, rows.face, index(perimeter[i]));
     let prev = prev_place(rows.size, i);
     let f = face_row(rows, i);
     put_side(edges, left, firsts[i], f, (rows.joins + i) as u32, seconds[prev]);
 }
 
 // Stores the first halves on the side of the face.
-pub fn put_firsts(mesh: &[u32], edges: &mut [u32], perimeter: &[u32; 64], firsts: &[u32; 64], seconds: &[u32; 64], rows: RingRows)
+pub fn put_firsts(oldedges: &[u32], edges: &mut [u32], perimeter: &[u32; 64], firsts: &[u32; 64], seconds: &[u32; 64], rows: RingRows)
     requires { ⌜ Small rows ⌝ }
-    requires { ⌜ Rows (now mesh) (now perimeter) (rows .size) ⌝ }
+    requires { ⌜ Rows (now oldedges) (now perimeter) (rows .size) ⌝ }
     requires { ⌜ Rows (now edges) (now firsts) (rows .size) ⌝ }
     ensures { λ _. ⌜
         ((ms ps fs : List ℕ) (ds is : List Float) (c : Counts) →
         _≡_ {A = State}
         (tablesOf ps (now (edges .exit)) is fs c)
         (turns (rows .size)
-            (putFirst (faceTables (now (mesh .entry)) []) (ring rows (now (perimeter .entry)) (now (firsts .entry)) (now (seconds .entry)) ms ds))
+            (putFirst (faceTables (now (oldedges .entry)) []) (ring rows (now (perimeter .entry)) (now (firsts .entry)) (now (seconds .entry)) ms ds))
             (tablesOf ps (now (edges .entry)) is fs c))) ⌝ }
 {
     let n = rows.size;
     let mut i = 0;
     while i < n {
-        put_first(mesh, edges, perimeter, firsts, seconds, rows, i);
+        put_first(oldedges, edges, perimeter, firsts, seconds, rows, i);
         i += 1;
     }
 }
 
 // Stores the second half at place i on the side of the face.
 fn put_second(
-    mesh: &[u32], edges: &mut [u32], perimeter: &[u32; 64], firsts: &[u32; 64], seconds: &[u32; 64], rows: RingRows, i: usize)
+    oldedges: &[u32], edges: &mut [u32], perimeter: &[u32; 64], firsts: &[u32; 64], seconds: &[u32; 64], rows: RingRows, i: usize)
     requires { ⌜ Small rows ⌝ }
     requires { ⌜ i < rows .size ⌝ }
-    requires { ⌜ getD (now perimeter) i 0 * 8 + 8 ≤ length (now mesh) ⌝ }
+    requires { ⌜ getD (now perimeter) i 0 * 8 + 8 ≤ length (now oldedges) ⌝ }
     requires { ⌜ getD (now seconds) i 0 * 8 + 8 ≤ length (now edges) ⌝ }
     ensures { λ _. ⌜
         ((ms ps fs : List ℕ) (ds is : List Float) (c : Counts) →
         _≡_ {A = State}
         (tablesOf ps (now (edges .exit)) is fs c)
-        (putSecond (faceTables (now (mesh .entry)) []) (ring rows (now (perimeter .entry)) (now (firsts .entry)) (now (seconds .entry)) ms ds) i
+        (putSecond (faceTables (now (oldedges .entry)) []) (ring rows (now (perimeter .entry)) (now (firsts .entry)) (now (seconds .entry)) ms ds) i
             (tablesOf ps (now (edges .entry)) is fs c))) ⌝ }
 {
-    let left = on_left(mesh, rows.face, index(perimeter[i]));
+    let left = on_left(oldedges, rows.face, index(perimeter[i]));
     let next = next_place(rows.size, i);
     let f = face_row(rows, next);
     put_side(edges, left, seconds[i], f, firsts[next], (rows.joins + i) as u32);
 }
 
 // Stores the second halves on the side of the face.
-pub fn put_seconds(mesh: &[u32], edges: &mut [u32], perimeter: &[u32; 64], firsts: &[u32; 64], seconds: &[u32; 64], rows: RingRows)
+pub fn put_seconds(oldedges: &[u32], edges: &mut [u32], perimeter: &[u32; 64], firsts: &[u32; 64], seconds: &[u32; 64], rows: RingRows)
     requires { ⌜ Small rows ⌝ }
-    requires { ⌜ Rows (now mesh) (now perimeter) (rows .size) ⌝ }
+    requires { ⌜ Rows (now oldedges) (now perimeter) (rows .size) ⌝ }
     requires { ⌜ Rows (now edges) (now seconds) (rows .size) ⌝ }
     ensures { λ _. ⌜
         ((ms ps fs : List ℕ) (ds is : List Float) (c : Counts) →
         _≡_ {A = State}
         (tablesOf ps (now (edges .exit)) is fs c)
         (turns (rows .size)
-            (putSecond (faceTables (now (mesh .entry)) []) (ring rows (now (perimeter .entry)) (now (firsts .entry)) (now (seconds .entry)) ms ds))
+            (putSecond (faceTables (now (oldedges .entry)) []) (ring rows (now (perimeter .entry)) (now (firsts .entry)) (now (seconds .entry)) ms ds))
             (tablesOf ps (now (edges .entry)) is fs c))) ⌝ }
 {
     let n = rows.size;
     let mut i = 0;
     while i < n {
-        put_second(mesh, edges, perimeter, firsts, seconds, rows, i);
+        put_second(oldedges, edges, perimeter, firsts, seconds, rows, i);
         i += 1;
     }
 }
 
 // The point from which a walk about face f goes along the edge e.
-fn first_point(mesh: &[u32], f: usize, e: usize) -> u32
-    requires { ⌜ e * 8 + 8 ≤ length (now mesh) ⌝ }
-    ensures { λ r. ⌜ r ≡ firstPoint (faceTables (now (mesh .entry)) []) f e ⌝ }
+fn first_point(oldedges: &[u32], f: usize, e: usize) -> u32
+    requires { ⌜ e * 8 + 8 ≤ length (now oldedges) ⌝ }
+    ensures { λ r. ⌜ r ≡ firstPoint (faceTables (now (oldedges .entry)) []) f e ⌝ }
 {
-    if on_left(mesh, f, e) {
-        return mesh[e * 8];
+    if on_left(oldedges, f, e) {
+        return oldedges[e * 8];
     }
-    mesh[e * 8 + 1]
+    oldedges[e * 8 + 1]
 }
 
 // Stores the new face at place i.
-fn put_new_face(mesh: &[u32], faces: &mut [u32], perimeter: &[u32; 64], firsts: &[u32; 64], mids: &[u32; 64], rows: RingRows, i: usize)
+fn put_new_face(oldedges: &[u32], faces: &mut [u32], perimeter: &[u32; 64], firsts: &[u32; 64], mids: &[u32; 64], rows: RingRows, i: usize)
     requires { ⌜ Small rows ⌝ }
     requires { ⌜ i < rows .size ⌝ }
-    requires { ⌜ getD (now perimeter) i 0 * 8 + 8 ≤ length (now mesh) ⌝ }
+    requires { ⌜ getD (now perimeter) i 0 * 8 + 8 ≤ length (now oldedges) ⌝ }
     requires { ⌜ faceRow (ring rows [] [] [] [] []) i * 5 + 5 ≤ length (now faces) ⌝ }
     ensures { λ _. ⌜
         ((gs ps es : List ℕ) (ds is : List Float) (c : Counts) →
         _≡_ {A = State}
         (tablesOf ps es is (now (faces .exit)) c)
-        (putNewFace (faceTables (now (mesh .entry)) []) (ring rows (now (perimeter .entry)) (now (firsts .entry)) gs (now (mids .entry)) ds) i
+        (putNewFace (faceTables (now (oldedges .entry)) []) (ring rows (now (perimeter .entry)) (now (firsts .entry)) gs (now (mids .entry)) ds) i
             (tablesOf ps es is (now (faces .entry)) c))) ⌝ }
 {
     let prev = prev_place(rows.size, i);
-    let p = first_point(mesh, rows.face, index(perimeter[i]));
+    let p = first_point(oldedges, rows.face, index(perimeter[i]));
     let f = face_row(rows, i);
     let face = TnurccFace {
         edge: firsts[i],
@@ -332,9 +332,9 @@ fn put_new_face(mesh: &[u32], faces: &mut [u32], perimeter: &[u32; 64], firsts: 
 }
 
 // Stores the new faces.
-pub fn put_new_faces(mesh: &[u32], faces: &mut [u32], perimeter: &[u32; 64], firsts: &[u32; 64], mids: &[u32; 64], rows: RingRows)
+pub fn put_new_faces(oldedges: &[u32], faces: &mut [u32], perimeter: &[u32; 64], firsts: &[u32; 64], mids: &[u32; 64], rows: RingRows)
     requires { ⌜ Small rows ⌝ }
-    requires { ⌜ Rows (now mesh) (now perimeter) (rows .size) ⌝ }
+    requires { ⌜ Rows (now oldedges) (now perimeter) (rows .size) ⌝ }
     requires { ⌜ rows .face * 5 + 5 ≤ length (now faces) ⌝ }
     requires { ⌜ (rows .faces + (rows .size - 1)) * 5 ≤ length (now faces) ⌝ }
     ensures { λ _. ⌜
@@ -342,13 +342,13 @@ pub fn put_new_faces(mesh: &[u32], faces: &mut [u32], perimeter: &[u32; 64], fir
         _≡_ {A = State}
         (tablesOf ps es is (now (faces .exit)) c)
         (turns (rows .size)
-            (putNewFace (faceTables (now (mesh .entry)) []) (ring rows (now (perimeter .entry)) (now (firsts .entry)) gs (now (mids .entry)) ds))
+            (putNewFace (faceTables (now (oldedges .entry)) []) (ring rows (now (perimeter .entry)) (now (firsts .entry)) gs (now (mids .entry)) ds))
             (tablesOf ps es is (now (faces .entry)) c))) ⌝ }
 {
     let n = rows.size;
     let mut i = 0;
     while i < n {
-        put_new_face(mesh, faces, perimeter, firsts, mids, rows, i);
+        put_new_face(oldedges, faces, perimeter, firsts, mids, rows, i);
         i += 1;
     }
 }

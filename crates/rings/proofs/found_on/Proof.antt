@@ -10,9 +10,6 @@ use mathlib.Core.Path.{_≡_, refl, _∙_, ap}
 use borrow.Author.Needs.{needs}
 use Rattle.rings.proofs.found_on.Statement.{statement}
 use Rattle.rings.proofs.found_on.Tie as tie
-use Rattle.rings.proofs.found_on.Reads as reads
-use Rattle.rings.proofs.found_on.Lts as lts
-use Rattle.tables.proofs.index.Reads as index-reads
 
 abbrev found-at : List Float → List ℕ → ℕ → Float
 found-at intervals perimeter i = getD intervals (getD perimeter i 0) nan
@@ -26,51 +23,18 @@ Inv-loop intervals perimeter n found₀ i₀ found i = (i ≤ n) × (found ≡ f
 abbrev μ-loop : tie.MeasureT-loop
 μ-loop intervals perimeter n found₀ i₀ found i = n - i
 
--- src/lib.rt:106:5
 loop-holds : tie.Need-loop-holds Inv-loop μ-loop
 loop-holds c = (search needs, filled-none (found-at (c .before .args .intervals .now) (c .before .args .perimeter .now)) zeros)
 
--- src/lib.rt:107:23
-mul-index : tie.Need-mul-index Inv-loop μ-loop
-mul-index c = search needs
-
--- src/lib.rt:107:23
-element-copy-out-index : tie.Need-element-copy-out-index Inv-loop μ-loop
-element-copy-out-index c = search needs
-
--- src/lib.rt:107:13
-index-requires : tie.Need-index-requires Inv-loop μ-loop
-index-requires c κs = search needs
-
--- src/lib.rt:108:20
 mul-found : tie.Need-mul-found Inv-loop μ-loop
 mul-found c = let l = c .before .before .loop-test .taken in let e = c .index .ensures in omega (arith, c .before .before .before .before .before .pre .1 (c .before .before .before .loop .i) l)
 
--- src/lib.rt:108:20
 shared-slice-read-found : tie.Need-shared-slice-read-found Inv-loop μ-loop
 shared-slice-read-found c = let l = c .before .before .before .loop-test .taken in let e = c .before .index .ensures in omega (arith, c .before .before .before .before .before .before .pre .1 (c .before .before .before .before .loop .i) l)
 
--- src/lib.rt:108:9
-mul-found-2 : tie.Need-mul-found-2 Inv-loop μ-loop
-mul-found-2 c = search needs
-
--- src/lib.rt:108:9
-array-write-found : tie.Need-array-write-found Inv-loop μ-loop
-array-write-found c = search needs
-
--- src/lib.rt:109:9
-add-i : tie.Need-add-i Inv-loop μ-loop
-add-i c = search needs
-
--- src/lib.rt:106:5
-loop-less : tie.Need-loop-less Inv-loop μ-loop
-loop-less c = search needs
-
--- src/lib.rt:106:5
 loop-again : tie.Need-loop-again Inv-loop μ-loop
 loop-again c = (search needs, filled-turn (found-at (c .before .before .before .before .before .before .args .intervals .now) (c .before .before .before .before .before .before .args .perimeter .now)) (c .before .before .before .before .loop .i) _ zeros _ (c .before .before .before .before .loop .inv .1) (ap (λ (e : ℕ). getD (c .before .before .before .before .before .before .args .intervals .now) e nan) (c .before .index .ensures)))
 
--- src/lib.rt:98:1
 returns : tie.Need-returns Inv-loop μ-loop
 returns c = c .before .loop .inv .1 ∙ filled-end (found-at (c .before .before .before .args .intervals .now) (c .before .before .before .args .perimeter .now)) (c .before .loop .i) (c .before .before .before .args .n) zeros (search needs)
 
@@ -81,14 +45,14 @@ found-on-spec =
     Inv-loop
     μ-loop
     loop-holds
-    mul-index
-    element-copy-out-index
-    index-requires
+    (λ c. search needs)
+    (λ c. search needs)
+    (λ c κs. search needs)
     mul-found
     shared-slice-read-found
-    mul-found-2
-    array-write-found
-    add-i
-    loop-less
+    (λ c. search needs)
+    (λ c. search needs)
+    (λ c. search needs)
+    (λ c. search needs)
     loop-again
     returns)

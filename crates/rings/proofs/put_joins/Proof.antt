@@ -15,10 +15,6 @@ use mathlib.Core.Path.{_≡_, refl, _∙_, ap₂}
 use borrow.Author.Needs.{needs}
 use Rattle.rings.proofs.put_joins.Statement.{statement}
 use Rattle.rings.proofs.put_joins.Tie as tie
-use Rattle.rings.proofs.put_joins.Reads as reads
-use Rattle.rings.proofs.put_joins.Lts as lts
-use Rattle.rings.proofs.join_edge.Reads as join-edge-reads
-use Rattle.tables.proofs.store_edge.Reads as store-edge-reads
 
 abbrev Inv-loop : tie.InvT-loop
 Inv-loop edges₀ intervals₀ firsts seconds mids found rows n i₀ edges intervals i = (i ≤ n) × (n ≡ rows .size) × (length edges ≡ length edges₀) × (length intervals ≡ length intervals₀) × ((es ps fs : List ℕ) (c : Counts) → _≡_ {A = State} (tablesOf ps edges intervals fs c) (turns i (putJoin (ring rows es firsts seconds mids found)) (tablesOf ps edges₀ intervals₀ fs c)))
@@ -26,44 +22,28 @@ Inv-loop edges₀ intervals₀ firsts seconds mids found rows n i₀ edges inter
 abbrev μ-loop : tie.MeasureT-loop
 μ-loop edges₀ intervals₀ firsts seconds mids found rows n i₀ edges intervals i = n - i
 
--- src/lib.rt:192:5
 loop-holds : tie.Need-loop-holds Inv-loop μ-loop
 loop-holds c = (search needs, refl, refl, refl, λ es ps fs k. turns-none (putJoin (ring (c .before .before .args .rows) es (c .before .before .args .firsts .now) (c .before .before .args .seconds .now) (c .before .before .args .mids .now) (c .before .before .args .found .now))) (tablesOf ps (c .before .before .args .edges .now) (c .before .before .args .intervals .now) fs k))
 
--- src/lib.rt:193:13
 join-edge-requires : tie.Need-join-edge-requires Inv-loop μ-loop
 join-edge-requires c κs = let l = c .loop-test .taken in let q = c .before .loop .inv .1 in (c .before .before .before .before .pre .0, omega arith)
 
--- src/lib.rt:194:38
 add-store-edge : tie.Need-add-store-edge Inv-loop μ-loop
 add-store-edge c = let l = c .before .before .before .before .loop-test .taken in let q = c .before .before .before .before .before .loop .inv .1 in let s = c .before .before .before .before .before .before .before .before .pre .0 .few-edges in omega arith
 
--- src/lib.rt:194:9
 store-edge-requires : tie.Need-store-edge-requires Inv-loop μ-loop
 store-edge-requires c κs = let l = c .before .before .before .before .loop-test .taken in let q = c .before .before .before .before .before .loop .inv .1 in let e = c .before .before .before .before .before .loop .inv .2 in let j = c .before .before .before .before .before .loop .inv .3 in let a = c .before .before .before .before .before .before .before .before .pre .1 .0 in let b = c .before .before .before .before .before .before .before .before .pre .1 .1 in (omega arith, omega arith)
 
--- src/lib.rt:195:9
-add-i : tie.Need-add-i Inv-loop μ-loop
-add-i c = search needs
-
--- src/lib.rt:192:5
-loop-less : tie.Need-loop-less Inv-loop μ-loop
-loop-less c = search needs
-
--- src/lib.rt:192:5
 loop-again : tie.Need-loop-again Inv-loop μ-loop
 unfolding putEdge
 loop-again c = (search needs, c .before .before .before .before .before .before .before .before .before .before .loop .inv .1, c .before .before .before .before .store-edge .kept .0 ∙ c .before .before .before .before .before .before .before .before .before .before .loop .inv .2, c .before .before .before .before .store-edge .kept .1 .0 ∙ c .before .before .before .before .before .before .before .before .before .before .loop .inv .3, λ es ps fs k. ap₂ (λ (xs : List ℕ) (ys : List Float). tablesOf ps xs ys fs k) (c .before .before .before .before .store-edge .ensures .0) (c .before .before .before .before .store-edge .ensures .1) ∙ c .before .before .before .before .before .before .before .before .join-edge .ensures es (tablesOf ps (c .before .before .before .before .before .before .before .before .before .before .loop .edges) (c .before .before .before .before .before .before .before .before .before .before .loop .intervals) fs k) ∙ turns-turn (putJoin (ring (c .before .before .before .before .before .before .before .before .before .before .before .before .before .args .rows) es (c .before .before .before .before .before .before .before .before .before .before .before .before .before .args .firsts .now) (c .before .before .before .before .before .before .before .before .before .before .before .before .before .args .seconds .now) (c .before .before .before .before .before .before .before .before .before .before .before .before .before .args .mids .now) (c .before .before .before .before .before .before .before .before .before .before .before .before .before .args .found .now))) (c .before .before .before .before .before .before .before .before .before .before .loop .i) (tablesOf ps (c .before .before .before .before .before .before .before .before .before .before .loop .edges) (c .before .before .before .before .before .before .before .before .before .before .loop .intervals) fs k) (tablesOf ps (c .before .before .before .before .before .before .before .before .before .before .before .before .before .args .edges .now) (c .before .before .before .before .before .before .before .before .before .before .before .before .before .args .intervals .now) fs k) (c .before .before .before .before .before .before .before .before .before .before .loop .inv .4 es ps fs k))
 
--- src/lib.rt:178:1
 same-length : tie.Need-same-length Inv-loop μ-loop
 same-length c = c .before .loop .inv .2
 
--- src/lib.rt:178:1
 same-length-2 : tie.Need-same-length-2 Inv-loop μ-loop
 same-length-2 c = c .before .loop .inv .3
 
--- src/lib.rt:178:1
 returns : tie.Need-returns Inv-loop μ-loop
 returns c = λ es ps fs k. c .before .loop .inv .4 es ps fs k ∙ turns-end (putJoin (ring (c .before .before .before .before .args .rows) es (c .before .before .before .before .args .firsts .now) (c .before .before .before .before .args .seconds .now) (c .before .before .before .before .args .mids .now) (c .before .before .before .before .args .found .now))) (c .before .loop .i) (c .before .before .before .before .args .rows .size) (tablesOf ps (c .before .before .before .before .args .edges .now) (c .before .before .before .before .args .intervals .now) fs k) (let l = c .loop-test .left in let q = c .before .loop .inv .1 in let w = c .before .loop .inv .0 in omega arith)
 
@@ -77,8 +57,8 @@ put-joins-spec =
     join-edge-requires
     add-store-edge
     store-edge-requires
-    add-i
-    loop-less
+    (λ c. search needs)
+    (λ c. search needs)
     loop-again
     same-length
     same-length-2

@@ -17,43 +17,27 @@ use mathlib.Core.Path.{_≡_, refl, _∙_}
 use borrow.Author.Needs.{needs}
 use Rattle.rings.proofs.put_new_faces.Statement.{statement}
 use Rattle.rings.proofs.put_new_faces.Tie as tie
-use Rattle.rings.proofs.put_new_faces.Reads as reads
-use Rattle.rings.proofs.put_new_faces.Lts as lts
-use Rattle.rings.proofs.put_new_face.Reads as put-new-face-reads
 
 abbrev Inv-loop : tie.InvT-loop
-Inv-loop mesh faces₀ perimeter firsts mids rows n i₀ faces i = (i ≤ n) × (n ≡ rows .size) × (length faces ≡ length faces₀) × ((gs ps es : List ℕ) (ds is : List Float) (c : Counts) → _≡_ {A = State} (tablesOf ps es is faces c) (turns i (putNewFace (faceTables mesh []) (ring rows perimeter firsts gs mids ds)) (tablesOf ps es is faces₀ c)))
+Inv-loop oldedges faces₀ perimeter firsts mids rows n i₀ faces i = (i ≤ n) × (n ≡ rows .size) × (length faces ≡ length faces₀) × ((gs ps es : List ℕ) (ds is : List Float) (c : Counts) → _≡_ {A = State} (tablesOf ps es is faces c) (turns i (putNewFace (faceTables oldedges []) (ring rows perimeter firsts gs mids ds)) (tablesOf ps es is faces₀ c)))
 
 abbrev μ-loop : tie.MeasureT-loop
-μ-loop mesh faces₀ perimeter firsts mids rows n i₀ faces i = n - i
+μ-loop oldedges faces₀ perimeter firsts mids rows n i₀ faces i = n - i
 
--- src/lib.rt:350:5
 loop-holds : tie.Need-loop-holds Inv-loop μ-loop
-loop-holds c = (search needs, refl, refl, λ gs ps es ds is k. turns-none (putNewFace (faceTables (c .before .before .args .mesh .now) []) (ring (c .before .before .args .rows) (c .before .before .args .perimeter .now) (c .before .before .args .firsts .now) gs (c .before .before .args .mids .now) ds)) (tablesOf ps es is (c .before .before .args .faces .now) k))
+loop-holds c = (search needs, refl, refl, λ gs ps es ds is k. turns-none (putNewFace (faceTables (c .before .before .args .oldedges .now) []) (ring (c .before .before .args .rows) (c .before .before .args .perimeter .now) (c .before .before .args .firsts .now) gs (c .before .before .args .mids .now) ds)) (tablesOf ps es is (c .before .before .args .faces .now) k))
 
--- src/lib.rt:351:9
 put-new-face-requires : tie.Need-put-new-face-requires Inv-loop μ-loop
 put-new-face-requires c κs = let l = c .before .loop-test .taken in let q = c .before .before .loop .inv .1 in let e = c .before .before .loop .inv .2 in (c .before .before .before .before .before .pre .0, (omega arith, (c .before .before .before .before .before .pre .1 .0 (c .before .before .loop .i) (omega arith), faces-fit (c .before .before .before .before .before .args .rows) (c .before .before .loop .i) (c .before .before .loop .faces) (omega arith) (omega (arith, c .before .before .before .before .before .pre .1 .1 .0)) (omega (arith, c .before .before .before .before .before .pre .1 .1 .1)))))
 
--- src/lib.rt:352:9
-add-i : tie.Need-add-i Inv-loop μ-loop
-add-i c = search needs
-
--- src/lib.rt:350:5
-loop-less : tie.Need-loop-less Inv-loop μ-loop
-loop-less c = search needs
-
--- src/lib.rt:350:5
 loop-again : tie.Need-loop-again Inv-loop μ-loop
-loop-again c = (search needs, c .before .before .before .before .before .loop .inv .1, c .before .before .put-new-face .kept .1 .0 ∙ c .before .before .before .before .before .loop .inv .2, λ gs ps es ds is k. c .before .before .put-new-face .ensures gs ps es ds is k ∙ turns-turn (putNewFace (faceTables (c .before .before .before .before .before .before .before .before .args .mesh .now) []) (ring (c .before .before .before .before .before .before .before .before .args .rows) (c .before .before .before .before .before .before .before .before .args .perimeter .now) (c .before .before .before .before .before .before .before .before .args .firsts .now) gs (c .before .before .before .before .before .before .before .before .args .mids .now) ds)) (c .before .before .before .before .before .loop .i) (tablesOf ps es is _ k) (tablesOf ps es is (c .before .before .before .before .before .before .before .before .args .faces .now) k) (c .before .before .before .before .before .loop .inv .3 gs ps es ds is k))
+loop-again c = (search needs, c .before .before .before .before .before .loop .inv .1, c .before .before .put-new-face .kept .1 .0 ∙ c .before .before .before .before .before .loop .inv .2, λ gs ps es ds is k. c .before .before .put-new-face .ensures gs ps es ds is k ∙ turns-turn (putNewFace (faceTables (c .before .before .before .before .before .before .before .before .args .oldedges .now) []) (ring (c .before .before .before .before .before .before .before .before .args .rows) (c .before .before .before .before .before .before .before .before .args .perimeter .now) (c .before .before .before .before .before .before .before .before .args .firsts .now) gs (c .before .before .before .before .before .before .before .before .args .mids .now) ds)) (c .before .before .before .before .before .loop .i) (tablesOf ps es is _ k) (tablesOf ps es is (c .before .before .before .before .before .before .before .before .args .faces .now) k) (c .before .before .before .before .before .loop .inv .3 gs ps es ds is k))
 
--- src/lib.rt:335:1
 same-length : tie.Need-same-length Inv-loop μ-loop
 same-length c = c .before .loop .inv .2
 
--- src/lib.rt:335:1
 returns : tie.Need-returns Inv-loop μ-loop
-returns c = λ gs ps es ds is k. c .before .loop .inv .3 gs ps es ds is k ∙ turns-end (putNewFace (faceTables (c .before .before .before .before .args .mesh .now) []) (ring (c .before .before .before .before .args .rows) (c .before .before .before .before .args .perimeter .now) (c .before .before .before .before .args .firsts .now) gs (c .before .before .before .before .args .mids .now) ds)) (c .before .loop .i) (c .before .before .before .before .args .rows .size) (tablesOf ps es is (c .before .before .before .before .args .faces .now) k) (let l = c .loop-test .left in let q = c .before .loop .inv .1 in let w = c .before .loop .inv .0 in omega arith)
+returns c = λ gs ps es ds is k. c .before .loop .inv .3 gs ps es ds is k ∙ turns-end (putNewFace (faceTables (c .before .before .before .before .args .oldedges .now) []) (ring (c .before .before .before .before .args .rows) (c .before .before .before .before .args .perimeter .now) (c .before .before .before .before .args .firsts .now) gs (c .before .before .before .before .args .mids .now) ds)) (c .before .loop .i) (c .before .before .before .before .args .rows .size) (tablesOf ps es is (c .before .before .before .before .args .faces .now) k) (let l = c .loop-test .left in let q = c .before .loop .inv .1 in let w = c .before .loop .inv .0 in omega arith)
 
 pub put-new-faces-spec : {M : Type 1} → statement M
 put-new-faces-spec =
@@ -63,8 +47,8 @@ put-new-faces-spec =
     μ-loop
     loop-holds
     put-new-face-requires
-    add-i
-    loop-less
+    (λ c. search needs)
+    (λ c. search needs)
     loop-again
     same-length
     returns)
