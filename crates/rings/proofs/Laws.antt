@@ -1,5 +1,6 @@
 -- The laws of turns and of lists that a loop fills. Assumes nothing.
 --     turns-none, turns-turn, turns-end        no turns, one more, all of them
+--     turns-keep, turns-same                   what each turn keeps; turns that are the same
 --     filled-none, filled-turn, filled-end     nothing filled, one element more, all of them
 --     filled-same                              what fills a list counts by its elements alone
 --     getD-filled                              what stands at a place that is filled
@@ -28,6 +29,17 @@ module _ {A : Type 0} where
 
   pub turns-end : (turn : ℕ → A → A) (i n : ℕ) (s0 : A) → i ≡ n → turns i turn s0 ≡ turns n turn s0
   turns-end turn i n s0 h = ap (λ (k : ℕ). turns k turn s0) h
+
+  -- what each turn keeps holds after all of them
+  pub turns-keep : (P : A → Type 0) (turn : ℕ → A → A) (n : ℕ) → ((i : ℕ) → i < n → (s : A) → P s → P (turn i s)) → (s : A) → P s → P (turns n turn s)
+  unfolding turns
+  turns-keep P turn zero h s p = p
+  turns-keep P turn (suc n) h s p = h n (omega arith) (turns n turn s) (turns-keep P turn n (λ i l. h i (omega arith)) s p)
+
+  pub turns-same : (turn other : ℕ → A → A) (n : ℕ) (s : A) → ((i : ℕ) (s : A) → turn i s ≡ other i s) → turns n turn s ≡ turns n other s
+  unfolding turns
+  turns-same turn other zero s h = refl
+  turns-same turn other (suc n) s h = h n (turns n turn s) ∙ ap (other n) (turns-same turn other n s h)
 
   pub filled-none : (g : ℕ → A) (xs : List A) → xs ≡ filled 0 g xs
   unfolding filled turns

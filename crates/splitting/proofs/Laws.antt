@@ -1,12 +1,15 @@
 -- The laws of splitting. Assumes nothing.
 --     splitWhole-split, splitWhole-kept     an edge that ends in an old point is split; any other is left
 --     splitAll-none, splitAll-more          no edges split, and one more
+--     faces-splitAll                        no splitting takes a row of faces
+--     grows                                 what no turn makes less is least at the first
 --     points-splitAll, edges-splitAll       more edges split take at least as many rows
 --     splitAll-faces                        no splitting looks at the faces: the same tables with any faces
 use mathlib.Core.Path.{_≡_, refl, sym, _∙_, ap, subst}
 use mathlib.Core.Bool.{Bool, true, false}
 use mathlib.Core.List.{List, []}
 use Prim.Native.Nat.{ℕ, zero, suc, _+_, _≤_, _<_}
+use native.Mathlib.Nat.{add-zero}
 use native.Mathlib.Numerals.{add-one}
 use native.Mathlib.Omega.{arith}
 use native.Mathlib.Decide.{decLt}
@@ -33,7 +36,7 @@ pub splitAll-none : (np : ℕ) (es : List ℕ) (s : State) → splitAll np es 0 
 unfolding splitAll turns
 splitAll-none np es s = refl
 
-splitAll-suc : (np : ℕ) (es : List ℕ) (i : ℕ) (s : State) → splitAll np es (suc i) s ≡ splitWhole np (getD es i 0) (splitAll np es i s)
+pub splitAll-suc : (np : ℕ) (es : List ℕ) (i : ℕ) (s : State) → splitAll np es (suc i) s ≡ splitWhole np (getD es i 0) (splitAll np es i s)
 unfolding splitAll turns
 splitAll-suc np es i s = refl
 
@@ -58,8 +61,17 @@ pub edges-splitWhole : (np e : ℕ) (s : State) → s .edgesTaken ≤ splitWhole
 unfolding splitWhole
 edges-splitWhole np e s = edges-splitIf (ltb (edgeOf s e .dest) np) e s
 
+faces-splitIf : (b : Bool) (e : ℕ) (s : State) → splitIf b e s .facesTaken ≡ s .facesTaken
+unfolding split putEdge putPoint putStart
+faces-splitIf true e s = add-zero (s .facesTaken)
+faces-splitIf false e s = refl
+
+pub faces-splitWhole : (np e : ℕ) (s : State) → splitWhole np e s .facesTaken ≡ s .facesTaken
+unfolding splitWhole
+faces-splitWhole np e s = faces-splitIf (ltb (edgeOf s e .dest) np) e s
+
 -- a number that no turn makes less
-grows : (g : ℕ → ℕ) → ((i : ℕ) → g i ≤ g (suc i)) → (i n : ℕ) → i ≤ n → g i ≤ g n
+pub grows : (g : ℕ → ℕ) → ((i : ℕ) → g i ≤ g (suc i)) → (i n : ℕ) → i ≤ n → g i ≤ g n
 grows g h i zero l = let e : i ≡ 0 = omega arith in rw e (omega arith)
 grows g h i (suc n) l = go (decLt n i) (grows g h i n)
   where
@@ -77,6 +89,12 @@ module _ (np : ℕ) (es : List ℕ) (s : State) where
   edges-splitAll i n l =
       grows (λ k. splitAll np es k s .edgesTaken)
       (λ k. rw (splitAll-suc np es k s) (edges-splitWhole np (getD es k 0) (splitAll np es k s))) i n l
+
+pub faces-splitAll : (np : ℕ) (es : List ℕ) (n : ℕ) (s : State) → splitAll np es n s .facesTaken ≡ s .facesTaken
+faces-splitAll np es zero s = ap (λ (t : State). t .facesTaken) (splitAll-none np es s)
+faces-splitAll np es (suc n) s =
+    ap (λ (t : State). t .facesTaken) (splitAll-suc np es n s)
+    ∙ faces-splitWhole np (getD es n 0) (splitAll np es n s) ∙ faces-splitAll np es n s
 
 -- the state s with the faces fs
 abbrev withFaces : List ℕ → State → State
