@@ -41,7 +41,7 @@ cornerWord-fit Option.none = inr refl
 cornerWord-fit (some p) = inl (p .1)
 
 module _ (m : Mesh) {np ne nf : ℕ} (t : MeshOver (Row np) (Row ne) (Row nf)) (s : Stands m t) (c : Closed t) where
-  seen : Seen m t
+  pub seen : Seen m t
   seen = record { stands = s; ends-differ = c .ends-differ; sides-differ = c .sides-differ }
 
   num-next : (d : Dart (Row ne)) → num (c .next d) ≡ acw t d .0
@@ -102,15 +102,15 @@ module _ (m : Mesh) {np ne nf : ℕ} (t : MeshOver (Row np) (Row ne) (Row nf)) (
     on-face : (d : Dart (Row ne)) → face t d ≡ f → (num d < ne) × Borders m (f .0) (num d)
     on-face d h = (edge d .1, subst (λ (f : Row nf). Borders m (f .0) (num d)) h (borders-dart seen d))
 
-    around-face : ClassWalk (c .about-faces) num f (acwOfFace m (f .0)) (λ e. (e < ne) × Borders m (f .0) e)
+    pub around-face : ClassWalk (c .about-faces) num f (acwOfFace m (f .0)) (λ e. (e < ne) × Borders m (f .0) e)
     around-face =
         walk-of-cycle (c .about-faces) (c .prev) (c .next-prev) num (settled-on-face seen) f (acwOfFace m (f .0))
         (λ e. (e < ne) × Borders m (f .0) e) face-num-step on-face
 
-    face-edges : List ℕ
+    unfoldable pub face-edges : List ℕ
     face-edges = around-face .edges
 
-    face-passes : Passes (acwOfFace m (f .0)) (λ e. (e < ne) × Borders m (f .0) e) (faceStart m (f .0)) (faceStart m (f .0)) face-edges
+    pub face-passes : Passes (acwOfFace m (f .0)) (λ e. (e < ne) × Borders m (f .0) e) (faceStart m (f .0)) (faceStart m (f .0)) face-edges
     unfolding face-edges
     face-passes =
         subst (λ i. Passes (acwOfFace m (f .0)) (λ e. (e < ne) × Borders m (f .0) e) i i face-edges)

@@ -74,6 +74,10 @@ module _ {np ne nf : ℕ} {t : Mesh (Row np) (Row ne) (Row nf)} (c : Closed t) (
   unfolding when
   when-from k = ap (λ x. x .0) (order .to-from k)
 
+  pub from-when : (f : Row nf) (h : when f < nf) → order .from (when f, h) ≡ f
+  unfolding when
+  from-when f h = ap (order .from) (row-path (order .to f .0, h) (order .to f) refl) ∙ order .from-to f
+
   -- ---- which side of an edge is visited first
 
   unfoldable pub leads : Dart (Row ne) → Bool
@@ -189,7 +193,7 @@ module _ {np ne nf : ℕ} {t : Mesh (Row np) (Row ne) (Row nf)} (c : Closed t) (
   unfoldable pub slotOf : Row ne → ℕ
   slotOf e = splitsBefore (turnOf e) (place c (lead e))
 
-  slotOf-below : (e : Row ne) → slotOf e < splits (turnOf e)
+  pub slotOf-below : (e : Row ne) → slotOf e < splits (turnOf e)
   unfolding slotOf turnOf splits splitsBefore
   slotOf-below e =
       let k : ℕ = when (face t (lead e)) in
@@ -437,3 +441,14 @@ module _ {np ne nf : ℕ} {t : Mesh (Row np) (Row ne) (Row nf)} (c : Closed t) (
 
   pub faces-counted : facesBefore nf ≡ 2 * ne
   faces-counted = counted (facesBefore nf) (count-darts (identity (Row ne))) faceNo faceNo-injective faceNo-below faceNo-onto
+
+  -- ---- every row is below its number
+
+  pub pointNo-fits : (x : NewPoint (Row np) (Row ne) (Row nf)) → pointNo x < np + ne + nf
+  pointNo-fits x = rw (← points-counted) (pointNo-below x)
+
+  pub edgeNo-fits : (x : NewEdge (Row ne)) → edgeNo x < 4 * ne
+  edgeNo-fits x = rw (← edges-counted) (edgeNo-below x)
+
+  pub faceNo-fits : (d : Dart (Row ne)) → faceNo d < 2 * ne
+  faceNo-fits d = rw (← faces-counted) (faceNo-below d)

@@ -3,3 +3,5 @@ pub mod State
 pub mod Split
 pub mod Ring
 pub mod Visits
+pub mod Order
+pub mod Refines

@@ -81,12 +81,10 @@ withSide false f a c e =
     }
 
 abbrev pub putSide : Bool → ℕ → ℕ → ℕ → ℕ → State → State
-unfolding putEdge
 putSide b e f a c s = putEdge e (withSide b f a c (edgeOf s e)) s
 
 -- The joining interval is the next plus the previous perimeter interval as found on arriving.
 unfoldable pub putJoin : Ring → ℕ → State → State
-unfolding putEdge
 putJoin r i s =
     let next = nextPlace (r .size) i in
     let prev = prevPlace (r .size) i in
@@ -102,13 +100,11 @@ putJoin r i s =
       s
 
 unfoldable pub putFirst : Mesh → Ring → ℕ → State → State
-unfolding putSide
 putFirst m r i s =
     putSide (onLeft m (r .face) (getD (r .edges) i 0)) (getD (r .firsts) i 0) (faceRow r i) (joinRow r i)
       (getD (r .seconds) (prevPlace (r .size) i) 0) s
 
 unfoldable pub putSecond : Mesh → Ring → ℕ → State → State
-unfolding putSide
 putSecond m r i s =
     let next = nextPlace (r .size) i in
     putSide (onLeft m (r .face) (getD (r .edges) i 0)) (getD (r .seconds) i 0) (faceRow r next) (getD (r .firsts) next 0)
@@ -116,12 +112,10 @@ putSecond m r i s =
 
 -- The corners of the new face at place i: the face point, the midpoint before, the old point, the midpoint after.
 unfoldable pub putNewFace : Mesh → Ring → ℕ → State → State
-unfolding putFace
 putNewFace m r i s =
     putFace (faceRow r i) (getD (r .firsts) i 0) (r .centre) (getD (r .mids) (prevPlace (r .size) i) 0)
       (firstPoint m (r .face) (getD (r .edges) i 0)) (getD (r .mids) i 0) s
 
 -- Its start edge is the last joining edge.
 unfoldable pub putFacePoint : Ring → State → State
-unfolding putPoint
 putFacePoint r s = putPoint (r .centre) (r .size) (joinRow r (r .size - 1)) 0 s

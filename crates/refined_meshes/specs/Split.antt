@@ -44,7 +44,6 @@ destinationHalf p e r =
 -- The midpoint has valence 4, the origin half as its start edge, and mark 0. The start edge of the old destination becomes the
 -- destination half.
 unfoldable pub split : ℕ → State → State
-unfolding putEdge putPoint putStart
 split e s =
     let r = edgeOf s e in
     let p = s .pointsTaken in
@@ -52,10 +51,8 @@ split e s =
     take 1 1 0 (putStart (r .dest) h (putPoint p 4 e 0 (putEdge e (originHalf p h r) (putEdge h (destinationHalf p e r) s))))
 
 abbrev pub splitIf : Bool → ℕ → State → State
-unfolding split
 splitIf true e s = split e s
 splitIf false e s = s
 
 unfoldable pub splitWhole : ℕ → ℕ → State → State
-unfolding split
 splitWhole np e s = splitIf (ltb (edgeOf s e .dest) np) e s

@@ -10,5 +10,4 @@ turns zero turn s = s
 turns (suc n) turn s = turn n (turns n turn s)
 
 unfoldable pub filled : {A : Type 0} → ℕ → (ℕ → A) → List A → List A
-unfolding turns
 filled n g xs = turns n (λ i ys. set ys i (g i)) xs

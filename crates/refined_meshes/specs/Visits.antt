@@ -22,15 +22,12 @@ use Rattle.refined_meshes.specs.Ring.{Ring, onLeft, firstHalfOf, secondH
 
 -- a perimeter has at most 64 places
 abbrev pub foundOn : List ℕ → ℕ → State → List Float
-unfolding filled
 foundOn es n s = filled n (λ i. getD (s .intervals) (getD es i 0) nan) (replicate 64 (ofBits binary64 0))
 
 unfoldable pub splitAll : ℕ → List ℕ → ℕ → State → State
-unfolding turns splitWhole
 splitAll np es n s = turns n (λ i. splitWhole np (getD es i 0)) s
 
 unfoldable pub ringOf : Mesh → ℕ → List ℕ → ℕ → ℕ → List Float → State → Ring
-unfolding filled
 ringOf m f es n centre found s =
     record {
       face = f;
@@ -47,7 +44,6 @@ ringOf m f es n centre found s =
 
 -- the four loops one after the other, then the face point
 unfoldable pub putRing : Mesh → Ring → State → State
-unfolding turns putJoin putFirst putSecond putNewFace putFacePoint
 putRing m r s =
     let joined = turns (r .size) (putJoin r) s in
     let firsts = turns (r .size) (putFirst m r) joined in
@@ -56,19 +52,15 @@ putRing m r s =
     take 0 (r .size) (r .size - 1) (putFacePoint r faced)
 
 unfoldable pub visitAlong : Mesh → ℕ → ℕ → List ℕ → ℕ → State → State
-unfolding splitAll ringOf putRing
 visitAlong m np f es n s =
     let all = splitAll np es n (take 1 0 0 s) in
     putRing m (ringOf m f es n (s .pointsTaken) (foundOn es n s) all) all
 
 unfoldable pub visit : Mesh → ℕ → ℕ → ℕ → State → State
-unfolding visitAlong faceWalk
 visit m np ne f s = visitAlong m np f (edgesOf (faceWalk m ne f)) (passed (faceWalk m ne f)) s
 
 unfoldable pub visits : Mesh → ℕ → ℕ → ℕ → List ℕ → State → State
-unfolding turns visit
 visits m np ne k order s = turns k (λ i. visit m np ne (getD order i 0)) s
 
 unfoldable pub refinedRows : Mesh → ℕ → ℕ → ℕ → List ℕ → Mesh → State
-unfolding visits copied
 refinedRows m np ne nf order t = visits m np ne nf order (copied m np ne nf t)
