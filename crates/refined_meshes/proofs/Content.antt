@@ -19,8 +19,9 @@ use Rattle.closed_meshes.proofs.NewDarts.{start-half, end-half, inward, outward
 use Rattle.tables.specs.Mesh.{Mesh, mark}
 use Rattle.refined_meshes.specs.State.{State, take}
 use Rattle.refined_meshes.specs.Split.{split}
+use Rattle.refined_meshes.specs.Fits.{Room}
 use Rattle.refined_meshes.proofs.Numbering.{when, pointNo, edgeNo, faceNo, pointNo-injective, edgeNo-injective, pointNo-fits, edgeNo-fits}
-use Rattle.refined_meshes.proofs.Words.{Ends, PointWords, ends, side, pointOf, faceOf, Room}
+use Rattle.refined_meshes.proofs.Words.{Ends, PointWords, ends, side, pointOf, faceOf}
 use Rattle.refined_meshes.proofs.Target.{endsOld, endsAt, firstSide, secondSide, outSide, inSide, midAt, centreAt, faceAt, rowOf, edge-rowOf}
 use Rattle.refined_meshes.proofs.Split.{room-split, ends-origin, left-origin, right-origin, ends-destination, ends-split-other, side-split-other, point-middle, point-destination, point-split-other, faceOf-split}
 

@@ -13,5 +13,6 @@ pub mod Orders
 pub mod Runs
 pub mod Renumbered
 pub mod Refines
+pub mod Fits
 pub mod Records
 pub mod Cases

@@ -37,7 +37,7 @@ use Rattle.refined_meshes.proofs.Content.{Done, Latest, Unchanged, OldP
 use Rattle.refined_meshes.proofs.Splits.{Past}
 use Rattle.refined_meshes.proofs.Visits.{Arriving}
 use Rattle.refined_meshes.proofs.Orders.{orderOf, when-turnIn}
-use Rattle.refined_meshes.proofs.Runs.{Rooms, arriving}
+use Rattle.refined_meshes.proofs.Runs.{Rooms, rooms-of, arriving}
 use Rattle.refined_meshes.proofs.Renumbered.{renumbered, renumbering, renumbered-touching}
 
 module _
@@ -298,33 +298,9 @@ module _
               highest = λ e q. l .latest e q (past e)
             })
 
--- The faces are no more than the new ones.
-faces-less : {np ne nf : ℕ} {t : MeshOver (Row np) (Row ne) (Row nf)} (c : Closed t) (order : Bijection (Row nf) (Row nf)) → nf ≤ 2 * ne
-faces-less {np} {ne} {nf} {t} c order = go nf refl
-  where
-    go : (k : ℕ) → nf ≡ k → nf ≤ 2 * ne
-    go zero q = omega arith
-    go (suc k) q =
-        let f : Row nf = (k, omega arith) in
-        let z : place c (dartAt c f 0) ≡ 0 = place-dartAt c f 0 (omega (arith, c .size-low f)) in
-        let w : faceNo c order (dartAt c f 0) ≡ k =
-              faceNo-first c order (dartAt c f 0) z ∙ ap (λ x. x .0) (face-dartAt c f 0) in
-        omega (arith, faceNo-fits c order (dartAt c f 0))
-
 pub visits-refine : VisitsRefine
 unfolding refinedRows
 visits-refine m np ne nf h order once u pr er fr ps =
+    let r : Rooms m np ne nf u = rooms-of m h order once u pr er fr in
     refines-of-arrived m (h .stands) (h .closed) order once (visits m np ne nf order (copied m np ne nf u))
-      (arriving rooms (h .stands) (h .closed) order once nf (omega arith)) ps
-  where
-    rooms : Rooms m np ne nf u
-    rooms =
-        record {
-          points-fit = h .fit .points-fit;
-          edges-fit = h .fit .edges-fit;
-          faces-fit = h .fit .faces-fit;
-          points-room = pr;
-          edges-room = er;
-          faces-room = fr;
-          faces-less = faces-less (h .closed) (orderOf order once)
-        }
+      (arriving r (h .stands) (h .closed) order once nf (omega arith)) ps

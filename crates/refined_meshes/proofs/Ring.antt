@@ -21,9 +21,10 @@ use Rattle.refined_meshes.specs.Turns.{turns}
 use Rattle.refined_meshes.specs.State.{State, edgeOf, putEdge, putPoint, putFace, take}
 use Rattle.refined_meshes.specs.Ring.{Ring, nextPlace, prevPlace, joinRow, faceRow, onLeft, withSide, putSide, putJoin, putFirst, putSecond, putNewFace, putFacePoint}
 use Rattle.refined_meshes.specs.Visits.{putRing}
+use Rattle.refined_meshes.specs.Fits.{Room}
 use Rattle.refined_meshes.proofs.Places.{dartAt, place, face-dartAt, place-dartAt, dartAt-place, place-below, dartAt-next, dartAt-prev, nextPlace-below, prevPlace-below}
 use Rattle.refined_meshes.proofs.Numbering.{pointNo, edgeNo, faceNo, pointNo-injective, edgeNo-injective, faceNo-injective, pointNo-fits, edgeNo-fits, faceNo-fits}
-use Rattle.refined_meshes.proofs.Words.{Ends, Side, PointWords, FaceWords, ends, side, pointOf, faceOf, edgeFrom, Room, dartOf, room-putEdge, room-putFace, room-putPoint, room-putSide, ends-putEdge, left-putEdge, right-putEdge, ends-putEdge-other, side-putEdge-other, ends-putSide, side-putSide, side-putSide-other, faceOf-putFace, faceOf-putFace-other, pointOf-putPoint, pointOf-putPoint-other}
+use Rattle.refined_meshes.proofs.Words.{Ends, Side, PointWords, FaceWords, ends, side, pointOf, faceOf, edgeFrom, dartOf, room-putEdge, room-putFace, room-putPoint, room-putSide, ends-putEdge, left-putEdge, right-putEdge, ends-putEdge-other, side-putEdge-other, ends-putSide, side-putSide, side-putSide-other, faceOf-putFace, faceOf-putFace-other, pointOf-putPoint, pointOf-putPoint-other}
 use Rattle.refined_meshes.proofs.Target.{isLeft, found, joint, endsAt, firstSide, secondSide, outSide, inSide, centreAt, faceAt, rowOf, rowOf-injective, edge-rowOf, row-start, row-end, kind, oldDart, Kind, starting, inner, outer, ending, kind-start, kind-end, oldDart-start, oldDart-end}
 use Rattle.refined_meshes.proofs.Turns.{turns-cong, turns-view, turns-stay, turns-ok, turns-other, turns-same}
 

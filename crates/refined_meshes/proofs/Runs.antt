@@ -20,12 +20,14 @@ use Rattle.tables.specs.Rows.{over}
 use Rattle.tables.proofs.Laws.{length-over}
 use Rattle.audited_meshes.specs.Audit.{pointRows, edgeRows, faceRows}
 use Rattle.audited_meshes.specs.Walks.{edgesOf, passed, faceWalk}
-use Rattle.audited_meshes.specs.Rows.{Stands}
+use Rattle.audited_meshes.specs.Rows.{Stands, HoldsClosed}
 use Rattle.refined_meshes.specs.State.{State, copied}
 use Rattle.refined_meshes.specs.Order.{EachOnce}
 use Rattle.refined_meshes.specs.Visits.{visits, visit, visitAlong}
-use Rattle.refined_meshes.proofs.Numbering.{when, when-from, pointsBefore, edgesBefore, facesBefore, edgeNo}
-use Rattle.refined_meshes.proofs.Words.{ends, pointOf, Room}
+use Rattle.refined_meshes.specs.Fits.{Room}
+use Rattle.refined_meshes.proofs.Places.{dartAt, place, face-dartAt, place-dartAt}
+use Rattle.refined_meshes.proofs.Numbering.{when, when-from, pointsBefore, edgesBefore, facesBefore, edgeNo, faceNo, faceNo-first, faceNo-fits}
+use Rattle.refined_meshes.proofs.Words.{ends, pointOf}
 use Rattle.refined_meshes.proofs.Target.{endsOld}
 use Rattle.refined_meshes.proofs.Turns.{turns-keep}
 use Rattle.refined_meshes.proofs.Content.{Content}
@@ -168,3 +170,30 @@ module _ {m : Mesh} {np ne nf : ℕ} {u : Mesh} (r : Rooms m np ne nf u) where
     arriving k l =
         turns-keep k (λ i. visit m np ne (getD order i 0)) (λ i s. Arriving m stands c by-turns i s)
           (λ i s b h. arriving-visit i s (omega arith) h) (copied m np ne nf u) (begun stands c by-turns)
+
+-- The faces are no more than the new ones.
+faces-less : {np ne nf : ℕ} {t : MeshOver (Row np) (Row ne) (Row nf)} (c : Closed t) (order : Bijection (Row nf) (Row nf)) → nf ≤ 2 * ne
+faces-less {np} {ne} {nf} {t} c order = go nf refl
+  where
+    go : (k : ℕ) → nf ≡ k → nf ≤ 2 * ne
+    go zero q = omega arith
+    go (suc k) q =
+        let f : Row nf = (k, omega arith) in
+        let z : place c (dartAt c f 0) ≡ 0 = place-dartAt c f 0 (omega (arith, c .size-low f)) in
+        let w : faceNo c order (dartAt c f 0) ≡ k =
+              faceNo-first c order (dartAt c f 0) z ∙ ap (λ x. x .0) (face-dartAt c f 0) in
+        omega (arith, faceNo-fits c order (dartAt c f 0))
+
+module _ (m : Mesh) {np ne nf : ℕ} (h : HoldsClosed m np ne nf) (order : List ℕ) (once : EachOnce nf order) where
+  pub rooms-of :
+    (u : Mesh) → np + ne + nf ≤ pointRows u → 4 * ne ≤ edgeRows u → 2 * ne ≤ faceRows u → Rooms m np ne nf u
+  rooms-of u pr er fr =
+      record {
+        points-fit = h .fit .points-fit;
+        edges-fit = h .fit .edges-fit;
+        faces-fit = h .fit .faces-fit;
+        points-room = pr;
+        edges-room = er;
+        faces-room = fr;
+        faces-less = faces-less (h .closed) (orderOf order once)
+      }

@@ -24,7 +24,7 @@ use Rattle.refined_meshes.specs.State.{State, edgeOf, putEdge, putPoint,
 use Rattle.refined_meshes.specs.Split.{split, splitIf, splitWhole}
 use Rattle.refined_meshes.specs.Visits.{splitAll}
 use Rattle.refined_meshes.proofs.Places.{dartAt, place, face-dartAt, place-dartAt, place-injective}
-use Rattle.refined_meshes.proofs.Numbering.{when, when-injective, leads, lead, leads-lead, lead-edge, lead-across, edge-lead, splitAt, splitAt-when, splitsBefore, splits, sizeAt, turnOf, slotOf, slotOf-below, pointsBefore, edgesBefore, facesBefore, pointNo, edgeNo}
+use Rattle.refined_meshes.proofs.Numbering.{when, when-injective, leads, lead, leads-lead, lead-edge, lead-across, edge-lead, splitAt, splitAt-when, splitsBefore, splits, sizeAt, turnOf, slotOf, slotOf-below, pointsBefore, edgesBefore, facesBefore, pointNo, edgeNo, pointNo-fits, edgeNo-fits}
 use Rattle.refined_meshes.proofs.Words.{ends}
 use Rattle.refined_meshes.proofs.Target.{endsOld, endsAt}
 use Rattle.refined_meshes.proofs.Turns.{turns-keep}
@@ -243,6 +243,14 @@ module _ (m : Mesh) {np ne nf : ℕ} {t : MeshOver (Row np) (Row ne) (Row nf)} (
         go : (b : Bool) → leads c order d ≡ b → Splitting k (suc i) (splitIf (ltb (edgeOf s (e .0) .dest) np) (e .0) s)
         go true q = rw (test-split q) (splitting-split q)
         go false q = rw (test-skip q) (splitting-skip q)
+
+    -- The rows of an edge that is split here are rows of the refined mesh.
+    pub split-rows : edgeOf s (e .0) .dest < np → (s .pointsTaken < np + ne + nf) × (s .edgesTaken < 4 * ne)
+    split-rows l = go (leads c order d) refl
+      where
+        go : (b : Bool) → leads c order d ≡ b → (s .pointsTaken < np + ne + nf) × (s .edgesTaken < 4 * ne)
+        go true q = (rw (mid-row q) (pointNo-fits c order (mid e)), rw (half-row q) (edgeNo-fits c order (dst e)))
+        go false q = absurd (false≢true (sym (test-skip q) ∙ lt-ltb _ _ l))
 
   -- ---- the whole perimeter
 

@@ -25,9 +25,10 @@ use Rattle.refined_meshes.specs.State.{State, edgeOf, take}
 use Rattle.refined_meshes.specs.Ring.{Ring, onLeft, firstHalfOf, secondHalfOf}
 use Rattle.refined_meshes.specs.Split.{half}
 use Rattle.refined_meshes.specs.Visits.{foundOn, splitAll, ringOf, putRing, visitAlong}
+use Rattle.refined_meshes.specs.Fits.{Room}
 use Rattle.refined_meshes.proofs.Places.{dartAt, place, face-dartAt, place-dartAt, place-below}
 use Rattle.refined_meshes.proofs.Numbering.{when, when-injective, leads, lead, lead-edge, edge-lead, sizeAt, sizeAt-when, splits, splitsBefore, turnOf, pointsBefore, edgesBefore, facesBefore, pointNo, edgeNo, faceNo}
-use Rattle.refined_meshes.proofs.Words.{PointWords, ends, side, pointOf, faceOf, Room}
+use Rattle.refined_meshes.proofs.Words.{PointWords, ends, side, pointOf, faceOf}
 use Rattle.refined_meshes.proofs.Target.{isLeft, found, endsOld, endsAt, centreAt, rowOf, oldDart}
 use Rattle.refined_meshes.proofs.Turns.{getD-filled}
 use Rattle.refined_meshes.proofs.Content.{link, Done, Latest, Unchanged, OldPoint, Content, content-same, content-taken}
@@ -206,16 +207,16 @@ module _
       split-all : splitsBefore c order turn n ≡ splits c order turn
       split-all = unfold splits in ap (splitsBefore c order turn) (sym (sizeAt-when c order f))
 
-      join-read : (i : ℕ) → i < n → all .edgesTaken + i ≡ edgeNo c order (join (dartAt c f i))
+      pub join-read : (i : ℕ) → i < n → all .edgesTaken + i ≡ edgeNo c order (join (dartAt c f i))
       unfolding edgeNo
       join-read i l =
           rw (face-dartAt c f i, place-dartAt c f i l, after .edges-taken, split-all) (omega arith)
 
-      face-read : (i : ℕ) → i < n → cond (eqb i 0) (f .0) (all .facesTaken + (i - 1)) ≡ faceNo c order (dartAt c f i)
+      pub face-read : (i : ℕ) → i < n → cond (eqb i 0) (f .0) (all .facesTaken + (i - 1)) ≡ faceNo c order (dartAt c f i)
       unfolding faceNo
       face-read i l = rw (face-dartAt c f i, place-dartAt c f i l, after .faces-taken)
 
-      ring-read : RingIs m c order ring f
+      pub ring-read : RingIs m c order ring f
       unfolding ringOf
       ring-read =
           record {
@@ -250,7 +251,7 @@ module _
     -- ---- the whole visit
 
     -- Taking rows changes no word.
-    splitting-begun : (s : State) → Arriving turn s → Splitting m c order turn 0 (take 1 0 0 s)
+    pub splitting-begun : (s : State) → Arriving turn s → Splitting m c order turn 0 (take 1 0 0 s)
     splitting-begun s h =
         record {
           content = content-taken m c order 1 0 0 (h .content);

@@ -2,7 +2,6 @@
 --     Ends Side PointWords FaceWords       the ends and the interval of an edge, one of its sides, the words of a point and of a face
 --     ends s e, side s d, pointOf s p, faceOf s f     what stands there; a dart of a row number is a side of that row
 --     edgeFrom n l r                       the edge with the ends n and the sides l and r
---     Room P E F s                         the tables have P rows of points, E of edges and F of faces
 use mathlib.Core.Path.{_≡_, refl, sym, _∙_, ap}
 use mathlib.Core.Bool.{Bool, true, false}
 use mathlib.Core.List.{List, [], _∷_}
@@ -21,6 +20,7 @@ use Rattle.tables.specs.Records.{edgeWords}
 use Rattle.tables.proofs.Laws.{length-putRow, getD-putRow, getD-putRow-other}
 use Rattle.refined_meshes.specs.State.{State, edgeOf, putEdge, putPoint, putStart, putFace}
 use Rattle.refined_meshes.specs.Ring.{withSide, putSide}
+use Rattle.refined_meshes.specs.Fits.{Room}
 
 pub record Ends : Type 0 where
   pub origin : ℕ
@@ -89,12 +89,6 @@ edgeFrom n l r =
 -- the words of an edge but the first
 abbrev edgeTail : Ends → Side → Side → List ℕ
 edgeTail n l r = n .dest ∷ l .face ∷ r .face ∷ l .cw ∷ l .acw ∷ r .cw ∷ r .acw ∷ []
-
-pub record Room (P E F : ℕ) (s : State) : Type 0 where
-  pub points-room : P * 3 ≤ length (s .points)
-  pub edges-room : E * 8 ≤ length (s .edges)
-  pub intervals-room : E ≤ length (s .intervals)
-  pub faces-room : F * 5 ≤ length (s .faces)
 
 -- The edge in a row by its parts.
 pub edge-parts : (s : State) (e : ℕ) → edgeOf s e ≡ edgeFrom (ends s e) (side s (lft e)) (side s (rgt e))
