@@ -75,12 +75,8 @@ module _ (ps0 es0 : List ℕ) (is0 : List Float) (np : ℕ) (perimeter : List �
     pub splitting-rows : ((k : ℕ) → k < n → InRows es0 is0 (getD perimeter k 0)) → i < n → InRows es is (getD perimeter i 0)
     splitting-rows r l = record { words = rw (h .same-edges) (r i l .words); number = rw (h .same-intervals) (r i l .number) }
 
-    pub splitting-old : np ≤ c0 .points → np ≤ c .points
-    splitting-old l =
-        let a : c .points ≡ After i .pointsTaken = ap (λ (s : State). s .pointsTaken) (h .stands) in
-        let b : After 0 .pointsTaken ≤ After i .pointsTaken = points-splitAll np perimeter (scratch ps0 es0 is0 c0) 0 i (omega arith) in
-        let o : After 0 .pointsTaken ≡ c0 .points = ap (λ (s : State). s .pointsTaken) (splitAll-none np perimeter (scratch ps0 es0 is0 c0)) in
-        omega arith
+    pub splitting-old : np * 3 ≤ length ps0 → np * 3 ≤ length ps
+    splitting-old l = rw (h .same-points) l
 
     pub splitting-room : i < n → Room ps0 es0 is0 (After n .pointsTaken) (After n .edgesTaken)
         → Room ps es is (splitWhole np (getD perimeter i 0) (scratch ps es is c) .pointsTaken)

@@ -106,7 +106,7 @@ pub fn split_edge(points: &mut [u32], edges: &mut [u32], intervals: &mut [f64], 
 // Splits the edge e unless it is split already: a whole edge ends in one of the np old points.
 pub fn split_whole(points: &mut [u32], edges: &mut [u32], intervals: &mut [f64], np: usize, e: u32, taken: Counts) -> Counts
     requires { ⌜ InRows (now edges) (now intervals) e ⌝ }
-    requires { ⌜ np ≤ taken .points ⌝ }
+    requires { ⌜ np * 3 ≤ length (now points) ⌝ }
     requires { ⌜
         Room (now points) (now edges) (now intervals)
             (splitWhole np e (scratch (now points) (now edges) (now intervals) taken) .pointsTaken)
@@ -127,7 +127,7 @@ pub fn split_all(
     points: &mut [u32], edges: &mut [u32], intervals: &mut [f64], np: usize, perimeter: &[u32; 64], n: usize, taken: Counts) -> Counts
     requires { ⌜ n ≤ 64 ⌝ }
     requires { ⌜ ((i : ℕ) → i < n → InRows (now edges) (now intervals) (getD (now perimeter) i 0)) ⌝ }
-    requires { ⌜ np ≤ taken .points ⌝ }
+    requires { ⌜ np * 3 ≤ length (now points) ⌝ }
     requires { ⌜
         Room (now points) (now edges) (now intervals)
             (splitAll np (now perimeter) n (scratch (now points) (now edges) (now intervals) taken) .pointsTaken)

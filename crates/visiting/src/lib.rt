@@ -6,18 +6,18 @@
 ghost use mathlib.Core.Path.{_≡_};
 ghost use mathlib.Core.List.{List, []};
 ghost use Prim.Native.Nat.{ℕ, _+_, _-_, _*_, _≤_, _<_};
-ghost use lib.ListN.{length, getD, replicate};
-ghost use lib.Ieee.{Float, nan, ofBits, binary64};
+ghost use lib.ListN.{length};
+ghost use lib.Ieee.{Float};
 ghost use Rattle.tables.specs.declared.Counts.{Counts};
-ghost use Rattle.audited_meshes.specs.Walks.{passed, faceWalk};
 ghost use Rattle.walks.specs.Steps.{faceTables};
-ghost use Rattle.refined_meshes.specs.Turns.{turns, filled};
-ghost use Rattle.refined_meshes.specs.State.{State};
+ghost use Rattle.refined_meshes.specs.Turns.{turns};
+ghost use Rattle.refined_meshes.specs.State.{State, copied};
 ghost use Rattle.refined_meshes.specs.Ring.{putJoin, putFirst, putSecond};
 ghost use Rattle.refined_meshes.specs.Visits.{ringOf, putRing, visitAlong, visit, visits, refinedRows};
+ghost use Rattle.refined_meshes.specs.Fits.{VisitFits};
 ghost use Rattle.splitting.specs.Scratch.{tablesOf};
-ghost use Rattle.rings.specs.Rings.{ring, firstOf, secondOf, Small, Rows};
-ghost use Rattle.visiting.specs.Visiting.{rowsOf, Linked, Fits, Around, Begun, Visitable};
+ghost use Rattle.rings.specs.Rings.{ring, Small, Rows};
+ghost use Rattle.visiting.specs.Visiting.{meshOf, Ceilings, RingFits, AlongFits, Fits};
 use rings::RingPlaces;
 use rings::RingRows;
 use rings::found_on;
@@ -69,16 +69,7 @@ fn put_ring_edges(
 fn put_ring(
     oldedges: &[u32], points: &mut [u32], edges: &mut [u32], intervals: &mut [f64], faces: &mut [u32], perimeter: &[u32; 64],
     found: &[f64; 64], rows: RingRows)
-    requires { ⌜ Small rows ⌝ }
-    requires { ⌜ rows .centre * 3 + 3 ≤ length (now points) ⌝ }
-    requires { ⌜ (rows .joins + rows .size) * 8 ≤ length (now edges) ⌝ }
-    requires { ⌜ rows .joins + rows .size ≤ length (now intervals) ⌝ }
-    requires { ⌜ rows .face * 5 + 5 ≤ length (now faces) ⌝ }
-    requires { ⌜ (rows .faces + (rows .size - 1)) * 5 ≤ length (now faces) ⌝ }
-    requires { ⌜ Rows (now oldedges) (now perimeter) (rows .size) ⌝ }
-    requires { ⌜ Rows (now edges) (now perimeter) (rows .size) ⌝ }
-    requires { ⌜ ((i : ℕ) → i < rows .size → firstOf (now oldedges) (now edges) (rows .face) (getD (now perimeter) i 0) * 8 + 8 ≤ length (now edges)) ⌝ }
-    requires { ⌜ ((i : ℕ) → i < rows .size → secondOf (now oldedges) (now edges) (rows .face) (getD (now perimeter) i 0) * 8 + 8 ≤ length (now edges)) ⌝ }
+    requires { ⌜ RingFits (now oldedges) (now perimeter) rows (now points) (now edges) (now intervals) (now faces) ⌝ }
     ensures { λ _. ⌜
         ((p : ℕ) →
         _≡_ {A = State}
@@ -98,4 +89,81 @@ fn put_ring(
     put_ring_edges(oldedges, edges, intervals, perimeter, &firsts, &seconds, &mids, found, rows);
     put_new_faces(oldedges, faces, perimeter, &firsts, &mids, rows);
     put_face_point(points, rows);
+}
+
+// Visits the face f along its perimeter of n edges. np is the number of old points; answers the rows taken then.
+fn visit_along(
+    oldedges: &[u32], points: &mut [u32], edges: &mut [u32], intervals: &mut [f64], faces: &mut [u32], np: usize, f: usize,
+    perimeter: &[u32; 64], n: usize, taken: Counts) -> Counts
+    requires { ⌜ AlongFits (now oldedges) np f (now perimeter) n (tablesOf (now points) (now edges) (now intervals) (now faces) taken) ⌝ }
+    ensures { λ r. ⌜
+        _≡_ {A = State}
+        (tablesOf (now (points .exit)) (now (edges .exit)) (now (intervals .exit)) (now (faces .exit)) r)
+        (visitAlong (faceTables (now (oldedges .entry)) []) np f (now (perimeter .entry)) n
+            (tablesOf (now (points .entry)) (now (edges .entry)) (now (intervals .entry)) (now (faces .entry)) taken)) ⌝ }
+{
+    let found = found_on(intervals, perimeter, n);
+    let first = Counts {
+        points: taken.points + 1,
+        edges: taken.edges,
+        faces: taken.faces,
+    };
+    let all = split_all(points, edges, intervals, np, perimeter, n, first);
+    let rows = RingRows {
+        face: f,
+        size: n,
+        centre: taken.points,
+        joins: all.edges,
+        faces: all.faces,
+    };
+    put_ring(oldedges, points, edges, intervals, faces, perimeter, &found, rows);
+    Counts {
+        points: all.points,
+        edges: all.edges + n,
+        faces: all.faces + (n - 1),
+    }
+}
+
+// Visits the face f of the mesh with the counts `old`; answers the rows taken then.
+pub fn visit(
+    oldedges: &[u32], oldfaces: &[u32], points: &mut [u32], edges: &mut [u32], intervals: &mut [f64], faces: &mut [u32], old: Counts,
+    f: usize, taken: Counts) -> Counts
+    requires { ⌜ Ceilings (old .points) (old .edges) (old .faces) ⌝ }
+    requires { ⌜ old .edges * 8 ≤ length (now oldedges) ⌝ }
+    requires { ⌜ old .faces * 5 ≤ length (now oldfaces) ⌝ }
+    requires { ⌜
+        VisitFits (faceTables (now oldedges) (now oldfaces)) (old .points) (old .edges) (old .faces) f
+            (tablesOf (now points) (now edges) (now intervals) (now faces) taken) ⌝ }
+    ensures { λ r. ⌜
+        _≡_ {A = State}
+        (tablesOf (now (points .exit)) (now (edges .exit)) (now (intervals .exit)) (now (faces .exit)) r)
+        (visit (faceTables (now (oldedges .entry)) (now (oldfaces .entry))) (old .points) (old .edges) f
+            (tablesOf (now (points .entry)) (now (edges .entry)) (now (intervals .entry)) (now (faces .entry)) taken)) ⌝ }
+{
+    let about = border(oldedges, oldfaces, old.edges, f);
+    let perimeter = about.edges;
+    visit_along(oldedges, points, edges, intervals, faces, old.points, f, &perimeter, about.n, taken)
+}
+
+// Visits the faces in the order; answers the rows taken then.
+pub fn visits(
+    oldedges: &[u32], oldfaces: &[u32], points: &mut [u32], edges: &mut [u32], intervals: &mut [f64], faces: &mut [u32], old: Counts,
+    order: &[u32]) -> Counts
+    requires { ⌜
+        Fits (faceTables (now oldedges) (now oldfaces)) (old .points) (old .edges) (old .faces) (now order)
+            (tablesOf (now points) (now edges) (now intervals) (now faces) old) ⌝ }
+    ensures { λ r. ⌜
+        _≡_ {A = State}
+        (tablesOf (now (points .exit)) (now (edges .exit)) (now (intervals .exit)) (now (faces .exit)) r)
+        (visits (faceTables (now (oldedges .entry)) (now (oldfaces .entry))) (old .points) (old .edges) (old .faces) (now (order .entry))
+            (tablesOf (now (points .entry)) (now (edges .entry)) (now (intervals .entry)) (now (faces .entry)) old)) ⌝ }
+{
+    let mut taken = old;
+    let mut i = 0;
+    while i < old.faces {
+        let f = index(order[i]);
+        taken = visit(oldedges, oldfaces, points, edges, intervals, faces, old, f, taken);
+        i += 1;
+    }
+    taken
 }

@@ -1,0 +1,4 @@
+pub mod Laws
+pub mod Padding
+pub mod Along
+pub mod Room
