@@ -17,7 +17,7 @@ ghost use Rattle.refined_meshes.specs.Visits.{ringOf, putRing, visitAlong, visi
 ghost use Rattle.refined_meshes.specs.Fits.{VisitFits};
 ghost use Rattle.splitting.specs.Scratch.{tablesOf};
 ghost use Rattle.rings.specs.Rings.{ring, Small, Rows};
-ghost use Rattle.visiting.specs.Visiting.{meshOf, Ceilings, RingFits, AlongFits, Fits};
+ghost use Rattle.visiting.specs.Visiting.{meshOf, Holds, Ceilings, RingFits, AlongFits, Fits};
 use rings::RingPlaces;
 use rings::RingRows;
 use rings::found_on;
@@ -166,4 +166,46 @@ pub fn visits(
         i += 1;
     }
     taken
+}
+
+// Copies the rows of a mesh with the counts `old` into the scratch tables.
+fn copy_rows(
+    oldpoints: &[u32], oldedges: &[u32], oldintervals: &[f64], oldfaces: &[u32], points: &mut [u32], edges: &mut [u32], intervals: &mut [f64],
+    faces: &mut [u32], old: Counts)
+    requires { ⌜ Holds (meshOf [] (now oldpoints) (now oldedges) (now oldintervals) (now oldfaces)) (old .points) (old .edges) (old .faces) ⌝ }
+    requires { ⌜ Holds (meshOf [] (now points) (now edges) (now intervals) (now faces)) (old .points) (old .edges) (old .faces) ⌝ }
+    ensures { λ _. ⌜
+        _≡_ {A = State}
+        (tablesOf (now (points .exit)) (now (edges .exit)) (now (intervals .exit)) (now (faces .exit)) old)
+        (copied (meshOf [] (now (oldpoints .entry)) (now (oldedges .entry)) (now (oldintervals .entry)) (now (oldfaces .entry)))
+            (old .points) (old .edges) (old .faces)
+            (meshOf [] (now (points .entry)) (now (edges .entry)) (now (intervals .entry)) (now (faces .entry)))) ⌝ }
+{
+    copy_words(oldpoints, points, old.points * 3);
+    copy_words(oldedges, edges, old.edges * 8);
+    copy_numbers(oldintervals, intervals, old.edges);
+    copy_words(oldfaces, faces, old.faces * 5);
+}
+
+// Makes the topology of the refined mesh in the scratch tables: the mesh's rows are copied, then its faces are visited in the
+// order. Answers the counts of the refined mesh.
+pub fn refined_rows(
+    oldpoints: &[u32], oldedges: &[u32], oldintervals: &[f64], oldfaces: &[u32], points: &mut [u32], edges: &mut [u32], intervals: &mut [f64],
+    faces: &mut [u32], old: Counts, order: &[u32]) -> Counts
+    requires { ⌜ Holds (meshOf [] (now oldpoints) (now oldedges) (now oldintervals) (now oldfaces)) (old .points) (old .edges) (old .faces) ⌝ }
+    requires { ⌜ Holds (meshOf [] (now points) (now edges) (now intervals) (now faces)) (old .points) (old .edges) (old .faces) ⌝ }
+    requires { ⌜
+        Fits (faceTables (now oldedges) (now oldfaces)) (old .points) (old .edges) (old .faces) (now order)
+            (copied (meshOf [] (now oldpoints) (now oldedges) (now oldintervals) (now oldfaces)) (old .points) (old .edges) (old .faces)
+                (meshOf [] (now points) (now edges) (now intervals) (now faces))) ⌝ }
+    ensures { λ r. ⌜
+        ((qs ps : List Float) →
+        _≡_ {A = State}
+        (tablesOf (now (points .exit)) (now (edges .exit)) (now (intervals .exit)) (now (faces .exit)) r)
+        (refinedRows (meshOf qs (now (oldpoints .entry)) (now (oldedges .entry)) (now (oldintervals .entry)) (now (oldfaces .entry)))
+            (old .points) (old .edges) (old .faces) (now (order .entry))
+            (meshOf ps (now (points .entry)) (now (edges .entry)) (now (intervals .entry)) (now (faces .entry))))) ⌝ }
+{
+    copy_rows(oldpoints, oldedges, oldintervals, oldfaces, points, edges, intervals, faces, old);
+    visits(oldedges, oldfaces, points, edges, intervals, faces, old, order)
 }

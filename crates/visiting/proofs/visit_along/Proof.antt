@@ -35,15 +35,29 @@ put-ring-requires c κs =
 
 -- src/lib.rt:131:16
 add-t18-2 : tie.Need-add-t18-2
-add-t18-2 c = ?
+add-t18-2 c = 
+    let p = c .before .before .before .before .before .before .before .before .before .before .before .before .before .before .before .before .before .before .before .before .before .before .before .before .before .before .before .before .before .before .before .before .before .pre in
+    let a = c .before .before .before .before .before .before .before .before .before .before .before .before .before .before .before .before .before .before .before .before .before .before .before .before .before .before .before .before .before .before .before .before .before .args in
+    let all = c .before .before .before .before .before .before .before .before .before .before .before .before .before .before .before .before .before .before .before .before .before .split-all .result in
+    let split = along-split (a .points .now) _ (a .edges .now) _ (a .faces .now) (a .perimeter .now) (a .intervals .now) _ (a .np) (a .n) (a .taken) all (c .before .before .before .before .before .before .before .before .before .before .before .before .before .before .before .before .before .before .before .before .before .split-all .ensures) in
+    let small = ring-fits (a .oldedges .now) (a .points .now) (a .edges .now) (a .faces .now) (a .perimeter .now) (a .intervals .now) (a .np) (a .f) (a .n) (a .taken) p
+          _ _ _ all split (c .before .before .before .before .before .before .before .before .before .before .before .before .before .before .before .before .before .before .before .before .before .split-all .kept .0) (c .before .before .before .before .before .before .before .before .before .before .before .before .before .before .before .before .before .before .before .before .before .split-all .kept .1 .0) (c .before .before .before .before .before .before .before .before .before .before .before .before .before .before .before .before .before .before .before .before .before .split-all .kept .1 .1 .0) .small in
+    omega (arith, small .few-edges)
 
 -- src/lib.rt:132:29
 sub-t35 : tie.Need-sub-t35
-sub-t35 c = ?
+sub-t35 c = let p = c .before .before .before .before .before .before .before .before .before .before .before .before .before .before .before .before .before .before .before .before .before .before .before .before .before .before .before .before .before .before .before .before .before .pre in omega (arith, p .some-places)
 
 -- src/lib.rt:132:16
 add-t36 : tie.Need-add-t36
-add-t36 c = ?
+add-t36 c = 
+    let p = c .before .before .before .before .before .before .before .before .before .before .before .before .before .before .before .before .before .before .before .before .before .before .before .before .before .before .before .before .before .before .before .before .before .before .pre in
+    let a = c .before .before .before .before .before .before .before .before .before .before .before .before .before .before .before .before .before .before .before .before .before .before .before .before .before .before .before .before .before .before .before .before .before .before .args in
+    let all = c .before .before .before .before .before .before .before .before .before .before .before .before .before .before .before .before .before .before .before .before .before .before .split-all .result in
+    let split = along-split (a .points .now) _ (a .edges .now) _ (a .faces .now) (a .perimeter .now) (a .intervals .now) _ (a .np) (a .n) (a .taken) all (c .before .before .before .before .before .before .before .before .before .before .before .before .before .before .before .before .before .before .before .before .before .before .split-all .ensures) in
+    let small = ring-fits (a .oldedges .now) (a .points .now) (a .edges .now) (a .faces .now) (a .perimeter .now) (a .intervals .now) (a .np) (a .f) (a .n) (a .taken) p
+          _ _ _ all split (c .before .before .before .before .before .before .before .before .before .before .before .before .before .before .before .before .before .before .before .before .before .before .split-all .kept .0) (c .before .before .before .before .before .before .before .before .before .before .before .before .before .before .before .before .before .before .before .before .before .before .split-all .kept .1 .0) (c .before .before .before .before .before .before .before .before .before .before .before .before .before .before .before .before .before .before .before .before .before .before .split-all .kept .1 .1 .0) .small in
+    omega (arith, small .few-faces)
 
 -- src/lib.rt:104:1
 same-length : tie.Need-same-length
