@@ -1,12 +1,16 @@
 pub mod Places
+pub mod Leads
 pub mod Numbering
 pub mod Words
 pub mod Turns
 pub mod Target
 pub mod Split
 pub mod Content
+pub mod SplitStep
 pub mod Splits
 pub mod Ring
+pub mod Loops
+pub mod Ringed
 pub mod Perimeters
 pub mod Visits
 pub mod Orders
@@ -14,5 +18,8 @@ pub mod Runs
 pub mod Renumbered
 pub mod Refines
 pub mod Fits
+pub mod Intervals
+pub mod After
+pub mod Laws
 pub mod Records
 pub mod Cases

@@ -3,15 +3,15 @@
 --     begun                   the invariant before the first visit
 --     arriving                the invariant before turn k
 use mathlib.Core.Path.{_≡_, refl, sym, _∙_, ap, subst}
-use mathlib.Core.List.{List, _++_}
-use mathlib.Core.Logic.{_⊎_, inl, inr}
-use Prim.Native.Nat.{ℕ, zero, suc, _+_, _-_, _*_, _≤_, _<_, min}
+use mathlib.Core.List.{List}
+use mathlib.Core.Logic.{inl, inr}
+use Prim.Native.Nat.{ℕ, zero, suc, _+_, _*_, _≤_, _<_}
 use native.Mathlib.Nat.{add-zero}
 use native.Mathlib.Omega.{arith}
 use lib.ListN.{length, getD, take, drop, List·getD-append}
 use lib.Seq.{getD-take, length-take-le}
 use lib.Ieee.{nan}
-use Rattle.closed_meshes.specs.Mesh.{Mesh as MeshOver, Dart, edge}
+use Rattle.closed_meshes.specs.Mesh.{Mesh as MeshOver, edge}
 use Rattle.closed_meshes.specs.Closed.{Closed}
 use Rattle.closed_meshes.specs.Refinement.{org}
 use Rattle.closed_meshes.specs.Renumbering.{Bijection, Row, sumTo}
@@ -24,13 +24,13 @@ use Rattle.audited_meshes.specs.Rows.{Stands, HoldsClosed}
 use Rattle.refined_meshes.specs.State.{State, copied}
 use Rattle.refined_meshes.specs.Order.{EachOnce}
 use Rattle.refined_meshes.specs.Visits.{visits, visit, visitAlong}
-use Rattle.refined_meshes.specs.Fits.{Room}
+use Rattle.refined_meshes.specs.Fits.{RoomFor}
 use Rattle.refined_meshes.proofs.Places.{dartAt, place, face-dartAt, place-dartAt}
-use Rattle.refined_meshes.proofs.Numbering.{when, when-from, pointsBefore, edgesBefore, facesBefore, edgeNo, faceNo, faceNo-first, faceNo-fits}
+use Rattle.refined_meshes.proofs.Leads.{when, when-from}
+use Rattle.refined_meshes.proofs.Numbering.{pointsBefore, edgesBefore, facesBefore, edgeNo, faceNo, faceNo-first, faceNo-fits}
 use Rattle.refined_meshes.proofs.Words.{ends, pointOf}
 use Rattle.refined_meshes.proofs.Target.{endsOld}
 use Rattle.refined_meshes.proofs.Turns.{turns-keep}
-use Rattle.refined_meshes.proofs.Content.{Content}
 use Rattle.refined_meshes.proofs.Splits.{Past}
 use Rattle.refined_meshes.proofs.Perimeters.{perimeter-size, perimeter-edge}
 use Rattle.refined_meshes.proofs.Visits.{Arriving, arriving-along}
@@ -66,14 +66,14 @@ module _ {m : Mesh} {np ne nf : ℕ} {u : Mesh} (r : Rooms m np ne nf u) where
   faces-copied : (nf * 5 ≤ length (m .faces)) × (2 * ne * 5 ≤ length (u .faces)) × (nf * 5 ≤ length (u .faces))
   faces-copied = omega (arith, r)
 
-  pub rooms : Room (np + ne + nf) (4 * ne) (2 * ne) (copied m np ne nf u)
+  pub rooms : RoomFor np ne nf (copied m np ne nf u)
   unfolding copied
   rooms =
       record {
         points-room = rw (length-over (np * 3) (m .points) (u .points) (points-copied .0) (points-copied .2)) (points-copied .1);
         edges-room = rw (length-over (ne * 8) (m .edges) (u .edges) (edges-copied .0) (edges-copied .2)) (edges-copied .1);
         intervals-room = rw (length-over ne (m .intervals) (u .intervals) (intervals-copied .0) (intervals-copied .2)) (intervals-copied .1);
-        faces-room = rw (length-over (nf * 5) (m .faces) (u .faces) (faces-copied .0) (faces-copied .2)) (faces-copied .1)
+        faces-room = rw (length-over (nf * 5) (m .faces) (u .faces) (faces-copied .0) (faces-copied .2)) (faces-copied .1);
       }
 
   module _ {t : MeshOver (Row np) (Row ne) (Row nf)} (stands : Stands m t) (c : Closed t) (order : Bijection (Row nf) (Row nf)) where
@@ -108,41 +108,41 @@ module _ {m : Mesh} {np ne nf : ℕ} {u : Mesh} (r : Rooms m np ne nf u) where
     unfolding ends endsOld edgeNo
     whole-copied e =
         λ i.
-          record {
-            origin = (first-edge-word e ∙ stands .origin-stands e) i;
-            dest = (edge-word e 1 (omega arith) ∙ stands .dest-stands e) i;
-            interval = interval-copied e i
-          }
+        record {
+          origin = (first-edge-word e ∙ stands .origin-stands e) i;
+          dest = (edge-word e 1 (omega arith) ∙ stands .dest-stands e) i;
+          interval = interval-copied e i;
+        }
 
     pub begun : Arriving m stands c order 0 start-state
     begun =
         record {
           content =
-            record {
-              room = rooms;
-              whole = λ e n. whole-copied e;
-              origin-half = λ e x. absurd (none-past e x);
-              destination-half = λ e x. absurd (none-past e x);
-              linked = λ d x l. absurd (none-past (edge d) x);
-              done = λ d l. absurd (omega arith);
-              middle = λ e x. absurd (none-past e x);
-              centre = λ f l. absurd (omega arith);
-              old-point =
-                λ p.
-                  record {
-                    valence-kept = unfold pointOf in (first-point-word p ∙ stands .valence-stands p);
-                    mark-kept = unfold pointOf in point-word p 2 (omega arith);
-                    start-found =
-                      inl
-                        (record {
-                          none-split = λ e q x. none-past e x;
-                          start-kept = unfold pointOf in (point-word p 1 (omega arith) ∙ stands .start-stands p)
-                        })
-                  }
-            };
+              record {
+                room = rooms;
+                whole = λ e n. whole-copied e;
+                origin-half = λ e x. absurd (none-past e x);
+                destination-half = λ e x. absurd (none-past e x);
+                linked = λ d x l. absurd (none-past (edge d) x);
+                done = λ d l. absurd (omega arith);
+                middle = λ e x. absurd (none-past e x);
+                centre = λ f l. absurd (omega arith);
+                old-point =
+                    λ p.
+                    record {
+                      valence-kept = unfold pointOf in (first-point-word p ∙ stands .valence-stands p);
+                      mark-kept = unfold pointOf in point-word p 2 (omega arith);
+                      start-found =
+                          inl
+                          (record {
+                            none-split = λ e q x. none-past e x;
+                            start-kept = unfold pointOf in (point-word p 1 (omega arith) ∙ stands .start-stands p);
+                          });
+                    };
+              };
           points-taken = unfold copied pointsBefore sumTo in sym (add-zero np);
           edges-taken = unfold copied edgesBefore sumTo in sym (add-zero ne);
-          faces-taken = unfold copied facesBefore sumTo in sym (add-zero nf)
+          faces-taken = unfold copied facesBefore sumTo in sym (add-zero nf);
         }
 
   module _ {t : MeshOver (Row np) (Row ne) (Row nf)} (stands : Stands m t) (c : Closed t) (order : List ℕ) (once : EachOnce nf order) where
@@ -154,7 +154,7 @@ module _ {m : Mesh} {np ne nf : ℕ} {u : Mesh} (r : Rooms m np ne nf u) where
     faceAtTurn k l = by-turns .from (k, l)
 
     pub arriving-visit :
-      (k : ℕ) (s : State) → k < nf → Arriving m stands c by-turns k s → Arriving m stands c by-turns (suc k) (visit m np ne (getD order k 0) s)
+        (k : ℕ) (s : State) → k < nf → Arriving m stands c by-turns k s → Arriving m stands c by-turns (suc k) (visit m np ne (getD order k 0) s)
     unfolding visit
     arriving-visit k s l h =
         let f : Row nf = faceAtTurn k l in
@@ -163,13 +163,13 @@ module _ {m : Mesh} {np ne nf : ℕ} {u : Mesh} (r : Rooms m np ne nf u) where
         let h' : Arriving m stands c by-turns (when c by-turns f) s = rw w h in
         let g = arriving-along m stands c by-turns f (edgesOf (faceWalk m ne (f .0))) (perimeter-edge m stands c f) s h' in
         subst (λ x. Arriving m stands c by-turns (suc x) (visitAlong m np (getD order k 0) (edgesOf (faceWalk m ne (getD order k 0))) (passed (faceWalk m ne (getD order k 0))) s)) w
-          (rw (q, perimeter-size m stands c f) g)
+        (rw (q, perimeter-size m stands c f) g)
 
     pub arriving : (k : ℕ) → k ≤ nf → Arriving m stands c by-turns k (visits m np ne k order (copied m np ne nf u))
     unfolding visits
     arriving k l =
         turns-keep k (λ i. visit m np ne (getD order i 0)) (λ i s. Arriving m stands c by-turns i s)
-          (λ i s b h. arriving-visit i s (omega arith) h) (copied m np ne nf u) (begun stands c by-turns)
+        (λ i s b h. arriving-visit i s (omega arith) h) (copied m np ne nf u) (begun stands c by-turns)
 
 -- The faces are no more than the new ones.
 faces-less : {np ne nf : ℕ} {t : MeshOver (Row np) (Row ne) (Row nf)} (c : Closed t) (order : Bijection (Row nf) (Row nf)) → nf ≤ 2 * ne
@@ -181,12 +181,12 @@ faces-less {np} {ne} {nf} {t} c order = go nf refl
         let f : Row nf = (k, omega arith) in
         let z : place c (dartAt c f 0) ≡ 0 = place-dartAt c f 0 (omega (arith, c .size-low f)) in
         let w : faceNo c order (dartAt c f 0) ≡ k =
-              faceNo-first c order (dartAt c f 0) z ∙ ap (λ x. x .0) (face-dartAt c f 0) in
+        faceNo-first c order (dartAt c f 0) z ∙ ap (λ x. x .0) (face-dartAt c f 0) in
         omega (arith, faceNo-fits c order (dartAt c f 0))
 
 module _ (m : Mesh) {np ne nf : ℕ} (h : HoldsClosed m np ne nf) (order : List ℕ) (once : EachOnce nf order) where
   pub rooms-of :
-    (u : Mesh) → np + ne + nf ≤ pointRows u → 4 * ne ≤ edgeRows u → 2 * ne ≤ faceRows u → Rooms m np ne nf u
+      (u : Mesh) → np + ne + nf ≤ pointRows u → 4 * ne ≤ edgeRows u → 2 * ne ≤ faceRows u → Rooms m np ne nf u
   rooms-of u pr er fr =
       record {
         points-fit = h .fit .points-fit;
@@ -195,5 +195,5 @@ module _ (m : Mesh) {np ne nf : ℕ} (h : HoldsClosed m np ne nf) (order : List 
         points-room = pr;
         edges-room = er;
         faces-room = fr;
-        faces-less = faces-less (h .closed) (orderOf order once)
+        faces-less = faces-less (h .closed) (orderOf order once);
       }

@@ -1,5 +1,6 @@
 -- That every row which the visits store fits into the scratch tables.
 --     Room P E F s              the tables have P rows of points, E of edges and F of faces
+--     RoomFor np ne nf s        they have the rows of the refinement of a mesh of np points, ne edges and nf faces
 --     splitSome m np ne f i s   the state of a visit of the face f in s before place i, its face point taken
 --     ringAt m np ne f s        what the visit of the face f in s reads once its perimeter is split
 --     VisitFits m np ne nf f s  the stores of the visit of the face f in s fit into np + ne + nf points, 4 ne edges and 2 ne faces
@@ -14,7 +15,7 @@ use Rattle.audited_meshes.specs.Audit.{pointRows, edgeRows, faceRows}
 use Rattle.audited_meshes.specs.Walks.{edgesOf, passed, faceWalk, firstPoint}
 use Rattle.audited_meshes.specs.Rows.{HoldsClosed}
 use Rattle.refined_meshes.specs.State.{State, edgeOf, take, copied}
-use Rattle.refined_meshes.specs.Ring.{Ring, faceRow}
+use Rattle.refined_meshes.specs.Ring.{Ring}
 use Rattle.refined_meshes.specs.Order.{EachOnce}
 use Rattle.refined_meshes.specs.Visits.{foundOn, splitAll, ringOf, visits, refinedRows}
 
@@ -23,6 +24,9 @@ pub record Room (P E F : ℕ) (s : State) : Type 0 where
   pub edges-room : E * 8 ≤ length (s .edges)
   pub intervals-room : E ≤ length (s .intervals)
   pub faces-room : F * 5 ≤ length (s .faces)
+
+abbrev pub RoomFor : ℕ → ℕ → ℕ → State → Type 0
+RoomFor np ne nf s = Room (np + ne + nf) (4 * ne) (2 * ne) s
 
 abbrev pub splitSome : Mesh → ℕ → ℕ → ℕ → ℕ → State → State
 splitSome m np ne f i s = splitAll np (edgesOf (faceWalk m ne f)) i (take 1 0 0 s)
@@ -39,16 +43,16 @@ pub record VisitFits (m : Mesh) (np ne nf f : ℕ) (s : State) : Type 0 where
   pub size-low : 3 ≤ passed (faceWalk m ne f)
   pub size-high : passed (faceWalk m ne f) ≤ 64
   pub edge-below : (i : ℕ) → i < passed (faceWalk m ne f) → getD (edgesOf (faceWalk m ne f)) i 0 < ne
-  pub room : Room (np + ne + nf) (4 * ne) (2 * ne) s
+  pub room : RoomFor np ne nf s
   pub centre-fits : s .pointsTaken < np + ne + nf
   -- before each place, and the rows of an edge that is split there
-  pub split-room : (i : ℕ) → i ≤ passed (faceWalk m ne f) → Room (np + ne + nf) (4 * ne) (2 * ne) (splitSome m np ne f i s)
+  pub split-room : (i : ℕ) → i ≤ passed (faceWalk m ne f) → RoomFor np ne nf (splitSome m np ne f i s)
   pub mid-fits :
-    (i : ℕ) → i < passed (faceWalk m ne f) → edgeOf (splitSome m np ne f i s) (getD (edgesOf (faceWalk m ne f)) i 0) .dest < np
-    → splitSome m np ne f i s .pointsTaken < np + ne + nf
+      (i : ℕ) → i < passed (faceWalk m ne f) → edgeOf (splitSome m np ne f i s) (getD (edgesOf (faceWalk m ne f)) i 0) .dest < np
+      → splitSome m np ne f i s .pointsTaken < np + ne + nf
   pub half-fits :
-    (i : ℕ) → i < passed (faceWalk m ne f) → edgeOf (splitSome m np ne f i s) (getD (edgesOf (faceWalk m ne f)) i 0) .dest < np
-    → splitSome m np ne f i s .edgesTaken < 4 * ne
+      (i : ℕ) → i < passed (faceWalk m ne f) → edgeOf (splitSome m np ne f i s) (getD (edgesOf (faceWalk m ne f)) i 0) .dest < np
+      → splitSome m np ne f i s .edgesTaken < 4 * ne
   -- the rows of the ring
   pub joins-fit : ringAt m np ne f s .joinsFrom + passed (faceWalk m ne f) ≤ 4 * ne
   pub faces-fit : ringAt m np ne f s .facesFrom + (passed (faceWalk m ne f) - 1) ≤ 2 * ne
@@ -68,7 +72,7 @@ pub record Taken (np ne nf : ℕ) (s : State) : Type 0 where
   pub points-taken : s .pointsTaken ≡ np + ne + nf
   pub edges-taken : s .edgesTaken ≡ 4 * ne
   pub faces-taken : s .facesTaken ≡ 2 * ne
-  pub room : Room (np + ne + nf) (4 * ne) (2 * ne) s
+  pub room : RoomFor np ne nf s
 
 abbrev pub AllTaken : Type 0
 AllTaken =

@@ -6,3 +6,4 @@ pub mod Visits
 pub mod Order
 pub mod Refines
 pub mod Fits
+pub mod After
