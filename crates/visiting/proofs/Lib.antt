@@ -3,3 +3,4 @@ pub mod Padding
 pub mod Along
 pub mod Room
 pub mod Turning
+pub mod Fitting
