@@ -39,7 +39,7 @@ use Rattle.steps.specs.declared.Stepped.the-variants.{Refined}
 use Rattle.steps.specs.Positions.{on, facePointRow, edgePointRow, placedAll}
 use Rattle.steps.specs.Step.{refinedCounts, firstRows, overRows, whole, made, step}
 use Rattle.steps.specs.OneStep.{Refinement, OneStep}
-use Rattle.steps.proofs.Rows.{Room, points-fit, edges-fit, faces-fit, Exact, exact-firstRows, room-firstRows, room-of-exact, room-of-holds, holds-same, holds-firstRows, same-of-firstRows, room-of-firstRows, firstRows-overRows}
+use Rattle.steps.proofs.Rows.{Room, points-fit, edges-fit, faces-fit, Exact, exact-firstRows, room-firstRows, room-of-exact, room-of-holds, holds-same, holds-firstRows, SameRows, same-overRows, room-overRows, position-same}
 use Rattle.steps.proofs.NewPositions.{PointRows, AllPlaced, placed-all, length-all}
 use Rattle.steps.proofs.Lengths.{AsLong, long-refinedRows}
 use Rattle.steps.proofs.Grounds.{Within, Taken, taken, Begun, made-is}
@@ -252,3 +252,64 @@ module _ (m : Mesh) (c : Counts) (h : HoldsClosed m (c .points) (c .edges) (c .f
                   (stays-closed _ _ _ (h .mesh) (h .closed));
               fit = fit;
             }
+
+        -- Put over the first rows of the tables, it is the refinement there.
+        module _ (m0 : Mesh) where
+          there : Mesh
+          there = overRows (refinedCounts c) (meshOf qs s) m0
+
+          same : SameRows (refinedCounts c) (meshOf qs s) there
+          unfolding there
+          same = same-overRows (refinedCounts c) (meshOf qs s) m0 lengths
+
+          position-there :
+              (x : NewPoint (Row (c .points)) (Row (c .edges)) (Row (c .faces))) →
+              positionAt (there .positions) (visited .numbering .points .to x .0) ≡ rule x
+          unfolding row
+          position-there x = position-same same (row x) (row-below x) ∙ rule-stands x
+
+          mid-there : (e : Row (c .edges)) → dest there (e .0) ≡ visited .numbering .points .to (mid e) .0
+          mid-there e = same .edges (e .0 * 8 + 1) (omega (arith, e .1)) ∙ visited .mid-row e
+
+          centre-there : (f : Row (c .faces)) → corner there (f .0) 0 ≡ visited .numbering .points .to (facePoint f) .0
+          centre-there f = same .faces (f .0 * 5 + 1) (omega (arith, f .1, faces-fewer)) ∙ visited .centre-row f
+
+          holds-there : HoldsClosed there (refinedCounts c .points) (refinedCounts c .edges) (refinedCounts c .faces)
+          unfolding there
+          holds-there = holds-same same (room-overRows (refinedCounts c) (meshOf qs s) m0 lengths) holds
+
+          pub refinement-there : Refinement m c (h .mesh) (h .closed) (overRows (refinedCounts c) (meshOf qs s) m0)
+          unfolding there holds-there holds-same holds rule
+          refinement-there =
+              record {
+                holds = holds-there;
+                numbering = visited .numbering;
+                old-row = visited .old-row;
+                origin-row = visited .origin-row;
+                first-row = visited .first-row;
+                mid-row = mid-there;
+                centre-row = centre-there;
+                old-point = λ p. position-there (old p);
+                edge-point = λ e. position-there (mid e);
+                face-point = λ f. position-there (facePoint f);
+              }
+
+module _ (visits-refine : VisitsRefine) (halves-fit : HalvesFit) (joints-fit : JointsFit) where
+  -- An accepted step makes the refinement.
+  pub one-step : OneStep
+  unfolding holds-firstRows
+  one-step m c order t h c' e =
+      let k = taken m c order t c' e in
+      let m1 = firstRows c m in
+      let h1 = holds-firstRows h in
+      let u = firstRows (refinedCounts c) t in
+      let x = exact-firstRows (refinedCounts c) t (k .scratch-room) in
+      let r = room-of-exact x in
+      let b = made-is m1 c order u (k .mesh) (k .is-made) in
+      let v = visits-refine m1 (c .points) (c .edges) (c .faces) h1 order (k .once) u (points-fit r) (edges-fit r) (faces-fit r) (b .positions) in
+      let few : c .faces ≤ none = omega (arith, k .within .points) in
+      let q : step m c order t .tables ≡ overRows (refinedCounts c) (meshOf (b .positions) (refinedRows m1 (c .points) (c .edges) (c .faces) order u)) m =
+            k .tables ∙ ap (λ n. overRows (refinedCounts c) n m) (b .mesh) in
+      (k .counts,
+        subst (Refinement m1 c (h .mesh) (h .closed)) (sym q)
+        (refinement-there m1 c h1 order u (b .positions) v halves-fit joints-fit few x (b .put) m))

@@ -13,6 +13,7 @@ use lib.Seq.{getD-take, length-take-le, take-append-le, take-all}
 use lib.Ieee.{Float, nan}
 use Rattle.tables.specs.Mesh.{Mesh}
 use Rattle.tables.specs.Rows.{over}
+use Rattle.tables.specs.Records.{positionAt}
 use Rattle.tables.specs.declared.Counts.{Counts}
 use Rattle.closed_meshes.specs.Mesh.{Mesh as MeshOver}
 use Rattle.closed_meshes.specs.Renumbering.{Row}
@@ -206,3 +207,28 @@ firstRows-overRows c n m x =
     rw (take-over _ (n .positions) (m .positions) (x .positions), take-over _ (n .points) (m .points) (x .points),
       take-over _ (n .edges) (m .edges) (x .edges), take-over _ (n .intervals) (m .intervals) (x .intervals),
       take-over _ (n .faces) (m .faces) (x .faces))
+
+take-exact : {A : Type 0} (n : ℕ) (xs : List A) → length xs ≡ n → take n xs ≡ xs
+take-exact n xs e = take-all n xs (omega arith)
+
+firstRows-exact : (c : Counts) (n : Mesh) → Exact c n → firstRows c n ≡ n
+unfolding firstRows
+firstRows-exact c n x =
+    rw (take-exact _ (n .positions) (x .positions), take-exact _ (n .points) (x .points), take-exact _ (n .edges) (x .edges),
+      take-exact _ (n .intervals) (x .intervals), take-exact _ (n .faces) (x .faces))
+
+-- Rows put over the first rows of tables stand there.
+module _ (c : Counts) (n m : Mesh) (x : Exact c n) where
+  firstRows-both : firstRows c n ≡ firstRows c (overRows c n m)
+  firstRows-both = firstRows-exact c n x ∙ sym (firstRows-overRows c n m x)
+
+  pub same-overRows : SameRows c n (overRows c n m)
+  same-overRows = same-of-firstRows c n (overRows c n m) firstRows-both
+
+  pub room-overRows : Room c (overRows c n m)
+  room-overRows = room-of-firstRows c n (overRows c n m) firstRows-both (room-of-exact x)
+
+-- The position of a row that is the same.
+pub position-same : {c : Counts} {m m' : Mesh} → SameRows c m m' → (p : ℕ) → p < c .points → positionAt (m' .positions) p ≡ positionAt (m .positions) p
+position-same s p l =
+    rw (s .positions (p * 3) (omega arith), s .positions (p * 3 + 1) (omega arith), s .positions (p * 3 + 2) (omega arith))

@@ -1,6 +1,7 @@
 -- What an accepted step makes of a mesh.
---     Refinement m c h m'     the tables m' hold the refinement on kinds of the closed mesh that stands in m, under the numbering that
---                             the visits make, and the position of each point is its rule's answer from the mesh before alone
+--     Refinement m c t d m'   the tables m' hold the refinement on kinds of the mesh t, which is closed by d and stands in the rows m,
+--                             under the numbering that the visits make; and the position of each point is its rule's answer from
+--                             m alone
 --     OneStep                 the claim: an accepted step makes the refinement, with V + E + F points, 4 E edges, 2 E faces
 --     Untouched               the claim: a refused step leaves the tables as found
 use mathlib.Core.Path.{_≡_}
@@ -10,6 +11,8 @@ use Prim.Native.Nat.{ℕ}
 use Rattle.tables.specs.Mesh.{Mesh, dest, corner}
 use Rattle.tables.specs.Records.{positionAt}
 use Rattle.tables.specs.declared.Counts.{Counts}
+use Rattle.closed_meshes.specs.Mesh.{Mesh as MeshOver}
+use Rattle.closed_meshes.specs.Closed.{Closed}
 use Rattle.closed_meshes.specs.Refinement.{old, mid, facePoint, org, refined}
 use Rattle.closed_meshes.specs.Renumbering.{Isomorphism, Row}
 use Rattle.audited_meshes.specs.Rows.{HoldsClosed}
@@ -18,32 +21,34 @@ use Rattle.position_rules.specs.Rules.{edgePointOf, oldPointOf}
 use Rattle.steps.specs.declared.Stepped.the-variants.{Refined}
 use Rattle.steps.specs.Step.{numberOf, refinedCounts, firstRows, step}
 
-pub record Refinement (m : Mesh) (c : Counts) (h : HoldsClosed m (c .points) (c .edges) (c .faces)) (m' : Mesh) : Type 0 where
+pub record Refinement
+    (m : Mesh) (c : Counts) (t : MeshOver (Row (c .points)) (Row (c .edges)) (Row (c .faces))) (d : Closed t) (m' : Mesh) : Type 0
+  where
   -- The mesh after the step is closed, and it is the refinement of the mesh before.
   pub holds : HoldsClosed m' (refinedCounts c .points) (refinedCounts c .edges) (refinedCounts c .faces)
-  pub numbering : Isomorphism (refined (h .mesh) (h .closed)) (holds .mesh)
+  pub numbering : Isomorphism (refined t d) (holds .mesh)
   -- Old points and origin halves keep their rows, and the first new face of a face takes its row. The midpoint of an edge is the
   -- destination of its row, the face point of a face the first corner of its row.
   pub old-row : (p : Row (c .points)) → numbering .points .to (old p) .0 ≡ p .0
   pub origin-row : (e : Row (c .edges)) → numbering .edges .to (org e) .0 ≡ e .0
-  pub first-row : (f : Row (c .faces)) → numbering .faces .to (h .closed .faceDart f) .0 ≡ f .0
+  pub first-row : (f : Row (c .faces)) → numbering .faces .to (d .faceDart f) .0 ≡ f .0
   pub mid-row : (e : Row (c .edges)) → dest m' (e .0) ≡ numbering .points .to (mid e) .0
   pub centre-row : (f : Row (c .faces)) → corner m' (f .0) 0 ≡ numbering .points .to (facePoint f) .0
   -- Every position is its rule's answer.
   pub old-point :
       (p : Row (c .points)) →
-      positionAt (m' .positions) (numbering .points .to (old p) .0) ≡ oldPointOf (firstRows c m) (c .edges) (p .0)
+      positionAt (m' .positions) (numbering .points .to (old p) .0) ≡ oldPointOf m (c .edges) (p .0)
   pub edge-point :
       (e : Row (c .edges)) →
-      positionAt (m' .positions) (numbering .points .to (mid e) .0) ≡ edgePointOf (firstRows c m) (c .edges) (e .0)
+      positionAt (m' .positions) (numbering .points .to (mid e) .0) ≡ edgePointOf m (c .edges) (e .0)
   pub face-point :
       (f : Row (c .faces)) →
-      positionAt (m' .positions) (numbering .points .to (facePoint f) .0) ≡ facePointOf (firstRows c m) (c .edges) (f .0)
+      positionAt (m' .positions) (numbering .points .to (facePoint f) .0) ≡ facePointOf m (c .edges) (f .0)
 
 abbrev pub OneStep : Type 0
 OneStep =
     (m : Mesh) (c : Counts) (order : List ℕ) (t : Mesh) (h : HoldsClosed m (c .points) (c .edges) (c .faces)) (c' : Counts) →
-    step m c order t .answer ≡ Refined c' → (c' ≡ refinedCounts c) × Refinement m c h (step m c order t .tables)
+    step m c order t .answer ≡ Refined c' → (c' ≡ refinedCounts c) × Refinement (firstRows c m) c (h .mesh) (h .closed) (step m c order t .tables)
 
 abbrev pub Untouched : Type 0
 Untouched =
