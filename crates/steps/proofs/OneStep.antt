@@ -39,7 +39,7 @@ use Rattle.steps.specs.declared.Stepped.the-variants.{Refined}
 use Rattle.steps.specs.Positions.{on, facePointRow, edgePointRow, placedAll}
 use Rattle.steps.specs.Step.{refinedCounts, firstRows, overRows, whole, made, step}
 use Rattle.steps.specs.OneStep.{Refinement, OneStep}
-use Rattle.steps.proofs.Rows.{Room, points-fit, edges-fit, faces-fit, Exact, exact-firstRows, room-firstRows, room-of-exact, room-of-holds, holds-same, holds-firstRows, SameRows, same-overRows, room-overRows, position-same}
+use Rattle.steps.proofs.Rows.{Room, points-fit, edges-fit, faces-fit, Exact, exact-firstRows, room-firstRows, room-of-exact, room-of-holds, holds-same, holds-firstRows, SameRows, firstRows-overRows, same-overRows, room-overRows, position-same}
 use Rattle.steps.proofs.NewPositions.{PointRows, AllPlaced, placed-all, length-all}
 use Rattle.steps.proofs.Lengths.{AsLong, long-refinedRows}
 use Rattle.steps.proofs.Grounds.{Within, Taken, taken, Begun, made-is}
@@ -310,6 +310,16 @@ module _ (visits-refine : VisitsRefine) (halves-fit : HalvesFit) (joints-fit : J
       let few : c .faces ≤ none = omega (arith, k .within .points) in
       let q : step m c order t .tables ≡ overRows (refinedCounts c) (meshOf (b .positions) (refinedRows m1 (c .points) (c .edges) (c .faces) order u)) m =
             k .tables ∙ ap (λ n. overRows (refinedCounts c) n m) (b .mesh) in
-      (k .counts,
-        subst (Refinement m1 c (h .mesh) (h .closed)) (sym q)
-        (refinement-there m1 c h1 order u (b .positions) v halves-fit joints-fit few x (b .put) m))
+      record {
+        counts = k .counts;
+        in-order =
+            k .is-made
+            ∙ ap whole
+            (b .mesh
+            ∙ sym (ap (firstRows (refinedCounts c)) q
+              ∙ firstRows-overRows (refinedCounts c) (meshOf (b .positions) (refinedRows m1 (c .points) (c .edges) (c .faces) order u)) m
+                (lengths m1 c h1 order u (b .positions) v halves-fit joints-fit few x (b .put))));
+        refinement =
+            subst (Refinement m1 c (h .mesh) (h .closed)) (sym q)
+            (refinement-there m1 c h1 order u (b .positions) v halves-fit joints-fit few x (b .put) m);
+      }

@@ -2,7 +2,8 @@
 --     Refinement m c t d m'   the tables m' hold the refinement on kinds of the mesh t, which is closed by d and stands in the rows m,
 --                             under the numbering that the visits make; and the position of each point is its rule's answer from
 --                             m alone
---     OneStep                 the claim: an accepted step makes the refinement, with V + E + F points, 4 E edges, 2 E faces
+--     Accepted m c order t h c'   what is claimed of an accepted step
+--     OneStep                 the claim: it holds of every accepted step
 --     Untouched               the claim: a refused step leaves the tables as found
 use mathlib.Core.Path.{_≡_}
 use mathlib.Core.List.{List}
@@ -19,7 +20,7 @@ use Rattle.audited_meshes.specs.Rows.{HoldsClosed}
 use Rattle.position_rules.specs.FacePoint.{facePointOf}
 use Rattle.position_rules.specs.Rules.{edgePointOf, oldPointOf}
 use Rattle.steps.specs.declared.Stepped.the-variants.{Refined}
-use Rattle.steps.specs.Step.{numberOf, refinedCounts, firstRows, step}
+use Rattle.steps.specs.Step.{numberOf, refinedCounts, firstRows, whole, made, step}
 
 pub record Refinement
     (m : Mesh) (c : Counts) (t : MeshOver (Row (c .points)) (Row (c .edges)) (Row (c .faces))) (d : Closed t) (m' : Mesh) : Type 0
@@ -45,10 +46,20 @@ pub record Refinement
       (f : Row (c .faces)) →
       positionAt (m' .positions) (numbering .points .to (facePoint f) .0) ≡ facePointOf m (c .edges) (f .0)
 
+pub record Accepted
+    (m : Mesh) (c : Counts) (order : List ℕ) (t : Mesh) (h : HoldsClosed m (c .points) (c .edges) (c .faces)) (c' : Counts) : Type 0
+  where
+  -- V, E, F become V + E + F, 4 E, 2 E.
+  pub counts : c' ≡ refinedCounts c
+  -- What stands in the tables is the mesh that visits in the order handed in and the position rules make.
+  pub in-order :
+      made (firstRows c m) c order (firstRows (refinedCounts c) t) ≡ whole (firstRows (refinedCounts c) (step m c order t .tables))
+  pub refinement : Refinement (firstRows c m) c (h .mesh) (h .closed) (step m c order t .tables)
+
 abbrev pub OneStep : Type 0
 OneStep =
     (m : Mesh) (c : Counts) (order : List ℕ) (t : Mesh) (h : HoldsClosed m (c .points) (c .edges) (c .faces)) (c' : Counts) →
-    step m c order t .answer ≡ Refined c' → (c' ≡ refinedCounts c) × Refinement (firstRows c m) c (h .mesh) (h .closed) (step m c order t .tables)
+    step m c order t .answer ≡ Refined c' → Accepted m c order t h c'
 
 abbrev pub Untouched : Type 0
 Untouched =
