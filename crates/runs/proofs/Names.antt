@@ -51,7 +51,7 @@ module _
     corner-there d k = r .holds .stands .corner-stands _ k ∙ ap cornerWord (r .numbering .corner d k)
 
     -- Every corner of a new face is a point.
-    refined-points-first : PointsFirst m' (r .holds .mesh)
+    pub refined-points-first : PointsFirst m' (r .holds .mesh)
     refined-points-first =
         onto (r .numbering .faces) (λ f. (k : Place) → r .holds .mesh .corner f k ≡ none → refinedCounts c .points ≤ corner m' (f .0) (place k))
         go
@@ -100,4 +100,109 @@ module _
             point-name = point-name;
             edge-name = edge-name;
             face-name = face-name;
+          }
+
+    -- Rows of one number are of one kind.
+    point-is : (p : Row (refinedCounts c .points)) (x : NewPoint (Row (c .points)) (Row (c .edges)) (Row (c .faces))) → p .0 ≡ point x .0 → r .numbering .points .from p ≡ x
+    unfolding point
+    point-is p x e = ap (r .numbering .points .from) (row-path _ _ e) ∙ r .numbering .points .from-to x
+
+    same-point : (x y : NewPoint (Row (c .points)) (Row (c .edges)) (Row (c .faces))) → point x .0 ≡ point y .0 → x ≡ y
+    unfolding point
+    same-point x y e = to-injective (r .numbering .points) x y (row-path _ _ e)
+
+    edge-is : (e : Row (refinedCounts c .edges)) (x : NewEdge (Row (c .edges))) → e .0 ≡ edge-no x .0 → r .numbering .edges .from e ≡ x
+    unfolding edge-no
+    edge-is e x q = ap (r .numbering .edges .from) (row-path _ _ q) ∙ r .numbering .edges .from-to x
+
+    module _ (k : ℕ) where
+      -- The names of kinds.
+      unfoldable pub named-after : NamedMesh start (lent m' (refinedCounts c))
+      named-after =
+          record {
+            holds = r .holds;
+            corner-is-point = refined-points-first;
+            names =
+                record {
+                  point = λ p. newPointName k (n .holds .mesh) (n .names) (r .numbering .points .from p);
+                  edge = λ e. newEdgeName k (n .holds .mesh) (n .names) (r .numbering .edges .from e);
+                  face = λ f. newFaceName k (n .holds .mesh) (n .names) (r .numbering .faces .from f);
+                };
+          }
+
+      -- the destination half, found by its ends
+      destination-half-is :
+          (e : Row (c .edges)) (e' : Row (refinedCounts c .edges)) → origin m' (e' .0) ≡ dest m' (e .0) → dest m' (e' .0) ≡ dest m (e .0) →
+          newEdgeName k (n .holds .mesh) (n .names) (r .numbering .edges .from e') ≡ destinationHalfOf k (n .names .edge e)
+      unfolding point edge-no
+      destination-half-is e =
+          onto (r .numbering .edges)
+          (λ e'. origin m' (e' .0) ≡ dest m' (e .0) → dest m' (e' .0) ≡ dest m (e .0) →
+            newEdgeName k (n .holds .mesh) (n .names) (r .numbering .edges .from e') ≡ destinationHalfOf k (n .names .edge e))
+          λ x ho hd. ap (newEdgeName k (n .holds .mesh) (n .names)) (r .numbering .edges .from-to x) ∙ go x (sym (origin-there x) ∙ ho ∙ r .mid-row e)
+        where
+          go :
+              (x : NewEdge (Row (c .edges))) → point (refined (n .holds .mesh) (n .holds .closed) .origin x) .0 ≡ r .numbering .points .to (mid e) .0 →
+              newEdgeName k (n .holds .mesh) (n .names) x ≡ destinationHalfOf k (n .names .edge e)
+          go (org i) q = absurd (let w = same-point (old (n .holds .mesh .origin i)) (mid e) q in let z : _≡_ {A = ℕ} 0 1 = cc in omega arith)
+          go (dst i) q = let w = same-point (mid i) (mid e) q in let v : i ≡ e = cc in ap (λ i. destinationHalfOf k (n .names .edge i)) v
+          go (join d) q =
+              absurd (let w = same-point (facePoint (face (n .holds .mesh) d)) (mid e) q in let z : _≡_ {A = ℕ} 0 1 = cc in omega arith)
+
+      -- the joining edge, found by its ends
+      joining-edge-is :
+          (f : Row (c .faces)) (e : Row (c .edges)) (e' : Row (refinedCounts c .edges)) → origin m' (e' .0) ≡ corner m' (f .0) 0 →
+          dest m' (e' .0) ≡ dest m' (e .0) →
+          newEdgeName k (n .holds .mesh) (n .names) (r .numbering .edges .from e') ≡ joiningEdgeOf k (n .names .face f) (n .names .edge e)
+      unfolding point edge-no
+      joining-edge-is f e =
+          onto (r .numbering .edges)
+          (λ e'. origin m' (e' .0) ≡ corner m' (f .0) 0 → dest m' (e' .0) ≡ dest m' (e .0) →
+            newEdgeName k (n .holds .mesh) (n .names) (r .numbering .edges .from e') ≡ joiningEdgeOf k (n .names .face f) (n .names .edge e))
+          λ x ho hd.
+          ap (newEdgeName k (n .holds .mesh) (n .names)) (r .numbering .edges .from-to x)
+          ∙ go x (sym (origin-there x) ∙ ho ∙ r .centre-row f) (sym (dest-there x) ∙ hd ∙ r .mid-row e)
+        where
+          go :
+              (x : NewEdge (Row (c .edges))) → point (refined (n .holds .mesh) (n .holds .closed) .origin x) .0 ≡ point (facePoint f) .0 →
+              point (refined (n .holds .mesh) (n .holds .closed) .dest x) .0 ≡ point (mid e) .0 →
+              newEdgeName k (n .holds .mesh) (n .names) x ≡ joiningEdgeOf k (n .names .face f) (n .names .edge e)
+          go (org i) q q' = absurd (let w = same-point (old (n .holds .mesh .origin i)) (facePoint f) q in let z : _≡_ {A = ℕ} 0 1 = cc in omega arith)
+          go (dst i) q q' = absurd (let w = same-point (mid i) (facePoint f) q in let z : _≡_ {A = ℕ} 0 1 = cc in omega arith)
+          go (join d) q q' =
+              let w = same-point (facePoint (face (n .holds .mesh) d)) (facePoint f) q in
+              let w' = same-point (mid (edge d)) (mid e) q' in
+              let v : face (n .holds .mesh) d ≡ f = cc in
+              let v' : edge d ≡ e = cc in
+              ap₂ (λ f e. joiningEdgeOf k (n .names .face f) (n .names .edge e)) v v'
+
+      -- the new face, found by its corners
+      new-face-is :
+          (f : Row (c .faces)) (p : Row (c .points)) (f' : Row (refinedCounts c .faces)) → corner m' (f' .0) 0 ≡ corner m' (f .0) 0 →
+          corner m' (f' .0) 2 ≡ p .0 →
+          newFaceName k (n .holds .mesh) (n .names) (r .numbering .faces .from f') ≡ newFaceOf k (n .names .face f) (n .names .point p)
+      unfolding point face-no
+      new-face-is f p =
+          onto (r .numbering .faces)
+          (λ f'. corner m' (f' .0) 0 ≡ corner m' (f .0) 0 → corner m' (f' .0) 2 ≡ p .0 →
+            newFaceName k (n .holds .mesh) (n .names) (r .numbering .faces .from f') ≡ newFaceOf k (n .names .face f) (n .names .point p))
+          λ d h0 h2.
+          ap (newFaceName k (n .holds .mesh) (n .names)) (r .numbering .faces .from-to d)
+          ∙ (let w = same-point (facePoint (face (n .holds .mesh) d)) (facePoint f) (sym (corner-there d place0) ∙ h0 ∙ r .centre-row f) in
+            let w' = same-point (old (first (n .holds .mesh) d)) (old p) (sym (corner-there d place2) ∙ h2 ∙ sym (r .old-row p)) in
+            let v : face (n .holds .mesh) d ≡ f = cc in
+            let v' : first (n .holds .mesh) d ≡ p = cc in
+            ap₂ (λ f p. newFaceOf k (n .names .face f) (n .names .point p)) v v')
+
+      pub new-names : NewNames k n named-after
+      unfolding named-after point edge-no
+      new-names =
+          record {
+            old-point = λ p p' e. ap (newPointName k (n .holds .mesh) (n .names)) (point-is p' (old p) (e ∙ sym (r .old-row p)));
+            origin-half = λ e e' q. ap (newEdgeName k (n .holds .mesh) (n .names)) (edge-is e' (org e) (q ∙ sym (r .origin-row e)));
+            midpoint = λ e p' q. ap (newPointName k (n .holds .mesh) (n .names)) (point-is p' (mid e) (q ∙ r .mid-row e));
+            destination-half = destination-half-is;
+            face-point = λ f p' q. ap (newPointName k (n .holds .mesh) (n .names)) (point-is p' (facePoint f) (q ∙ r .centre-row f));
+            joining-edge = joining-edge-is;
+            new-face = new-face-is;
           }
