@@ -152,8 +152,8 @@ module _ {first : Counts} where
   Renamed k NotFinite n n' = SameNames n n'
 
   pub data Naming : ℕ → (l : Lent) → NamedMesh first l → List Handed → (l' : Lent) → NamedMesh first l' → Type 0 where
-    begin : {k : ℕ} {l : Lent} {n : NamedMesh first l} → Naming k l n [] l n
-    then :
+    done : {k : ℕ} {l : Lent} {n : NamedMesh first l} → Naming k l n [] l n
+    further :
         {k : ℕ} {l l'' : Lent} {n : NamedMesh first l} {h : Handed} {hs : List Handed} {n' : NamedMesh first (after l h)}
         {n'' : NamedMesh first l''} → Renamed k (outcome l h .answer) n n' →
         Naming (oneMore (outcome l h .answer) k) (after l h) n' hs l'' n'' → Naming k l n (h ∷ hs) l'' n''
