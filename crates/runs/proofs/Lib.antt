@@ -2,3 +2,4 @@ pub mod Readings
 pub mod Names
 pub mod Steps
 pub mod Naming
+pub mod Positions

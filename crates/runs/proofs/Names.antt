@@ -26,7 +26,7 @@ module _
     (r : Refinement (firstRows c m) c (n .holds .mesh) (n .holds .closed) m')
   where
     -- the rows of kinds
-    point : NewPoint (Row (c .points)) (Row (c .edges)) (Row (c .faces)) → Row (refinedCounts c .points)
+    unfoldable pub point : NewPoint (Row (c .points)) (Row (c .edges)) (Row (c .faces)) → Row (refinedCounts c .points)
     point x = r .numbering .points .to x
 
     edge-no : NewEdge (Row (c .edges)) → Row (refinedCounts c .edges)
@@ -65,7 +65,7 @@ module _
         go d place3 e = absurd (let q = sym (r .numbering .corner d place3) ∙ e in let z : _≡_ {A = ℕ} 0 1 = cc in omega arith)
 
     module _ (k : ℕ) (n' : NamedMesh start (lent m' (refinedCounts c))) (a : NewNames k n n') where
-      point-name : (x : NewPoint (Row (c .points)) (Row (c .edges)) (Row (c .faces))) → n' .names .point (point x) ≡ newPointName k (n .holds .mesh) (n .names) x
+      pub point-name : (x : NewPoint (Row (c .points)) (Row (c .edges)) (Row (c .faces))) → n' .names .point (point x) ≡ newPointName k (n .holds .mesh) (n .names) x
       unfolding point
       point-name (old p) = a .old-point p _ (r .old-row p)
       point-name (mid e) = a .midpoint e _ (sym (r .mid-row e))

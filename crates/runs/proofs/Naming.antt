@@ -55,6 +55,14 @@ module _ {first : Counts} {l : Lent} where
         new-face = λ f p f' q q'. b .new-face f p f' q q' ∙ ap₂ (newFaceOf k) (a .faces f f refl) (a .points p p refl);
       }
 
+-- One accepted step more, before or after the others.
+pub add-accepted : (g : Stepped) (k a : ℕ) → oneMore g k + a ≡ k + oneMore g a
+add-accepted (Refined c) k a = omega arith
+add-accepted NotClosed k a = refl
+add-accepted NotEachFaceOnce k a = refl
+add-accepted NoRoom k a = refl
+add-accepted NotFinite k a = refl
+
 module _ {first : Counts} (one-step : OneStep) (s : Stage (Row (first .points)) (Row (first .edges)) (Row (first .faces))) where
   pub record Reached (k : ℕ) (l : Lent) (n : NamedMesh first l) : Type 1 where
     pub mesh : NamedMesh first l
@@ -106,13 +114,6 @@ module _ {first : Counts} (one-step : OneStep) (s : Stage (Row (first .points)) 
         go (inr (x, q)) =
             subst (λ j. Reached j (after l h) n') (sym (refused-number (outcome l h .answer) x k q))
             (reached-same (after l h) (sym (after-refused l h x q)) n' (same-names-of n n' (outcome l h .answer) x k q a))
-
-  add-accepted : (g : Stepped) (k a : ℕ) → oneMore g k + a ≡ k + oneMore g a
-  add-accepted (Refined c) k a = omega arith
-  add-accepted NotClosed k a = refl
-  add-accepted NotEachFaceOnce k a = refl
-  add-accepted NoRoom k a = refl
-  add-accepted NotFinite k a = refl
 
   -- The names of a run are reached in as many steps as it has accepted ones.
   pub reached :
