@@ -1,4 +1,5 @@
 -- The names that a list of steps makes. Assumes nothing.
+--     along                  induction over the steps of a run
 --     Reached s k l n        k steps of closed_meshes lead from the stage s to a mesh with the names n, in the tables l
 --     reached                the names of a run are reached, in as many steps as it has accepted ones
 --     named                  there are names
@@ -19,8 +20,8 @@ use Rattle.closed_meshes.proofs.Counting.{row-path}
 use Rattle.audited_meshes.specs.Rows.{HoldsClosed}
 use Rattle.steps.specs.declared.Stepped.{Stepped}
 use Rattle.steps.specs.declared.Stepped.the-variants.{Refined, NotClosed, NotEachFaceOnce, NoRoom, NotFinite}
-use Rattle.steps.specs.Step.{numberOf, refinedCounts}
-use Rattle.steps.specs.OneStep.{OneStep}
+use Rattle.steps.specs.Step.{numberOf, refinedCounts, firstRows}
+use Rattle.steps.specs.OneStep.{Refinement, OneStep}
 use Rattle.runs.specs.Runs.{Lent, Handed, outcome, after, run, oneMore, accepted, lent, NamedMesh, stage, NewNames, SameNames, Renamed, Naming, done, further}
 use Rattle.runs.proofs.Names.{step-of-names, named-after, new-names}
 use Rattle.runs.proofs.Steps.{answered, refused-number, same-names-of, renamed-same, after-refused, made-of, after-accepted}
@@ -40,6 +41,14 @@ module _ {first : Counts} {l : Lent} where
         points = λ p p' e. sym (a .points p' p (sym e));
         edges = λ e e' q. sym (a .edges e' e (sym q));
         faces = λ f f' q. sym (a .faces f' f (sym q));
+      }
+
+  pub same-names-trans : {k : Lent} {o : NamedMesh first k} {n n' : NamedMesh first l} → SameNames o n → SameNames n n' → SameNames o n'
+  same-names-trans a b =
+      record {
+        points = λ p p' q. b .points p' p' refl ∙ a .points p p' q;
+        edges = λ e e' q. b .edges e' e' refl ∙ a .edges e e' q;
+        faces = λ f f' q. b .faces f' f' refl ∙ a .faces f f' q;
       }
 
   -- The same names before a step make the same names after it.
@@ -63,66 +72,62 @@ add-accepted NotEachFaceOnce k a = refl
 add-accepted NoRoom k a = refl
 add-accepted NotFinite k a = refl
 
+-- What holds in the beginning, is kept by the same names and is made by new names holds of the names that a run makes.
+module _
+    {first : Counts} (one-step : OneStep) (P : ℕ → (l : Lent) → NamedMesh first l → Type 1)
+    (same : (k : ℕ) (l : Lent) (n : NamedMesh first l) → P k l n → (n' : NamedMesh first l) → SameNames n n' → P k l n')
+    (new :
+        (k : ℕ) (l : Lent) (n : NamedMesh first l) → P k l n → (m' : Mesh) →
+        ((h : HoldsClosed (l .tables) (l .counts .points) (l .counts .edges) (l .counts .faces)) →
+        Refinement (firstRows (l .counts) (l .tables)) (l .counts) (h .mesh) (h .closed) m') →
+        (n' : NamedMesh first (lent m' (refinedCounts (l .counts)))) → NewNames (suc k) n n' → P (suc k) (lent m' (refinedCounts (l .counts))) n')
+  where
+    along-step :
+        (k : ℕ) (l : Lent) (n : NamedMesh first l) → P k l n → (h : Handed) (n' : NamedMesh first (after l h)) →
+        Renamed k (outcome l h .answer) n n' → P (oneMore (outcome l h .answer) k) (after l h) n'
+    along-step k l n r h n' a = go (answered (outcome l h .answer))
+      where
+        go :
+            ((c : Counts) × (outcome l h .answer ≡ Refined c)) ⊎ ((x : ℕ) × (numberOf (outcome l h .answer) ≡ some x)) →
+            P (oneMore (outcome l h .answer) k) (after l h) n'
+        go (inl (c, e)) =
+            subst (λ g. P (oneMore g k) (after l h) n') (sym e)
+            (pathJ (λ y q. (n' : NamedMesh first y) → NewNames (suc k) n n' → P (suc k) y n')
+            (new k l n r (outcome l h .tables) (λ H. made-of one-step l h H c e .refinement))
+            (sym (after-accepted one-step l h (n .holds) c e)) n' (subst (λ g. Renamed k g n n') e a))
+        go (inr (x, q)) =
+            subst (λ j. P j (after l h) n') (sym (refused-number (outcome l h .answer) x k q))
+            (pathJ (λ y q. (n' : NamedMesh first y) → SameNames n n' → P k y n') (same k l n r) (sym (after-refused l h x q)) n'
+            (same-names-of n n' (outcome l h .answer) x k q a))
+
+    pub along :
+        {k : ℕ} {l l' : Lent} {n : NamedMesh first l} {hs : List Handed} {n' : NamedMesh first l'} → Naming k l n hs l' n' → P k l n →
+        P (k + accepted l hs) l' n'
+    unfolding accepted
+    along {k} {l} {l'} {n} {hs} {n'} done r = subst (λ j. P j l n) (sym (add-zero k)) r
+    along (further {k} {l} {l''} {n} {h} {hs} {n'} {n''} a b) r =
+        subst (λ j. P j l'' n'') (add-accepted (outcome l h .answer) k (accepted (after l h) hs)) (along b (along-step k l n r h n' a))
+
 module _ {first : Counts} (one-step : OneStep) (s : Stage (Row (first .points)) (Row (first .edges)) (Row (first .faces))) where
   pub record Reached (k : ℕ) (l : Lent) (n : NamedMesh first l) : Type 1 where
     pub mesh : NamedMesh first l
     pub same : SameNames mesh n
     pub run : Run s k (stage mesh)
 
-  module _ {k : ℕ} {l : Lent} {n : NamedMesh first l} (r : Reached k l n) where
-    -- a refused step
-    reached-same : (x : Lent) → l ≡ x → (n' : NamedMesh first x) → SameNames n n' → Reached k x n'
-    reached-same x e =
-        pathJ (λ y q. (n' : NamedMesh first y) → SameNames n n' → Reached k y n')
-        (λ n' a.
-          record {
-            mesh = r .mesh;
-            same =
-                record {
-                  points = λ p p' q. a .points p' p' refl ∙ r .same .points p p' q;
-                  edges = λ e e' q. a .edges e' e' refl ∙ r .same .edges e e' q;
-                  faces = λ f f' q. a .faces f' f' refl ∙ r .same .faces f f' q;
-                };
-            run = r .run;
-          })
-        e
-
-    -- an accepted step
-    reached-new :
-        (h : Handed) (c : Counts) → outcome l h .answer ≡ Refined c → (x : Lent) → lent (outcome l h .tables) (refinedCounts (l .counts)) ≡ x →
-        (n' : NamedMesh first x) → NewNames (suc k) n n' → Reached (suc k) x n'
-    reached-new h c e x q =
-        pathJ (λ y q. (n' : NamedMesh first y) → NewNames (suc k) n n' → Reached (suc k) y n')
-        (λ n' a.
-          record {
-            mesh = n';
-            same = same-names-refl n';
-            run =
-                then (r .run)
-                (step-of-names (l .tables) (outcome l h .tables) (r .mesh) (made-of one-step l h (r .mesh .holds) c e .refinement) (suc k) n'
-                (new-names-same (r .same) a));
-          })
-        q
-
-    reached-next : (h : Handed) (n' : NamedMesh first (after l h)) → Renamed k (outcome l h .answer) n n' → Reached (oneMore (outcome l h .answer) k) (after l h) n'
-    reached-next h n' a = go (answered (outcome l h .answer))
-      where
-        go : ((c : Counts) × (outcome l h .answer ≡ Refined c)) ⊎ ((x : ℕ) × (numberOf (outcome l h .answer) ≡ some x)) → Reached (oneMore (outcome l h .answer) k) (after l h) n'
-        go (inl (c, e)) =
-            subst (λ g. Reached (oneMore g k) (after l h) n') (sym e)
-            (reached-new h c e (after l h) (sym (after-accepted one-step l h (n .holds) c e)) n' (subst (λ g. Renamed k g n n') e a))
-        go (inr (x, q)) =
-            subst (λ j. Reached j (after l h) n') (sym (refused-number (outcome l h .answer) x k q))
-            (reached-same (after l h) (sym (after-refused l h x q)) n' (same-names-of n n' (outcome l h .answer) x k q a))
+  reached-same : (k : ℕ) (l : Lent) (n : NamedMesh first l) → Reached k l n → (n' : NamedMesh first l) → SameNames n n' → Reached k l n'
+  reached-same k l n r n' a = record { mesh = r .mesh; same = same-names-trans (r .same) a; run = r .run }
 
   -- The names of a run are reached in as many steps as it has accepted ones.
   pub reached :
       {k : ℕ} {l l' : Lent} {n : NamedMesh first l} {hs : List Handed} {n' : NamedMesh first l'} → Naming k l n hs l' n' → Reached k l n →
       Reached (k + accepted l hs) l' n'
-  unfolding accepted
-  reached {k} {l} {l'} {n} {hs} {n'} done r = subst (λ j. Reached j l n) (sym (add-zero k)) r
-  reached (further {k} {l} {l''} {n} {h} {hs} {n'} {n''} a b) r =
-      subst (λ j. Reached j l'' n'') (add-accepted (outcome l h .answer) k (accepted (after l h) hs)) (reached b (reached-next r h n' a))
+  reached =
+      along one-step Reached reached-same λ k l n r m' made n' a.
+      record {
+        mesh = n';
+        same = same-names-refl n';
+        run = then (r .run) (step-of-names (l .tables) m' (r .mesh) (made (r .mesh .holds)) (suc k) n' (new-names-same (r .same) a));
+      }
 
 module _ {first : Counts} (one-step : OneStep) where
   -- There are names after a step,

@@ -1,32 +1,25 @@
 -- The positions of a run with at most one accepted step, by the names of the points: a name says where its point stands. Assumes
 -- nothing.
-use mathlib.Core.Path.{_≡_, refl, sym, _∙_, ap, subst, pathJ}
-use mathlib.Core.List.{List, [], _∷_}
-use mathlib.Core.Logic.{_⊎_, inl, inr}
-use mathlib.Core.Option.{Option, some}
-use Prim.Native.Nat.{ℕ, zero, suc, _+_, _<_}
-use native.Mathlib.Nat.{add-zero}
+use mathlib.Core.Path.{_≡_, refl, sym, _∙_, ap, subst}
+use mathlib.Core.List.{List}
+use Prim.Native.Nat.{ℕ, suc, _+_, _<_}
 use native.Mathlib.Omega.{arith}
 use Rattle.positions.specs.declared.Position.{Position}
 use Rattle.positions.specs.Position.{zeros}
 use Rattle.tables.specs.Mesh.{Mesh}
 use Rattle.tables.specs.Records.{positionAt}
 use Rattle.tables.specs.declared.Counts.{Counts}
-use Rattle.closed_meshes.specs.Mesh.{face, edge}
 use Rattle.closed_meshes.specs.Refinement.{NewPoint, old, mid, facePoint}
 use Rattle.closed_meshes.specs.Renumbering.{Row}
 use Rattle.closed_meshes.specs.Names.{PointName, EdgeName, FaceName, givenPoint, midpointOf, facePointOf, givenEdge, destinationHalfOf, joiningEdgeOf, givenFace, newFaceOf, givenNames, newPointName}
 use Rattle.closed_meshes.proofs.Isomorphisms.{onto}
 use Rattle.position_rules.specs.FacePoint.{facePointOf as facePointIn}
 use Rattle.position_rules.specs.Rules.{edgePointOf, oldPointOf}
-use Rattle.steps.specs.declared.Stepped.{Stepped}
-use Rattle.steps.specs.declared.Stepped.the-variants.{Refined}
-use Rattle.steps.specs.Step.{numberOf, refinedCounts, firstRows}
+use Rattle.steps.specs.Step.{firstRows}
 use Rattle.steps.specs.OneStep.{Refinement, OneStep}
-use Rattle.runs.specs.Runs.{Lent, Handed, outcome, after, oneMore, accepted, lent, NamedMesh, NewNames, SameNames, Renamed, Naming, done, further}
+use Rattle.runs.specs.Runs.{Lent, Handed, accepted, lent, NamedMesh, SameNames, Naming}
 use Rattle.runs.proofs.Names.{point, point-name}
-use Rattle.runs.proofs.Steps.{answered, refused-number, same-names-of, after-refused, made-of, after-accepted}
-use Rattle.runs.proofs.Naming.{add-accepted}
+use Rattle.runs.proofs.Naming.{same-names-trans, along}
 
 -- Where the point of a name stands after one accepted step, from the first mesh m and its counts c.
 module _ (m : Mesh) (c : Counts) where
@@ -47,32 +40,20 @@ module _ (m : Mesh) (c : Counts) where
 module _
     (one-step : OneStep) (c : Counts) (a : Mesh) (begun : NamedMesh c (lent a c)) (given : begun .names ≡ givenNames)
   where
-    -- with no accepted step all is as in the beginning; after one each name says where its point stands
-    pub record Positions (k : ℕ) (l : Lent) (n : NamedMesh c l) : Type 0 where
+    -- With no accepted step all is as in the beginning; after one each name says where its point stands.
+    pub record Positions (k : ℕ) (l : Lent) (n : NamedMesh c l) : Type 1 where
       pub none-accepted : k ≡ 0 → (lent a c ≡ l) × SameNames begun n
       pub one-accepted :
           k ≡ 1 → (p : Row (l .counts .points)) → positionAt (l .tables .positions) (p .0) ≡ afterOne (firstRows c a) c (n .names .point p)
 
-    module _ {k : ℕ} {l : Lent} {n : NamedMesh c l} (r : Positions k l n) where
-      -- a refused step
-      positions-same : (x : Lent) → l ≡ x → (n' : NamedMesh c x) → SameNames n n' → Positions k x n'
-      positions-same x e =
-          pathJ (λ y q. (n' : NamedMesh c y) → SameNames n n' → Positions k y n')
-          (λ n' b.
-            record {
-              none-accepted =
-                  λ z.
-                  let w = r .none-accepted z in
-                  (w .0,
-                    record {
-                      points = λ p p' q. b .points p' p' refl ∙ w .1 .points p p' q;
-                      edges = λ e e' q. b .edges e' e' refl ∙ w .1 .edges e e' q;
-                      faces = λ f f' q. b .faces f' f' refl ∙ w .1 .faces f f' q;
-                    });
-              one-accepted = λ z p. r .one-accepted z p ∙ ap (afterOne (firstRows c a) c) (sym (b .points p p refl));
-            })
-          e
+    positions-same : (k : ℕ) (l : Lent) (n : NamedMesh c l) → Positions k l n → (n' : NamedMesh c l) → SameNames n n' → Positions k l n'
+    positions-same k l n r n' b =
+        record {
+          none-accepted = λ z. let w = r .none-accepted z in (w .0, same-names-trans (w .1) b);
+          one-accepted = λ z p. r .one-accepted z p ∙ ap (afterOne (firstRows c a) c) (sym (b .points p p refl));
+        }
 
+    module _ {k : ℕ} {l : Lent} {n : NamedMesh c l} (r : Positions k l n) where
       -- The first accepted step: l is the first mesh still.
       module _ (z : k ≡ 0) (m' : Mesh) (f : Refinement (firstRows (l .counts) (l .tables)) (l .counts) (n .holds .mesh) (n .holds .closed) m') where
         here : lent a c ≡ l
@@ -102,45 +83,18 @@ module _
             ∙ ap (λ x. facePointIn (firstRows (x .counts) (x .tables)) (x .counts .edges) (g .0)) (sym here)
             ∙ ap (λ y. ofFace (firstRows c a) c y) (sym name)
 
-      positions-new :
-          (h : Handed) (d : Counts) → outcome l h .answer ≡ Refined d → (x : Lent) → lent (outcome l h .tables) (refinedCounts (l .counts)) ≡ x →
-          (n' : NamedMesh c x) → NewNames (suc k) n n' → Positions (suc k) x n'
-      unfolding point
-      positions-new h d e x q =
-          pathJ (λ y q. (n' : NamedMesh c y) → NewNames (suc k) n n' → Positions (suc k) y n')
-          (λ n' b.
-            let f = made-of one-step l h (n .holds) d e .refinement in
-            record {
-              none-accepted = λ z. absurd (omega arith);
-              one-accepted =
-                  λ z.
-                  onto (f .numbering .points)
-                  (λ p. positionAt (outcome l h .tables .positions) (p .0) ≡ afterOne (firstRows c a) c (n' .names .point p))
-                  (λ x.
-                    place (omega arith) (outcome l h .tables) f x
-                    ∙ ap (afterOne (firstRows c a) c) (sym (point-name (l .tables) (outcome l h .tables) n f (suc k) n' b x)));
-            })
-          q
-
-      positions-next :
-          (h : Handed) (n' : NamedMesh c (after l h)) → Renamed k (outcome l h .answer) n n' →
-          Positions (oneMore (outcome l h .answer) k) (after l h) n'
-      positions-next h n' b = go (answered (outcome l h .answer))
-        where
-          go :
-              ((d : Counts) × (outcome l h .answer ≡ Refined d)) ⊎ ((x : ℕ) × (numberOf (outcome l h .answer) ≡ some x)) →
-              Positions (oneMore (outcome l h .answer) k) (after l h) n'
-          go (inl (d, e)) =
-              subst (λ g. Positions (oneMore g k) (after l h) n') (sym e)
-              (positions-new h d e (after l h) (sym (after-accepted one-step l h (n .holds) d e)) n' (subst (λ g. Renamed k g n n') e b))
-          go (inr (x, q)) =
-              subst (λ j. Positions j (after l h) n') (sym (refused-number (outcome l h .answer) x k q))
-              (positions-same (after l h) (sym (after-refused l h x q)) n' (same-names-of n n' (outcome l h .answer) x k q b))
-
     pub positions :
         {k : ℕ} {l l' : Lent} {n : NamedMesh c l} {hs : List Handed} {n' : NamedMesh c l'} → Naming k l n hs l' n' → Positions k l n →
         Positions (k + accepted l hs) l' n'
-    unfolding accepted
-    positions {k} {l} {l'} {n} {hs} {n'} done r = subst (λ j. Positions j l n) (sym (add-zero k)) r
-    positions (further {k} {l} {l''} {n} {h} {hs} {n'} {n''} b d) r =
-        subst (λ j. Positions j l'' n'') (add-accepted (outcome l h .answer) k (accepted (after l h) hs)) (positions d (positions-next r h n' b))
+    unfolding point
+    positions =
+        along one-step Positions positions-same λ k l n r m' made n' b.
+        let f = made (n .holds) in
+        record {
+          none-accepted = λ z. absurd (omega arith);
+          one-accepted =
+              λ z.
+              onto (f .numbering .points) (λ p. positionAt (m' .positions) (p .0) ≡ afterOne (firstRows c a) c (n' .names .point p))
+              (λ x.
+                place r (omega arith) m' f x ∙ ap (afterOne (firstRows c a) c) (sym (point-name (l .tables) m' n f (suc k) n' b x)));
+        }
