@@ -3,3 +3,4 @@ pub mod Names
 pub mod Steps
 pub mod Naming
 pub mod Positions
+pub mod Runs

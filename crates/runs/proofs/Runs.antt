@@ -1,0 +1,106 @@
+-- Demand 3, from the theorem of one step. The names of each run are reached by steps on kinds, and two runs of as many steps match
+-- whatever their numberings. Assumes nothing.
+use mathlib.Core.Path.{_≡_, refl, sym, _∙_, ap, subst}
+use mathlib.Core.List.{List}
+use Prim.Native.Nat.{ℕ, zero, suc, _+_, _≤_, _<_}
+use native.Mathlib.Nat.{zero-add}
+use native.Mathlib.Omega.{arith}
+use native.Mathlib.Decide.{ℕ-discrete}
+use Rattle.tables.specs.Mesh.{Mesh}
+use Rattle.tables.specs.Records.{positionAt}
+use Rattle.tables.specs.declared.Counts.{Counts}
+use Rattle.closed_meshes.specs.Renumbering.{Row}
+use Rattle.closed_meshes.specs.Names.{PointName, givenPoint, givenNames}
+use Rattle.closed_meshes.specs.Shared.{Stage, Shared}
+use Rattle.closed_meshes.specs.Runs.{Run, begin, NamesDiffer}
+use Rattle.closed_meshes.proofs.Counting.{row-path}
+use Rattle.closed_meshes.proofs.Groupoid.{isomorphism-trans}
+use Rattle.closed_meshes.proofs.Names.{names-differ}
+use Rattle.closed_meshes.proofs.Runs.{Matching, matching-run}
+use Rattle.closed_meshes.proofs.TwoRuns.{shared-of-matching}
+use Rattle.audited_meshes.specs.Rows.{HoldsClosed}
+use Rattle.audited_meshes.proofs.Audited.{audit-is-audited}
+use Rattle.steps.specs.Step.{firstRows}
+use Rattle.steps.specs.OneStep.{OneStep}
+use Rattle.steps.proofs.Rows.{SameRows, same-of-firstRows, room-of-firstRows, room-of-holds, holds-same, position-same}
+use Rattle.runs.specs.Runs.{Lent, Handed, run, accepted, inNumberedOrder, lent, NamedMesh, stage, SameNames, NamedRun, TwoRuns, Demand3}
+use Rattle.runs.proofs.Readings.{reading-same, matching-same, first-reading, first-points-first}
+use Rattle.runs.proofs.Steps.{each-step}
+use Rattle.runs.proofs.Naming.{same-names-refl, same-names-sym, Reached, reached, named}
+use Rattle.runs.proofs.Positions.{Positions, afterOne, positions}
+
+-- Matches compose.
+matching-trans :
+    {P E F : Type 0} {s s' s'' : Stage P E F} → Matching s s' → Matching s' s'' → Matching s s''
+unfolding isomorphism-trans
+matching-trans a b =
+    record {
+      isomorphism = isomorphism-trans (a .isomorphism) (b .isomorphism);
+      point = λ p. b .point _ ∙ a .point p;
+      edge = λ e. b .edge _ ∙ a .edge e;
+      face = λ f. b .face _ ∙ a .face f;
+    }
+
+-- The same tables have the same rows.
+same-rows-refl : (c : Counts) (m : Mesh) → SameRows c m m
+same-rows-refl c m =
+    record { positions = λ i h. refl; points = λ i h. refl; edges = λ i h. refl; intervals = λ i h. refl; faces = λ i h. refl }
+
+-- Names that differ differ under the same names.
+names-differ-same :
+    {first : Counts} {l : Lent} (n n' : NamedMesh first l) → SameNames n n' → NamesDiffer (stage n) → NamesDiffer (stage n')
+names-differ-same n n' a d =
+    record {
+      points = λ p q h. d .points p q (sym (a .points p p refl) ∙ h ∙ a .points q q refl);
+      edges = λ e i h. d .edges e i (sym (a .edges e e refl) ∙ h ∙ a .edges i i refl);
+      faces = λ f g h. d .faces f g (sym (a .faces f f refl) ∙ h ∙ a .faces g g refl);
+    }
+
+module _ (one-step : OneStep) where
+  -- A run of k accepted steps leads from its first mesh to its last, up to the reading of the same tables.
+  module _ {c : Counts} {m : Mesh} {hs : List Handed} (n : NamedRun c m hs) where
+    reached-end : Reached one-step (stage (n .begun)) (accepted (lent m c) hs) (run (lent m c) hs) (n .ended)
+    reached-end =
+        subst (λ k. Reached one-step (stage (n .begun)) k (run (lent m c) hs) (n .ended)) (zero-add (accepted (lent m c) hs))
+        (reached one-step (stage (n .begun)) (n .naming)
+        (record { mesh = n .begun; same = same-names-refl (n .begun); run = begin }))
+
+    end-matches : Matching (stage (n .ended)) (stage (reached-end .mesh))
+    end-matches = matching-same (same-rows-refl _ _) (n .ended) (reached-end .mesh) (same-names-sym (reached-end .same))
+
+    matches-end : Matching (stage (reached-end .mesh)) (stage (n .ended))
+    matches-end = matching-same (same-rows-refl _ _) (reached-end .mesh) (n .ended) (reached-end .same)
+
+    -- No two rows of a kind share a name.
+    end-differs : NamesDiffer (stage (n .ended))
+    end-differs =
+        names-differ-same (reached-end .mesh) (n .ended) (reached-end .same)
+        (names-differ _ _ _ (n .begun .holds .mesh) (n .begun .holds .closed) (accepted (lent m c) hs) (stage (reached-end .mesh))
+        (subst
+        (λ x.
+          Run
+          (record {
+            Point = Row (c .points); Edge = Row (c .edges); Face = Row (c .faces); mesh = n .begun .holds .mesh;
+            closed = n .begun .holds .closed; names = x })
+          (accepted (lent m c) hs) (stage (reached-end .mesh)))
+        (n .given) (reached-end .run)))
+
+  module _ {c : Counts} {a b : Mesh} (s : SameRows c a b) {hsA hsB : List Handed} (n : NamedRun c a hsA) (n' : NamedRun c b hsB) where
+    begin-matches : Matching (stage (n .begun)) (stage (n' .begun))
+    begin-matches =
+        matching-same s (n .begun) (n' .begun)
+        (record {
+          points = λ p p' e. ap (λ x. x .point p') (n' .given) ∙ sym (ap (λ x. x .point p') (n .given)) ∙ ap (n .begun .names .point) (row-path p' p e);
+          edges = λ e e' q. ap (λ x. x .edge e') (n' .given) ∙ sym (ap (λ x. x .edge e') (n .given)) ∙ ap (n .begun .names .edge) (row-path e' e q);
+          faces = λ f f' q. ap (λ x. x .face f') (n' .given) ∙ sym (ap (λ x. x .face f') (n .given)) ∙ ap (n .begun .names .face) (row-path f' f q);
+        })
+
+    module _ (k : accepted (lent a c) hsA ≡ accepted (lent b c) hsB) where
+      runs-shared : Shared (stage (n .ended)) (stage (n' .ended))
+      runs-shared =
+          shared-of-matching
+          (matching-trans (end-matches n)
+          (matching-trans
+          (matching-run begin-matches (subst (λ j. Run (stage (n .begun)) j (stage (reached-end n .mesh))) k (reached-end n .run)) (reached-end n' .run))
+          (matches-end n')))
+          (end-differs n')
