@@ -19,7 +19,7 @@ use Rattle.closed_meshes.proofs.Names.{names-differ}
 use Rattle.closed_meshes.proofs.Runs.{Matching, matching-run}
 use Rattle.closed_meshes.proofs.TwoRuns.{shared-of-matching}
 use Rattle.audited_meshes.specs.Rows.{HoldsClosed}
-use Rattle.audited_meshes.proofs.Audited.{audit-is-audited}
+use Rattle.audited_meshes.proofs.Holds.{audited-of-closed, audit-is-closed}
 use Rattle.steps.specs.Step.{firstRows}
 use Rattle.steps.specs.OneStep.{OneStep}
 use Rattle.steps.proofs.Rows.{SameRows, same-of-firstRows, room-of-firstRows, room-of-holds, holds-same, position-same}
@@ -104,3 +104,92 @@ module _ (one-step : OneStep) where
           (matching-run begin-matches (subst (λ j. Run (stage (n .begun)) j (stage (reached-end n .mesh))) k (reached-end n .run)) (reached-end n' .run))
           (matches-end n')))
           (end-differs n')
+
+  -- The positions of a run, by names.
+  module _ {c : Counts} {m : Mesh} {hs : List Handed} (n : NamedRun c m hs) where
+    positions-end : Positions one-step c m (n .begun) (n .given) (accepted (lent m c) hs) (run (lent m c) hs) (n .ended)
+    positions-end =
+        subst (λ k. Positions one-step c m (n .begun) (n .given) k (run (lent m c) hs) (n .ended)) (zero-add (accepted (lent m c) hs))
+        (positions one-step c m (n .begun) (n .given) (n .naming)
+        (record { none-accepted = λ z. (refl, same-names-refl (n .begun)); one-accepted = λ z. absurd (omega arith) }))
+
+    -- With no accepted step a point is the point of its row.
+    module _ (z : accepted (lent m c) hs ≡ 0) (p : Row (run (lent m c) hs .counts .points)) where
+      first-row : Row (c .points)
+      first-row = (p .0, subst (λ x. p .0 < x .counts .points) (sym (positions-end .none-accepted z .0)) (p .1))
+
+      first-name : n .ended .names .point p ≡ givenPoint first-row
+      unfolding first-row
+      first-name = positions-end .none-accepted z .1 .points first-row p refl ∙ ap (λ x. x .point first-row) (n .given)
+
+      first-position : positionAt (run (lent m c) hs .tables .positions) (p .0) ≡ positionAt (m .positions) (first-row .0)
+      unfolding first-row
+      first-position = ap (λ x. positionAt (x .tables .positions) (p .0)) (sym (positions-end .none-accepted z .0))
+
+  module _
+      {c : Counts} {a b : Mesh} (e : firstRows c a ≡ firstRows c b) {hsA hsB : List Handed} (n : NamedRun c a hsA) (n' : NamedRun c b hsB)
+      (k : accepted (lent a c) hsA ≡ accepted (lent b c) hsB) (p : Row (run (lent a c) hsA .counts .points))
+      (p' : Row (run (lent b c) hsB .counts .points)) (q : n .ended .names .point p ≡ n' .ended .names .point p')
+    where
+      -- no step is accepted
+      unmoved :
+          accepted (lent a c) hsA ≡ 0 →
+          positionAt (run (lent a c) hsA .tables .positions) (p .0) ≡ positionAt (run (lent b c) hsB .tables .positions) (p' .0)
+      unmoved z =
+          let r = first-row n z p in
+          let r' = first-row n' (sym k ∙ z) p' in
+          let g : givenPoint r ≡ givenPoint r' = sym (first-name n z p) ∙ q ∙ first-name n' (sym k ∙ z) p' in
+          let i : r ≡ r' = cc in
+          first-position n z p
+          ∙ sym (position-same (same-of-firstRows c a b e) (r .0) (r .1))
+          ∙ ap (λ x. positionAt (b .positions) (x .0)) i
+          ∙ sym (first-position n' (sym k ∙ z) p')
+
+      -- one step is accepted
+      moved :
+          accepted (lent a c) hsA ≡ 1 →
+          positionAt (run (lent a c) hsA .tables .positions) (p .0) ≡ positionAt (run (lent b c) hsB .tables .positions) (p' .0)
+      moved z =
+          positions-end n .one-accepted z p
+          ∙ ap (afterOne (firstRows c a) c) q
+          ∙ ap (λ x. afterOne x c (n' .ended .names .point p')) e
+          ∙ sym (positions-end n' .one-accepted (sym k ∙ z) p')
+
+      positions-agree :
+          accepted (lent a c) hsA ≤ 1 →
+          positionAt (run (lent a c) hsA .tables .positions) (p .0) ≡ positionAt (run (lent b c) hsB .tables .positions) (p' .0)
+      positions-agree l = go (ℕ-discrete (accepted (lent a c) hsA) 0)
+        where
+          go :
+              Dec (accepted (lent a c) hsA ≡ 0) →
+              positionAt (run (lent a c) hsA .tables .positions) (p .0) ≡ positionAt (run (lent b c) hsB .tables .positions) (p' .0)
+          go (yes z) = unmoved z
+          go (no z) = moved (omega arith)
+
+  -- There are names.
+  named-run : (c : Counts) (m : Mesh) (hs : List Handed) → HoldsClosed m (c .points) (c .edges) (c .faces) → NamedRun c m hs
+  named-run c m hs h =
+      let d = audited-of-closed m (h .mesh) (h .stands) (h .closed) (h .fit) in
+      let start : NamedMesh c (lent m c) =
+            record { holds = first-reading m _ _ _ d; corner-is-point = first-points-first m _ _ _ d; names = givenNames } in
+      let w = named one-step hs 0 (lent m c) start in
+      record { begun = start; given = refl; ended = w .0; naming = w .1 }
+
+  -- Two runs in any orders.
+  two-runs :
+      (c : Counts) (a b : Mesh) → HoldsClosed a (c .points) (c .edges) (c .faces) → firstRows c a ≡ firstRows c b → (hsA hsB : List Handed) →
+      TwoRuns c a b hsA hsB
+  two-runs c a b h e hsA hsB =
+      let s = same-of-firstRows c a b e in
+      let h' = holds-same s (room-of-firstRows c a b e (room-of-holds h)) h in
+      record {
+        steps-A = each-step one-step hsA (lent a c) h;
+        steps-B = each-step one-step hsB (lent b c) h';
+        named-A = named-run c a hsA h;
+        named-B = named-run c b hsB h';
+        shared = λ k n n'. runs-shared s n n' k;
+        positions = λ k l n n' p p' q. positions-agree e n n' k p p' q l;
+      }
+
+  pub demand-3 : Demand3
+  demand-3 c a b h e ts hs = two-runs c a b (audit-is-closed _ _ _ _ .0 h) e (inNumberedOrder (lent a c) ts) hs
