@@ -57,11 +57,13 @@ module _ (m : Mesh) (np ne nf : ℕ) (a : Audited m np ne nf) where
   pub edges-fit : EdgesFit (m .edges) (m .intervals) ne
   edges-fit =
       record {
-        words = omega (arith, a .edges-fit); numbers = omega (arith, a .edges-fit);
+        words = omega (arith, a .edges-fit);
+        numbers = omega (arith, a .edges-fit);
         leftCw-below = λ e l. a .edge-in-range e l .leftCw-in-range;
         leftAcw-below = λ e l. a .edge-in-range e l .leftAcw-in-range;
         rightCw-below = λ e l. a .edge-in-range e l .rightCw-in-range;
-        rightAcw-below = λ e l. a .edge-in-range e l .rightAcw-in-range }
+        rightAcw-below = λ e l. a .edge-in-range e l .rightAcw-in-range;
+      }
 
   -- LeftCw borders the left face, RightCw the right one
   pub common-below : nf ≤ none → (p r : ℕ) → r < ne
@@ -91,10 +93,14 @@ module _ (m : Mesh) (np ne nf : ℕ) (a : Audited m np ne nf) where
         origin-there = λ e b. point-there (origin m e) (a .edge-in-range e b .origin-in-range) .0;
         dest-there = λ e b. point-there (dest m e) (a .edge-in-range e b .dest-in-range) .0;
         face-there = omega (arith, a .faces-fit);
-        border = w .edges; walked = came; at-least-3 = w .at-least-3; at-most-64 = w .at-most-64;
+        border = w .edges;
+        walked = came;
+        at-least-3 = w .at-least-3;
+        at-most-64 = w .at-most-64;
         edges-below = λ j b.
-          on-face-is m ne f (getD (w .edges) j 0) .0
-          (back-on (acwOfFace m f) (λ e. ltb e ne && borders m f e) (faceStart m f) 64 (w .edges) came j b) .0 }
+            on-face-is m ne f (getD (w .edges) j 0) .0
+            (back-on (acwOfFace m f) (λ e. ltb e ne && borders m f e) (faceStart m f) 64 (w .edges) came j b) .0;
+      }
 
   module _ (new : List Float) (es′ fs′ : List ℕ) (n : NewPointsFit ne nf new es′ fs′) where
     pub edge-point-fits : (e : ℕ) → e < ne → EdgePointFits (m .positions) (m .edges) (m .intervals) new fs′ e
@@ -107,13 +113,19 @@ module _ (m : Mesh) (np ne nf : ℕ) (a : Audited m np ne nf) where
           left-row = n .face-row (leftFace m e) (r .leftFace-in-range);
           left-place = n .face-place (leftFace m e) (r .leftFace-in-range);
           right-row = n .face-row (rightFace m e) (r .rightFace-in-range);
-          right-place = n .face-place (rightFace m e) (r .rightFace-in-range) }
+          right-place = n .face-place (rightFace m e) (r .rightFace-in-range);
+        }
 
     pub old-point-fits : nf ≤ none → (p : ℕ) → p < np
         → OldPointFits (m .positions) (m .points) (m .edges) (m .intervals) new es′ fs′ p
     old-point-fits h p l =
         record {
-          place-there = point-there p l .0; words-there = point-there p l .1;
+          place-there = point-there p l .0;
+          words-there = point-there p l .1;
           radial-fits = record {
-            edges = ne; faces = nf; fit = record { fit = edges-fit; new-fit = n; common-below = common-below h };
-            below = a .start-in-range p l } }
+            edges = ne;
+            faces = nf;
+            fit = record { fit = edges-fit; new-fit = n; common-below = common-below h };
+            below = a .start-in-range p l;
+          };
+        }

@@ -3,7 +3,7 @@
 -- and point 0 from the mesh alone.
 use mathlib.Core.Path.{_≡_, refl}
 use mathlib.Core.Bool.{true, false}
-use mathlib.Core.List.{List, [], _∷_, map}
+use mathlib.Core.List.{List, [], _∷_}
 use Prim.Native.Nat.{ℕ, zero, suc}
 use lib.IntN.{pos}
 use lib.ListN.{getD, replicate}
@@ -33,22 +33,23 @@ abbrev cube : Float → Mesh
 cube d =
     record {
       positions =
-        minus ∷ minus ∷ minus ∷ one ∷ minus ∷ minus ∷ minus ∷ one ∷ minus ∷ one ∷ one ∷ minus
-        ∷ minus ∷ minus ∷ one ∷ one ∷ minus ∷ one ∷ minus ∷ one ∷ one ∷ one ∷ one ∷ one ∷ [];
+          minus ∷ minus ∷ minus ∷ one ∷ minus ∷ minus ∷ minus ∷ one ∷ minus ∷ one ∷ one ∷ minus
+          ∷ minus ∷ minus ∷ one ∷ one ∷ minus ∷ one ∷ minus ∷ one ∷ one ∷ one ∷ one ∷ one ∷ [];
       points =
-        3 ∷ 9 ∷ 1 ∷ 3 ∷ 8 ∷ 1 ∷ 3 ∷ 11 ∷ 1 ∷ 3 ∷ 10 ∷ 1 ∷ 3 ∷ 9 ∷ 1 ∷ 3 ∷ 8 ∷ 1 ∷ 3 ∷ 11 ∷ 1 ∷ 3 ∷ 10 ∷ 1 ∷ [];
+          3 ∷ 9 ∷ 1 ∷ 3 ∷ 8 ∷ 1 ∷ 3 ∷ 11 ∷ 1 ∷ 3 ∷ 10 ∷ 1 ∷ 3 ∷ 9 ∷ 1 ∷ 3 ∷ 8 ∷ 1 ∷ 3 ∷ 11 ∷ 1 ∷ 3 ∷ 10 ∷ 1 ∷ [];
       edges =
-        2 ∷ 3 ∷ 0 ∷ 3 ∷ 3 ∷ 1 ∷ 10 ∷ 11 ∷ 3 ∷ 1 ∷ 0 ∷ 5 ∷ 0 ∷ 2 ∷ 8 ∷ 10
-        ∷ 1 ∷ 0 ∷ 0 ∷ 2 ∷ 1 ∷ 3 ∷ 9 ∷ 8 ∷ 0 ∷ 2 ∷ 0 ∷ 4 ∷ 2 ∷ 0 ∷ 11 ∷ 9
-        ∷ 5 ∷ 7 ∷ 1 ∷ 5 ∷ 7 ∷ 5 ∷ 10 ∷ 8 ∷ 7 ∷ 6 ∷ 1 ∷ 3 ∷ 4 ∷ 6 ∷ 11 ∷ 10
-        ∷ 6 ∷ 4 ∷ 1 ∷ 4 ∷ 5 ∷ 7 ∷ 9 ∷ 11 ∷ 4 ∷ 5 ∷ 1 ∷ 2 ∷ 6 ∷ 4 ∷ 8 ∷ 9
-        ∷ 1 ∷ 5 ∷ 2 ∷ 5 ∷ 2 ∷ 7 ∷ 4 ∷ 1 ∷ 4 ∷ 0 ∷ 2 ∷ 4 ∷ 7 ∷ 2 ∷ 3 ∷ 6
-        ∷ 7 ∷ 3 ∷ 3 ∷ 5 ∷ 5 ∷ 0 ∷ 1 ∷ 4 ∷ 2 ∷ 6 ∷ 3 ∷ 4 ∷ 0 ∷ 5 ∷ 6 ∷ 3 ∷ [];
+          2 ∷ 3 ∷ 0 ∷ 3 ∷ 3 ∷ 1 ∷ 10 ∷ 11 ∷ 3 ∷ 1 ∷ 0 ∷ 5 ∷ 0 ∷ 2 ∷ 8 ∷ 10
+          ∷ 1 ∷ 0 ∷ 0 ∷ 2 ∷ 1 ∷ 3 ∷ 9 ∷ 8 ∷ 0 ∷ 2 ∷ 0 ∷ 4 ∷ 2 ∷ 0 ∷ 11 ∷ 9
+          ∷ 5 ∷ 7 ∷ 1 ∷ 5 ∷ 7 ∷ 5 ∷ 10 ∷ 8 ∷ 7 ∷ 6 ∷ 1 ∷ 3 ∷ 4 ∷ 6 ∷ 11 ∷ 10
+          ∷ 6 ∷ 4 ∷ 1 ∷ 4 ∷ 5 ∷ 7 ∷ 9 ∷ 11 ∷ 4 ∷ 5 ∷ 1 ∷ 2 ∷ 6 ∷ 4 ∷ 8 ∷ 9
+          ∷ 1 ∷ 5 ∷ 2 ∷ 5 ∷ 2 ∷ 7 ∷ 4 ∷ 1 ∷ 4 ∷ 0 ∷ 2 ∷ 4 ∷ 7 ∷ 2 ∷ 3 ∷ 6
+          ∷ 7 ∷ 3 ∷ 3 ∷ 5 ∷ 5 ∷ 0 ∷ 1 ∷ 4 ∷ 2 ∷ 6 ∷ 3 ∷ 4 ∷ 0 ∷ 5 ∷ 6 ∷ 3 ∷ [];
       intervals = replicate 12 d;
       faces =
-        0 ∷ 4294967295 ∷ 4294967295 ∷ 4294967295 ∷ 4294967295 ∷ 4 ∷ 4294967295 ∷ 4294967295 ∷ 4294967295 ∷ 4294967295
-        ∷ 8 ∷ 4294967295 ∷ 4294967295 ∷ 4294967295 ∷ 4294967295 ∷ 5 ∷ 4294967295 ∷ 4294967295 ∷ 4294967295 ∷ 4294967295
-        ∷ 6 ∷ 4294967295 ∷ 4294967295 ∷ 4294967295 ∷ 4294967295 ∷ 10 ∷ 4294967295 ∷ 4294967295 ∷ 4294967295 ∷ 4294967295 ∷ [] }
+          0 ∷ 4294967295 ∷ 4294967295 ∷ 4294967295 ∷ 4294967295 ∷ 4 ∷ 4294967295 ∷ 4294967295 ∷ 4294967295 ∷ 4294967295
+          ∷ 8 ∷ 4294967295 ∷ 4294967295 ∷ 4294967295 ∷ 4294967295 ∷ 5 ∷ 4294967295 ∷ 4294967295 ∷ 4294967295 ∷ 4294967295
+          ∷ 6 ∷ 4294967295 ∷ 4294967295 ∷ 4294967295 ∷ 4294967295 ∷ 10 ∷ 4294967295 ∷ 4294967295 ∷ 4294967295 ∷ 4294967295 ∷ [];
+    }
 
 -- three finite coordinates, by their bits
 abbrev at : ℕ → ℕ → ℕ → Placed
@@ -110,13 +111,13 @@ unfolding facePointOf facePointAbout facePoint windowSum windowWeight sixTerms t
 cube-face-points = refl
 
 cube-edge-points :
-  answers (edgePoint (cube one .positions) (cube one .edges) (cube one .intervals) (placeIn facePoints)) 0 12 ≡ edgePoints
+    answers (edgePoint (cube one .positions) (cube one .edges) (cube one .intervals) (placeIn facePoints)) 0 12 ≡ edgePoints
 unfolding edgePoint edgeMiddle shares threeTerms acwAbout cwAbout add sub mul div neg le ofBits
 cube-edge-points = refl
 
 cube-old-points :
-  answers (oldPoint (cube one .positions) (cube one .points) (cube one .edges) (cube one .intervals) (placeIn edgePoints) (placeIn facePoints)) 0 8
-  ≡ oldPoints
+    answers (oldPoint (cube one .positions) (cube one .points) (cube one .edges) (cube one .intervals) (placeIn edgePoints) (placeIn facePoints)) 0 8
+    ≡ oldPoints
 unfolding oldPoint radialSum radialTerms radialEdge edgeWeight faceWeight acwAbout cwAbout after add sub mul div neg le ofBits ofInt
 cube-old-points = refl
 

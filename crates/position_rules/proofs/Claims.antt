@@ -1,7 +1,7 @@
 -- The rules look at the mesh before the step and at the points of its faces and edges, wherever these stand. Assumes nothing.
-use mathlib.Core.Path.{_≡_, refl, sym, _∙_, ap, ap₂, subst}
+use mathlib.Core.Path.{_≡_, refl, sym, _∙_, ap}
 use mathlib.Core.List.{List, [], _∷_, _++_}
-use Prim.Native.Nat.{ℕ, zero, suc, _+_, _*_, _≤_, _<_}
+use Prim.Native.Nat.{ℕ, zero, suc, _+_, _≤_, _<_}
 use native.Mathlib.Omega.{arith}
 use native.Mathlib.Numerals.{add-one}
 use lib.Dec.{ltb}
@@ -11,10 +11,9 @@ use lib.Seq.{getD-at}
 use lib.Ieee.{Float}
 use Rattle.positions.specs.declared.Position.{Position}
 use Rattle.t_spline.specs.Edge.{commonFace}
-use Rattle.tables.specs.Mesh.{Mesh, none, start, valence}
+use Rattle.tables.specs.Mesh.{start, valence}
 use Rattle.tables.specs.Records.{edgeAt}
-use Rattle.audited_meshes.specs.Walks.{back, touches, acwOfPoint, faceWalk, pointWalk}
-use Rattle.audited_meshes.specs.Audited.{Audited}
+use Rattle.audited_meshes.specs.Walks.{touches, acwOfPoint, faceWalk, pointWalk}
 use Rattle.walks.proofs.Back.{back-first, back-next}
 use Rattle.position_rules.specs.Intervals.{acwAbout}
 use Rattle.position_rules.specs.FacePoint.{facePointAbout, facePointOf}

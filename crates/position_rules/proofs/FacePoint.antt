@@ -2,7 +2,7 @@
 --     border-edges-fit           its edges are there
 --     border-points-fit          its points are there, the first four again too
 --     facePoint-of-border        the sum over the windows of that border gives the face point
-use mathlib.Core.Path.{_≡_, refl, sym, _∙_, ap, ap₂, subst, fun-ext}
+use mathlib.Core.Path.{_≡_, sym, _∙_, ap, ap₂, subst, fun-ext}
 use mathlib.Core.Bool.{Bool, true, false, cond}
 use mathlib.Core.List.{List, map}
 use Prim.Native.Nat.{ℕ, _+_, _-_, _*_, _≤_, _<_}
@@ -11,16 +11,15 @@ use native.Mathlib.Decide.{decLt}
 use lib.Dec.{eqb}
 use lib.ListN.{getD, length}
 use lib.Ieee.{Float}
-use Rattle.tables.specs.Mesh.{Mesh, origin, dest, leftFace}
+use Rattle.tables.specs.Mesh.{leftFace}
 use Rattle.audited_meshes.specs.Walks.{back, edgesOf, faceWalk, firstPoint}
 use Rattle.walks.specs.Steps.{faceTables}
 use Rattle.walks.specs.Border.{padded, again, borderOf, border}
 use Rattle.walks.specs.declared.FaceBorder.{FaceBorder}
 use Rattle.walks.proofs.Laws.{getD-padded, border-back, border-point, border-point-again}
-use Rattle.positions.specs.Position.{placedAt}
 use Rattle.position_rules.specs.declared.WeightedSum.{WeightedSum}
 use Rattle.position_rules.specs.FacePoint.{windowSum, overWeight, around, facePoint, facePointAbout, facePointOf, faceMesh}
-use Rattle.position_rules.specs.Fits.{EdgesFit, BorderFits, PointsFit, FacePointFits}
+use Rattle.position_rules.specs.Fits.{BorderFits, PointsFit, FacePointFits}
 
 cond-there : (b : Bool) (i j n : ℕ) → i * 3 + 3 ≤ n → j * 3 + 3 ≤ n → cond b i j * 3 + 3 ≤ n
 cond-there true i j n h k = h
@@ -30,8 +29,12 @@ module _ (ps : List Float) (es : List ℕ) (is : List Float) (fs : List ℕ) (ne
   pub border-edges-fit : (b : FaceBorder) → b ≡ border (faceTables es fs) ne f → BorderFits es is (b .edges) (b .n)
   border-edges-fit b e = rw (e, border-back (faceTables es fs) ne f (h .border) (h .walked))
       (record {
-        rows = ne; fit = h .fit; at-least-3 = h .at-least-3; at-most-64 = h .at-most-64;
-        edges-below = λ j l. rw (getD-padded 64 (h .border) j) (h .edges-below j l) })
+        rows = ne;
+        fit = h .fit;
+        at-least-3 = h .at-least-3;
+        at-most-64 = h .at-most-64;
+        edges-below = λ j l. rw (getD-padded 64 (h .border) j) (h .edges-below j l);
+      })
 
   point-there : (j : ℕ) → j < length (h .border) → getD (borderOf (faceTables es fs) f (back (h .border)) .points) j 0 * 3 + 3 ≤ length ps
   point-there j l =
@@ -75,9 +78,9 @@ module _ (ps : List Float) (es : List ℕ) (is : List Float) (fs : List ℕ) (ne
 
   -- what is read from the arrays is read from the lists that they hold
   sum-of-arrays :
-    windowSum ps es is (λ j. getD (padded 68 (again 4 (map (firstPoint (faceTables es fs) f) (h .border)))) j 0)
+      windowSum ps es is (λ j. getD (padded 68 (again 4 (map (firstPoint (faceTables es fs) f) (h .border)))) j 0)
       (λ j. getD (padded 64 (h .border)) (around (length (h .border)) j) 0) (length (h .border))
-    ≡ windowSum ps es is (λ j. getD (again 4 (map (firstPoint (faceTables es fs) f) (h .border))) j 0)
+      ≡ windowSum ps es is (λ j. getD (again 4 (map (firstPoint (faceTables es fs) f) (h .border))) j 0)
       (λ j. getD (h .border) (around (length (h .border)) j) 0) (length (h .border))
   sum-of-arrays =
       let bp : List ℕ = again 4 (map (firstPoint (faceTables es fs) f) (h .border)) in
@@ -91,5 +94,5 @@ module _ (ps : List Float) (es : List ℕ) (is : List Float) (fs : List ℕ) (ne
   facePoint-of-border b s e q =
       let Sum : FaceBorder → WeightedSum = λ x. windowSum ps es is (λ j. getD (x .points) j 0) (λ j. getD (x .edges) (around (x .n) j) 0) (x .n) in
       let arrays : s ≡ Sum (borderOf (faceTables es fs) f (back (h .border))) =
-        q ∙ ap Sum (e ∙ border-back (faceTables es fs) ne f (h .border) (h .walked)) in
+      q ∙ ap Sum (e ∙ border-back (faceTables es fs) ne f (h .border) (h .walked)) in
       ap overWeight (arrays ∙ sum-of-arrays) ∙ sym about

@@ -41,7 +41,7 @@ module _ (es : List ℕ) (is : List Float) where
   unfolding acwAbout
   acw-below ne p e h l = cond-below (eqb (getD es (e * 8) 0) p) _ _ ne (h .leftCw-below e l) (h .rightCw-below e l)
 
-  cw-below : (ne p e : ℕ) → EdgesFit es is ne → e < ne → cwAbout es p e < ne
+  pub cw-below : (ne p e : ℕ) → EdgesFit es is ne → e < ne → cwAbout es p e < ne
   unfolding cwAbout
   cw-below ne p e h l = cond-below (eqb (getD es (e * 8) 0) p) _ _ ne (h .rightAcw-below e l) (h .leftAcw-below e l)
 
@@ -57,7 +57,8 @@ module _ (es : List ℕ) (is : List Float) where
         leftCw-there = omega (arith, h .fit .leftCw-below e (h .below), h .fit .numbers);
         leftAcw-there = omega (arith, h .fit .leftAcw-below e (h .below), h .fit .numbers);
         rightCw-there = omega (arith, h .fit .rightCw-below e (h .below), h .fit .numbers);
-        rightAcw-there = omega (arith, h .fit .rightAcw-below e (h .below), h .fit .numbers) }
+        rightAcw-there = omega (arith, h .fit .rightAcw-below e (h .below), h .fit .numbers);
+      }
 
   pub border-fits : (bs : List ℕ) (n j : ℕ) → BorderFits es is bs n → j < n + n → EdgeFits es is (getD bs (around n j) 0)
   border-fits bs n j h l = record { rows = h .rows; fit = h .fit; below = h .edges-below (around n j) (around-below n j l) }

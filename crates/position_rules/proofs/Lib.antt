@@ -3,4 +3,6 @@ pub mod Cases
 pub mod Claims
 pub mod FacePoint
 pub mod Fits
+pub mod Floats
+pub mod Joins
 pub mod Sums

@@ -1,12 +1,11 @@
 -- The laws of sums by turns: before the first turn, and one turn more. Assumes nothing.
-use mathlib.Core.Path.{_≡_, refl, _∙_, ap}
+use mathlib.Core.Path.{_≡_, refl}
 use mathlib.Core.List.{List}
-use Prim.Native.Nat.{ℕ, zero, suc, _+_}
+use Prim.Native.Nat.{ℕ, _+_}
 use native.Mathlib.Numerals.{add-one}
 use lib.Ieee.{Float}
 use Rattle.positions.specs.declared.Position.{Position}
 use Rattle.tables.specs.Records.{positionAt}
-use Rattle.position_rules.specs.declared.WeightedSum.{WeightedSum}
 use Rattle.position_rules.specs.Intervals.{acwAbout}
 use Rattle.position_rules.specs.Sums.{withTerm, after}
 use Rattle.position_rules.specs.FacePoint.{noWindows, windowWeight, windowSum}

@@ -8,7 +8,7 @@
 --     edgePoint            the edge point of edge e
 use mathlib.Core.Bool.{cond}
 use mathlib.Core.List.{List}
-use Prim.Native.Nat.{ℕ, _+_, _*_}
+use Prim.Native.Nat.{ℕ}
 use lib.ListN.{getD}
 use lib.Ieee.{Float, nan, add, sub, mul, div, ofBits, binary64}
 use Rattle.positions.specs.declared.Position.{Position}
@@ -38,7 +38,8 @@ unfoldable pub shares : List Float → TnurccEdge → Shares
 shares is edge =
     record {
       left = share (add binary64 (neighbour is edge LeftAcw) (neighbour is edge LeftCw)) (twiceNeighbours is edge);
-      right = share (add binary64 (neighbour is edge RightAcw) (neighbour is edge RightCw)) (twiceNeighbours is edge) }
+      right = share (add binary64 (neighbour is edge RightAcw) (neighbour is edge RightCw)) (twiceNeighbours is edge);
+    }
 
 -- o at the weight wo and t at the weight wt
 abbrev pub middle : Position → Float → Position → Float → Position

@@ -66,7 +66,14 @@ fn middle(o: Position, wo: f64, t: Position, wt: f64) -> Position
 }
 
 // The edge from o to t, each end weighted by d + A2 + C2 about that end.
-fn edge_middle(positions: &[f64], edges: &[u32], intervals: &[f64], o: usize, t: usize, e: usize) -> Position
+fn edge_middle(
+    positions: &[f64],
+    edges: &[u32],
+    intervals: &[f64],
+    o: usize,
+    t: usize,
+    e: usize,
+) -> Position
     requires { ⌜ o * 3 + 3 ≤ length (now positions) ⌝ }
     requires { ⌜ t * 3 + 3 ≤ length (now positions) ⌝ }
     requires { ⌜ EdgeFits (now edges) (now intervals) e ⌝ }
@@ -74,14 +81,18 @@ fn edge_middle(positions: &[f64], edges: &[u32], intervals: &[f64], o: usize, t:
 {
     let wo = three_terms(edges, intervals, o, e);
     let wt = three_terms(edges, intervals, t, e);
-    middle(load_position(positions, o), wo, load_position(positions, t), wt)
+    let from = load_position(positions, o);
+    let to = load_position(positions, t);
+    middle(from, wo, to, wt)
 }
 
 // m (1 - aR - aL) + aL times the left face point + aR times the right one.
 fn blend(m: Position, a: Shares, left: Position, right: Position) -> Position
     ensures { λ r. ⌜ r ≡ blend m a left right ⌝ }
 {
-    m.times(1.0 - a.right - a.left).plus(left.times(a.left)).plus(right.times(a.right))
+    m.times(1.0 - a.right - a.left)
+        .plus(left.times(a.left))
+        .plus(right.times(a.right))
 }
 
 // The edge point of edge e, from the face points that stand in the new table of positions.
@@ -97,7 +108,14 @@ pub fn edge_point(
     ensures { λ r. ⌜ r ≡ placedAt (edgePoint (now (positions .entry)) (now (edges .entry)) (now (intervals .entry)) (facePointAt (now (places .entry)) (now (quads .entry))) e) ⌝ }
 {
     let edge = load_edge(edges, intervals, e);
-    let m = edge_middle(positions, edges, intervals, index(edge.origin), index(edge.dest), e);
+    let m = edge_middle(
+        positions,
+        edges,
+        intervals,
+        index(edge.origin),
+        index(edge.dest),
+        e,
+    );
     let left = load_face_point(places, quads, index(edge.face_left));
     let right = load_face_point(places, quads, index(edge.face_right));
     blend(m, shares(intervals, edge), left, right).placed()

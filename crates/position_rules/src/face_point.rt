@@ -21,7 +21,10 @@ fn six_terms(edges: &[u32], intervals: &[f64], p: usize, e: usize, q: usize, g: 
     requires { ⌜ EdgeFits (now edges) (now intervals) g ⌝ }
     ensures { λ r. ⌜ r ≡ sixTerms (now (edges .entry)) (now (intervals .entry)) p e q g ⌝ }
 {
-    three_terms(edges, intervals, p, e) + intervals[g] + a2(edges, intervals, q, g) + c2(edges, intervals, q, g)
+    let three = three_terms(edges, intervals, p, e);
+    let a = a2(edges, intervals, q, g);
+    let c = c2(edges, intervals, q, g);
+    three + intervals[g] + a + c
 }
 
 // The place j, counted round n places.
@@ -42,7 +45,14 @@ fn border_edge(border: &[u32; 64], n: usize, j: usize) -> usize
 
 // The weight of the window that begins at the place i: p2p3 about p3, then p0p1 about p0; times p1p2 about p1, then p3p4
 // about p4.
-fn window_weight(edges: &[u32], intervals: &[f64], points: &[u32; 68], border: &[u32; 64], n: usize, i: usize) -> f64
+fn window_weight(
+    edges: &[u32],
+    intervals: &[f64],
+    points: &[u32; 68],
+    border: &[u32; 64],
+    n: usize,
+    i: usize,
+) -> f64
     requires { ⌜ BorderFits (now edges) (now intervals) (now border) n ⌝ }
     requires { ⌜ i < n ⌝ }
     ensures { λ r. ⌜ r ≡ windowWeight (now (edges .entry)) (now (intervals .entry)) (λ j. getD (now (points .entry)) j 0) (λ j. getD (now (border .entry)) (around n j) 0) i ⌝ }
@@ -51,8 +61,22 @@ fn window_weight(edges: &[u32], intervals: &[f64], points: &[u32; 68], border: &
     let e1 = border_edge(border, n, i + 1);
     let e2 = border_edge(border, n, i + 2);
     let e3 = border_edge(border, n, i + 3);
-    let first = six_terms(edges, intervals, index(points[i + 3]), e2, index(points[i]), e0);
-    let second = six_terms(edges, intervals, index(points[i + 1]), e1, index(points[i + 4]), e3);
+    let first = six_terms(
+        edges,
+        intervals,
+        index(points[i + 3]),
+        e2,
+        index(points[i]),
+        e0,
+    );
+    let second = six_terms(
+        edges,
+        intervals,
+        index(points[i + 1]),
+        e1,
+        index(points[i + 4]),
+        e3,
+    );
     first * second
 }
 
@@ -84,7 +108,14 @@ fn window_sum(
 }
 
 // The face point of face f, by the walk about it along the edges below ne.
-pub fn face_point(positions: &[f64], edges: &[u32], intervals: &[f64], faces: &[u32], ne: usize, f: usize) -> Placed
+pub fn face_point(
+    positions: &[f64],
+    edges: &[u32],
+    intervals: &[f64],
+    faces: &[u32],
+    ne: usize,
+    f: usize,
+) -> Placed
     requires { ⌜ FacePointFits (now positions) (now edges) (now intervals) (now faces) ne f ⌝ }
     ensures { λ r. ⌜ r ≡ placedAt (facePointOf (faceMesh (now (positions .entry)) (now (edges .entry)) (now (intervals .entry)) (now (faces .entry))) ne f) ⌝ }
 {

@@ -67,5 +67,7 @@ pub fn three_terms(edges: &[u32], intervals: &[f64], p: usize, e: usize) -> f64
     requires { ⌜ EdgeFits (now edges) (now intervals) e ⌝ }
     ensures { λ r. ⌜ r ≡ threeTerms (now (edges .entry)) (now (intervals .entry)) p e ⌝ }
 {
-    intervals[e] + a2(edges, intervals, p, e) + c2(edges, intervals, p, e)
+    let a = a2(edges, intervals, p, e);
+    let c = c2(edges, intervals, p, e);
+    intervals[e] + a + c
 }

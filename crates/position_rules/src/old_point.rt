@@ -28,7 +28,9 @@ fn edge_weight(edges: &[u32], intervals: &[f64], p: usize, r: usize) -> f64
     requires { ⌜ EdgeFits (now edges) (now intervals) r ⌝ }
     ensures { λ w. ⌜ w ≡ edgeWeight (now (edges .entry)) (now (intervals .entry)) p r ⌝ }
 {
-    0.5 * (a1(edges, intervals, p, r) + c1(edges, intervals, p, r)) * (a2(edges, intervals, p, r) + c2(edges, intervals, p, r))
+    0.5
+        * (a1(edges, intervals, p, r) + c1(edges, intervals, p, r))
+        * (a2(edges, intervals, p, r) + c2(edges, intervals, p, r))
 }
 
 // A1 of edge r about p, times C1 of the next edge.
@@ -65,8 +67,14 @@ fn radial_terms(
 {
     let next = acw_about(edges, p, r);
     let f = face_between(edges, intervals, r, next);
-    let edge_term = s.with_term(load_edge_point(places, halves, r), edge_weight(edges, intervals, p, r));
-    edge_term.with_term(load_face_point(places, quads, f), face_weight(edges, intervals, p, r, next))
+    let edge_term = s.with_term(
+        load_edge_point(places, halves, r),
+        edge_weight(edges, intervals, p, r),
+    );
+    edge_term.with_term(
+        load_face_point(places, quads, f),
+        face_weight(edges, intervals, p, r, next),
+    )
 }
 
 // The terms of n edges about p, anticlockwise from the start edge.
@@ -104,7 +112,9 @@ fn moved(place: Position, v: f64, s: WeightedSum) -> Position
     if is_small(s.weight) {
         return place;
     }
-    place.times((v - 3.0) / v).plus(s.sum.times(3.0).over(v * s.weight))
+    place
+        .times((v - 3.0) / v)
+        .plus(s.sum.times(3.0).over(v * s.weight))
 }
 
 // A valence as a number.
@@ -130,6 +140,15 @@ pub fn old_point(
 {
     let point = load_point(positions, points, p);
     let start = index(point.incoming_edge);
-    let s = radial_sum(edges, intervals, places, halves, quads, p, start, index(point.valence));
+    let s = radial_sum(
+        edges,
+        intervals,
+        places,
+        halves,
+        quads,
+        p,
+        start,
+        index(point.valence),
+    );
     moved(point.point, number(point.valence), s).placed()
 }
