@@ -1,7 +1,7 @@
 -- The laws of loops that test or add up rows, for every test and every row. Assumes nothing.
 --     every-none, every-more, every-stop     no row is tested yet, one row more passes, one row fails; every-all: all pass
 --     sumTo-none, sumTo-more, sumTo-stop     no row is added yet, one row more, the sum is past the total; sumTo-all: it is whole
-use mathlib.Core.Path.{_≡_, refl, sym, _∙_, ap}
+use mathlib.Core.Path.{_≡_, refl, sym, _∙_, ap, ap₂}
 use mathlib.Core.Bool.{Bool, true, false, _&&_}
 use Prim.Native.Nat.{ℕ, zero, suc, _+_, _<_, _≤_}
 use native.Mathlib.Nat.{le-of-eq}
@@ -67,3 +67,8 @@ module _ (g : ℕ → ℕ) (i s : ℕ) (h : s ≡ sumTo i g) where
 
   pub sumTo-all : (n total : ℕ) → n ≡ i → eqb s total ≡ eqb (sumTo n g) total
   sumTo-all n total e = ap (λ (k : ℕ). eqb k total) (h ∙ ap (λ (k : ℕ). sumTo k g) (sym e))
+
+pub every-cong : (n : ℕ) (t u : ℕ → Bool) → ((k : ℕ) → k < n → t k ≡ u k) → every n t ≡ every n u
+unfolding every
+every-cong zero t u h = refl
+every-cong (suc n) t u h = ap₂ (λ (a b : Bool). a && b) (every-cong n t u (λ k l. h k (omega arith))) (h n (omega arith))

@@ -1,7 +1,7 @@
 -- The visits computed on the meshes of `proofs/Records.antt`: every word of points, edges and faces and every interval is the Rust's, in
 -- numbered order and in others, whatever stood in the scratch tables.
 use mathlib.Core.Path.{_≡_, refl}
-use mathlib.Core.List.{List, [], _∷_}
+use mathlib.Core.List.{[], _∷_}
 use Prim.Native.Nat.{ℕ, _*_}
 use lib.ListN.{replicate}
 use lib.Ieee.{nan, mul, add, ofBits}
@@ -23,7 +23,7 @@ used np ne nf =
       points = replicate (np * 3) 7;
       edges = replicate (ne * 8) 7;
       intervals = replicate ne nan;
-      faces = replicate (nf * 5) 7
+      faces = replicate (nf * 5) 7;
     }
 
 -- the rows of m, all np, ne and nf of them taken
@@ -36,7 +36,7 @@ rowsOf m np ne nf =
       faces = m .faces;
       pointsTaken = np;
       edgesTaken = ne;
-      facesTaken = nf
+      facesTaken = nf;
     }
 
 cube-numbered : refinedRows cube 8 12 6 (0 ∷ 1 ∷ 2 ∷ 3 ∷ 4 ∷ 5 ∷ []) (used 26 48 24) ≡ rowsOf cubeNumbered 26 48 24

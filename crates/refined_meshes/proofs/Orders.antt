@@ -1,10 +1,9 @@
 -- An order that names each face once is a numbering of the faces by turns. Assumes nothing.
 --     orderOf order once       the numbering
 --     when-turnIn              the turn of a face
-use mathlib.Core.Path.{_≡_, refl, sym, _∙_, ap, subst}
-use mathlib.Core.Bool.{Bool, true, false, cond}
+use mathlib.Core.Path.{_≡_, refl, sym, _∙_, ap}
+use mathlib.Core.Bool.{cond}
 use mathlib.Core.List.{List, [], _∷_}
-use mathlib.Core.Logic.{_≢_}
 use Prim.Native.Nat.{ℕ, zero, suc, _≤_, _<_}
 use native.Mathlib.Omega.{arith}
 use native.Mathlib.Nat.{not-suc-le-zero, le-of-suc-le-suc}
@@ -18,7 +17,7 @@ use Rattle.closed_meshes.specs.Renumbering.{Bijection, Row}
 use Rattle.closed_meshes.proofs.Counting.{row-path, injective-onto, bijection}
 use Rattle.closed_meshes.proofs.Isomorphisms.{inverse}
 use Rattle.refined_meshes.specs.Order.{EachOnce, turnIn}
-use Rattle.refined_meshes.proofs.Numbering.{when, when-below, from-when}
+use Rattle.refined_meshes.proofs.Leads.{when, when-below, from-when}
 
 -- What stands at place k is found, at k or before.
 turnIn-found : (gs : List ℕ) (k f : ℕ) → k < length gs → getD gs k 0 ≡ f → (turnIn gs f ≤ k) × (getD gs (turnIn gs f) 0 ≡ f)
@@ -28,8 +27,8 @@ turnIn-found (g ∷ gs) zero f h q = rw (eq-eqb g f q) (omega arith, q)
 turnIn-found (g ∷ gs) (suc k) f h q = go (turnIn-found gs k f (le-of-suc-le-suc h) q) (ℕ-discrete g f)
   where
     go :
-      (turnIn gs f ≤ k) × (getD gs (turnIn gs f) 0 ≡ f) → Dec (g ≡ f)
-      → (cond (eqb g f) 0 (suc (turnIn gs f)) ≤ suc k) × (getD (g ∷ gs) (cond (eqb g f) 0 (suc (turnIn gs f))) 0 ≡ f)
+        (turnIn gs f ≤ k) × (getD gs (turnIn gs f) 0 ≡ f) → Dec (g ≡ f)
+        → (cond (eqb g f) 0 (suc (turnIn gs f)) ≤ suc k) × (getD (g ∷ gs) (cond (eqb g f) 0 (suc (turnIn gs f))) 0 ≡ f)
     go ih (yes e) = rw (eq-eqb g f e) (omega arith, e)
     go ih (no n) = rw (ne-eqb g f n) (omega (arith, ih .0), ih .1)
 

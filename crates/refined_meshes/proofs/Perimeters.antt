@@ -1,11 +1,8 @@
 -- The perimeter of a face, read from the tables in which a closed mesh stands: at each place the edge of the dart there. Assumes nothing.
 --     perimeter-size, perimeter-edge       the number of its edges, and the edge at a place
 --     left-of-dart, point-of-dart          which side of its edge the face is on, and the first point there
-use mathlib.Core.Path.{_≡_, refl, sym, _∙_, ap, subst}
-use mathlib.Core.List.{List}
-use mathlib.Core.Bool.{Bool, true, false}
-use mathlib.Core.Logic.{_≢_}
-use Prim.Native.Nat.{ℕ, _≤_, _<_}
+use mathlib.Core.Path.{_≡_, sym, _∙_, ap}
+use Prim.Native.Nat.{ℕ, _<_}
 use native.Mathlib.Omega.{arith}
 use lib.ListN.{length, getD}
 use borrow.Author.Tests.{eq-eqb, ne-eqb}
@@ -40,7 +37,7 @@ module _ (m : Mesh) {np ne nf : ℕ} {t : MeshOver (Row np) (Row ne) (Row nf)} (
       let r = around-face m t s c f .dart-at i (rw length-edges l) in
       sym (r .dart-num)
       ∙ ap (λ (d : Dart (Row ne)). edge d .0)
-          (place-injective c (r .dart) (dartAt c f i) (r .dart-cls ∙ sym (face-dartAt c f i)) (r .dart-rank ∙ sym (place-dartAt c f i l)))
+      (place-injective c (r .dart) (dartAt c f i) (r .dart-cls ∙ sym (face-dartAt c f i)) (r .dart-rank ∙ sym (place-dartAt c f i l)))
 
   pub perimeter-edge : (i : ℕ) → i < c .size f → getD (edgesOf (faceWalk m ne (f .0))) i 0 ≡ edge (dartAt c f i) .0
   perimeter-edge i l = rw perimeter-is (edge-of-place i l)

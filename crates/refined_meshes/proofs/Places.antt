@@ -2,14 +2,12 @@
 --     dartAt c f i       the dart at place i of the face f
 --     place c d          the place of the dart d on its face
 use mathlib.Core.Path.{_≡_, refl, sym, _∙_, ap}
-use mathlib.Core.Bool.{Bool, true, false, cond}
-use Prim.Native.Nat.{ℕ, zero, suc, _+_, _-_, _≤_, _<_}
+use Prim.Native.Nat.{ℕ, zero, suc, _+_, _-_, _<_}
 use native.Mathlib.Omega.{arith}
-use native.Mathlib.Decide.{decLt, ℕ-discrete}
-use lib.Dec.{eqb}
+use native.Mathlib.Decide.{decLt}
 use borrow.Author.Tests.{eq-eqb, ne-eqb}
 use Rattle.closed_meshes.specs.Mesh.{Mesh, Dart, face}
-use Rattle.closed_meshes.specs.Cycles.{Cycles, steps}
+use Rattle.closed_meshes.specs.Cycles.{steps}
 use Rattle.closed_meshes.specs.Closed.{Closed}
 use Rattle.closed_meshes.proofs.Cycles.{rank-steps, cls-steps-start, steps-len, steps-rank, rank-injective}
 use Rattle.refined_meshes.specs.Ring.{nextPlace, prevPlace}

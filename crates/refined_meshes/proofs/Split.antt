@@ -1,17 +1,16 @@
 -- What stands in the tables after an edge was split: over plain row numbers, e the edge, h its new half, p its midpoint, q its old
 -- destination. Assumes nothing.
 use mathlib.Core.Path.{_≡_, refl, sym, _∙_, ap}
-use mathlib.Core.List.{List, [], _∷_}
 use mathlib.Core.Logic.{_≢_}
-use Prim.Native.Nat.{ℕ, _+_, _≤_, _<_}
-use Rattle.t_spline.specs.declared.TnurccEdge.{TnurccEdge}
+use Prim.Native.Nat.{ℕ, _<_}
 use Rattle.closed_meshes.specs.Mesh.{Dart, lft, rgt, edge}
-use Rattle.refined_meshes.specs.State.{State, edgeOf, putEdge, putPoint, putStart, take}
+use Rattle.refined_meshes.specs.State.{State, edgeOf, putEdge, putPoint, putStart}
 use Rattle.refined_meshes.specs.Split.{half, originHalf, destinationHalf, split}
-use Rattle.refined_meshes.proofs.Words.{Ends, Side, PointWords, FaceWords, ends, side, pointOf, faceOf, edgeFrom, Room, room-putEdge, room-putPoint, room-putStart, ends-putEdge, left-putEdge, right-putEdge, ends-putEdge-other, side-putEdge-other, pointOf-putPoint, pointOf-putPoint-other, pointOf-putStart, pointOf-putStart-other}
+use Rattle.refined_meshes.specs.Fits.{Room}
+use Rattle.refined_meshes.proofs.Words.{Ends, Side, PointWords, ends, side, pointOf, faceOf, room-putEdge, room-putPoint, room-putStart, ends-putEdge, left-putEdge, right-putEdge, ends-putEdge-other, side-putEdge-other, pointOf-putPoint, pointOf-putPoint-other, pointOf-putStart, pointOf-putStart-other}
 
 module _ {P E F : ℕ} (s : State) (room : Room P E F s) (e : ℕ) (e-below : e < E) (h-below : s .edgesTaken < E) (p-below : s .pointsTaken < P)
-  (q-below : ends s e .dest < P) (e-other : s .edgesTaken ≢ e) (q-other : ends s e .dest ≢ s .pointsTaken) where
+    (q-below : ends s e .dest < P) (e-other : s .edgesTaken ≢ e) (q-other : ends s e .dest ≢ s .pointsTaken) where
   -- the destination half put, then the origin half, then the midpoint
   abbrev one-half : State
   one-half = putEdge (s .edgesTaken) (destinationHalf (s .pointsTaken) e (edgeOf s e)) s
@@ -39,7 +38,7 @@ module _ {P E F : ℕ} (s : State) (room : Room P E F s) (e : ℕ) (e-below : e 
         points-room = r .points-room;
         edges-room = r .edges-room;
         intervals-room = r .intervals-room;
-        faces-room = r .faces-room
+        faces-room = r .faces-room;
       }
 
   -- ---- the halves
@@ -73,8 +72,8 @@ module _ {P E F : ℕ} (s : State) (room : Room P E F s) (e : ℕ) (e-below : e 
   ends-destination =
       ends-putEdge-other one-half e (s .edgesTaken) e-other (originHalf (s .pointsTaken) (s .edgesTaken) (edgeOf s e))
       ∙ ends-putEdge s room (s .edgesTaken) h-below destinationEnds
-          (record { face = side s (lft e) .face; acw = side s (lft e) .acw; cw = e })
-          (record { face = side s (rgt e) .face; acw = e; cw = side s (rgt e) .cw })
+      (record { face = side s (lft e) .face; acw = side s (lft e) .acw; cw = e })
+      (record { face = side s (rgt e) .face; acw = e; cw = side s (rgt e) .cw })
 
   -- ---- other edges
 
@@ -103,8 +102,8 @@ module _ {P E F : ℕ} (s : State) (room : Room P E F s) (e : ℕ) (e-below : e 
       ∙ pointOf-putPoint both-halves both-room (s .pointsTaken) 4 e 0 p-below
 
   pub point-destination :
-    pointOf (split e s) (ends s e .dest)
-    ≡ record { valence = pointOf s (ends s e .dest) .valence; start = s .edgesTaken; mark = pointOf s (ends s e .dest) .mark }
+      pointOf (split e s) (ends s e .dest)
+      ≡ record { valence = pointOf s (ends s e .dest) .valence; start = s .edgesTaken; mark = pointOf s (ends s e .dest) .mark }
   unfolding split ends pointOf putEdge
   point-destination =
       let q = ends s e .dest in

@@ -2,20 +2,20 @@
 --     Past k i e            the edge e is split before place i of turn k
 --     Splitting k i s       the invariant, with the rows taken, before place i of turn k
 --     splitting-all         what splitting a whole perimeter does
-use mathlib.Core.Path.{_≡_, refl, sym, _∙_, ap, subst}
-use mathlib.Core.Bool.{Bool, true, false, cond, false≢true}
+use mathlib.Core.Path.{_≡_, refl, sym, _∙_, ap}
+use mathlib.Core.Bool.{Bool, true, false, false≢true}
 use mathlib.Core.List.{List}
-use mathlib.Core.Logic.{_⊎_, inl, inr, _≢_}
+use mathlib.Core.Logic.{_⊎_, inl, inr}
 use Prim.Native.Nat.{ℕ, suc, _+_, _*_, _≤_, _<_}
 use native.Mathlib.Nat.{add-zero}
 use native.Mathlib.Omega.{arith}
 use native.Mathlib.Decide.{ℕ-discrete}
 use lib.Dec.{ltb}
 use lib.ListN.{getD}
-use borrow.Author.Tests.{ltb-true, ltb-false, lt-ltb, le-ltb}
+use borrow.Author.Tests.{ltb-false, lt-ltb, le-ltb}
 use Rattle.closed_meshes.specs.Mesh.{Mesh as MeshOver, Dart, lft, rgt, edge, flip, face}
 use Rattle.closed_meshes.specs.Closed.{Closed}
-use Rattle.closed_meshes.specs.Refinement.{NewPoint, old, mid, facePoint, NewEdge, org, dst, join}
+use Rattle.closed_meshes.specs.Refinement.{mid, dst}
 use Rattle.closed_meshes.specs.Renumbering.{Bijection, Row, sumTo}
 use Rattle.closed_meshes.proofs.Sums.{place-below as sum-below}
 use Rattle.tables.specs.Mesh.{Mesh}
@@ -24,11 +24,13 @@ use Rattle.refined_meshes.specs.State.{State, edgeOf, putEdge, putPoint,
 use Rattle.refined_meshes.specs.Split.{split, splitIf, splitWhole}
 use Rattle.refined_meshes.specs.Visits.{splitAll}
 use Rattle.refined_meshes.proofs.Places.{dartAt, place, face-dartAt, place-dartAt, place-injective}
-use Rattle.refined_meshes.proofs.Numbering.{when, when-injective, leads, lead, leads-lead, lead-edge, lead-across, edge-lead, splitAt, splitAt-when, splitsBefore, splits, sizeAt, turnOf, slotOf, slotOf-below, pointsBefore, edgesBefore, facesBefore, pointNo, edgeNo}
+use Rattle.refined_meshes.proofs.Leads.{when, when-injective, leads, lead, leads-lead, lead-edge, lead-across, edge-lead, splitAt, splitAt-when, splitsBefore, splits, sizeAt}
+use Rattle.refined_meshes.proofs.Numbering.{turnOf, slotOf, slotOf-below, pointsBefore, edgesBefore, facesBefore, pointNo, edgeNo, pointNo-fits, edgeNo-fits}
 use Rattle.refined_meshes.proofs.Words.{ends}
 use Rattle.refined_meshes.proofs.Target.{endsOld, endsAt}
 use Rattle.refined_meshes.proofs.Turns.{turns-keep}
-use Rattle.refined_meshes.proofs.Content.{Content, content-same, content-split}
+use Rattle.refined_meshes.proofs.Content.{Content, content-same}
+use Rattle.refined_meshes.proofs.SplitStep.{content-split}
 
 module _ {np ne nf : ℕ} {t : MeshOver (Row np) (Row ne) (Row nf)} (c : Closed t) (order : Bijection (Row nf) (Row nf)) where
   abbrev pub Past : ℕ → ℕ → Row ne → Type 0
@@ -64,22 +66,22 @@ module _ {np ne nf : ℕ} {t : MeshOver (Row np) (Row ne) (Row nf)} (c : Closed 
 
   -- The edges that are split have the lower rows.
   slot-below :
-    (k i : ℕ) (e : Row ne) → turnOf c order e ≡ k → place c (lead c order e) < i → slotOf c order e < splitsBefore c order k i
+      (k i : ℕ) (e : Row ne) → turnOf c order e ≡ k → place c (lead c order e) < i → slotOf c order e < splitsBefore c order k i
   unfolding slotOf splitsBefore turnOf
   slot-below k i e h l =
       let s : splitAt c order k (place c (lead c order e)) ≡ 1 =
-            ap (λ x. splitAt c order x (place c (lead c order e))) (sym h) ∙ splitAt-when c order (lead c order e)
-            ∙ ap one (leads-lead c order e) in
+      ap (λ x. splitAt c order x (place c (lead c order e))) (sym h) ∙ splitAt-when c order (lead c order e)
+      ∙ ap one (leads-lead c order e) in
       let b : sumTo (place c (lead c order e)) (splitAt c order k) + 0 < sumTo i (splitAt c order k) =
-            sum-below (splitAt c order k) (place c (lead c order e)) i 0 l (omega arith) in
+      sum-below (splitAt c order k) (place c (lead c order e)) i 0 l (omega arith) in
       rw h (omega arith)
 
   pub past-below :
-    (k i : ℕ) (e : Row ne) → Past k i e → edgeNo c order (dst e) < edgesBefore c order k + splitsBefore c order k i
+      (k i : ℕ) (e : Row ne) → Past k i e → edgeNo c order (dst e) < edgesBefore c order k + splitsBefore c order k i
   unfolding edgeNo edgesBefore
   past-below k i e (inl l) =
       let b = sum-below (λ j. splits c order j + sizeAt c order j) (turnOf c order e) k (slotOf c order e) l
-            (omega (arith, slotOf-below c order e)) in
+      (omega (arith, slotOf-below c order e)) in
       omega arith
   past-below k i e (inr h) = rw (h .0) (omega (arith, slot-below k i e (h .0) (h .1)))
 
@@ -176,19 +178,22 @@ module _ (m : Mesh) {np ne nf : ℕ} {t : MeshOver (Row np) (Row ne) (Row nf)} (
       splitting-split =
           record {
             content =
-              content-same m c order now-past past-now
+                content-same m c order now-past past-now
                 (content-split m c order s (h .content) e e-whole visited half-row mid-row later);
             points-taken = points-split s (e .0) ∙ ap (λ x. x + 1) (h .points-taken) ∙ more-points;
             edges-taken = edges-split s (e .0) ∙ ap (λ x. x + 1) (h .edges-taken) ∙ more-edges;
-            faces-taken = faces-split s (e .0) ∙ h .faces-taken
+            faces-taken = faces-split s (e .0) ∙ h .faces-taken;
           }
         where
           later : (e' : Row ne) → Past c order k i e' → edgeNo c order (dst e') ≤ edgeNo c order (dst e)
           later e' p = rw (← half-row, h .edges-taken) (omega (arith, past-below c order k i e' p))
+
           one-more : splitsBefore c order k (suc i) ≡ splitsBefore c order k i + 1
           one-more = splits-more ∙ ap (λ x. splitsBefore c order k i + one x) first
+
           more-points : pointsBefore c order k + suc (splitsBefore c order k i) + 1 ≡ pointsBefore c order k + suc (splitsBefore c order k (suc i))
           more-points = omega (arith, one-more)
+
           more-edges : edgesBefore c order k + splitsBefore c order k i + 1 ≡ edgesBefore c order k + splitsBefore c order k (suc i)
           more-edges = omega (arith, one-more)
 
@@ -212,25 +217,25 @@ module _ (m : Mesh) {np ne nf : ℕ} {t : MeshOver (Row np) (Row ne) (Row nf)} (
           go : Dec (place c (lead c order e') ≡ i) → Past c order k i e'
           go (yes p) =
               absurd
-                (false≢true
-                  (sym later ∙ ap (leads c order) (sym (lead-here e' (l .0) p)) ∙ leads-lead c order e'))
+              (false≢true
+              (sym later ∙ ap (leads c order) (sym (lead-here e' (l .0) p)) ∙ leads-lead c order e'))
           go (no n) = inr (l .0, omega (arith, l .1))
 
       splitting-skip : Splitting k (suc i) s
       splitting-skip =
           let none-more : splitsBefore c order k (suc i) ≡ splitsBefore c order k i =
-                splits-more ∙ ap (λ x. splitsBefore c order k i + one x) later ∙ omega arith in
+          splits-more ∙ ap (λ x. splitsBefore c order k i + one x) later ∙ omega arith in
           record {
             content = content-same m c order past-suc suc-past (h .content);
             points-taken = h .points-taken ∙ ap (λ x. pointsBefore c order k + suc x) (sym none-more);
             edges-taken = h .edges-taken ∙ ap (λ x. edgesBefore c order k + x) (sym none-more);
-            faces-taken = h .faces-taken
+            faces-taken = h .faces-taken;
           }
 
       test-skip : ltb (edgeOf s (e .0) .dest) np ≡ false
       test-skip =
           let w : edgeOf s (e .0) .dest ≡ pointNo c order (mid e) =
-                unfold ends endsAt edgeNo in ap (λ x. x .dest) (h .content .origin-half e (inl e-before)) in
+          unfold ends endsAt edgeNo in ap (λ x. x .dest) (h .content .origin-half e (inl e-before)) in
           rw w (le-ltb (pointNo c order (mid e)) np mid-above)
         where
           mid-above : np ≤ pointNo c order (mid e)
@@ -244,12 +249,20 @@ module _ (m : Mesh) {np ne nf : ℕ} {t : MeshOver (Row np) (Row ne) (Row nf)} (
         go true q = rw (test-split q) (splitting-split q)
         go false q = rw (test-skip q) (splitting-skip q)
 
+    -- The rows of an edge that is split here are rows of the refined mesh.
+    pub split-rows : edgeOf s (e .0) .dest < np → (s .pointsTaken < np + ne + nf) × (s .edgesTaken < 4 * ne)
+    split-rows l = go (leads c order d) refl
+      where
+        go : (b : Bool) → leads c order d ≡ b → (s .pointsTaken < np + ne + nf) × (s .edgesTaken < 4 * ne)
+        go true q = (rw (mid-row q) (pointNo-fits c order (mid e)), rw (half-row q) (edgeNo-fits c order (dst e)))
+        go false q = absurd (false≢true (sym (test-skip q) ∙ lt-ltb _ _ l))
+
   -- ---- the whole perimeter
 
   pub splitting-some :
-    (f : Row nf) (es : List ℕ) (n : ℕ) → n ≤ c .size f → ((i : ℕ) → i < c .size f → getD es i 0 ≡ edge (dartAt c f i) .0)
-    → (s : State) → Splitting (when c order f) 0 s → Splitting (when c order f) n (splitAll np es n s)
+      (f : Row nf) (es : List ℕ) (n : ℕ) → n ≤ c .size f → ((i : ℕ) → i < c .size f → getD es i 0 ≡ edge (dartAt c f i) .0)
+      → (s : State) → Splitting (when c order f) 0 s → Splitting (when c order f) n (splitAll np es n s)
   unfolding splitAll
   splitting-some f es n l perimeter s h =
       turns-keep n (λ i. splitWhole np (getD es i 0)) (λ i x. Splitting (when c order f) i x)
-        (λ i x b o. rw (perimeter i (omega arith)) (splitting-place f i (omega arith) x o)) s h
+      (λ i x b o. rw (perimeter i (omega arith)) (splitting-place f i (omega arith) x o)) s h

@@ -7,21 +7,21 @@
 --     midAt e, centreAt f              the words of the midpoint of e and of the face point of f
 --     faceAt d                         the words of the new face d
 --     rowOf x                          the side of a row at which the new dart x stands
-use mathlib.Core.Path.{_≡_, refl, sym, _∙_, ap}
-use mathlib.Core.Bool.{Bool, true, false, cond, false≢true}
-use mathlib.Core.Logic.{_≢_}
-use Prim.Native.Nat.{ℕ, _-_, _<_}
+use mathlib.Core.Path.{_≡_, refl, ap}
+use mathlib.Core.Bool.{Bool, true, false, cond}
+use Prim.Native.Nat.{ℕ, _-_}
 use lib.Ieee.{Float, add, binary64}
 use Rattle.closed_meshes.specs.Mesh.{Mesh as MeshOver, Dart, lft, rgt, edge, first, face}
 use Rattle.closed_meshes.specs.Closed.{Closed}
-use Rattle.closed_meshes.specs.Refinement.{NewPoint, old, mid, facePoint, NewEdge, org, dst, join, firstHalf, secondHalf}
+use Rattle.closed_meshes.specs.Refinement.{mid, facePoint, NewEdge, org, dst, join, firstHalf, secondHalf}
 use Rattle.closed_meshes.specs.Renumbering.{Bijection, Row}
 use Rattle.closed_meshes.proofs.Isomorphisms.{mapDart}
-use Rattle.closed_meshes.proofs.NewDarts.{start-half, end-half, inward, outward}
+use Rattle.closed_meshes.proofs.NewDarts.{start-half, end-half}
 use Rattle.tables.specs.Mesh.{Mesh, interval}
 use Rattle.refined_meshes.specs.Split.{half}
 use Rattle.refined_meshes.proofs.Places.{dartAt}
-use Rattle.refined_meshes.proofs.Numbering.{leads, pointNo, edgeNo, faceNo, edgeNo-injective}
+use Rattle.refined_meshes.proofs.Leads.{leads}
+use Rattle.refined_meshes.proofs.Numbering.{pointNo, edgeNo, faceNo, edgeNo-injective}
 use Rattle.refined_meshes.proofs.Words.{Ends, Side, PointWords, FaceWords, dartOf}
 
 -- ---- kinds of new darts
@@ -116,7 +116,7 @@ module _ {np ne nf : ℕ} {t : MeshOver (Row np) (Row ne) (Row nf)} (c : Closed 
         corner0 = pointNo c order (facePoint (face t d));
         corner1 = pointNo c order (mid (edge (c .prev d)));
         corner2 = first t d .0;
-        corner3 = pointNo c order (mid (edge d))
+        corner3 = pointNo c order (mid (edge d));
       }
 
   unfoldable pub rowOf : Dart (NewEdge (Row ne)) → Dart ℕ

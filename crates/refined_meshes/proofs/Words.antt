@@ -2,16 +2,15 @@
 --     Ends Side PointWords FaceWords       the ends and the interval of an edge, one of its sides, the words of a point and of a face
 --     ends s e, side s d, pointOf s p, faceOf s f     what stands there; a dart of a row number is a side of that row
 --     edgeFrom n l r                       the edge with the ends n and the sides l and r
---     Room P E F s                         the tables have P rows of points, E of edges and F of faces
 use mathlib.Core.Path.{_≡_, refl, sym, _∙_, ap}
 use mathlib.Core.Bool.{Bool, true, false}
 use mathlib.Core.List.{List, [], _∷_}
 use mathlib.Core.Logic.{_≢_}
-use Prim.Native.Nat.{ℕ, zero, suc, _+_, _*_, _≤_, _<_}
+use Prim.Native.Nat.{ℕ, suc, _+_, _*_, _≤_, _<_}
 use native.Mathlib.Nat.{add-zero}
 use native.Mathlib.Omega.{arith}
 use native.Mathlib.Decide.{ℕ-discrete}
-use lib.ListN.{length, getD, set, length-set}
+use lib.ListN.{length, getD, length-set}
 use lib.Seq.{getD-set-same, getD-set-other}
 use lib.Ieee.{Float, nan}
 use Rattle.t_spline.specs.declared.TnurccEdge.{TnurccEdge}
@@ -21,6 +20,7 @@ use Rattle.tables.specs.Records.{edgeWords}
 use Rattle.tables.proofs.Laws.{length-putRow, getD-putRow, getD-putRow-other}
 use Rattle.refined_meshes.specs.State.{State, edgeOf, putEdge, putPoint, putStart, putFace}
 use Rattle.refined_meshes.specs.Ring.{withSide, putSide}
+use Rattle.refined_meshes.specs.Fits.{Room}
 
 pub record Ends : Type 0 where
   pub origin : ℕ
@@ -52,13 +52,13 @@ side s (lft e) =
     record {
       face = edgeOf s e .«face_left»;
       acw = getD (edgeOf s e .connections) 1 0;
-      cw = getD (edgeOf s e .connections) 0 0
+      cw = getD (edgeOf s e .connections) 0 0;
     }
 side s (rgt e) =
     record {
       face = edgeOf s e .«face_right»;
       acw = getD (edgeOf s e .connections) 3 0;
-      cw = getD (edgeOf s e .connections) 2 0
+      cw = getD (edgeOf s e .connections) 2 0;
     }
 
 unfoldable pub pointOf : State → ℕ → PointWords
@@ -72,7 +72,7 @@ faceOf s f =
       corner0 = getD (s .faces) (f * 5 + 1) 0;
       corner1 = getD (s .faces) (f * 5 + 2) 0;
       corner2 = getD (s .faces) (f * 5 + 3) 0;
-      corner3 = getD (s .faces) (f * 5 + 4) 0
+      corner3 = getD (s .faces) (f * 5 + 4) 0;
     }
 
 abbrev pub edgeFrom : Ends → Side → Side → TnurccEdge
@@ -83,23 +83,12 @@ edgeFrom n l r =
       «face_right» = r .face;
       origin = n .origin;
       dest = n .dest;
-      «knot_interval» = n .interval
+      «knot_interval» = n .interval;
     }
 
 -- the words of an edge but the first
 abbrev edgeTail : Ends → Side → Side → List ℕ
 edgeTail n l r = n .dest ∷ l .face ∷ r .face ∷ l .cw ∷ l .acw ∷ r .cw ∷ r .acw ∷ []
-
-pub record Room (P E F : ℕ) (s : State) : Type 0 where
-  pub points-room : P * 3 ≤ length (s .points)
-  pub edges-room : E * 8 ≤ length (s .edges)
-  pub intervals-room : E ≤ length (s .intervals)
-  pub faces-room : F * 5 ≤ length (s .faces)
-
--- The edge in a row by its parts.
-pub edge-parts : (s : State) (e : ℕ) → edgeOf s e ≡ edgeFrom (ends s e) (side s (lft e)) (side s (rgt e))
-unfolding ends side
-edge-parts s e = refl
 
 module _ {A : Type 0} where
   -- The first word of the row that was put, and of any other row.
@@ -107,7 +96,7 @@ module _ {A : Type 0} where
   row-first v vs xs b d h = ap (λ k. getD (putRow xs b (v ∷ vs)) k d) (sym (add-zero b)) ∙ getD-putRow (v ∷ vs) xs b 0 d (omega arith) h
 
   other-first :
-    (vs xs : List A) (w r s : ℕ) (d : A) → length vs ≡ w → s ≢ r → 0 < w → getD (putRow xs (r * w) vs) (s * w) d ≡ getD xs (s * w) d
+      (vs xs : List A) (w r s : ℕ) (d : A) → length vs ≡ w → s ≢ r → 0 < w → getD (putRow xs (r * w) vs) (s * w) d ≡ getD xs (s * w) d
   other-first vs xs w r s d e n h =
       ap (λ k. getD (putRow xs (r * w) vs) k d) (sym (add-zero (s * w))) ∙ getD-putRow-other vs xs w r s 0 d e n h
       ∙ ap (λ k. getD xs k d) (add-zero (s * w))
@@ -122,7 +111,7 @@ module _ {P E F : ℕ} (s : State) where
         points-room = h .points-room;
         edges-room = rw (length-putRow (edgeWords r) (s .edges) (e * 8)) (h .edges-room);
         intervals-room = rw (length-set (s .intervals) e (r .«knot_interval»)) (h .intervals-room);
-        faces-room = h .faces-room
+        faces-room = h .faces-room;
       }
 
   pub room-putPoint : (p v e k : ℕ) → Room P E F s → Room P E F (putPoint p v e k s)
@@ -132,7 +121,7 @@ module _ {P E F : ℕ} (s : State) where
         points-room = rw (length-putRow (v ∷ e ∷ k ∷ []) (s .points) (p * 3)) (h .points-room);
         edges-room = h .edges-room;
         intervals-room = h .intervals-room;
-        faces-room = h .faces-room
+        faces-room = h .faces-room;
       }
 
   pub room-putStart : (p e : ℕ) → Room P E F s → Room P E F (putStart p e s)
@@ -142,7 +131,7 @@ module _ {P E F : ℕ} (s : State) where
         points-room = rw (length-set (s .points) (p * 3 + 1) e) (h .points-room);
         edges-room = h .edges-room;
         intervals-room = h .intervals-room;
-        faces-room = h .faces-room
+        faces-room = h .faces-room;
       }
 
   pub room-putFace : (f e c0 c1 c2 c3 : ℕ) → Room P E F s → Room P E F (putFace f e c0 c1 c2 c3 s)
@@ -152,7 +141,7 @@ module _ {P E F : ℕ} (s : State) where
         points-room = h .points-room;
         edges-room = h .edges-room;
         intervals-room = h .intervals-room;
-        faces-room = rw (length-putRow (e ∷ c0 ∷ c1 ∷ c2 ∷ c3 ∷ []) (s .faces) (f * 5)) (h .faces-room)
+        faces-room = rw (length-putRow (e ∷ c0 ∷ c1 ∷ c2 ∷ c3 ∷ []) (s .faces) (f * 5)) (h .faces-room);
       }
 
   module _ (room : Room P E F s) where
@@ -170,11 +159,11 @@ module _ {P E F : ℕ} (s : State) where
       unfolding ends putEdge
       ends-putEdge =
           λ i.
-            record {
-              origin = row-first (n .origin) (edgeTail n l r) (s .edges) (e * 8) 0 fits i;
-              dest = word 1 (omega arith) i;
-              interval = getD-set-same (s .intervals) e (n .interval) nan (omega (arith, room .intervals-room)) i
-            }
+          record {
+            origin = row-first (n .origin) (edgeTail n l r) (s .edges) (e * 8) 0 fits i;
+            dest = word 1 (omega arith) i;
+            interval = getD-set-same (s .intervals) e (n .interval) nan (omega (arith, room .intervals-room)) i;
+          }
 
       pub left-putEdge : side (putEdge e (edgeFrom n l r) s) (lft e) ≡ l
       unfolding side putEdge
@@ -189,39 +178,39 @@ module _ {P E F : ℕ} (s : State) where
     pointOf-putPoint p v e k h =
         let fits : p * 3 + 3 ≤ length (s .points) = omega (arith, room .points-room) in
         λ i.
-          record {
-            valence = row-first v (e ∷ k ∷ []) (s .points) (p * 3) 0 fits i;
-            start = getD-putRow (v ∷ e ∷ k ∷ []) (s .points) (p * 3) 1 0 (omega arith) fits i;
-            mark = getD-putRow (v ∷ e ∷ k ∷ []) (s .points) (p * 3) 2 0 (omega arith) fits i
-          }
+        record {
+          valence = row-first v (e ∷ k ∷ []) (s .points) (p * 3) 0 fits i;
+          start = getD-putRow (v ∷ e ∷ k ∷ []) (s .points) (p * 3) 1 0 (omega arith) fits i;
+          mark = getD-putRow (v ∷ e ∷ k ∷ []) (s .points) (p * 3) 2 0 (omega arith) fits i;
+        }
 
     pub pointOf-putStart :
-      (p e : ℕ) → p < P → pointOf (putStart p e s) p ≡ record { valence = pointOf s p .valence; start = e; mark = pointOf s p .mark }
+        (p e : ℕ) → p < P → pointOf (putStart p e s) p ≡ record { valence = pointOf s p .valence; start = e; mark = pointOf s p .mark }
     unfolding pointOf putStart
     pointOf-putStart p e h =
         let fits : p * 3 + 3 ≤ length (s .points) = omega (arith, room .points-room) in
         λ i.
-          record {
-            valence = getD-set-other (s .points) (p * 3 + 1) (p * 3) e 0 (omega arith) i;
-            start = getD-set-same (s .points) (p * 3 + 1) e 0 (omega arith) i;
-            mark = getD-set-other (s .points) (p * 3 + 1) (p * 3 + 2) e 0 (omega arith) i
-          }
+        record {
+          valence = getD-set-other (s .points) (p * 3 + 1) (p * 3) e 0 (omega arith) i;
+          start = getD-set-same (s .points) (p * 3 + 1) e 0 (omega arith) i;
+          mark = getD-set-other (s .points) (p * 3 + 1) (p * 3 + 2) e 0 (omega arith) i;
+        }
 
     pub faceOf-putFace :
-      (f e c0 c1 c2 c3 : ℕ) → f < F
-      → faceOf (putFace f e c0 c1 c2 c3 s) f ≡ record { start = e; corner0 = c0; corner1 = c1; corner2 = c2; corner3 = c3 }
+        (f e c0 c1 c2 c3 : ℕ) → f < F
+        → faceOf (putFace f e c0 c1 c2 c3 s) f ≡ record { start = e; corner0 = c0; corner1 = c1; corner2 = c2; corner3 = c3 }
     unfolding faceOf putFace
     faceOf-putFace f e c0 c1 c2 c3 h =
         let fits : f * 5 + 5 ≤ length (s .faces) = omega (arith, room .faces-room) in
         let ws : List ℕ = e ∷ c0 ∷ c1 ∷ c2 ∷ c3 ∷ [] in
         λ i.
-          record {
-            start = row-first e (c0 ∷ c1 ∷ c2 ∷ c3 ∷ []) (s .faces) (f * 5) 0 fits i;
-            corner0 = getD-putRow ws (s .faces) (f * 5) 1 0 (omega arith) fits i;
-            corner1 = getD-putRow ws (s .faces) (f * 5) 2 0 (omega arith) fits i;
-            corner2 = getD-putRow ws (s .faces) (f * 5) 3 0 (omega arith) fits i;
-            corner3 = getD-putRow ws (s .faces) (f * 5) 4 0 (omega arith) fits i
-          }
+        record {
+          start = row-first e (c0 ∷ c1 ∷ c2 ∷ c3 ∷ []) (s .faces) (f * 5) 0 fits i;
+          corner0 = getD-putRow ws (s .faces) (f * 5) 1 0 (omega arith) fits i;
+          corner1 = getD-putRow ws (s .faces) (f * 5) 2 0 (omega arith) fits i;
+          corner2 = getD-putRow ws (s .faces) (f * 5) 3 0 (omega arith) fits i;
+          corner3 = getD-putRow ws (s .faces) (f * 5) 4 0 (omega arith) fits i;
+        }
 
 -- ---- every other row
 
@@ -235,11 +224,11 @@ module _ (s : State) where
     unfolding ends putEdge
     ends-putEdge-other =
         λ k.
-          record {
-            origin = other-first (edgeWords r) (s .edges) 8 e i 0 refl other (omega arith) k;
-            dest = same-word 1 (omega arith) k;
-            interval = getD-set-other (s .intervals) e i (r .«knot_interval») nan other k
-          }
+        record {
+          origin = other-first (edgeWords r) (s .edges) 8 e i 0 refl other (omega arith) k;
+          dest = same-word 1 (omega arith) k;
+          interval = getD-set-other (s .intervals) e i (r .«knot_interval») nan other k;
+        }
 
     left-putEdge-other : side (putEdge e r s) (lft i) ≡ side s (lft i)
     unfolding side putEdge
@@ -260,34 +249,34 @@ module _ (s : State) where
   pointOf-putPoint-other p q v e k h =
       let ws : List ℕ = v ∷ e ∷ k ∷ [] in
       λ i.
-        record {
-          valence = other-first ws (s .points) 3 p q 0 refl h (omega arith) i;
-          start = getD-putRow-other ws (s .points) 3 p q 1 0 refl h (omega arith) i;
-          mark = getD-putRow-other ws (s .points) 3 p q 2 0 refl h (omega arith) i
-        }
+      record {
+        valence = other-first ws (s .points) 3 p q 0 refl h (omega arith) i;
+        start = getD-putRow-other ws (s .points) 3 p q 1 0 refl h (omega arith) i;
+        mark = getD-putRow-other ws (s .points) 3 p q 2 0 refl h (omega arith) i;
+      }
 
   pub pointOf-putStart-other : (p q e : ℕ) → q ≢ p → pointOf (putStart p e s) q ≡ pointOf s q
   unfolding pointOf putStart
   pointOf-putStart-other p q e h =
       λ i.
-        record {
-          valence = getD-set-other (s .points) (p * 3 + 1) (q * 3) e 0 (omega arith) i;
-          start = getD-set-other (s .points) (p * 3 + 1) (q * 3 + 1) e 0 (omega arith) i;
-          mark = getD-set-other (s .points) (p * 3 + 1) (q * 3 + 2) e 0 (omega arith) i
-        }
+      record {
+        valence = getD-set-other (s .points) (p * 3 + 1) (q * 3) e 0 (omega arith) i;
+        start = getD-set-other (s .points) (p * 3 + 1) (q * 3 + 1) e 0 (omega arith) i;
+        mark = getD-set-other (s .points) (p * 3 + 1) (q * 3 + 2) e 0 (omega arith) i;
+      }
 
   pub faceOf-putFace-other : (f g e c0 c1 c2 c3 : ℕ) → g ≢ f → faceOf (putFace f e c0 c1 c2 c3 s) g ≡ faceOf s g
   unfolding faceOf putFace
   faceOf-putFace-other f g e c0 c1 c2 c3 h =
       let ws : List ℕ = e ∷ c0 ∷ c1 ∷ c2 ∷ c3 ∷ [] in
       λ i.
-        record {
-          start = other-first ws (s .faces) 5 f g 0 refl h (omega arith) i;
-          corner0 = getD-putRow-other ws (s .faces) 5 f g 1 0 refl h (omega arith) i;
-          corner1 = getD-putRow-other ws (s .faces) 5 f g 2 0 refl h (omega arith) i;
-          corner2 = getD-putRow-other ws (s .faces) 5 f g 3 0 refl h (omega arith) i;
-          corner3 = getD-putRow-other ws (s .faces) 5 f g 4 0 refl h (omega arith) i
-        }
+      record {
+        start = other-first ws (s .faces) 5 f g 0 refl h (omega arith) i;
+        corner0 = getD-putRow-other ws (s .faces) 5 f g 1 0 refl h (omega arith) i;
+        corner1 = getD-putRow-other ws (s .faces) 5 f g 2 0 refl h (omega arith) i;
+        corner2 = getD-putRow-other ws (s .faces) 5 f g 3 0 refl h (omega arith) i;
+        corner3 = getD-putRow-other ws (s .faces) 5 f g 4 0 refl h (omega arith) i;
+      }
 
 -- ---- one side of an edge
 

@@ -5,3 +5,5 @@ pub mod Ring
 pub mod Visits
 pub mod Order
 pub mod Refines
+pub mod Fits
+pub mod After

@@ -8,17 +8,17 @@ use mathlib.Core.Path.{_≡_}
 use mathlib.Core.Bool.{cond}
 use mathlib.Core.List.{List}
 use mathlib.Core.Logic.{_⊎_, _≢_}
-use Prim.Native.Nat.{ℕ, _+_, _-_, _*_, _≤_, _<_}
+use Prim.Native.Nat.{ℕ, _+_, _*_, _≤_}
 use lib.Dec.{ltb}
 use lib.Ieee.{Float, add, binary64}
 use Rattle.closed_meshes.specs.Mesh.{Mesh as MeshOver, Dart, edge, flip, face}
 use Rattle.closed_meshes.specs.Closed.{Closed}
-use Rattle.closed_meshes.specs.Refinement.{NewPoint, old, mid, facePoint, NewEdge, org, dst, join, firstHalf, refined}
+use Rattle.closed_meshes.specs.Refinement.{old, mid, facePoint, org, dst, join, firstHalf, refined}
 use Rattle.closed_meshes.specs.Renumbering.{Isomorphism, Touching, Row}
 use Rattle.tables.specs.Mesh.{Mesh, start, mark, dest, interval, faceStart, corner}
 use Rattle.audited_meshes.specs.Audit.{pointRows, edgeRows, faceRows}
 use Rattle.audited_meshes.specs.Rows.{Stands, HoldsClosed}
-use Rattle.refined_meshes.specs.State.{State, meshOf}
+use Rattle.refined_meshes.specs.State.{meshOf}
 use Rattle.refined_meshes.specs.Split.{half}
 use Rattle.refined_meshes.specs.Order.{EachOnce, turnIn}
 use Rattle.refined_meshes.specs.Visits.{refinedRows}
@@ -68,7 +68,7 @@ pub record Refines (m : Mesh) {np ne nf : ℕ} (t : MeshOver (Row np) (Row ne) (
   pub old-start : (p : Row np) → StartOfOld t (λ e. numbering .edges .to (dst e) .0) p (start m (p .0)) (start m' (p .0))
   pub mid-start : (e : Row ne) → start m' (numbering .points .to (mid e) .0) ≡ e .0
   pub centre-start :
-    (f : Row nf) → start m' (numbering .points .to (facePoint f) .0) ≡ numbering .edges .to (join (c .prev (c .faceDart f))) .0
+      (f : Row nf) → start m' (numbering .points .to (facePoint f) .0) ≡ numbering .edges .to (join (c .prev (c .faceDart f))) .0
   pub face-start : (d : Dart (Row ne)) → faceStart m' (numbering .faces .to d .0) ≡ numbering .edges .to (firstHalf d) .0
 
 abbrev pub VisitsRefine : Type 0

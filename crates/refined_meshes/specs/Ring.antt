@@ -68,7 +68,7 @@ withSide true f a c e =
       «face_right» = e .«face_right»;
       origin = e .origin;
       dest = e .dest;
-      «knot_interval» = e .«knot_interval»
+      «knot_interval» = e .«knot_interval»;
     }
 withSide false f a c e =
     record {
@@ -77,7 +77,7 @@ withSide false f a c e =
       «face_right» = f;
       origin = e .origin;
       dest = e .dest;
-      «knot_interval» = e .«knot_interval»
+      «knot_interval» = e .«knot_interval»;
     }
 
 abbrev pub putSide : Bool → ℕ → ℕ → ℕ → ℕ → State → State
@@ -89,32 +89,32 @@ putJoin r i s =
     let next = nextPlace (r .size) i in
     let prev = prevPlace (r .size) i in
     putEdge (joinRow r i)
-      (record {
-        connections = joinRow r next ∷ getD (r .seconds) i 0 ∷ getD (r .firsts) i 0 ∷ joinRow r prev ∷ [];
-        «face_left» = faceRow r next;
-        «face_right» = faceRow r i;
-        origin = r .centre;
-        dest = getD (r .mids) i 0;
-        «knot_interval» = add binary64 (getD (r .found) next nan) (getD (r .found) prev nan)
-      })
-      s
+    (record {
+      connections = joinRow r next ∷ getD (r .seconds) i 0 ∷ getD (r .firsts) i 0 ∷ joinRow r prev ∷ [];
+      «face_left» = faceRow r next;
+      «face_right» = faceRow r i;
+      origin = r .centre;
+      dest = getD (r .mids) i 0;
+      «knot_interval» = add binary64 (getD (r .found) next nan) (getD (r .found) prev nan);
+    })
+    s
 
 unfoldable pub putFirst : Mesh → Ring → ℕ → State → State
 putFirst m r i s =
     putSide (onLeft m (r .face) (getD (r .edges) i 0)) (getD (r .firsts) i 0) (faceRow r i) (joinRow r i)
-      (getD (r .seconds) (prevPlace (r .size) i) 0) s
+    (getD (r .seconds) (prevPlace (r .size) i) 0) s
 
 unfoldable pub putSecond : Mesh → Ring → ℕ → State → State
 putSecond m r i s =
     let next = nextPlace (r .size) i in
     putSide (onLeft m (r .face) (getD (r .edges) i 0)) (getD (r .seconds) i 0) (faceRow r next) (getD (r .firsts) next 0)
-      (joinRow r i) s
+    (joinRow r i) s
 
 -- The corners of the new face at place i: the face point, the midpoint before, the old point, the midpoint after.
 unfoldable pub putNewFace : Mesh → Ring → ℕ → State → State
 putNewFace m r i s =
     putFace (faceRow r i) (getD (r .firsts) i 0) (r .centre) (getD (r .mids) (prevPlace (r .size) i) 0)
-      (firstPoint m (r .face) (getD (r .edges) i 0)) (getD (r .mids) i 0) s
+    (firstPoint m (r .face) (getD (r .edges) i 0)) (getD (r .mids) i 0) s
 
 -- Its start edge is the last joining edge.
 unfoldable pub putFacePoint : Ring → State → State

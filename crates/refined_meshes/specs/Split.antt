@@ -6,7 +6,7 @@
 --     split e s                the edge e split: the next edge row is its destination half, the next point row its midpoint
 --     splitWhole np e s        the edge e split unless it is split already: a whole edge ends in one of the np old points
 use mathlib.Core.Bool.{Bool, true, false}
-use mathlib.Core.List.{List, [], _∷_}
+use mathlib.Core.List.{[], _∷_}
 use Prim.Native.Nat.{ℕ}
 use lib.Dec.{ltb}
 use lib.ListN.{getD}
@@ -27,7 +27,7 @@ originHalf p h r =
       «face_right» = r .«face_right»;
       origin = r .origin;
       dest = p;
-      «knot_interval» = half (r .«knot_interval»)
+      «knot_interval» = half (r .«knot_interval»);
     }
 
 abbrev pub destinationHalf : ℕ → ℕ → TnurccEdge → TnurccEdge
@@ -38,7 +38,7 @@ destinationHalf p e r =
       «face_right» = r .«face_right»;
       origin = p;
       dest = r .dest;
-      «knot_interval» = half (r .«knot_interval»)
+      «knot_interval» = half (r .«knot_interval»);
     }
 
 -- The midpoint has valence 4, the origin half as its start edge, and mark 0. The start edge of the old destination becomes the

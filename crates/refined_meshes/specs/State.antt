@@ -42,7 +42,7 @@ putEdge e r s =
       faces = s .faces;
       pointsTaken = s .pointsTaken;
       edgesTaken = s .edgesTaken;
-      facesTaken = s .facesTaken
+      facesTaken = s .facesTaken;
     }
 
 unfoldable pub putPoint : ℕ → ℕ → ℕ → ℕ → State → State
@@ -54,7 +54,7 @@ putPoint p v e k s =
       faces = s .faces;
       pointsTaken = s .pointsTaken;
       edgesTaken = s .edgesTaken;
-      facesTaken = s .facesTaken
+      facesTaken = s .facesTaken;
     }
 
 unfoldable pub putStart : ℕ → ℕ → State → State
@@ -66,7 +66,7 @@ putStart p e s =
       faces = s .faces;
       pointsTaken = s .pointsTaken;
       edgesTaken = s .edgesTaken;
-      facesTaken = s .facesTaken
+      facesTaken = s .facesTaken;
     }
 
 unfoldable pub putFace : ℕ → ℕ → ℕ → ℕ → ℕ → ℕ → State → State
@@ -78,7 +78,7 @@ putFace f e c0 c1 c2 c3 s =
       faces = putRow (s .faces) (f * 5) (e ∷ c0 ∷ c1 ∷ c2 ∷ c3 ∷ []);
       pointsTaken = s .pointsTaken;
       edgesTaken = s .edgesTaken;
-      facesTaken = s .facesTaken
+      facesTaken = s .facesTaken;
     }
 
 -- further rows taken
@@ -91,7 +91,7 @@ take p e f s =
       faces = s .faces;
       pointsTaken = s .pointsTaken + p;
       edgesTaken = s .edgesTaken + e;
-      facesTaken = s .facesTaken + f
+      facesTaken = s .facesTaken + f;
     }
 
 unfoldable pub copied : Mesh → ℕ → ℕ → ℕ → Mesh → State
@@ -103,5 +103,5 @@ copied m np ne nf t =
       faces = over (nf * 5) (m .faces) (t .faces);
       pointsTaken = np;
       edgesTaken = ne;
-      facesTaken = nf
+      facesTaken = nf;
     }

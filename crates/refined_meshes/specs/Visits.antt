@@ -11,7 +11,7 @@
 -- the ring. The perimeter is read from the mesh, which does not change.
 use mathlib.Core.List.{List}
 use Prim.Native.Nat.{ℕ, _-_}
-use lib.ListN.{getD, length, replicate}
+use lib.ListN.{getD, replicate}
 use lib.Ieee.{Float, nan, ofBits, binary64}
 use Rattle.tables.specs.Mesh.{Mesh}
 use Rattle.audited_meshes.specs.Walks.{edgesOf, passed, faceWalk}
@@ -39,7 +39,7 @@ ringOf m f es n centre found s =
       firsts = filled n (λ i. firstHalfOf (onLeft m f (getD es i 0)) s (getD es i 0)) (replicate 64 0);
       seconds = filled n (λ i. secondHalfOf (onLeft m f (getD es i 0)) s (getD es i 0)) (replicate 64 0);
       mids = filled n (λ i. edgeOf s (getD es i 0) .dest) (replicate 64 0);
-      found = found
+      found = found;
     }
 
 -- the four loops one after the other, then the face point

@@ -3,16 +3,19 @@
 --     back-on          each is an edge that the walk may pass
 --     back-next        the step from each goes to the next, from the last to the start
 --     back-within      they are no more than the bound
+--     faceWalk-within  about a face, no more than 64
 use mathlib.Core.Path.{_≡_, refl, sym, _∙_, ap, subst}
-use mathlib.Core.Bool.{Bool, true, false}
+use mathlib.Core.Bool.{Bool, true, false, _&&_}
 use mathlib.Core.List.{List, [], _∷_, _++_}
 use mathlib.Core.Logic.{_≢_}
 use Prim.Native.Nat.{ℕ, zero, suc, _+_, _<_, _≤_}
 use native.Mathlib.Nat.{le-of-suc-le-suc}
 use native.Mathlib.Omega.{arith}
+use lib.Dec.{ltb}
 use lib.ListN.{length, getD, List·getD-append}
 use native.Mathlib.Numerals.{add-one}
-use Rattle.audited_meshes.specs.Walks.{Walk, back, walk}
+use Rattle.tables.specs.Mesh.{Mesh, faceStart}
+use Rattle.audited_meshes.specs.Walks.{Walk, back, lost, passed, walk, acwOfFace, borders, faceWalk}
 use Rattle.audited_meshes.specs.Audited.{Passes, last, more}
 use Rattle.audited_meshes.proofs.Tests.{self-is}
 use Rattle.audited_meshes.proofs.Walks.{passes-of-walk}
@@ -57,3 +60,15 @@ module _ (step : ℕ → ℕ) (on : ℕ → Bool) (s k : ℕ) (es : List ℕ) (w
   pub back-within : length es ≤ k
   unfolding On
   back-within = passes-of-walk step On s on (λ e. self-is (on e)) k s es w .1
+
+face-back-within : (m : Mesh) (ne f : ℕ) (es : List ℕ) → faceWalk m ne f ≡ back es → length es ≤ 64
+unfolding faceWalk
+face-back-within m ne f es h = back-within (acwOfFace m f) (λ e. ltb e ne && borders m f e) (faceStart m f) 64 es h
+
+-- the walk about a face passes at most 64 edges
+pub faceWalk-within : (m : Mesh) (ne f : ℕ) → passed (faceWalk m ne f) ≤ 64
+faceWalk-within m ne f = go (faceWalk m ne f) refl
+  where
+    go : (w : Walk) → faceWalk m ne f ≡ w → passed w ≤ 64
+    go (back es) h = face-back-within m ne f es h
+    go lost h = omega arith

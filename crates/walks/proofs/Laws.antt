@@ -3,7 +3,7 @@
 --     length-again, getD-again, getD-again-more  the points followed by the first k again: how many, the points, the first again
 --     four-again                                 what stands after the first four were stored behind the last
 --     border-tables                              the border of a face in the tables of edges and faces alone
---     border-back, border-point, border-point-again                  the border where the walk comes back, and its points by their places
+--     border-walk, border-point, border-point-again                  the border by the walk, and its points by their places where it comes back
 use mathlib.Core.Path.{_≡_, refl, sym, _∙_, ap, subst}
 use mathlib.Core.List.{List, [], _∷_, _++_, append-assoc, map}
 use Prim.Native.Nat.{ℕ, zero, suc, _+_, _-_, _<_, _≤_}
@@ -108,11 +108,11 @@ border-tables m ne f = go (faceWalk m ne f)
     go (back es) = refl
     go lost = refl
 
-pub border-back : (m : Mesh) (ne f : ℕ) (es : List ℕ) → faceWalk m ne f ≡ back es → border m ne f ≡ borderOf m f (back es)
+pub border-walk : (m : Mesh) (ne f : ℕ) → border m ne f ≡ borderOf m f (faceWalk m ne f)
 unfolding border
-border-back m ne f es w = ap (borderOf m f) w
+border-walk m ne f = refl
 
-getD-map : (g : ℕ → ℕ) (xs : List ℕ) (i : ℕ) → i < length xs → getD (map g xs) i 0 ≡ g (getD xs i 0)
+pub getD-map : (g : ℕ → ℕ) (xs : List ℕ) (i : ℕ) → i < length xs → getD (map g xs) i 0 ≡ g (getD xs i 0)
 getD-map g [] i l = absurd (omega arith)
 getD-map g (x ∷ xs) zero l = refl
 getD-map g (x ∷ xs) (suc i) l = getD-map g xs i (le-of-suc-le-suc l)
