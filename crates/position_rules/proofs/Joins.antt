@@ -22,10 +22,10 @@ use Rattle.walks.specs.Border.{again}
 use Rattle.position_rules.specs.Intervals.{A2, C2, threeTerms}
 use Rattle.position_rules.specs.FacePoint.{sixTerms, windowWeight, windowSum, overWeight, around, facePoint, facePointAbout, facePointOf}
 use Rattle.position_rules.specs.Fits.{EdgesFit, FacePointFits}
-use Rattle.position_rules.specs.Claims.{Found, FiniteJoins}
+use Rattle.position_rules.specs.Claims.{Found, JoiningFits}
 use Rattle.position_rules.proofs.Audited.{edges-fit, face-point-fits}
 use Rattle.position_rules.proofs.Fits.{acw-below, cw-below, around-below}
-use Rattle.position_rules.proofs.Floats.{AtMost, add-lost, add-lost-right, mul-lost, mul-lost-right, div-lost, sum-lost, half-fit}
+use Rattle.position_rules.proofs.Floats.{AtMost, add-fit, add-lost, add-lost-right, mul-lost, mul-lost-right, div-lost, sum-lost, half-fit}
 use Rattle.position_rules.proofs.Sums.{windowSum-more}
 
 -- what is found is finite with the sign bit clear, and no greater
@@ -91,9 +91,13 @@ border-of m np ne nf f es a l came =
 around-same : (n j : ℕ) → j < n → around n j ≡ j
 around-same n j l = rw (lt-ltb j n l)
 
-pub finite-joins : FiniteJoins
+pub joining-fits : JoiningFits
 unfolding windowWeight facePointOf facePointAbout
-finite-joins m np ne nf f es w next previous a held l came b x y whole = go (finite (add binary64 next previous)) refl
+joining-fits m np ne nf f es w next previous a held l came b x y whole =
+    add-fit next previous
+    (found-is _ next (a .interval-fit _ (below (w + 2) (omega (arith, border-of m np ne nf f es a l came .at-least-3)))) (held _) x .found-fit)
+    (found-is _ previous (a .interval-fit _ (border-of m np ne nf f es a l came .edges-below w b)) (held _) y .found-fit)
+    (go (finite (add binary64 next previous)) refl)
   where
     pt : ℕ → ℕ
     pt j = getD (again 4 (map (firstPoint m f) es)) j 0
@@ -114,6 +118,7 @@ finite-joins m np ne nf f es w next previous a held l came b x y whole = go (fin
     at-walk : facePointOf m ne f ≡ facePoint (m .positions) (m .edges) (m .intervals) pt ed (length es)
     at-walk = ap (λ z. facePointAbout m f (edgesOf z)) came
 
+    -- the sum is finite, since otherwise the face point would not be
     go : (v : Bool) → finite (add binary64 next previous) ≡ v → v ≡ true
     go true e = refl
     go false e =

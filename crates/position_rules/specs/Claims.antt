@@ -2,8 +2,8 @@
 --     FacePointTables      the face point looks at the tables of positions, edges, intervals and faces alone
 --     EdgePointStands      where the face points stand in their places, the rule for edges gives the edge points
 --     OldPointStands       where face points and edge points stand in their places, the rule for old points gives the old points
---     FiniteJoins          where the face point is finite, so is the sum of the intervals next to each edge of the face, as a visit
---                          finds them: a joining interval
+--     JoiningFits          where the face point is finite, every joining interval of the face is finite with the sign bit clear: it is
+--                          the sum of the intervals next to an edge of the border, each whole or halved
 --     RadialRound          the edges of the rule for old points are those that the walk about the point passes, once round
 use mathlib.Core.Path.{_≡_}
 use mathlib.Core.Bool.{true}
@@ -13,10 +13,10 @@ use Prim.Native.Nat.{ℕ, _+_, _≤_, _<_}
 use lib.Dec.{T}
 use lib.ListN.{getD, length}
 use lib.Ieee.{Float, add, mul, fits, ofBits, binary64}
-use lib.Ieee.Scale.{finite}
 use Rattle.positions.specs.Position.{finitePosition}
 use Rattle.tables.specs.Mesh.{Mesh, none, start, interval}
 use Rattle.audited_meshes.specs.Walks.{back, faceWalk, pointWalk}
+use Rattle.audited_meshes.specs.Audit.{intervalFit}
 use Rattle.audited_meshes.specs.Audited.{Audited}
 use Rattle.position_rules.specs.FacePoint.{around, faceMesh, facePointOf}
 use Rattle.position_rules.specs.EdgePoint.{edgePoint}
@@ -57,10 +57,10 @@ RadialRound =
 abbrev pub Found : Float → Float → Type 0
 Found d x = (x ≡ d) ⊎ (x ≡ mul binary64 d (ofBits binary64 0x3fe0000000000000))
 
--- the edge between them is the one at the place after w
-abbrev pub FiniteJoins : Type 0
-FiniteJoins =
+-- The edge between them is the one at the place after w. The tables hold binary64 numbers: of others it is not true.
+abbrev pub JoiningFits : Type 0
+JoiningFits =
     (m : Mesh) (np ne nf f : ℕ) (es : List ℕ) (w : ℕ) (next previous : Float) → Audited m np ne nf
     → ((e : ℕ) → T (fits binary64 (interval m e))) → f < nf → faceWalk m ne f ≡ back es → w < length es
     → Found (interval m (getD es (around (length es) (w + 2)) 0)) next → Found (interval m (getD es w 0)) previous
-    → finitePosition (facePointOf m ne f) ≡ true → finite (add binary64 next previous) ≡ true
+    → finitePosition (facePointOf m ne f) ≡ true → intervalFit (add binary64 next previous) ≡ true
