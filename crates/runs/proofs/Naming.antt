@@ -21,10 +21,10 @@ use Rattle.audited_meshes.specs.Rows.{HoldsClosed}
 use Rattle.steps.specs.declared.Stepped.{Stepped}
 use Rattle.steps.specs.declared.Stepped.the-variants.{Refined, NotClosed, NotEachFaceOnce, NoRoom, NotFinite}
 use Rattle.steps.specs.Step.{numberOf, refinedCounts, firstRows}
-use Rattle.steps.specs.OneStep.{Refinement, OneStep}
+use Rattle.steps.specs.OneStep.{Refinement, Binary64}
 use Rattle.runs.specs.Runs.{Lent, Handed, outcome, after, run, oneMore, accepted, lent, NamedMesh, stage, NewNames, SameNames, Renamed, Naming, done, further}
 use Rattle.runs.proofs.Names.{step-of-names, named-after, new-names}
-use Rattle.runs.proofs.Steps.{answered, refused-number, same-names-of, renamed-same, after-refused, made-of, after-accepted}
+use Rattle.runs.proofs.Steps.{answered, refused-number, same-names-of, renamed-same, after-refused, made-of, after-accepted, numbers-after}
 
 module _ {first : Counts} {l : Lent} where
   pub same-names-refl : (n : NamedMesh first l) → SameNames n n
@@ -74,7 +74,7 @@ add-accepted NotFinite k a = refl
 
 -- What holds in the beginning, is kept by the same names and is made by new names holds of the names that a run makes.
 module _
-    {first : Counts} (one-step : OneStep) (P : ℕ → (l : Lent) → NamedMesh first l → Type 1)
+    {first : Counts} (P : ℕ → (l : Lent) → NamedMesh first l → Type 1)
     (same : (k : ℕ) (l : Lent) (n : NamedMesh first l) → P k l n → (n' : NamedMesh first l) → SameNames n n' → P k l n')
     (new :
         (k : ℕ) (l : Lent) (n : NamedMesh first l) → P k l n → (m' : Mesh) →
@@ -83,9 +83,9 @@ module _
         (n' : NamedMesh first (lent m' (refinedCounts (l .counts)))) → NewNames (suc k) n n' → P (suc k) (lent m' (refinedCounts (l .counts))) n')
   where
     along-step :
-        (k : ℕ) (l : Lent) (n : NamedMesh first l) → P k l n → (h : Handed) (n' : NamedMesh first (after l h)) →
+        (k : ℕ) (l : Lent) (n : NamedMesh first l) → P k l n → Binary64 (l .counts) (l .tables) → (h : Handed) (n' : NamedMesh first (after l h)) →
         Renamed k (outcome l h .answer) n n' → P (oneMore (outcome l h .answer) k) (after l h) n'
-    along-step k l n r h n' a = go (answered (outcome l h .answer))
+    along-step k l n r b h n' a = go (answered (outcome l h .answer))
       where
         go :
             ((c : Counts) × (outcome l h .answer ≡ Refined c)) ⊎ ((x : ℕ) × (numberOf (outcome l h .answer) ≡ some x)) →
@@ -93,22 +93,23 @@ module _
         go (inl (c, e)) =
             subst (λ g. P (oneMore g k) (after l h) n') (sym e)
             (pathJ (λ y q. (n' : NamedMesh first y) → NewNames (suc k) n n' → P (suc k) y n')
-            (new k l n r (outcome l h .tables) (λ H. made-of one-step l h H c e .refinement))
-            (sym (after-accepted one-step l h (n .holds) c e)) n' (subst (λ g. Renamed k g n n') e a))
+            (new k l n r (outcome l h .tables) (λ H. made-of l h b H c e .refinement))
+            (sym (after-accepted l h b (n .holds) c e)) n' (subst (λ g. Renamed k g n n') e a))
         go (inr (x, q)) =
             subst (λ j. P j (after l h) n') (sym (refused-number (outcome l h .answer) x k q))
             (pathJ (λ y q. (n' : NamedMesh first y) → SameNames n n' → P k y n') (same k l n r) (sym (after-refused l h x q)) n'
             (same-names-of n n' (outcome l h .answer) x k q a))
 
     pub along :
-        {k : ℕ} {l l' : Lent} {n : NamedMesh first l} {hs : List Handed} {n' : NamedMesh first l'} → Naming k l n hs l' n' → P k l n →
-        P (k + accepted l hs) l' n'
+        {k : ℕ} {l l' : Lent} {n : NamedMesh first l} {hs : List Handed} {n' : NamedMesh first l'} → Naming k l n hs l' n' →
+        Binary64 (l .counts) (l .tables) → P k l n → P (k + accepted l hs) l' n'
     unfolding accepted
-    along {k} {l} {l'} {n} {hs} {n'} done r = subst (λ j. P j l n) (sym (add-zero k)) r
-    along (further {k} {l} {l''} {n} {h} {hs} {n'} {n''} a b) r =
-        subst (λ j. P j l'' n'') (add-accepted (outcome l h .answer) k (accepted (after l h) hs)) (along b (along-step k l n r h n' a))
+    along {k} {l} {l'} {n} {hs} {n'} done b r = subst (λ j. P j l n) (sym (add-zero k)) r
+    along (further {k} {l} {l''} {n} {h} {hs} {n'} {n''} a d) b r =
+        subst (λ j. P j l'' n'') (add-accepted (outcome l h .answer) k (accepted (after l h) hs))
+        (along d (numbers-after l h b (n .holds)) (along-step k l n r b h n' a))
 
-module _ {first : Counts} (one-step : OneStep) (s : Stage (Row (first .points)) (Row (first .edges)) (Row (first .faces))) where
+module _ {first : Counts} (s : Stage (Row (first .points)) (Row (first .edges)) (Row (first .faces))) where
   pub record Reached (k : ℕ) (l : Lent) (n : NamedMesh first l) : Type 1 where
     pub mesh : NamedMesh first l
     pub same : SameNames mesh n
@@ -119,29 +120,30 @@ module _ {first : Counts} (one-step : OneStep) (s : Stage (Row (first .points)) 
 
   -- The names of a run are reached in as many steps as it has accepted ones.
   pub reached :
-      {k : ℕ} {l l' : Lent} {n : NamedMesh first l} {hs : List Handed} {n' : NamedMesh first l'} → Naming k l n hs l' n' → Reached k l n →
-      Reached (k + accepted l hs) l' n'
+      {k : ℕ} {l l' : Lent} {n : NamedMesh first l} {hs : List Handed} {n' : NamedMesh first l'} → Naming k l n hs l' n' →
+      Binary64 (l .counts) (l .tables) → Reached k l n → Reached (k + accepted l hs) l' n'
   reached =
-      along one-step Reached reached-same λ k l n r m' made n' a.
+      along Reached reached-same λ k l n r m' made n' a.
       record {
         mesh = n';
         same = same-names-refl n';
         run = then (r .run) (step-of-names (l .tables) m' (r .mesh) (made (r .mesh .holds)) (suc k) n' (new-names-same (r .same) a));
       }
 
-module _ {first : Counts} (one-step : OneStep) where
+module _ {first : Counts} where
   -- There are names after a step,
   next-names :
-      (k : ℕ) (l : Lent) (n : NamedMesh first l) (h : Handed) → (n' : NamedMesh first (after l h)) × Renamed k (outcome l h .answer) n n'
-  next-names k l n h = go (answered (outcome l h .answer))
+      (k : ℕ) (l : Lent) (n : NamedMesh first l) → Binary64 (l .counts) (l .tables) → (h : Handed) →
+      (n' : NamedMesh first (after l h)) × Renamed k (outcome l h .answer) n n'
+  next-names k l n b h = go (answered (outcome l h .answer))
     where
       go :
           ((c : Counts) × (outcome l h .answer ≡ Refined c)) ⊎ ((x : ℕ) × (numberOf (outcome l h .answer) ≡ some x)) →
           (n' : NamedMesh first (after l h)) × Renamed k (outcome l h .answer) n n'
       go (inl (c, e)) =
-          let r = made-of one-step l h (n .holds) c e .refinement in
+          let r = made-of l h b (n .holds) c e .refinement in
           let w =
-                subst (λ x. (n' : NamedMesh first x) × NewNames (suc k) n n') (sym (after-accepted one-step l h (n .holds) c e))
+                subst (λ x. (n' : NamedMesh first x) × NewNames (suc k) n n') (sym (after-accepted l h b (n .holds) c e))
                 (named-after (l .tables) (outcome l h .tables) n r (suc k), new-names (l .tables) (outcome l h .tables) n r (suc k)) in
           (w .0, subst (λ g. Renamed k g n (w .0)) (sym e) (w .1))
       go (inr (x, q)) =
@@ -150,10 +152,11 @@ module _ {first : Counts} (one-step : OneStep) where
 
   -- and after a list of steps.
   pub named :
-      (hs : List Handed) (k : ℕ) (l : Lent) (n : NamedMesh first l) → (n' : NamedMesh first (run l hs)) × Naming k l n hs (run l hs) n'
+      (hs : List Handed) (k : ℕ) (l : Lent) (n : NamedMesh first l) → Binary64 (l .counts) (l .tables) →
+      (n' : NamedMesh first (run l hs)) × Naming k l n hs (run l hs) n'
   unfolding run
-  named [] k l n = (n, done)
-  named (h ∷ hs) k l n =
-      let w = next-names k l n h in
-      let v = named hs (oneMore (outcome l h .answer) k) (after l h) (w .0) in
+  named [] k l n b = (n, done)
+  named (h ∷ hs) k l n b =
+      let w = next-names k l n b h in
+      let v = named hs (oneMore (outcome l h .answer) k) (after l h) (w .0) (numbers-after l h b (n .holds)) in
       (v .0, further (w .1) (v .1))

@@ -16,7 +16,7 @@ use Rattle.closed_meshes.proofs.Isomorphisms.{onto}
 use Rattle.position_rules.specs.FacePoint.{facePointOf as facePointIn}
 use Rattle.position_rules.specs.Rules.{edgePointOf, oldPointOf}
 use Rattle.steps.specs.Step.{firstRows}
-use Rattle.steps.specs.OneStep.{Refinement, OneStep}
+use Rattle.steps.specs.OneStep.{Refinement, Binary64}
 use Rattle.runs.specs.Runs.{Lent, Handed, accepted, lent, NamedMesh, SameNames, Naming}
 use Rattle.runs.proofs.Names.{point, point-name}
 use Rattle.runs.proofs.Naming.{same-names-trans, along}
@@ -38,7 +38,7 @@ module _ (m : Mesh) (c : Counts) where
   afterOne (facePointOf k f) = ofFace f
 
 module _
-    (one-step : OneStep) (c : Counts) (a : Mesh) (begun : NamedMesh c (lent a c)) (given : begun .names ≡ givenNames)
+    (c : Counts) (a : Mesh) (begun : NamedMesh c (lent a c)) (given : begun .names ≡ givenNames)
   where
     -- With no accepted step all is as in the beginning; after one each name says where its point stands.
     pub record Positions (k : ℕ) (l : Lent) (n : NamedMesh c l) : Type 1 where
@@ -84,11 +84,11 @@ module _
             ∙ ap (λ y. ofFace (firstRows c a) c y) (sym name)
 
     pub positions :
-        {k : ℕ} {l l' : Lent} {n : NamedMesh c l} {hs : List Handed} {n' : NamedMesh c l'} → Naming k l n hs l' n' → Positions k l n →
-        Positions (k + accepted l hs) l' n'
+        {k : ℕ} {l l' : Lent} {n : NamedMesh c l} {hs : List Handed} {n' : NamedMesh c l'} → Naming k l n hs l' n' →
+        Binary64 (l .counts) (l .tables) → Positions k l n → Positions (k + accepted l hs) l' n'
     unfolding point
     positions =
-        along one-step Positions positions-same λ k l n r m' made n' b.
+        along Positions positions-same λ k l n r m' made n' b.
         let f = made (n .holds) in
         record {
           none-accepted = λ z. absurd (omega arith);

@@ -18,8 +18,9 @@ use Rattle.audited_meshes.proofs.Holds.{audit-is-closed}
 use Rattle.steps.specs.declared.Stepped.{Stepped}
 use Rattle.steps.specs.declared.Stepped.the-variants.{Refined, NotClosed, NotEachFaceOnce, NoRoom, NotFinite}
 use Rattle.steps.specs.Step.{numberOf, refinedCounts, firstRows, whole, made, step}
-use Rattle.steps.specs.OneStep.{Accepted, OneStep}
+use Rattle.steps.specs.OneStep.{Binary64, Accepted}
 use Rattle.steps.proofs.Grounds.{untouched}
+use Rattle.steps.proofs.OneStep.{one-step}
 use Rattle.runs.specs.Runs.{Lent, Handed, outcome, countsAfter, after, oneMore, lent, NamedMesh, NewNames, SameNames, Renamed, StepClaim, EachStep, noSteps, eachStep}
 
 pub answered : (g : Stepped) → ((c : Counts) × (g ≡ Refined c)) ⊎ ((x : ℕ) × (numberOf g ≡ some x))
@@ -70,10 +71,10 @@ module _ (l : Lent) (h : Handed) where
       let c = refused-counts (outcome l h .answer) x (l .counts) q in
       ap₂ lent t c
 
-module _ (one-step : OneStep) (l : Lent) (h : Handed) where
+module _ (l : Lent) (h : Handed) (numbers : Binary64 (l .counts) (l .tables)) where
   module _ (H : HoldsClosed (l .tables) (l .counts .points) (l .counts .edges) (l .counts .faces)) (c : Counts) (e : outcome l h .answer ≡ Refined c) where
     pub made-of : Accepted (l .tables) (l .counts) (h .order) (h .scratch) H c
-    made-of = one-step (l .tables) (l .counts) (h .order) (h .scratch) H c e
+    made-of = one-step (l .tables) (l .counts) (h .order) (h .scratch) H numbers c e
 
     counts-accepted : after l h .counts ≡ refinedCounts (l .counts)
     counts-accepted = ap (λ g. countsAfter g (l .counts)) e ∙ made-of .counts
@@ -96,6 +97,15 @@ module _ (one-step : OneStep) (l : Lent) (h : Handed) where
         go (inl (c, e)) = subst Holds (sym (after-accepted H c e)) (made-of H c e .refinement .holds)
         go (inr (x, q)) = subst Holds (sym (after-refused l h x q)) H
 
+    pub numbers-after : Binary64 (after l h .counts) (after l h .tables)
+    numbers-after = go (answered (outcome l h .answer))
+      where
+        go :
+            ((c : Counts) × (outcome l h .answer ≡ Refined c)) ⊎ ((x : ℕ) × (numberOf (outcome l h .answer) ≡ some x)) →
+            Binary64 (after l h .counts) (after l h .tables)
+        go (inl (c, e)) = subst (λ x. Binary64 (x .counts) (x .tables)) (sym (after-accepted H c e)) (made-of H c e .numbers)
+        go (inr (x, q)) = subst (λ x. Binary64 (x .counts) (x .tables)) (sym (after-refused l h x q)) numbers
+
     step-claim : StepClaim l h
     step-claim =
         record {
@@ -107,6 +117,8 @@ module _ (one-step : OneStep) (l : Lent) (h : Handed) where
 
 -- Every step of a list meets its claim.
 pub each-step :
-    OneStep → (hs : List Handed) (l : Lent) → HoldsClosed (l .tables) (l .counts .points) (l .counts .edges) (l .counts .faces) → EachStep l hs
-each-step one-step [] l H = noSteps
-each-step one-step (h ∷ hs) l H = eachStep (step-claim one-step l h H) (each-step one-step hs (after l h) (holds-after one-step l h H))
+    (hs : List Handed) (l : Lent) → Binary64 (l .counts) (l .tables) →
+    HoldsClosed (l .tables) (l .counts .points) (l .counts .edges) (l .counts .faces) → EachStep l hs
+each-step [] l b H = noSteps
+each-step (h ∷ hs) l b H =
+    eachStep (step-claim l h b H) (each-step hs (after l h) (numbers-after l h b H) (holds-after l h b H))

@@ -36,6 +36,7 @@ use Rattle.audited_meshes.specs.Rows.{HoldsClosed, place}
 use Rattle.steps.specs.declared.Stepped.{Stepped}
 use Rattle.steps.specs.declared.Stepped.the-variants.{Refined, NotClosed, NotEachFaceOnce, NoRoom, NotFinite}
 use Rattle.steps.specs.Step.{numberOf, refinedCounts, firstRows, whole, made, Outcome, step}
+use Rattle.steps.specs.OneStep.{Binary64}
 
 -- ---- runs
 
@@ -208,9 +209,9 @@ pub record TwoRuns (c : Counts) (a b : Mesh) (hsA hsB : List Handed) : Type 0 wh
       n .ended .names .point p ≡ n' .ended .names .point p' →
       positionAt (run (lent a c) hsA .tables .positions) (p .0) ≡ positionAt (run (lent b c) hsB .tables .positions) (p' .0)
 
--- One accepted mesh stands in tables of any lengths, those of A and those of B. A visits in numbered order and is handed the
--- scratch tables ts, one for each step; B is handed any orders and any scratch tables.
+-- One accepted mesh, of binary64 numbers, stands in tables of any lengths, those of A and those of B. A visits in numbered order
+-- and is handed the scratch tables ts, one for each step; B is handed any orders and any scratch tables.
 abbrev pub Demand3 : Type 0
 Demand3 =
-    (c : Counts) (a b : Mesh) → audit a (c .points) (c .edges) (c .faces) ≡ true → firstRows c a ≡ firstRows c b →
+    (c : Counts) (a b : Mesh) → audit a (c .points) (c .edges) (c .faces) ≡ true → Binary64 c a → firstRows c a ≡ firstRows c b →
     (ts : List Mesh) (hs : List Handed) → TwoRuns c a b (inNumberedOrder (lent a c) ts) hs

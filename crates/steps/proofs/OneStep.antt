@@ -7,9 +7,10 @@ use mathlib.Core.Logic.{_⊎_, inl, inr, _≢_}
 use Prim.Native.Nat.{ℕ, _+_, _*_, _≤_, _<_}
 use native.Mathlib.Omega.{arith}
 use native.Mathlib.Decide.{decLt}
-use lib.Dec.{ltb}
+use lib.Dec.{T, ltb}
 use lib.ListN.{length, getD}
-use lib.Ieee.{Float, add, binary64}
+use lib.Ieee.{Float, fits, binary64}
+use lib.Ieee.Fits.{add-fits, mul-fits}
 use lib.Ieee.Scale.{finite}
 use Rattle.positions.specs.declared.Position.{Position}
 use Rattle.positions.specs.Position.{finitePosition}
@@ -32,32 +33,21 @@ use Rattle.refined_meshes.specs.State.{State, meshOf, copied}
 use Rattle.refined_meshes.specs.Split.{half}
 use Rattle.refined_meshes.specs.Order.{EachOnce, turnIn}
 use Rattle.refined_meshes.specs.Visits.{refinedRows}
-use Rattle.refined_meshes.specs.Refines.{found, Refines, VisitsRefine}
+use Rattle.refined_meshes.specs.Refines.{found, Refines}
+use Rattle.refined_meshes.proofs.Refines.{visits-refine}
 use Rattle.position_rules.specs.FacePoint.{facePointOf}
 use Rattle.position_rules.specs.Rules.{edgePointOf, oldPointOf}
+use Rattle.position_rules.specs.Claims.{Found}
+use Rattle.position_rules.proofs.Floats.{half-fit}
 use Rattle.steps.specs.declared.Stepped.the-variants.{Refined}
 use Rattle.steps.specs.Positions.{on, facePointRow, edgePointRow, placedAll}
 use Rattle.steps.specs.Step.{refinedCounts, firstRows, overRows, whole, made, step}
-use Rattle.steps.specs.OneStep.{Refinement, OneStep}
+use Rattle.steps.specs.OneStep.{Refinement, Binary64, OneStep}
 use Rattle.steps.proofs.Rows.{Room, points-fit, edges-fit, faces-fit, Exact, exact-firstRows, room-firstRows, room-of-exact, room-of-holds, holds-same, holds-firstRows, SameRows, firstRows-overRows, same-overRows, room-overRows, position-same}
 use Rattle.steps.proofs.NewPositions.{PointRows, AllPlaced, placed-all, length-all}
 use Rattle.steps.proofs.Lengths.{AsLong, long-refinedRows}
+use Rattle.steps.proofs.Joining.{joining-fit, binary64-firstRows}
 use Rattle.steps.proofs.Grounds.{Within, Taken, taken, Begun, made-is}
-
--- u is d or its half
-abbrev pub Halved : Float → Float → Type 0
-Halved u d = (u ≡ d) ⊎ (u ≡ half d)
-
--- If a face point is finite, so is every joining interval of its face, as found on arriving or halved.
-abbrev pub JointsFit : Type 0
-JointsFit =
-    (m : Mesh) (np ne nf : ℕ) (h : HoldsClosed m np ne nf) (d : Dart (Row ne)) →
-    finitePosition (facePointOf m ne (face (h .mesh) d .0)) ≡ true → (u v : Float) →
-    Halved u (interval m (edge (h .closed .next d) .0)) → Halved v (interval m (edge (h .closed .prev d) .0)) →
-    intervalFit (add binary64 u v) ≡ true
-
-abbrev pub HalvesFit : Type 0
-HalvesFit = (d : Float) → intervalFit d ≡ true → intervalFit (half d) ≡ true
 
 -- the three coordinates of a finite position
 finite-parts :
@@ -71,7 +61,7 @@ finite-parts p e = go (finite (p .x)) refl (finite (p .y)) refl (finite (p .z)) 
     go false ha b hb c hc = absurd (let z : false ≡ true = sym (rw ha) ∙ e in let q : _≡_ {A = ℕ} 0 1 = cc in omega arith)
 
 -- the interval that is found is whole or half
-halved-found : (b : Bool) (d : Float) → Halved (cond b (half d) d) d
+halved-found : (b : Bool) (d : Float) → Found d (cond b (half d) d)
 halved-found true d = inr refl
 halved-found false d = inl refl
 
@@ -80,7 +70,7 @@ module _ (m : Mesh) (c : Counts) (h : HoldsClosed m (c .points) (c .edges) (c .f
   abbrev s : State
   s = refinedRows m (c .points) (c .edges) (c .faces) order t
 
-  found-halved : (d : Dart (Row (c .edges))) → Halved (found m (h .mesh) order d) (interval m (edge d .0))
+  found-halved : (d : Dart (Row (c .edges))) → Found (interval m (edge d .0)) (found m (h .mesh) order d)
   found-halved d =
       halved-found (ltb (turnIn order (face (h .mesh) (flip d) .0)) (turnIn order (face (h .mesh) d .0))) (interval m (edge d .0))
 
@@ -153,7 +143,7 @@ module _ (m : Mesh) (c : Counts) (h : HoldsClosed m (c .points) (c .edges) (c .f
         }
 
     module _
-        (halves-fit : HalvesFit) (joints-fit : JointsFit) (few : c .faces ≤ none) (room : Exact (refinedCounts c) t)
+        (numbers : (e : ℕ) → T (fits binary64 (interval m e))) (few : c .faces ≤ none) (room : Exact (refinedCounts c) t)
         (put : placedAll m c s (t .positions) ≡ on qs)
       where
         audited : Audited m (c .points) (c .edges) (c .faces)
@@ -188,13 +178,17 @@ module _ (m : Mesh) (c : Counts) (h : HoldsClosed m (c .points) (c .edges) (c .f
 
         interval-of : (x : NewEdge (Row (c .edges))) → intervalFit (interval (meshOf qs s) (visited .numbering .edges .to x .0)) ≡ true
         interval-of (org e) =
-            rw (visited .origin-row e, visited .origin-interval e) (halves-fit _ (h .fit .interval-fit (e .0) (e .1)))
-        interval-of (dst e) = rw (visited .destination-interval e) (halves-fit _ (h .fit .interval-fit (e .0) (e .1)))
+            rw (visited .origin-row e, visited .origin-interval e) (half-fit _ (h .fit .interval-fit (e .0) (e .1)) (numbers (e .0)) .is-fit)
+        interval-of (dst e) = rw (visited .destination-interval e) (half-fit _ (h .fit .interval-fit (e .0) (e .1)) (numbers (e .0)) .is-fit)
         interval-of (join d) =
             rw (visited .join-interval d)
-            (joints-fit m _ _ _ h d (all .face-finite (face (h .mesh) d .0) (face (h .mesh) d .1))
-            (found m (h .mesh) order (h .closed .next d)) (found m (h .mesh) order (h .closed .prev d)) (found-halved (h .closed .next d))
+            (joining-fit m h numbers d (all .face-finite (face (h .mesh) d .0) (face (h .mesh) d .1)) _ _ (found-halved (h .closed .next d))
             (found-halved (h .closed .prev d)))
+
+        number-of : (x : NewEdge (Row (c .edges))) → T (fits binary64 (interval (meshOf qs s) (visited .numbering .edges .to x .0)))
+        number-of (org e) = rw (visited .origin-row e, visited .origin-interval e) (mul-fits binary64 _ _)
+        number-of (dst e) = rw (visited .destination-interval e) (mul-fits binary64 _ _)
+        number-of (join d) = rw (visited .join-interval d) (add-fits binary64 _ _)
 
         mark-of :
             (x : NewPoint (Row (c .points)) (Row (c .edges)) (Row (c .faces))) →
@@ -294,32 +288,40 @@ module _ (m : Mesh) (c : Counts) (h : HoldsClosed m (c .points) (c .edges) (c .f
                 face-point = λ f. position-there (facePoint f);
               }
 
-module _ (visits-refine : VisitsRefine) (halves-fit : HalvesFit) (joints-fit : JointsFit) where
-  -- An accepted step makes the refinement.
-  pub one-step : OneStep
-  unfolding holds-firstRows
-  one-step m c order t h c' e =
-      let k = taken m c order t c' e in
-      let m1 = firstRows c m in
-      let h1 = holds-firstRows h in
-      let u = firstRows (refinedCounts c) t in
-      let x = exact-firstRows (refinedCounts c) t (k .scratch-room) in
-      let r = room-of-exact x in
-      let b = made-is m1 c order u (k .mesh) (k .is-made) in
-      let v = visits-refine m1 (c .points) (c .edges) (c .faces) h1 order (k .once) u (points-fit r) (edges-fit r) (faces-fit r) (b .positions) in
-      let few : c .faces ≤ none = omega (arith, k .within .points) in
-      let q : step m c order t .tables ≡ overRows (refinedCounts c) (meshOf (b .positions) (refinedRows m1 (c .points) (c .edges) (c .faces) order u)) m =
-            k .tables ∙ ap (λ n. overRows (refinedCounts c) n m) (b .mesh) in
-      record {
-        counts = k .counts;
-        in-order =
-            k .is-made
-            ∙ ap whole
-            (b .mesh
-            ∙ sym (ap (firstRows (refinedCounts c)) q
-              ∙ firstRows-overRows (refinedCounts c) (meshOf (b .positions) (refinedRows m1 (c .points) (c .edges) (c .faces) order u)) m
-                (lengths m1 c h1 order u (b .positions) v halves-fit joints-fit few x (b .put))));
-        refinement =
-            subst (Refinement m1 c (h .mesh) (h .closed)) (sym q)
-            (refinement-there m1 c h1 order u (b .positions) v halves-fit joints-fit few x (b .put) m);
-      }
+          pub numbers-there : Binary64 (refinedCounts c) (overRows (refinedCounts c) (meshOf qs s) m0)
+          unfolding there
+          numbers-there e l =
+              rw (same .intervals e l)
+              (onto (visited .numbering .edges) (λ x. T (fits binary64 (interval (meshOf qs s) (x .0)))) number-of (e, l))
+
+-- An accepted step makes the refinement.
+pub one-step : OneStep
+unfolding holds-firstRows
+one-step m c order t h numbers c' e =
+    let k = taken m c order t c' e in
+    let m1 = firstRows c m in
+    let h1 = holds-firstRows h in
+    let u = firstRows (refinedCounts c) t in
+    let x = exact-firstRows (refinedCounts c) t (k .scratch-room) in
+    let r = room-of-exact x in
+    let b = made-is m1 c order u (k .mesh) (k .is-made) in
+    let v = visits-refine m1 (c .points) (c .edges) (c .faces) h1 order (k .once) u (points-fit r) (edges-fit r) (faces-fit r) (b .positions) in
+    let held : (e : ℕ) → T (fits binary64 (interval m1 e)) = binary64-firstRows c m numbers in
+    let few : c .faces ≤ none = omega (arith, k .within .points) in
+    let q : step m c order t .tables ≡ overRows (refinedCounts c) (meshOf (b .positions) (refinedRows m1 (c .points) (c .edges) (c .faces) order u)) m =
+          k .tables ∙ ap (λ n. overRows (refinedCounts c) n m) (b .mesh) in
+    record {
+      counts = k .counts;
+      in-order =
+          k .is-made
+          ∙ ap whole
+          (b .mesh
+          ∙ sym (ap (firstRows (refinedCounts c)) q
+            ∙ firstRows-overRows (refinedCounts c) (meshOf (b .positions) (refinedRows m1 (c .points) (c .edges) (c .faces) order u)) m
+              (lengths m1 c h1 order u (b .positions) v held few x (b .put))));
+      refinement =
+          subst (Refinement m1 c (h .mesh) (h .closed)) (sym q)
+          (refinement-there m1 c h1 order u (b .positions) v held few x (b .put) m);
+      numbers =
+          subst (Binary64 (refinedCounts c)) (sym q) (numbers-there m1 c h1 order u (b .positions) v held few x (b .put) m);
+    }

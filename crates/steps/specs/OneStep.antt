@@ -2,14 +2,17 @@
 --     Refinement m c t d m'   the tables m' hold the refinement on kinds of the mesh t, which is closed by d and stands in the rows m,
 --                             under the numbering that the visits make; and the position of each point is its rule's answer from
 --                             m alone
+--     Binary64 c m            the intervals of the mesh are binary64 numbers, as all numbers of the lent tables are
 --     Accepted m c order t h c'   what is claimed of an accepted step
 --     OneStep                 the claim: it holds of every accepted step
 --     Untouched               the claim: a refused step leaves the tables as found
 use mathlib.Core.Path.{_≡_}
 use mathlib.Core.List.{List}
 use mathlib.Core.Option.{some}
-use Prim.Native.Nat.{ℕ}
-use Rattle.tables.specs.Mesh.{Mesh, dest, corner}
+use Prim.Native.Nat.{ℕ, _<_}
+use lib.Dec.{T}
+use lib.Ieee.{fits, binary64}
+use Rattle.tables.specs.Mesh.{Mesh, dest, interval, corner}
 use Rattle.tables.specs.Records.{positionAt}
 use Rattle.tables.specs.declared.Counts.{Counts}
 use Rattle.closed_meshes.specs.Mesh.{Mesh as MeshOver}
@@ -46,6 +49,10 @@ pub record Refinement
       (f : Row (c .faces)) →
       positionAt (m' .positions) (numbering .points .to (facePoint f) .0) ≡ facePointOf m (c .edges) (f .0)
 
+-- A number of a definition may have more digits than a binary64 number. Those that are stored in the tables are binary64.
+abbrev pub Binary64 : Counts → Mesh → Type 0
+Binary64 c m = (e : ℕ) → e < c .edges → T (fits binary64 (interval m e))
+
 pub record Accepted
     (m : Mesh) (c : Counts) (order : List ℕ) (t : Mesh) (h : HoldsClosed m (c .points) (c .edges) (c .faces)) (c' : Counts) : Type 0
   where
@@ -55,11 +62,12 @@ pub record Accepted
   pub in-order :
       made (firstRows c m) c order (firstRows (refinedCounts c) t) ≡ whole (firstRows (refinedCounts c) (step m c order t .tables))
   pub refinement : Refinement (firstRows c m) c (h .mesh) (h .closed) (step m c order t .tables)
+  pub numbers : Binary64 (refinedCounts c) (step m c order t .tables)
 
 abbrev pub OneStep : Type 0
 OneStep =
-    (m : Mesh) (c : Counts) (order : List ℕ) (t : Mesh) (h : HoldsClosed m (c .points) (c .edges) (c .faces)) (c' : Counts) →
-    step m c order t .answer ≡ Refined c' → Accepted m c order t h c'
+    (m : Mesh) (c : Counts) (order : List ℕ) (t : Mesh) (h : HoldsClosed m (c .points) (c .edges) (c .faces)) → Binary64 c m →
+    (c' : Counts) → step m c order t .answer ≡ Refined c' → Accepted m c order t h c'
 
 abbrev pub Untouched : Type 0
 Untouched =
