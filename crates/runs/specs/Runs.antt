@@ -36,6 +36,7 @@ use Rattle.audited_meshes.specs.Rows.{HoldsClosed, place}
 use Rattle.steps.specs.declared.Stepped.{Stepped}
 use Rattle.steps.specs.declared.Stepped.the-variants.{Refined, NotClosed, NotEachFaceOnce, NoRoom, NotFinite}
 use Rattle.steps.specs.Step.{numberOf, refinedCounts, firstRows, whole, made, Outcome, step}
+use Rattle.steps.specs.OneStep.{Binary64}
 
 -- ---- runs
 
@@ -152,8 +153,8 @@ module _ {first : Counts} where
   Renamed k NotFinite n n' = SameNames n n'
 
   pub data Naming : ℕ → (l : Lent) → NamedMesh first l → List Handed → (l' : Lent) → NamedMesh first l' → Type 0 where
-    begin : {k : ℕ} {l : Lent} {n : NamedMesh first l} → Naming k l n [] l n
-    then :
+    done : {k : ℕ} {l : Lent} {n : NamedMesh first l} → Naming k l n [] l n
+    further :
         {k : ℕ} {l l'' : Lent} {n : NamedMesh first l} {h : Handed} {hs : List Handed} {n' : NamedMesh first (after l h)}
         {n'' : NamedMesh first l''} → Renamed k (outcome l h .answer) n n' →
         Naming (oneMore (outcome l h .answer) k) (after l h) n' hs l'' n'' → Naming k l n (h ∷ hs) l'' n''
@@ -208,9 +209,9 @@ pub record TwoRuns (c : Counts) (a b : Mesh) (hsA hsB : List Handed) : Type 0 wh
       n .ended .names .point p ≡ n' .ended .names .point p' →
       positionAt (run (lent a c) hsA .tables .positions) (p .0) ≡ positionAt (run (lent b c) hsB .tables .positions) (p' .0)
 
--- One accepted mesh stands in tables of any lengths, those of A and those of B. A visits in numbered order and is handed the
--- scratch tables ts, one for each step; B is handed any orders and any scratch tables.
+-- One accepted mesh, of binary64 numbers, stands in tables of any lengths, those of A and those of B. A visits in numbered order
+-- and is handed the scratch tables ts, one for each step; B is handed any orders and any scratch tables.
 abbrev pub Demand3 : Type 0
 Demand3 =
-    (c : Counts) (a b : Mesh) → audit a (c .points) (c .edges) (c .faces) ≡ true → firstRows c a ≡ firstRows c b →
+    (c : Counts) (a b : Mesh) → audit a (c .points) (c .edges) (c .faces) ≡ true → Binary64 c a → firstRows c a ≡ firstRows c b →
     (ts : List Mesh) (hs : List Handed) → TwoRuns c a b (inNumberedOrder (lent a c) ts) hs

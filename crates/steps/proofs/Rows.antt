@@ -13,10 +13,13 @@ use lib.Seq.{getD-take, length-take-le, take-append-le, take-all}
 use lib.Ieee.{Float, nan}
 use Rattle.tables.specs.Mesh.{Mesh}
 use Rattle.tables.specs.Rows.{over}
+use Rattle.tables.specs.Records.{positionAt}
 use Rattle.tables.specs.declared.Counts.{Counts}
-use Rattle.closed_meshes.specs.Mesh.{Place, place0, place1, place2, place3}
+use Rattle.closed_meshes.specs.Mesh.{Mesh as MeshOver}
+use Rattle.closed_meshes.specs.Renumbering.{Row}
 use Rattle.audited_meshes.specs.Audit.{pointRows, edgeRows, faceRows, audit}
 use Rattle.audited_meshes.specs.Rows.{place, Stands, Fit, HoldsClosed}
+use Rattle.audited_meshes.proofs.Rows.{place-below}
 use Rattle.steps.specs.Step.{firstRows, overRows}
 
 pub record Room (c : Counts) (t : Mesh) : Type 0 where
@@ -86,54 +89,50 @@ room-firstRows c m r =
       faces = rw (length-take-le _ (m .faces) (r .faces)) (omega arith);
     }
 
-place-below : (k : Place) → place k < 4
-place-below place0 = omega arith
-place-below place1 = omega arith
-place-below place2 = omega arith
-place-below place3 = omega arith
-
-module _ {c : Counts} {m m' : Mesh} (s : SameRows c m m') (r : Room c m') where
-  pub holds-same : HoldsClosed m (c .points) (c .edges) (c .faces) → HoldsClosed m' (c .points) (c .edges) (c .faces)
-  holds-same h =
+module _ {c : Counts} {m m' : Mesh} (s : SameRows c m m') where
+  pub stands-same : {t : MeshOver (Row (c .points)) (Row (c .edges)) (Row (c .faces))} → Stands m t → Stands m' t
+  stands-same h =
       record {
-        mesh = h .mesh;
-        stands =
-            record {
-              valence-stands = λ p. s .points (p .0 * 3) (omega (arith, p .1)) ∙ h .stands .valence-stands p;
-              start-stands = λ p. s .points (p .0 * 3 + 1) (omega (arith, p .1)) ∙ h .stands .start-stands p;
-              origin-stands = λ e. s .edges (e .0 * 8) (omega (arith, e .1)) ∙ h .stands .origin-stands e;
-              dest-stands = λ e. s .edges (e .0 * 8 + 1) (omega (arith, e .1)) ∙ h .stands .dest-stands e;
-              leftFace-stands = λ e. s .edges (e .0 * 8 + 2) (omega (arith, e .1)) ∙ h .stands .leftFace-stands e;
-              rightFace-stands = λ e. s .edges (e .0 * 8 + 3) (omega (arith, e .1)) ∙ h .stands .rightFace-stands e;
-              leftCw-stands = λ e. s .edges (e .0 * 8 + 4) (omega (arith, e .1)) ∙ h .stands .leftCw-stands e;
-              leftAcw-stands = λ e. s .edges (e .0 * 8 + 5) (omega (arith, e .1)) ∙ h .stands .leftAcw-stands e;
-              rightCw-stands = λ e. s .edges (e .0 * 8 + 6) (omega (arith, e .1)) ∙ h .stands .rightCw-stands e;
-              rightAcw-stands = λ e. s .edges (e .0 * 8 + 7) (omega (arith, e .1)) ∙ h .stands .rightAcw-stands e;
-              faceStart-stands = λ f. s .faces (f .0 * 5) (omega (arith, f .1)) ∙ h .stands .faceStart-stands f;
-              corner-stands =
-                  λ f k. s .faces (f .0 * 5 + (place k + 1)) (omega (arith, f .1, place-below k)) ∙ h .stands .corner-stands f k;
-            };
-        closed = h .closed;
-        fit =
-            record {
-              points-fit = points-fit r;
-              edges-fit = edges-fit r;
-              faces-fit = faces-fit r;
-              x-finite = λ p l. rw (s .positions (p * 3) (omega arith)) (h .fit .x-finite p l);
-              y-finite = λ p l. rw (s .positions (p * 3 + 1) (omega arith)) (h .fit .y-finite p l);
-              z-finite = λ p l. rw (s .positions (p * 3 + 2) (omega arith)) (h .fit .z-finite p l);
-              interval-fit = λ e l. rw (s .intervals e l) (h .fit .interval-fit e l);
-              mark-fit = λ p l. rw (s .points (p * 3 + 2) (omega arith)) (h .fit .mark-fit p l);
-            };
+        valence-stands = λ p. s .points (p .0 * 3) (omega (arith, p .1)) ∙ h .valence-stands p;
+        start-stands = λ p. s .points (p .0 * 3 + 1) (omega (arith, p .1)) ∙ h .start-stands p;
+        origin-stands = λ e. s .edges (e .0 * 8) (omega (arith, e .1)) ∙ h .origin-stands e;
+        dest-stands = λ e. s .edges (e .0 * 8 + 1) (omega (arith, e .1)) ∙ h .dest-stands e;
+        leftFace-stands = λ e. s .edges (e .0 * 8 + 2) (omega (arith, e .1)) ∙ h .leftFace-stands e;
+        rightFace-stands = λ e. s .edges (e .0 * 8 + 3) (omega (arith, e .1)) ∙ h .rightFace-stands e;
+        leftCw-stands = λ e. s .edges (e .0 * 8 + 4) (omega (arith, e .1)) ∙ h .leftCw-stands e;
+        leftAcw-stands = λ e. s .edges (e .0 * 8 + 5) (omega (arith, e .1)) ∙ h .leftAcw-stands e;
+        rightCw-stands = λ e. s .edges (e .0 * 8 + 6) (omega (arith, e .1)) ∙ h .rightCw-stands e;
+        rightAcw-stands = λ e. s .edges (e .0 * 8 + 7) (omega (arith, e .1)) ∙ h .rightAcw-stands e;
+        faceStart-stands = λ f. s .faces (f .0 * 5) (omega (arith, f .1)) ∙ h .faceStart-stands f;
+        corner-stands =
+            λ f k. s .faces (f .0 * 5 + (place k + 1)) (omega (arith, f .1, place-below k)) ∙ h .corner-stands f k;
       }
+
+  pub fit-same : Room c m' → Fit m (c .points) (c .edges) (c .faces) → Fit m' (c .points) (c .edges) (c .faces)
+  fit-same r h =
+      record {
+        points-fit = points-fit r;
+        edges-fit = edges-fit r;
+        faces-fit = faces-fit r;
+        x-finite = λ p l. rw (s .positions (p * 3) (omega arith)) (h .x-finite p l);
+        y-finite = λ p l. rw (s .positions (p * 3 + 1) (omega arith)) (h .y-finite p l);
+        z-finite = λ p l. rw (s .positions (p * 3 + 2) (omega arith)) (h .z-finite p l);
+        interval-fit = λ e l. rw (s .intervals e l) (h .interval-fit e l);
+        mark-fit = λ p l. rw (s .points (p * 3 + 2) (omega arith)) (h .mark-fit p l);
+      }
+
+  -- The same mesh, closed as it is.
+  unfoldable pub holds-same : Room c m' → HoldsClosed m (c .points) (c .edges) (c .faces) → HoldsClosed m' (c .points) (c .edges) (c .faces)
+  holds-same r h = record { mesh = h .mesh; stands = stands-same (h .stands); closed = h .closed; fit = fit-same r (h .fit) }
 
 -- The room of a mesh that fits its tables.
 pub room-of-holds : {m : Mesh} {c : Counts} → HoldsClosed m (c .points) (c .edges) (c .faces) → Room c m
 room-of-holds {m} {c} h = room-of-rows c m (h .fit .points-fit) (h .fit .edges-fit) (h .fit .faces-fit)
 
 -- The mesh in the first rows is the mesh in the tables.
-pub holds-firstRows :
+unfoldable pub holds-firstRows :
     {m : Mesh} {c : Counts} → HoldsClosed m (c .points) (c .edges) (c .faces) → HoldsClosed (firstRows c m) (c .points) (c .edges) (c .faces)
+unfolding holds-same
 holds-firstRows {m} {c} h = holds-same (same-firstRows c m) (room-firstRows c m (room-of-holds h)) h
 
 -- Tables of the same first rows hold the same mesh.
@@ -208,3 +207,28 @@ firstRows-overRows c n m x =
     rw (take-over _ (n .positions) (m .positions) (x .positions), take-over _ (n .points) (m .points) (x .points),
       take-over _ (n .edges) (m .edges) (x .edges), take-over _ (n .intervals) (m .intervals) (x .intervals),
       take-over _ (n .faces) (m .faces) (x .faces))
+
+take-exact : {A : Type 0} (n : ℕ) (xs : List A) → length xs ≡ n → take n xs ≡ xs
+take-exact n xs e = take-all n xs (omega arith)
+
+firstRows-exact : (c : Counts) (n : Mesh) → Exact c n → firstRows c n ≡ n
+unfolding firstRows
+firstRows-exact c n x =
+    rw (take-exact _ (n .positions) (x .positions), take-exact _ (n .points) (x .points), take-exact _ (n .edges) (x .edges),
+      take-exact _ (n .intervals) (x .intervals), take-exact _ (n .faces) (x .faces))
+
+-- Rows put over the first rows of tables stand there.
+module _ (c : Counts) (n m : Mesh) (x : Exact c n) where
+  firstRows-both : firstRows c n ≡ firstRows c (overRows c n m)
+  firstRows-both = firstRows-exact c n x ∙ sym (firstRows-overRows c n m x)
+
+  pub same-overRows : SameRows c n (overRows c n m)
+  same-overRows = same-of-firstRows c n (overRows c n m) firstRows-both
+
+  pub room-overRows : Room c (overRows c n m)
+  room-overRows = room-of-firstRows c n (overRows c n m) firstRows-both (room-of-exact x)
+
+-- The position of a row that is the same.
+pub position-same : {c : Counts} {m m' : Mesh} → SameRows c m m' → (p : ℕ) → p < c .points → positionAt (m' .positions) p ≡ positionAt (m .positions) p
+position-same s p l =
+    rw (s .positions (p * 3) (omega arith), s .positions (p * 3 + 1) (omega arith), s .positions (p * 3 + 2) (omega arith))

@@ -8,7 +8,6 @@
 --                                          the table that the one before left, and the first that is not finite ends it
 --     facePointRule edgePointRule oldPointRule     the rules, over the table of new positions so far
 --     placedAll m c s ps                   all of it, begun with the table ps
---     newFacePoint newEdgePoint newOldPoint     the positions after a step by kind of point, from the mesh alone
 use mathlib.Core.List.{List, [], _∷_}
 use Prim.Native.Nat.{ℕ, zero, suc, _+_, _*_}
 use lib.ListN.{getD}
@@ -68,13 +67,3 @@ unfolding placed
 placedAll m c s ps =
     placed (c .points) (λ p. p) (oldPointRule m s)
     (placed (c .edges) (edgePointRow s) (edgePointRule m s) (placed (c .faces) (facePointRow s) (facePointRule m c) (on ps)))
-
-abbrev pub newFacePoint : Mesh → Counts → ℕ → Position
-newFacePoint m c f = facePointOf m (c .edges) f
-
-abbrev pub newEdgePoint : Mesh → Counts → ℕ → Position
-newEdgePoint m c e = edgePoint (m .positions) (m .edges) (m .intervals) (newFacePoint m c) e
-
-abbrev pub newOldPoint : Mesh → Counts → ℕ → Position
-newOldPoint m c p =
-    oldPoint (m .positions) (m .points) (m .edges) (m .intervals) (newEdgePoint m c) (newFacePoint m c) p
