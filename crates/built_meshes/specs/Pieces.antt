@@ -1,4 +1,4 @@
--- The starred pieces of document 01 that speak of building: lists, tables to build in, and the numbers that must be answered.
+-- The starred pieces of document 01 that speak of building: limits, lists, tables to build in, and the numbers that must be answered.
 --     Piece                  one of them
 --     asExpected x           building answers the piece with its numbers
 --     pieces                 their list, in document 01's order
@@ -12,7 +12,7 @@ use lib.ListN.{length, replicate}
 use lib.Dec.{eqb}
 use lib.Ieee.{Float, ofBits, binary64}
 use Rattle.tables.specs.Mesh.{Mesh}
-use Rattle.built_meshes.specs.Lists.{Lists, general, pointsOf, facesOf}
+use Rattle.built_meshes.specs.Lists.{Lists, Limits, general, pointsOf, facesOf}
 use Rattle.built_meshes.specs.Building.{numbersOf, build}
 
 abbrev pub unit : Float
@@ -80,11 +80,13 @@ justEnough l =
     }
 
 pub record Piece : Type 0 where
+  pub limits : Limits
   pub lists : Lists
+  pub tables : Mesh
   pub answer : List ℕ
 
 abbrev pub piece : Lists → List ℕ → Piece
-piece l ns = record { lists = l; answer = ns }
+piece l ns = record { limits = general; lists = l; tables = justEnough l; answer = ns }
 
 abbrev pub sameNumbers : List ℕ → List ℕ → Bool
 sameNumbers [] [] = true
@@ -94,7 +96,7 @@ sameNumbers (k ∷ ks) (n ∷ ns) = eqb k n && sameNumbers ks ns
 
 unfoldable pub asExpected : Piece → Bool
 unfolding build
-asExpected x = sameNumbers (numbersOf (build general (x .lists) (justEnough (x .lists)) .answer)) (x .answer)
+asExpected x = sameNumbers (numbersOf (build (x .limits) (x .lists) (x .tables) .answer)) (x .answer)
 
 abbrev pub pieces : List Piece
 pieces =
