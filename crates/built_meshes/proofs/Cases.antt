@@ -10,7 +10,7 @@ use Rattle.t_spline.specs.Connect.{linksOf}
 use Rattle.tables.specs.Mesh.{Mesh, none}
 use Rattle.built_meshes.specs.Lists.{Lists, Limits, general, refine}
 use Rattle.built_meshes.specs.Building.{build}
-use Rattle.built_meshes.specs.Pieces.{unit, two, nought, backToBack, justEnough, Piece, piece, asExpected, allOf, pieces, Expected}
+use Rattle.built_meshes.specs.Pieces.{unit, two, nought, backToBack, justEnough, Piece, piece, asExpected, allOf, Expected}
 use Rattle.built_meshes.specs.declared.Ground.the-variants.{SameWay}
 use Rattle.built_meshes.specs.declared.Built.the-variants.{Accepted, Refused}
 
@@ -31,7 +31,11 @@ times (suc k) xs = xs ++ times k xs
 abbrev triangles : ℕ → ℕ → List ℕ → Lists
 triangles n k ps =
     record {
-      coordinates = replicate (n * 3) nought; sides = times k (1 ∷ 1 ∷ 1 ∷ 0 ∷ []); listed = ps; intervals = times k (unit ∷ unit ∷ two ∷ []) }
+      coordinates = replicate (n * 3) nought;
+      sides = times k (1 ∷ 1 ∷ 1 ∷ 0 ∷ []);
+      listed = ps;
+      intervals = times k (unit ∷ unit ∷ two ∷ []);
+    }
 
 abbrev withIntervals : Lists → List Float → Lists
 withIntervals l ts = record { coordinates = l .coordinates; sides = l .sides; listed = l .listed; intervals = ts }
@@ -95,33 +99,41 @@ orders-as-expected = refl
 abbrev roomy : Mesh
 roomy =
     record {
-      positions = replicate 12 two; points = replicate 12 7; edges = replicate 56 7; intervals = replicate 7 two; faces = replicate 15 7 }
+      positions = replicate 12 two;
+      points = replicate 12 7;
+      edges = replicate 56 7;
+      intervals = replicate 7 two;
+      faces = replicate 15 7;
+    }
 
 two-triangles :
-  build general (triangles 3 2 bothSides) roomy
-  ≡ record {
+    build general (triangles 3 2 bothSides) roomy
+    ≡ record {
       answer = Accepted (record { points = 3; edges = 3; faces = 2 });
       tables =
-        record {
-          positions = replicate 9 nought ++ replicate 3 two;
-          points = 2 ∷ 2 ∷ 1 ∷ 2 ∷ 1 ∷ 1 ∷ 2 ∷ 2 ∷ 1 ∷ 7 ∷ 7 ∷ 7 ∷ [];
-          edges = (0 ∷ 1 ∷ 0 ∷ 1 ∷ 2 ∷ 1 ∷ 1 ∷ 2 ∷ []) ++ (1 ∷ 2 ∷ 0 ∷ 1 ∷ 0 ∷ 2 ∷ 2 ∷ 0 ∷ []) ++ (2 ∷ 0 ∷ 0 ∷ 1 ∷ 1 ∷ 0 ∷ 0 ∷ 1 ∷ []) ++ replicate 24 0 ++ replicate 8 7;
-          intervals = unit ∷ unit ∷ two ∷ nought ∷ nought ∷ nought ∷ two ∷ [];
-          faces = (0 ∷ none ∷ none ∷ none ∷ none ∷ []) ++ (1 ∷ none ∷ none ∷ none ∷ none ∷ []) ++ replicate 5 7
-        }
+          record {
+            positions = replicate 9 nought ++ replicate 3 two;
+            points = 2 ∷ 2 ∷ 1 ∷ 2 ∷ 1 ∷ 1 ∷ 2 ∷ 2 ∷ 1 ∷ 7 ∷ 7 ∷ 7 ∷ [];
+            edges = (0 ∷ 1 ∷ 0 ∷ 1 ∷ 2 ∷ 1 ∷ 1 ∷ 2 ∷ []) ++ (1 ∷ 2 ∷ 0 ∷ 1 ∷ 0 ∷ 2 ∷ 2 ∷ 0 ∷ []) ++ (2 ∷ 0 ∷ 0 ∷ 1 ∷ 1 ∷ 0 ∷ 0 ∷ 1 ∷ []) ++ replicate 24 0 ++ replicate 8 7;
+            intervals = unit ∷ unit ∷ two ∷ nought ∷ nought ∷ nought ∷ two ∷ [];
+            faces = (0 ∷ none ∷ none ∷ none ∷ none ∷ []) ++ (1 ∷ none ∷ none ∷ none ∷ none ∷ []) ++ replicate 5 7;
+          };
     }
 unfolding build ofBits neg add sub le lt linksOf
 two-triangles = refl
 
 same-way :
-  build general (triangles 3 2 (0 ∷ 1 ∷ 2 ∷ 0 ∷ 1 ∷ 2 ∷ [])) roomy
-  ≡ record {
+    build general (triangles 3 2 (0 ∷ 1 ∷ 2 ∷ 0 ∷ 1 ∷ 2 ∷ [])) roomy
+    ≡ record {
       answer = Refused SameWay;
       tables =
-        record {
-          positions = replicate 9 nought ++ replicate 3 two; points = replicate 9 0 ++ replicate 3 7; edges = replicate 48 0 ++ replicate 8 7;
-          intervals = replicate 6 nought ++ replicate 1 two; faces = replicate 10 0 ++ replicate 5 7
-        }
+          record {
+            positions = replicate 9 nought ++ replicate 3 two;
+            points = replicate 9 0 ++ replicate 3 7;
+            edges = replicate 48 0 ++ replicate 8 7;
+            intervals = replicate 6 nought ++ replicate 1 two;
+            faces = replicate 10 0 ++ replicate 5 7;
+          };
     }
 unfolding build ofBits neg add sub le lt linksOf
 same-way = refl

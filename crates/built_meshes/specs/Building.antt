@@ -9,7 +9,7 @@
 --     Outcome                 the answer, and the tables afterwards
 --     build c l m             building from the lists l in the lent tables m, within the limits c
 -- Grounds 2 to 4 leave the tables as they are, the others leave the counted rows zero; rows beyond are never touched.
-use mathlib.Core.Bool.{Bool, true, false, not, _&&_, cond}
+use mathlib.Core.Bool.{Bool, true, false, not, cond}
 use mathlib.Core.List.{List, [], _∷_}
 use Prim.Native.Nat.{ℕ, zero, suc, _+_, _*_}
 use lib.Dec.{eqb, ltb}
@@ -17,7 +17,6 @@ use lib.ListN.{length, getD, set}
 use lib.Ieee.{ofBits, binary64}
 use Rattle.tables.specs.Mesh.{Mesh, none, valence, rightFace}
 use Rattle.tables.specs.Rows.{over, zeroed}
-use Rattle.tables.specs.declared.Counts.{Counts}
 use Rattle.audited_meshes.specs.Folds.{every}
 use Rattle.audited_meshes.specs.Walks.{passed, pointWalk}
 use Rattle.built_meshes.specs.Lists.{Lists, Limits, pointsOf, facesOf, size, countsFit, numbersFit, rowsFit}
@@ -56,7 +55,7 @@ zeroedRows l m =
       points = zeroed (pointsOf l * 3) 0 (m .points);
       edges = zeroed (length (l .listed) * 8) 0 (m .edges);
       intervals = zeroed (length (l .listed)) (ofBits binary64 0) (m .intervals);
-      faces = zeroed (facesOf l * 5) 0 (m .faces)
+      faces = zeroed (facesOf l * 5) 0 (m .faces);
     }
 
 -- ---- the faces
@@ -117,7 +116,7 @@ finished l m =
       points = marked (pointsOf l) (m .points);
       edges = m .edges;
       intervals = m .intervals;
-      faces = m .faces
+      faces = m .faces;
     }
 
 pub record Outcome : Type 0 where

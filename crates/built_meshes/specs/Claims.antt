@@ -39,7 +39,13 @@ Accepts-exactly =
 abbrev pub zeroEdge : TnurccEdge
 zeroEdge =
     record {
-      connections = 0 ∷ 0 ∷ 0 ∷ 0 ∷ []; «face_left» = 0; «face_right» = 0; origin = 0; dest = 0; «knot_interval» = ofBits binary64 0 }
+      connections = 0 ∷ 0 ∷ 0 ∷ 0 ∷ [];
+      «face_left» = 0;
+      «face_right» = 0;
+      origin = 0;
+      dest = 0;
+      «knot_interval» = ofBits binary64 0;
+    }
 
 pub record Audited-counts (l : Lists) (t : Mesh) (k : Counts) : Type 0 where
   pub passes : audit t (k .points) (k .edges) (k .faces) ≡ true

@@ -64,7 +64,13 @@ edgeBetween m (suc k) p q = orLast (edgeBetween m k p q) (joins m p q k) k
 abbrev pub edgeOf : ℕ → ℕ → ℕ → ℕ → Float → TnurccEdge
 edgeOf k f p q v =
     record {
-      connections = k ∷ k ∷ k ∷ k ∷ []; «face_left» = f; «face_right» = none; origin = p; dest = q; «knot_interval» = v }
+      connections = k ∷ k ∷ k ∷ k ∷ [];
+      «face_left» = f;
+      «face_right» = none;
+      origin = p;
+      dest = q;
+      «knot_interval» = v;
+    }
 
 -- point p with one edge more, which becomes its start edge
 abbrev pub touched : List ℕ → ℕ → ℕ → List ℕ
@@ -77,7 +83,7 @@ newEdge m k f p q v =
       points = touched (touched (m .points) p k) q k;
       edges = putRow (m .edges) (k * 8) (edgeWords (edgeOf k f p q v));
       intervals = set (m .intervals) k v;
-      faces = m .faces
+      faces = m .faces;
     }
 
 abbrev pub withEdges : Mesh → List ℕ → Mesh
@@ -155,8 +161,12 @@ faceOf e = record { edge = e; corners = none ∷ none ∷ none ∷ none ∷ [] }
 abbrev pub withFace : Mesh → ℕ → ℕ → Mesh
 withFace m f e =
     record {
-      positions = m .positions; points = m .points; edges = m .edges; intervals = m .intervals;
-      faces = putRow (m .faces) (f * 5) (faceWords (faceOf e)) }
+      positions = m .positions;
+      points = m .points;
+      edges = m .edges;
+      intervals = m .intervals;
+      faces = putRow (m .faces) (f * 5) (faceWords (faceOf e));
+    }
 
 -- the first edge connected to the last
 unfoldable pub closedUp : ℕ → Step Ring → Step State

@@ -7,7 +7,7 @@
 use mathlib.Core.Path.{_≡_}
 use mathlib.Core.Bool.{Bool, true, false, _&&_, cond}
 use mathlib.Core.List.{List, [], _∷_, _++_}
-use Prim.Native.Nat.{ℕ, zero, suc, _+_, _*_, _-_, _/_, _%_}
+use Prim.Native.Nat.{ℕ, zero, suc, _+_, _*_, _/_, _%_}
 use lib.ListN.{length, replicate}
 use lib.Dec.{eqb}
 use lib.Ieee.{Float, ofBits, binary64}
@@ -48,7 +48,7 @@ cube =
       coordinates = cubePoints 8;
       sides = replicate 24 1;
       listed = 2 ∷ 3 ∷ 1 ∷ 0 ∷ 5 ∷ 7 ∷ 6 ∷ 4 ∷ 1 ∷ 5 ∷ 4 ∷ 0 ∷ 6 ∷ 7 ∷ 3 ∷ 2 ∷ 4 ∷ 6 ∷ 2 ∷ 0 ∷ 3 ∷ 7 ∷ 5 ∷ 1 ∷ [];
-      intervals = replicate 24 unit
+      intervals = replicate 24 unit;
     }
 
 -- k, k + 1, .. of n numbers, and n numbers down to k
@@ -75,8 +75,11 @@ even n = backToBack (n + n) (n ∷ 0 ∷ n ∷ 0 ∷ []) (replicate (n + n) unit
 abbrev pub justEnough : Lists → Mesh
 justEnough l =
     record {
-      positions = replicate (pointsOf l * 3) two; points = replicate (pointsOf l * 3) 7; edges = replicate (length (l .listed) * 8) 7;
-      intervals = replicate (length (l .listed)) two; faces = replicate (facesOf l * 5) 7
+      positions = replicate (pointsOf l * 3) two;
+      points = replicate (pointsOf l * 3) 7;
+      edges = replicate (length (l .listed) * 8) 7;
+      intervals = replicate (length (l .listed)) two;
+      faces = replicate (facesOf l * 5) 7;
     }
 
 pub record Piece : Type 0 where
