@@ -15,7 +15,7 @@ use Rattle.tables.proofs.Laws.{length-putRow, length-over, length-zeroed}
 use Rattle.tables.specs.Records.{edgeWords}
 use Rattle.t_nurcc_edge.specs.Connected.{pairOf, connectedRows}
 use Rattle.built_meshes.specs.Lists.{Lists, pointsOf, facesOf}
-use Rattle.built_meshes.specs.Perimeters.{touched}
+use Rattle.built_meshes.specs.Edges.{touched}
 use Rattle.built_meshes.specs.Building.{zeroedRows}
 use Rattle.built_meshes.specs.Beyond.{Behind, Within}
 

@@ -28,7 +28,8 @@ use Rattle.audited_meshes.specs.Audited.{Touches}
 use Rattle.audited_meshes.proofs.Folds.{below-suc, sumTo-cong}
 use Rattle.audited_meshes.proofs.Tests.{Is, and-is, or-is, eqb-is}
 use Rattle.built_meshes.specs.Lists.{Lists, pointsOf, size}
-use Rattle.built_meshes.specs.Perimeters.{nextPlace, joins, orLast, edgeBetween, edgeOf, touched, newEdge, filled, Entered, at, refused, enteredAt, enteredIf, entered}
+use Rattle.built_meshes.specs.Edges.{joins, orLast, edgeBetween, edgeOf, touched, newEdge, filled, Entered, at, refused, enteredAt, enteredIf, entered}
+use Rattle.built_meshes.specs.Perimeters.{nextPlace}
 use Rattle.built_meshes.specs.Places.{pointOf, nextOf}
 use Rattle.built_meshes.specs.Beyond.{Within}
 use Rattle.built_meshes.specs.declared.Ground.{Ground}

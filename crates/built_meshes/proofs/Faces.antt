@@ -20,7 +20,8 @@ use Rattle.built_meshes.specs.Lists.{Lists, Limits, pointsOf, facesOf, s
 use Rattle.built_meshes.specs.Faces.{sizeFit, inRange, noPointTwice, apart, sumsFit, faceVerdict}
 use Rattle.built_meshes.specs.Perimeters.{State, Step, on, stopped, nextPlace, perimeter}
 use Rattle.built_meshes.specs.Places.{pointOf, nextOf, Runs}
-use Rattle.built_meshes.specs.Building.{numberOf, faceIf, facePassed, facesFrom}
+use Rattle.built_meshes.specs.Answers.{numberOf}
+use Rattle.built_meshes.specs.Building.{faceIf, facePassed, facesFrom}
 use Rattle.built_meshes.specs.Beyond.{Within}
 use Rattle.built_meshes.specs.Grounds.{Holds}
 use Rattle.built_meshes.specs.declared.Ground.{Ground}

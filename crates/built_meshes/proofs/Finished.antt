@@ -24,7 +24,7 @@ use Rattle.audited_meshes.specs.Audited.{Audited}
 use Rattle.audited_meshes.proofs.Folds.{below-suc}
 use Rattle.built_meshes.specs.Lists.{Lists, Limits, pointsOf, facesOf}
 use Rattle.built_meshes.specs.Perimeters.{State}
-use Rattle.built_meshes.specs.Building.{markOf, marked, finished}
+use Rattle.built_meshes.specs.Whole.{markOf, marked, finished}
 use Rattle.built_meshes.specs.Beyond.{Behind, Within}
 use Rattle.built_meshes.proofs.Connecting.{Keeps}
 use Rattle.built_meshes.proofs.Rows.{row}

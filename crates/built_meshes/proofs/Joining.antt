@@ -13,7 +13,8 @@ use Rattle.t_spline.specs.declared.TnurccFaceSide.{TnurccFaceSide}
 use Rattle.t_spline.specs.declared.TnurccFaceSide.the-variants.{Left, Right}
 use Rattle.tables.specs.Mesh.{Mesh}
 use Rattle.built_meshes.specs.Lists.{Lists, size}
-use Rattle.built_meshes.specs.Perimeters.{nextPlace, joined}
+use Rattle.built_meshes.specs.Edges.{joined}
+use Rattle.built_meshes.specs.Perimeters.{nextPlace}
 use Rattle.built_meshes.specs.Places.{pointOf, nextOf}
 use Rattle.built_meshes.proofs.Connecting.{firstOf, secondOf, acwOf, cwOf, Follows, Keeps, Wrote, connected-wrote, connected-links}
 use Rattle.built_meshes.proofs.Rows.{row, pair, row-joined-first, row-joined-other, row-joined-rest}

@@ -21,7 +21,8 @@ use Rattle.audited_meshes.specs.Audit.{intervalFit}
 use Rattle.audited_meshes.specs.Folds.{one}
 use Rattle.audited_meshes.proofs.Folds.{below-suc, sumTo-cong}
 use Rattle.built_meshes.specs.Lists.{Lists, pointsOf, facesOf, size, offset}
-use Rattle.built_meshes.specs.Perimeters.{State, Ring, Step, on, stopped, Entered, at, entered, nextPlace, joined, chained, turned, turn, places, faceOf, withFace, closedUp, perimeter}
+use Rattle.built_meshes.specs.Edges.{Entered, at, entered, joined}
+use Rattle.built_meshes.specs.Perimeters.{State, Ring, Step, on, stopped, nextPlace, chained, turned, turn, places, faceOf, withFace, closedUp, perimeter}
 use Rattle.built_meshes.specs.Places.{pointOf, nextOf}
 use Rattle.built_meshes.specs.Beyond.{Within}
 use Rattle.built_meshes.specs.declared.Ground.{Ground}

@@ -17,7 +17,8 @@ use Rattle.tables.specs.Rows.{putRow}
 use Rattle.tables.specs.Records.{edgeAt, edgeWords, faceWords}
 use Rattle.tables.proofs.Laws.{length-putRow, getD-putRow, getD-putRow-other}
 use Rattle.t_nurcc_edge.specs.Connected.{pairOf, connectedRows}
-use Rattle.built_meshes.specs.Perimeters.{edgeOf, touched, newEdge, filled, joined, faceOf, withFace}
+use Rattle.built_meshes.specs.Edges.{edgeOf, touched, newEdge, filled, joined}
+use Rattle.built_meshes.specs.Perimeters.{faceOf, withFace}
 
 abbrev pub row : Mesh → ℕ → TnurccEdge
 row m e = edgeAt (m .edges) (m .intervals) e

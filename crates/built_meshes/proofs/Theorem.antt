@@ -17,7 +17,9 @@ use Rattle.audited_meshes.proofs.Folds.{sumTo-cong, sumTo-const}
 use Rattle.audited_meshes.proofs.Audited.{audit-is}
 use Rattle.built_meshes.specs.Lists.{Lists, Limits, pointsOf, facesOf, countsFit, numbersFit, rowsFit}
 use Rattle.built_meshes.specs.Perimeters.{State, Step, on, stopped}
-use Rattle.built_meshes.specs.Building.{numberOf, zeroedRows, wholeVerdict, finished, Outcome, refusal, wholeIf, answered, allFaces, buildIf, build}
+use Rattle.built_meshes.specs.Answers.{numberOf}
+use Rattle.built_meshes.specs.Whole.{wholeVerdict, finished}
+use Rattle.built_meshes.specs.Building.{zeroedRows, Outcome, refusal, wholeIf, answered, allFaces, buildIf, build}
 use Rattle.built_meshes.specs.Beyond.{Within}
 use Rattle.built_meshes.specs.Grounds.{Holds}
 use Rattle.built_meshes.specs.Claims.{Refused-by, Refusals-hold, Accepts-exactly, Audited-counts, Accepted-audited, Untouched-beyond}

@@ -17,7 +17,8 @@ use Rattle.tables.specs.Records.{edgeAt}
 use Rattle.tables.specs.declared.Counts.{Counts}
 use Rattle.audited_meshes.specs.Audit.{audit}
 use Rattle.built_meshes.specs.Lists.{Lists, Limits, pointsOf, facesOf}
-use Rattle.built_meshes.specs.Building.{numberOf, zeroedRows, build}
+use Rattle.built_meshes.specs.Answers.{numberOf}
+use Rattle.built_meshes.specs.Building.{zeroedRows, build}
 use Rattle.built_meshes.specs.Beyond.{Within}
 use Rattle.built_meshes.specs.Grounds.{Holds}
 use Rattle.built_meshes.specs.declared.Ground.{Ground}

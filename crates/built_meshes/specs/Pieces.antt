@@ -13,7 +13,8 @@ use lib.Dec.{eqb}
 use lib.Ieee.{Float, ofBits, binary64}
 use Rattle.tables.specs.Mesh.{Mesh}
 use Rattle.built_meshes.specs.Lists.{Lists, Limits, general, pointsOf, facesOf}
-use Rattle.built_meshes.specs.Building.{numbersOf, build}
+use Rattle.built_meshes.specs.Answers.{numbersOf}
+use Rattle.built_meshes.specs.Building.{build}
 
 abbrev pub unit : Float
 unit = ofBits binary64 0x3ff0000000000000
