@@ -1,0 +1,17 @@
+-- around meets its contract: the two answers are the two cases of the definition.
+use borrow.Author.Tests.{lt-ltb, le-ltb}
+use Rattle.position_rules.proofs.face_point.around.Statement.{statement}
+use Rattle.position_rules.proofs.face_point.around.Tie as tie
+use Rattle.position_rules.proofs.face_point.around.Reads as reads
+use Rattle.position_rules.proofs.face_point.around.Lts as lts
+
+-- src/face_point.rt:30:1
+returns : tie.Need-returns
+returns c = rw (lt-ltb _ _ (c .if1 .taken))
+
+-- src/face_point.rt:30:1
+returns-2 : tie.Need-returns-2
+returns-2 c = rw (le-ltb _ _ (c .if1 .left))
+
+pub around-spec : {M : Type 1} → statement M
+around-spec = tie.close (tie.spec returns returns-2)

@@ -1,0 +1,17 @@
+pub mod Places
+pub mod Numbering
+pub mod Words
+pub mod Turns
+pub mod Target
+pub mod Split
+pub mod Content
+pub mod Splits
+pub mod Ring
+pub mod Perimeters
+pub mod Visits
+pub mod Orders
+pub mod Runs
+pub mod Renumbered
+pub mod Refines
+pub mod Records
+pub mod Cases

@@ -1,0 +1,7 @@
+pub mod Turns
+pub mod State
+pub mod Split
+pub mod Ring
+pub mod Visits
+pub mod Order
+pub mod Refines
