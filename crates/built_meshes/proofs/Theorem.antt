@@ -14,7 +14,7 @@ use Rattle.tables.specs.Mesh.{Mesh}
 use Rattle.tables.specs.declared.Counts.{Counts}
 use Rattle.audited_meshes.specs.Folds.{one}
 use Rattle.audited_meshes.proofs.Folds.{sumTo-cong, sumTo-const}
-use Rattle.audited_meshes.proofs.Audited.{audit-is}
+use Rattle.audited_meshes.proofs.Audited.{audit-is-audited}
 use Rattle.built_meshes.specs.Lists.{Lists, Limits, pointsOf, facesOf, countsFit, numbersFit, rowsFit}
 use Rattle.built_meshes.specs.Perimeters.{State, Step, on, stopped}
 use Rattle.built_meshes.specs.Answers.{numberOf}
@@ -72,7 +72,7 @@ module _ (c : Limits) (l : Lists) (m : Mesh) (few : c .faces ≤ none) where
       audited-counts =
           record {
             passes =
-                audit-is (finished l (s .mesh)) (pointsOf l) (s .edges) (facesOf l) .1
+                audit-is-audited (finished l (s .mesh)) (pointsOf l) (s .edges) (facesOf l) .1
                 (audited-finished c l m counted' numbered roomy few s all fit within (w .right) (w .edged) (w .walked));
             all-points = refl;
             all-faces = refl;
