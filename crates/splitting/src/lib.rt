@@ -9,7 +9,7 @@ ghost use mathlib.Core.List.{[], _∷_};
 ghost use Rattle.tables.specs.Rows.{putRow};
 ghost use Rattle.tables.specs.Records.{edgeAt, edgeWords};
 ghost use Rattle.refined_meshes.specs.State.{State};
-ghost use Rattle.refined_meshes.specs.Split.{half, originHalf, destinationHalf, split, splitWhole};
+ghost use Rattle.refined_meshes.specs.Split.{originHalf, destinationHalf, split, splitWhole};
 ghost use Rattle.refined_meshes.specs.Visits.{splitAll};
 ghost use Rattle.splitting.specs.Scratch.{scratch, InRows, Room};
 use t_spline::TnurccEdge;
@@ -54,11 +54,11 @@ fn put_halves(edges: &mut [u32], intervals: &mut [f64], e: u32, p: u32, h: u32) 
     ensures { λ _. ⌜
         now (edges .exit) ≡
         putRow (putRow (now (edges .entry)) (h * 8) (edgeWords (destinationHalf p e (edgeAt (now (edges .entry)) (now (intervals .entry)) e))))
-            (e * 8) (edgeWords (originHalf p h (edgeAt (now (edges .entry)) (now (intervals .entry)) e))) ⌝ }
+        (e * 8) (edgeWords (originHalf p h (edgeAt (now (edges .entry)) (now (intervals .entry)) e))) ⌝ }
     ensures { λ _. ⌜
         now (intervals .exit) ≡
         set (set (now (intervals .entry)) h (destinationHalf p e (edgeAt (now (edges .entry)) (now (intervals .entry)) e) .«knot_interval»))
-            e (originHalf p h (edgeAt (now (edges .entry)) (now (intervals .entry)) e) .«knot_interval») ⌝ }
+        e (originHalf p h (edgeAt (now (edges .entry)) (now (intervals .entry)) e) .«knot_interval») ⌝ }
 {
     let edge = load_edge(edges, intervals, e as usize);
     let new = destination_half(edge, p, e);
@@ -83,7 +83,13 @@ fn put_ends(points: &mut [u32], p: u32, e: u32, d: u32, h: u32)
 }
 
 // Splits the edge e: the next row of edges becomes its destination half, the next row of points its midpoint.
-pub fn split_edge(points: &mut [u32], edges: &mut [u32], intervals: &mut [f64], e: u32, taken: Counts) -> Counts
+pub fn split_edge(
+    points: &mut [u32],
+    edges: &mut [u32],
+    intervals: &mut [f64],
+    e: u32,
+    taken: Counts,
+) -> Counts
     requires { ⌜ InRows (now edges) (now intervals) e ⌝ }
     requires { ⌜ Room (now points) (now edges) (now intervals) (taken .points + 1) (taken .edges + 1) ⌝ }
     requires { ⌜ getD (now edges) (e * 8 + 1) 0 * 3 + 3 ≤ length (now points) ⌝ }
@@ -104,13 +110,20 @@ pub fn split_edge(points: &mut [u32], edges: &mut [u32], intervals: &mut [f64], 
 }
 
 // Splits the edge e unless it is split already: a whole edge ends in one of the np old points.
-pub fn split_whole(points: &mut [u32], edges: &mut [u32], intervals: &mut [f64], np: usize, e: u32, taken: Counts) -> Counts
+pub fn split_whole(
+    points: &mut [u32],
+    edges: &mut [u32],
+    intervals: &mut [f64],
+    np: usize,
+    e: u32,
+    taken: Counts,
+) -> Counts
     requires { ⌜ InRows (now edges) (now intervals) e ⌝ }
     requires { ⌜ np * 3 ≤ length (now points) ⌝ }
     requires { ⌜
         Room (now points) (now edges) (now intervals)
-            (splitWhole np e (scratch (now points) (now edges) (now intervals) taken) .pointsTaken)
-            (splitWhole np e (scratch (now points) (now edges) (now intervals) taken) .edgesTaken) ⌝ }
+        (splitWhole np e (scratch (now points) (now edges) (now intervals) taken) .pointsTaken)
+        (splitWhole np e (scratch (now points) (now edges) (now intervals) taken) .edgesTaken) ⌝ }
     ensures { λ r. ⌜
         _≡_ {A = State}
         (scratch (now (points .exit)) (now (edges .exit)) (now (intervals .exit)) r)
@@ -124,14 +137,21 @@ pub fn split_whole(points: &mut [u32], edges: &mut [u32], intervals: &mut [f64],
 
 // Splits each of the first n edges of a perimeter unless it is split already.
 pub fn split_all(
-    points: &mut [u32], edges: &mut [u32], intervals: &mut [f64], np: usize, perimeter: &[u32; 64], n: usize, taken: Counts) -> Counts
+    points: &mut [u32],
+    edges: &mut [u32],
+    intervals: &mut [f64],
+    np: usize,
+    perimeter: &[u32; 64],
+    n: usize,
+    taken: Counts,
+) -> Counts
     requires { ⌜ n ≤ 64 ⌝ }
     requires { ⌜ ((i : ℕ) → i < n → InRows (now edges) (now intervals) (getD (now perimeter) i 0)) ⌝ }
     requires { ⌜ np * 3 ≤ length (now points) ⌝ }
     requires { ⌜
         Room (now points) (now edges) (now intervals)
-            (splitAll np (now perimeter) n (scratch (now points) (now edges) (now intervals) taken) .pointsTaken)
-            (splitAll np (now perimeter) n (scratch (now points) (now edges) (now intervals) taken) .edgesTaken) ⌝ }
+        (splitAll np (now perimeter) n (scratch (now points) (now edges) (now intervals) taken) .pointsTaken)
+        (splitAll np (now perimeter) n (scratch (now points) (now edges) (now intervals) taken) .edgesTaken) ⌝ }
     ensures { λ r. ⌜
         _≡_ {A = State}
         (scratch (now (points .exit)) (now (edges .exit)) (now (intervals .exit)) r)
