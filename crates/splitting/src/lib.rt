@@ -9,7 +9,7 @@ ghost use mathlib.Core.List.{[], _∷_};
 ghost use Rattle.tables.specs.Rows.{putRow};
 ghost use Rattle.tables.specs.Records.{edgeAt, edgeWords};
 ghost use Rattle.refined_meshes.specs.State.{State};
-ghost use Rattle.refined_meshes.specs.Split.{originHalf, destinationHalf, split, splitWhole};
+ghost use Rattle.refined_meshes.specs.Split.{half, originHalf, destinationHalf, split, splitWhole};
 ghost use Rattle.refined_meshes.specs.Visits.{splitAll};
 ghost use Rattle.splitting.specs.Scratch.{scratch, InRows, Room};
 use t_spline::TnurccEdge;
@@ -17,6 +17,13 @@ use tables::Counts;
 use tables::index;
 use tables::load_edge;
 use tables::store_edge;
+
+// Half of an interval.
+pub fn half(d: f64) -> f64
+    ensures { λ r. ⌜ r ≡ half d ⌝ }
+{
+    d * 0.5
+}
 
 // The half of an edge at its origin: p is the midpoint, h the row of the other half.
 pub fn origin_half(edge: TnurccEdge, p: u32, h: u32) -> TnurccEdge
@@ -28,7 +35,7 @@ pub fn origin_half(edge: TnurccEdge, p: u32, h: u32) -> TnurccEdge
         face_right: edge.face_right,
         origin: edge.origin,
         dest: p,
-        knot_interval: edge.knot_interval * 0.5,
+        knot_interval: half(edge.knot_interval),
     }
 }
 
@@ -42,7 +49,7 @@ pub fn destination_half(edge: TnurccEdge, p: u32, e: u32) -> TnurccEdge
         face_right: edge.face_right,
         origin: p,
         dest: edge.dest,
-        knot_interval: edge.knot_interval * 0.5,
+        knot_interval: half(edge.knot_interval),
     }
 }
 
