@@ -1,6 +1,6 @@
 -- The loop of `places`, over plain variables: me is the mesh's table of edges, es the scratch table, pe the perimeter of the face
 -- f; hs, gs, ms are the arrays, filled up to i. Assumes nothing.
-use mathlib.Core.Path.{_≡_, refl, sym, _∙_, ap}
+use mathlib.Core.Path.{_≡_, _∙_, ap}
 use mathlib.Core.Bool.{Bool, cond}
 use mathlib.Core.List.{List}
 use Prim.Native.Nat.{ℕ, _+_, _*_, _≤_, _<_}
@@ -54,6 +54,7 @@ module _ (me es pe : List ℕ) (f n : ℕ) where
         → (hs ≡ filled n (firstAt me es pe f) zeros) × ((gs ≡ filled n (secondAt me es pe f) zeros) × (ms ≡ filled n (midAt es pe) zeros))
     filled-whole l =
         let w = h .within in
-        let e : i ≡ n = omega arith in
-        (h .firsts ∙ filled-end (firstAt me es pe f) i n zeros e,
-        (h .seconds ∙ filled-end (secondAt me es pe f) i n zeros e, h .mids ∙ filled-end (midAt es pe) i n zeros e))
+        let e : i ≡ n = omega arith in (
+          h .firsts ∙ filled-end (firstAt me es pe f) i n zeros e,
+          (h .seconds ∙ filled-end (secondAt me es pe f) i n zeros e, h .mids ∙ filled-end (midAt es pe) i n zeros e),
+        )

@@ -4,7 +4,7 @@ use mathlib.Core.Path.{_≡_, refl, sym, _∙_, ap}
 use mathlib.Core.Bool.{Bool, true, false, cond}
 use mathlib.Core.List.{List, [], _∷_}
 use mathlib.Core.Logic.{_≢_}
-use Prim.Native.Nat.{ℕ, zero, suc, _+_, _-_, _*_, _≤_, _<_}
+use Prim.Native.Nat.{ℕ, _+_, _-_, _*_, _≤_, _<_}
 use native.Mathlib.Omega.{arith}
 use borrow.Author.Tests.{eqb-false}
 use lib.Dec.{eqb}
@@ -15,11 +15,11 @@ use Rattle.tables.specs.declared.Counts.{Counts}
 use Rattle.tables.specs.Rows.{putRow}
 use Rattle.audited_meshes.specs.Walks.{firstPoint}
 use Rattle.walks.specs.Steps.{faceTables}
-use Rattle.refined_meshes.specs.State.{State, putEdge, putPoint, putFace}
-use Rattle.refined_meshes.specs.Ring.{nextPlace, prevPlace, faceRow, putSide, putJoin, putFirst, putSecond, putNewFace, putFacePoint}
+use Rattle.refined_meshes.specs.State.{State, putEdge, putFace}
+use Rattle.refined_meshes.specs.Ring.{nextPlace, prevPlace, faceRow, putSide, putJoin, putFirst, putSecond, putNewFace}
 use Rattle.splitting.specs.Scratch.{tablesOf}
 use Rattle.rings.specs.declared.RingRows.{RingRows}
-use Rattle.rings.specs.Rings.{ring, Small}
+use Rattle.rings.specs.Rings.{ring}
 
 -- a word that is stored where it stands changes nothing
 kept : (xs ys : List ℕ) (j : ℕ) → getD ys j 0 ≡ getD xs j 0 → set ys j (getD xs j 0) ≡ ys
@@ -37,22 +37,29 @@ three-other es i j k u v w x a b c =
 -- a row in which the left side alone is new, and one in which the right side alone is
 row-left : (es : List ℕ) (b f a c : ℕ)
     → putRow es b (getD es b 0 ∷ getD es (b + 1) 0 ∷ f ∷ getD es (b + 3) 0 ∷ c ∷ a ∷ getD es (b + 6) 0 ∷ getD es (b + 7) 0 ∷ [])
-      ≡ set (set (set es (b + 2) f) (b + 4) c) (b + 5) a
+    ≡ set (set (set es (b + 2) f) (b + 4) c) (b + 5) a
 unfolding three
 row-left es b f a c =
     let x = three es (b + 2) (b + 4) (b + 5) f c a in
-    rw (set-getD es b 0, set-getD es (b + 1) 0,
-        kept es (set es (b + 2) f) (b + 3) (getD-set-other es (b + 2) (b + 3) f 0 (omega arith)),
-        kept es x (b + 6) (three-other es (b + 2) (b + 4) (b + 5) f c a (b + 6) (omega arith) (omega arith) (omega arith)),
-        kept es x (b + 7) (three-other es (b + 2) (b + 4) (b + 5) f c a (b + 7) (omega arith) (omega arith) (omega arith)))
+    rw (
+      set-getD es b 0,
+      set-getD es (b + 1) 0,
+      kept es (set es (b + 2) f) (b + 3) (getD-set-other es (b + 2) (b + 3) f 0 (omega arith)),
+      kept es x (b + 6) (three-other es (b + 2) (b + 4) (b + 5) f c a (b + 6) (omega arith) (omega arith) (omega arith)),
+      kept es x (b + 7) (three-other es (b + 2) (b + 4) (b + 5) f c a (b + 7) (omega arith) (omega arith) (omega arith)),
+    )
 
 row-right : (es : List ℕ) (b f a c : ℕ)
     → putRow es b (getD es b 0 ∷ getD es (b + 1) 0 ∷ getD es (b + 2) 0 ∷ f ∷ getD es (b + 4) 0 ∷ getD es (b + 5) 0 ∷ c ∷ a ∷ [])
-      ≡ set (set (set es (b + 3) f) (b + 6) c) (b + 7) a
+    ≡ set (set (set es (b + 3) f) (b + 6) c) (b + 7) a
 row-right es b f a c =
-    rw (set-getD es b 0, set-getD es (b + 1) 0, set-getD es (b + 2) 0,
-        kept es (set es (b + 3) f) (b + 4) (getD-set-other es (b + 3) (b + 4) f 0 (omega arith)),
-        kept es (set es (b + 3) f) (b + 5) (getD-set-other es (b + 3) (b + 5) f 0 (omega arith)))
+    rw (
+      set-getD es b 0,
+      set-getD es (b + 1) 0,
+      set-getD es (b + 2) 0,
+      kept es (set es (b + 3) f) (b + 4) (getD-set-other es (b + 3) (b + 4) f 0 (omega arith)),
+      kept es (set es (b + 3) f) (b + 5) (getD-set-other es (b + 3) (b + 5) f 0 (omega arith)),
+    )
 
 module _ (ps es fs : List ℕ) (is : List Float) (k : Counts) (b : Bool) (e f a c : ℕ) where
   pub left-put : b ≡ true
@@ -79,15 +86,15 @@ module _ (rows : RingRows) (i : ℕ) where
     pub join-put : (next prev f g : ℕ) → next ≡ nextPlace (rows .size) i → prev ≡ prevPlace (rows .size) i
         → f ≡ faceRow (ring rows [] [] [] [] []) next → g ≡ faceRow (ring rows [] [] [] [] []) i
         → putEdge (rows .joins + i)
-            (record {
-              connections = (rows .joins + next) ∷ getD gs i 0 ∷ getD hs i 0 ∷ (rows .joins + prev) ∷ [];
-              «face_left» = f;
-              «face_right» = g;
-              origin = rows .centre;
-              dest = getD ms i 0;
-              «knot_interval» = add binary64 (getD ds next nan) (getD ds prev nan)
-            }) s
-          ≡ putJoin (ring rows pe hs gs ms ds) i s
+        (record {
+          connections = (rows .joins + next) ∷ getD gs i 0 ∷ getD hs i 0 ∷ (rows .joins + prev) ∷ [];
+          «face_left» = f;
+          «face_right» = g;
+          origin = rows .centre;
+          dest = getD ms i 0;
+          «knot_interval» = add binary64 (getD ds next nan) (getD ds prev nan);
+        }) s
+        ≡ putJoin (ring rows pe hs gs ms ds) i s
     unfolding putJoin
     join-put next prev f g a b x y = rw (x, y, a, b)
 
@@ -107,6 +114,6 @@ module _ (rows : RingRows) (i : ℕ) where
       pub face-put : (prev p f : ℕ) → prev ≡ prevPlace (rows .size) i → p ≡ firstPoint (faceTables me []) (rows .face) e
           → f ≡ faceRow (ring rows [] [] [] [] []) i
           → putFace f (getD hs i 0) (rows .centre) (getD ms prev 0) p (getD ms i 0) s
-            ≡ putNewFace (faceTables me []) (ring rows pe hs gs ms ds) i s
+          ≡ putNewFace (faceTables me []) (ring rows pe hs gs ms ds) i s
       unfolding putNewFace
       face-put prev p f a b x = rw (a, b, x, at)

@@ -25,7 +25,7 @@ ring rows es hs gs ms ds =
       firsts = hs;
       seconds = gs;
       mids = ms;
-      found = ds
+      found = ds;
     }
 
 abbrev pub firstOf : List ℕ → List ℕ → ℕ → ℕ → ℕ

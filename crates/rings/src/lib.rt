@@ -5,7 +5,7 @@
 // Definitions: `refined_meshes`, specs/Ring.antt; `specs/Rings.antt` for the ring as the code holds it.
 ghost use mathlib.Core.Path.{_≡_};
 ghost use mathlib.Core.Bool.{cond};
-ghost use mathlib.Core.List.{List, [], _∷_};
+ghost use mathlib.Core.List.{List, []};
 ghost use Prim.Native.Nat.{ℕ, _+_, _-_, _*_, _≤_, _<_};
 ghost use lib.Dec.{eqb};
 ghost use lib.ListN.{length, getD, replicate};
@@ -14,8 +14,8 @@ ghost use Rattle.tables.specs.declared.Counts.{Counts};
 ghost use Rattle.audited_meshes.specs.Walks.{firstPoint};
 ghost use Rattle.walks.specs.Steps.{faceTables};
 ghost use Rattle.refined_meshes.specs.Turns.{turns, filled};
-ghost use Rattle.refined_meshes.specs.State.{State, putEdge, putPoint};
-ghost use Rattle.refined_meshes.specs.Ring.{nextPlace, prevPlace, onLeft, joinRow, faceRow, putSide, putJoin, putFirst, putSecond, putNewFace, putFacePoint};
+ghost use Rattle.refined_meshes.specs.State.{State, putEdge};
+ghost use Rattle.refined_meshes.specs.Ring.{nextPlace, prevPlace, faceRow, putSide, putJoin, putFirst, putSecond, putNewFace, putFacePoint};
 ghost use Rattle.splitting.specs.Scratch.{tablesOf};
 ghost use Rattle.rings.specs.Rings.{ring, firstOf, secondOf, Small, Rows};
 use t_spline::TnurccEdge;
@@ -112,7 +112,13 @@ pub fn found_on(intervals: &[f64], perimeter: &[u32; 64], n: usize) -> [f64; 64]
 }
 
 // What stands at the places of the perimeter of face f, once it is split.
-pub fn places(oldedges: &[u32], edges: &[u32], perimeter: &[u32; 64], f: usize, n: usize) -> RingPlaces
+pub fn places(
+    oldedges: &[u32],
+    edges: &[u32],
+    perimeter: &[u32; 64],
+    f: usize,
+    n: usize,
+) -> RingPlaces
     requires { ⌜ n ≤ 64 ⌝ }
     requires { ⌜ Rows (now oldedges) (now perimeter) n ⌝ }
     requires { ⌜ Rows (now edges) (now perimeter) n ⌝ }
@@ -154,7 +160,13 @@ pub fn face_row(rows: RingRows, i: usize) -> u32
 
 // The joining edge to the midpoint of place i.
 pub fn join_edge(
-    firsts: &[u32; 64], seconds: &[u32; 64], mids: &[u32; 64], found: &[f64; 64], rows: RingRows, i: usize) -> TnurccEdge
+    firsts: &[u32; 64],
+    seconds: &[u32; 64],
+    mids: &[u32; 64],
+    found: &[f64; 64],
+    rows: RingRows,
+    i: usize,
+) -> TnurccEdge
     requires { ⌜ Small rows ⌝ }
     requires { ⌜ i < rows .size ⌝ }
     ensures { λ e. ⌜
@@ -165,7 +177,12 @@ pub fn join_edge(
     let next = next_place(rows.size, i);
     let prev = prev_place(rows.size, i);
     TnurccEdge {
-        connections: [(rows.joins + next) as u32, seconds[i], firsts[i], (rows.joins + prev) as u32],
+        connections: [
+            (rows.joins + next) as u32,
+            seconds[i],
+            firsts[i],
+            (rows.joins + prev) as u32,
+        ],
         face_left: face_row(rows, next),
         face_right: face_row(rows, i),
         origin: rows.centre as u32,
@@ -176,7 +193,14 @@ pub fn join_edge(
 
 // Stores the joining edges.
 pub fn put_joins(
-    edges: &mut [u32], intervals: &mut [f64], firsts: &[u32; 64], seconds: &[u32; 64], mids: &[u32; 64], found: &[f64; 64], rows: RingRows)
+    edges: &mut [u32],
+    intervals: &mut [f64],
+    firsts: &[u32; 64],
+    seconds: &[u32; 64],
+    mids: &[u32; 64],
+    found: &[f64; 64],
+    rows: RingRows,
+)
     requires { ⌜ Small rows ⌝ }
     requires { ⌜ (rows .joins + rows .size) * 8 ≤ length (now edges) ⌝ }
     requires { ⌜ rows .joins + rows .size ≤ length (now intervals) ⌝ }
@@ -185,7 +209,7 @@ pub fn put_joins(
         _≡_ {A = State}
         (tablesOf ps (now (edges .exit)) (now (intervals .exit)) fs c)
         (turns (rows .size) (putJoin (ring rows es (now (firsts .entry)) (now (seconds .entry)) (now (mids .entry)) (now (found .entry))))
-            (tablesOf ps (now (edges .entry)) (now (intervals .entry)) fs c))) ⌝ }
+        (tablesOf ps (now (edges .entry)) (now (intervals .entry)) fs c))) ⌝ }
 {
     let n = rows.size;
     let mut i = 0;
@@ -217,7 +241,14 @@ fn put_side(edges: &mut [u32], left: bool, e: u32, f: u32, acw: u32, cw: u32)
 
 // Stores the first half at place i on the side of the face.
 fn put_first(
-    oldedges: &[u32], edges: &mut [u32], perimeter: &[u32; 64], firsts: &[u32; 64], seconds: &[u32; 64], rows: RingRows, i: usize)
+    oldedges: &[u32],
+    edges: &mut [u32],
+    perimeter: &[u32; 64],
+    firsts: &[u32; 64],
+    seconds: &[u32; 64],
+    rows: RingRows,
+    i: usize,
+)
     requires { ⌜ Small rows ⌝ }
     requires { ⌜ i < rows .size ⌝ }
     requires { ⌜ getD (now perimeter) i 0 * 8 + 8 ≤ length (now oldedges) ⌝ }
@@ -227,16 +258,30 @@ fn put_first(
         _≡_ {A = State}
         (tablesOf ps (now (edges .exit)) is fs c)
         (putFirst (faceTables (now (oldedges .entry)) []) (ring rows (now (perimeter .entry)) (now (firsts .entry)) (now (seconds .entry)) ms ds) i
-            (tablesOf ps (now (edges .entry)) is fs c))) ⌝ }
+        (tablesOf ps (now (edges .entry)) is fs c))) ⌝ }
 {
     let left = on_left(oldedges, rows.face, index(perimeter[i]));
     let prev = prev_place(rows.size, i);
     let f = face_row(rows, i);
-    put_side(edges, left, firsts[i], f, (rows.joins + i) as u32, seconds[prev]);
+    put_side(
+        edges,
+        left,
+        firsts[i],
+        f,
+        (rows.joins + i) as u32,
+        seconds[prev],
+    );
 }
 
 // Stores the first halves on the side of the face.
-pub fn put_firsts(oldedges: &[u32], edges: &mut [u32], perimeter: &[u32; 64], firsts: &[u32; 64], seconds: &[u32; 64], rows: RingRows)
+pub fn put_firsts(
+    oldedges: &[u32],
+    edges: &mut [u32],
+    perimeter: &[u32; 64],
+    firsts: &[u32; 64],
+    seconds: &[u32; 64],
+    rows: RingRows,
+)
     requires { ⌜ Small rows ⌝ }
     requires { ⌜ Rows (now oldedges) (now perimeter) (rows .size) ⌝ }
     requires { ⌜ Rows (now edges) (now firsts) (rows .size) ⌝ }
@@ -245,8 +290,8 @@ pub fn put_firsts(oldedges: &[u32], edges: &mut [u32], perimeter: &[u32; 64], fi
         _≡_ {A = State}
         (tablesOf ps (now (edges .exit)) is fs c)
         (turns (rows .size)
-            (putFirst (faceTables (now (oldedges .entry)) []) (ring rows (now (perimeter .entry)) (now (firsts .entry)) (now (seconds .entry)) ms ds))
-            (tablesOf ps (now (edges .entry)) is fs c))) ⌝ }
+        (putFirst (faceTables (now (oldedges .entry)) []) (ring rows (now (perimeter .entry)) (now (firsts .entry)) (now (seconds .entry)) ms ds))
+        (tablesOf ps (now (edges .entry)) is fs c))) ⌝ }
 {
     let n = rows.size;
     let mut i = 0;
@@ -258,7 +303,14 @@ pub fn put_firsts(oldedges: &[u32], edges: &mut [u32], perimeter: &[u32; 64], fi
 
 // Stores the second half at place i on the side of the face.
 fn put_second(
-    oldedges: &[u32], edges: &mut [u32], perimeter: &[u32; 64], firsts: &[u32; 64], seconds: &[u32; 64], rows: RingRows, i: usize)
+    oldedges: &[u32],
+    edges: &mut [u32],
+    perimeter: &[u32; 64],
+    firsts: &[u32; 64],
+    seconds: &[u32; 64],
+    rows: RingRows,
+    i: usize,
+)
     requires { ⌜ Small rows ⌝ }
     requires { ⌜ i < rows .size ⌝ }
     requires { ⌜ getD (now perimeter) i 0 * 8 + 8 ≤ length (now oldedges) ⌝ }
@@ -268,16 +320,30 @@ fn put_second(
         _≡_ {A = State}
         (tablesOf ps (now (edges .exit)) is fs c)
         (putSecond (faceTables (now (oldedges .entry)) []) (ring rows (now (perimeter .entry)) (now (firsts .entry)) (now (seconds .entry)) ms ds) i
-            (tablesOf ps (now (edges .entry)) is fs c))) ⌝ }
+        (tablesOf ps (now (edges .entry)) is fs c))) ⌝ }
 {
     let left = on_left(oldedges, rows.face, index(perimeter[i]));
     let next = next_place(rows.size, i);
     let f = face_row(rows, next);
-    put_side(edges, left, seconds[i], f, firsts[next], (rows.joins + i) as u32);
+    put_side(
+        edges,
+        left,
+        seconds[i],
+        f,
+        firsts[next],
+        (rows.joins + i) as u32,
+    );
 }
 
 // Stores the second halves on the side of the face.
-pub fn put_seconds(oldedges: &[u32], edges: &mut [u32], perimeter: &[u32; 64], firsts: &[u32; 64], seconds: &[u32; 64], rows: RingRows)
+pub fn put_seconds(
+    oldedges: &[u32],
+    edges: &mut [u32],
+    perimeter: &[u32; 64],
+    firsts: &[u32; 64],
+    seconds: &[u32; 64],
+    rows: RingRows,
+)
     requires { ⌜ Small rows ⌝ }
     requires { ⌜ Rows (now oldedges) (now perimeter) (rows .size) ⌝ }
     requires { ⌜ Rows (now edges) (now seconds) (rows .size) ⌝ }
@@ -286,8 +352,8 @@ pub fn put_seconds(oldedges: &[u32], edges: &mut [u32], perimeter: &[u32; 64], f
         _≡_ {A = State}
         (tablesOf ps (now (edges .exit)) is fs c)
         (turns (rows .size)
-            (putSecond (faceTables (now (oldedges .entry)) []) (ring rows (now (perimeter .entry)) (now (firsts .entry)) (now (seconds .entry)) ms ds))
-            (tablesOf ps (now (edges .entry)) is fs c))) ⌝ }
+        (putSecond (faceTables (now (oldedges .entry)) []) (ring rows (now (perimeter .entry)) (now (firsts .entry)) (now (seconds .entry)) ms ds))
+        (tablesOf ps (now (edges .entry)) is fs c))) ⌝ }
 {
     let n = rows.size;
     let mut i = 0;
@@ -309,7 +375,15 @@ fn first_point(oldedges: &[u32], f: usize, e: usize) -> u32
 }
 
 // Stores the new face at place i.
-fn put_new_face(oldedges: &[u32], faces: &mut [u32], perimeter: &[u32; 64], firsts: &[u32; 64], mids: &[u32; 64], rows: RingRows, i: usize)
+fn put_new_face(
+    oldedges: &[u32],
+    faces: &mut [u32],
+    perimeter: &[u32; 64],
+    firsts: &[u32; 64],
+    mids: &[u32; 64],
+    rows: RingRows,
+    i: usize,
+)
     requires { ⌜ Small rows ⌝ }
     requires { ⌜ i < rows .size ⌝ }
     requires { ⌜ getD (now perimeter) i 0 * 8 + 8 ≤ length (now oldedges) ⌝ }
@@ -319,7 +393,7 @@ fn put_new_face(oldedges: &[u32], faces: &mut [u32], perimeter: &[u32; 64], firs
         _≡_ {A = State}
         (tablesOf ps es is (now (faces .exit)) c)
         (putNewFace (faceTables (now (oldedges .entry)) []) (ring rows (now (perimeter .entry)) (now (firsts .entry)) gs (now (mids .entry)) ds) i
-            (tablesOf ps es is (now (faces .entry)) c))) ⌝ }
+        (tablesOf ps es is (now (faces .entry)) c))) ⌝ }
 {
     let prev = prev_place(rows.size, i);
     let p = first_point(oldedges, rows.face, index(perimeter[i]));
@@ -332,7 +406,14 @@ fn put_new_face(oldedges: &[u32], faces: &mut [u32], perimeter: &[u32; 64], firs
 }
 
 // Stores the new faces.
-pub fn put_new_faces(oldedges: &[u32], faces: &mut [u32], perimeter: &[u32; 64], firsts: &[u32; 64], mids: &[u32; 64], rows: RingRows)
+pub fn put_new_faces(
+    oldedges: &[u32],
+    faces: &mut [u32],
+    perimeter: &[u32; 64],
+    firsts: &[u32; 64],
+    mids: &[u32; 64],
+    rows: RingRows,
+)
     requires { ⌜ Small rows ⌝ }
     requires { ⌜ Rows (now oldedges) (now perimeter) (rows .size) ⌝ }
     requires { ⌜ rows .face * 5 + 5 ≤ length (now faces) ⌝ }
@@ -342,8 +423,8 @@ pub fn put_new_faces(oldedges: &[u32], faces: &mut [u32], perimeter: &[u32; 64],
         _≡_ {A = State}
         (tablesOf ps es is (now (faces .exit)) c)
         (turns (rows .size)
-            (putNewFace (faceTables (now (oldedges .entry)) []) (ring rows (now (perimeter .entry)) (now (firsts .entry)) gs (now (mids .entry)) ds))
-            (tablesOf ps es is (now (faces .entry)) c))) ⌝ }
+        (putNewFace (faceTables (now (oldedges .entry)) []) (ring rows (now (perimeter .entry)) (now (firsts .entry)) gs (now (mids .entry)) ds))
+        (tablesOf ps es is (now (faces .entry)) c))) ⌝ }
 {
     let n = rows.size;
     let mut i = 0;

@@ -5,9 +5,9 @@
 --     grows                                 what no turn makes less is least at the first
 --     points-splitAll, edges-splitAll       more edges split take at least as many rows
 --     splitAll-faces                        no splitting looks at the faces: the same tables with any faces
-use mathlib.Core.Path.{_≡_, refl, sym, _∙_, ap, subst}
+use mathlib.Core.Path.{_≡_, refl, _∙_, ap}
 use mathlib.Core.Bool.{Bool, true, false}
-use mathlib.Core.List.{List, []}
+use mathlib.Core.List.{List}
 use Prim.Native.Nat.{ℕ, zero, suc, _+_, _≤_, _<_}
 use native.Mathlib.Nat.{add-zero}
 use native.Mathlib.Numerals.{add-one}
@@ -106,7 +106,7 @@ withFaces fs s =
       faces = fs;
       pointsTaken = s .pointsTaken;
       edgesTaken = s .edgesTaken;
-      facesTaken = s .facesTaken
+      facesTaken = s .facesTaken;
     }
 
 splitIf-faces : (b : Bool) (e : ℕ) (fs : List ℕ) (s : State) → withFaces fs (splitIf b e s) ≡ splitIf b e (withFaces fs s)

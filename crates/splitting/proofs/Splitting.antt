@@ -1,8 +1,8 @@
 -- What the functions of this crate do, over plain variables: ps, es, is are the tables of points, edges and intervals, c the rows
 -- taken. Assumes nothing.
-use mathlib.Core.Path.{_≡_, refl, sym, _∙_, ap, subst}
+use mathlib.Core.Path.{_≡_, refl, sym, _∙_, ap}
 use mathlib.Core.List.{List, [], _∷_}
-use Prim.Native.Nat.{ℕ, suc, _+_, _*_, _≤_, _<_}
+use Prim.Native.Nat.{ℕ, _+_, _*_, _≤_, _<_}
 use native.Mathlib.Nat.{add-zero}
 use native.Mathlib.Omega.{arith}
 use lib.ListN.{length, getD, set}
@@ -23,17 +23,17 @@ module _ (es es1 es2 : List ℕ) (is is1 is2 : List Float) (e p h : ℕ) (edge n
       → es1 ≡ putRow es (h * 8) (edgeWords new) → is1 ≡ set is h (new .«knot_interval»)
       → es2 ≡ putRow es1 (e * 8) (edgeWords old) → is2 ≡ set is1 e (old .«knot_interval»)
       → (edge .dest ≡ getD es (e * 8 + 1) 0)
-        × ((es2 ≡ putRow (putRow es (h * 8) (edgeWords (destinationHalf p e (edgeAt es is e)))) (e * 8) (edgeWords (originHalf p h (edgeAt es is e))))
-        × (is2 ≡ set (set is h (destinationHalf p e (edgeAt es is e) .«knot_interval»)) e (originHalf p h (edgeAt es is e) .«knot_interval»)))
+      × ((es2 ≡ putRow (putRow es (h * 8) (edgeWords (destinationHalf p e (edgeAt es is e)))) (e * 8) (edgeWords (originHalf p h (edgeAt es is e))))
+      × (is2 ≡ set (set is h (destinationHalf p e (edgeAt es is e) .«knot_interval»)) e (originHalf p h (edgeAt es is e) .«knot_interval»)))
   halves-put a b o e1 i1 e2 i2 = (ap (λ (r : TnurccEdge). r .dest) a, (rw (e2, e1, o, b, a), rw (i2, i1, o, b, a)))
 
 -- an edge split: the halves stored, then the midpoint, then the start edge of the old destination d
 module _ (ps ps2 es es2 : List ℕ) (is is2 : List Float) (e d : ℕ) (c : Counts) where
   pub edge-split : d ≡ getD es (e * 8 + 1) 0
       → es2 ≡ putRow (putRow es (c .edges * 8) (edgeWords (destinationHalf (c .points) e (edgeAt es is e)))) (e * 8)
-            (edgeWords (originHalf (c .points) (c .edges) (edgeAt es is e)))
+      (edgeWords (originHalf (c .points) (c .edges) (edgeAt es is e)))
       → is2 ≡ set (set is (c .edges) (destinationHalf (c .points) e (edgeAt es is e) .«knot_interval»)) e
-            (originHalf (c .points) (c .edges) (edgeAt es is e) .«knot_interval»)
+      (originHalf (c .points) (c .edges) (edgeAt es is e) .«knot_interval»)
       → ps2 ≡ set (putRow ps (c .points * 3) (4 ∷ e ∷ 0 ∷ [])) (d * 3 + 1) (c .edges)
       → _≡_ {A = State} (scratch ps2 es2 is2 (record { points = c .points + 1; edges = c .edges + 1; faces = c .faces })) (split e (scratch ps es is c))
   unfolding split putEdge putPoint putStart
@@ -80,7 +80,7 @@ module _ (ps0 es0 : List ℕ) (is0 : List Float) (np : ℕ) (perimeter : List �
 
     pub splitting-room : i < n → Room ps0 es0 is0 (After n .pointsTaken) (After n .edgesTaken)
         → Room ps es is (splitWhole np (getD perimeter i 0) (scratch ps es is c) .pointsTaken)
-            (splitWhole np (getD perimeter i 0) (scratch ps es is c) .edgesTaken)
+        (splitWhole np (getD perimeter i 0) (scratch ps es is c) .edgesTaken)
     splitting-room l r =
         let a = points-splitAll np perimeter (scratch ps0 es0 is0 c0) (i + 1) n (omega arith) in
         let b = edges-splitAll np perimeter (scratch ps0 es0 is0 c0) (i + 1) n (omega arith) in

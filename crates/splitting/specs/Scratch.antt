@@ -19,7 +19,7 @@ tablesOf ps es is fs c =
       faces = fs;
       pointsTaken = c .points;
       edgesTaken = c .edges;
-      facesTaken = c .faces
+      facesTaken = c .faces;
     }
 
 abbrev pub scratch : List ℕ → List ℕ → List Float → Counts → State

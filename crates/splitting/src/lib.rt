@@ -18,6 +18,13 @@ use tables::index;
 use tables::load_edge;
 use tables::store_edge;
 
+// Half of an interval.
+pub fn half(d: f64) -> f64
+    ensures { λ r. ⌜ r ≡ half d ⌝ }
+{
+    d * 0.5
+}
+
 // The half of an edge at its origin: p is the midpoint, h the row of the other half.
 pub fn origin_half(edge: TnurccEdge, p: u32, h: u32) -> TnurccEdge
     ensures { λ r. ⌜ r ≡ originHalf p h edge ⌝ }
@@ -28,7 +35,7 @@ pub fn origin_half(edge: TnurccEdge, p: u32, h: u32) -> TnurccEdge
         face_right: edge.face_right,
         origin: edge.origin,
         dest: p,
-        knot_interval: edge.knot_interval * 0.5,
+        knot_interval: half(edge.knot_interval),
     }
 }
 
@@ -42,7 +49,7 @@ pub fn destination_half(edge: TnurccEdge, p: u32, e: u32) -> TnurccEdge
         face_right: edge.face_right,
         origin: p,
         dest: edge.dest,
-        knot_interval: edge.knot_interval * 0.5,
+        knot_interval: half(edge.knot_interval),
     }
 }
 
@@ -54,11 +61,11 @@ fn put_halves(edges: &mut [u32], intervals: &mut [f64], e: u32, p: u32, h: u32) 
     ensures { λ _. ⌜
         now (edges .exit) ≡
         putRow (putRow (now (edges .entry)) (h * 8) (edgeWords (destinationHalf p e (edgeAt (now (edges .entry)) (now (intervals .entry)) e))))
-            (e * 8) (edgeWords (originHalf p h (edgeAt (now (edges .entry)) (now (intervals .entry)) e))) ⌝ }
+        (e * 8) (edgeWords (originHalf p h (edgeAt (now (edges .entry)) (now (intervals .entry)) e))) ⌝ }
     ensures { λ _. ⌜
         now (intervals .exit) ≡
         set (set (now (intervals .entry)) h (destinationHalf p e (edgeAt (now (edges .entry)) (now (intervals .entry)) e) .«knot_interval»))
-            e (originHalf p h (edgeAt (now (edges .entry)) (now (intervals .entry)) e) .«knot_interval») ⌝ }
+        e (originHalf p h (edgeAt (now (edges .entry)) (now (intervals .entry)) e) .«knot_interval») ⌝ }
 {
     let edge = load_edge(edges, intervals, e as usize);
     let new = destination_half(edge, p, e);
@@ -83,7 +90,13 @@ fn put_ends(points: &mut [u32], p: u32, e: u32, d: u32, h: u32)
 }
 
 // Splits the edge e: the next row of edges becomes its destination half, the next row of points its midpoint.
-pub fn split_edge(points: &mut [u32], edges: &mut [u32], intervals: &mut [f64], e: u32, taken: Counts) -> Counts
+pub fn split_edge(
+    points: &mut [u32],
+    edges: &mut [u32],
+    intervals: &mut [f64],
+    e: u32,
+    taken: Counts,
+) -> Counts
     requires { ⌜ InRows (now edges) (now intervals) e ⌝ }
     requires { ⌜ Room (now points) (now edges) (now intervals) (taken .points + 1) (taken .edges + 1) ⌝ }
     requires { ⌜ getD (now edges) (e * 8 + 1) 0 * 3 + 3 ≤ length (now points) ⌝ }
@@ -104,13 +117,20 @@ pub fn split_edge(points: &mut [u32], edges: &mut [u32], intervals: &mut [f64], 
 }
 
 // Splits the edge e unless it is split already: a whole edge ends in one of the np old points.
-pub fn split_whole(points: &mut [u32], edges: &mut [u32], intervals: &mut [f64], np: usize, e: u32, taken: Counts) -> Counts
+pub fn split_whole(
+    points: &mut [u32],
+    edges: &mut [u32],
+    intervals: &mut [f64],
+    np: usize,
+    e: u32,
+    taken: Counts,
+) -> Counts
     requires { ⌜ InRows (now edges) (now intervals) e ⌝ }
     requires { ⌜ np * 3 ≤ length (now points) ⌝ }
     requires { ⌜
         Room (now points) (now edges) (now intervals)
-            (splitWhole np e (scratch (now points) (now edges) (now intervals) taken) .pointsTaken)
-            (splitWhole np e (scratch (now points) (now edges) (now intervals) taken) .edgesTaken) ⌝ }
+        (splitWhole np e (scratch (now points) (now edges) (now intervals) taken) .pointsTaken)
+        (splitWhole np e (scratch (now points) (now edges) (now intervals) taken) .edgesTaken) ⌝ }
     ensures { λ r. ⌜
         _≡_ {A = State}
         (scratch (now (points .exit)) (now (edges .exit)) (now (intervals .exit)) r)
@@ -124,14 +144,21 @@ pub fn split_whole(points: &mut [u32], edges: &mut [u32], intervals: &mut [f64],
 
 // Splits each of the first n edges of a perimeter unless it is split already.
 pub fn split_all(
-    points: &mut [u32], edges: &mut [u32], intervals: &mut [f64], np: usize, perimeter: &[u32; 64], n: usize, taken: Counts) -> Counts
+    points: &mut [u32],
+    edges: &mut [u32],
+    intervals: &mut [f64],
+    np: usize,
+    perimeter: &[u32; 64],
+    n: usize,
+    taken: Counts,
+) -> Counts
     requires { ⌜ n ≤ 64 ⌝ }
     requires { ⌜ ((i : ℕ) → i < n → InRows (now edges) (now intervals) (getD (now perimeter) i 0)) ⌝ }
     requires { ⌜ np * 3 ≤ length (now points) ⌝ }
     requires { ⌜
         Room (now points) (now edges) (now intervals)
-            (splitAll np (now perimeter) n (scratch (now points) (now edges) (now intervals) taken) .pointsTaken)
-            (splitAll np (now perimeter) n (scratch (now points) (now edges) (now intervals) taken) .edgesTaken) ⌝ }
+        (splitAll np (now perimeter) n (scratch (now points) (now edges) (now intervals) taken) .pointsTaken)
+        (splitAll np (now perimeter) n (scratch (now points) (now edges) (now intervals) taken) .edgesTaken) ⌝ }
     ensures { λ r. ⌜
         _≡_ {A = State}
         (scratch (now (points .exit)) (now (edges .exit)) (now (intervals .exit)) r)

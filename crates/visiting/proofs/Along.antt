@@ -18,7 +18,7 @@ use Rattle.walks.specs.Border.{padded, border}
 use Rattle.walks.specs.declared.FaceBorder.{FaceBorder}
 use Rattle.walks.proofs.Laws.{getD-padded}
 use Rattle.refined_meshes.specs.Turns.{turns, filled}
-use Rattle.refined_meshes.specs.State.{State, edgeOf, take}
+use Rattle.refined_meshes.specs.State.{State, take}
 use Rattle.refined_meshes.specs.Ring.{Ring, onLeft, firstHalfOf, secondHalfOf, putJoin, putFirst, putSecond, putNewFace, putFacePoint}
 use Rattle.refined_meshes.specs.Visits.{foundOn, splitAll, ringOf, putRing, visitAlong, visit}
 use Rattle.splitting.specs.Scratch.{tablesOf, scratch}
@@ -42,11 +42,11 @@ module _ (oe pe hs gs ms : List ℕ) (ds : List Float) (rows : RingRows) (s : St
   unfolding ringOf
   ring-read j k a b c =
       let firsts =
-            filled-same (λ i. firstHalfOf (onLeft M (rows .face) (getD pe i 0)) s (getD pe i 0)) (λ i. firstOf oe (s .edges) (rows .face) (getD pe i 0))
-            (rows .size) (replicate 64 0) (λ i. firstHalfOf-is (onLeft M (rows .face) (getD pe i 0)) s (getD pe i 0)) in
+      filled-same (λ i. firstHalfOf (onLeft M (rows .face) (getD pe i 0)) s (getD pe i 0)) (λ i. firstOf oe (s .edges) (rows .face) (getD pe i 0))
+      (rows .size) (replicate 64 0) (λ i. firstHalfOf-is (onLeft M (rows .face) (getD pe i 0)) s (getD pe i 0)) in
       let seconds =
-            filled-same (λ i. secondHalfOf (onLeft M (rows .face) (getD pe i 0)) s (getD pe i 0)) (λ i. secondOf oe (s .edges) (rows .face) (getD pe i 0))
-            (rows .size) (replicate 64 0) (λ i. secondHalfOf-is (onLeft M (rows .face) (getD pe i 0)) s (getD pe i 0)) in
+      filled-same (λ i. secondHalfOf (onLeft M (rows .face) (getD pe i 0)) s (getD pe i 0)) (λ i. secondOf oe (s .edges) (rows .face) (getD pe i 0))
+      (rows .size) (replicate 64 0) (λ i. secondHalfOf-is (onLeft M (rows .face) (getD pe i 0)) s (getD pe i 0)) in
       rw (a, b, c, firsts, seconds, j, k)
 
 module _ (oe ps ps1 es es1 fs fs1 pe hs gs ms : List ℕ) (is is1 ds : List Float) (rows : RingRows) (p : ℕ) where
@@ -67,26 +67,26 @@ module _ (oe ps ps1 es es1 fs fs1 pe hs gs ms : List ℕ) (is is1 ds : List Floa
       → gs ≡ filled (rows .size) (λ i. secondOf oe es (rows .face) (getD pe i 0)) (replicate 64 0)
       → ms ≡ filled (rows .size) (λ i. getD es (getD pe i 0 * 8 + 1) 0) (replicate 64 0)
       → _≡_ {A = State} (tablesOf ps es1 is1 fs before)
-          (turns (rows .size) (putSecond N R) (turns (rows .size) (putFirst N R) (turns (rows .size) (putJoin R) (tablesOf ps es is fs before))))
+      (turns (rows .size) (putSecond N R) (turns (rows .size) (putFirst N R) (turns (rows .size) (putJoin R) (tablesOf ps es is fs before))))
       → _≡_ {A = State} (tablesOf ps es1 is1 fs1 before) (turns (rows .size) (putNewFace N R) (tablesOf ps es1 is1 fs before))
       → _≡_ {A = State} (tablesOf ps1 es1 is1 fs1 before) (putFacePoint R (tablesOf ps es1 is1 fs1 before))
       → _≡_ {A = State} (tablesOf ps1 es1 is1 fs1 after)
-          (putRing N (ringOf N (rows .face) pe (rows .size) (rows .centre) ds (tablesOf ps es is fs before)) (tablesOf ps es is fs before))
+      (putRing N (ringOf N (rows .face) pe (rows .size) (rows .centre) ds (tablesOf ps es is fs before)) (tablesOf ps es is fs before))
   unfolding putRing
   ring-written a b c edges faces point =
       let end : State → State = λ t. take 0 (rows .size) (rows .size - 1) t in
       let faced : State → State = λ t. end (putFacePoint R t) in
       let halved : State → State = λ t. faced (turns (rows .size) (putNewFace N R) t) in
       ap (λ (k : ℕ). tablesOf ps1 es1 is1 fs1 (record { points = k; edges = rows .joins + rows .size; faces = rows .faces + (rows .size - 1) }))
-        (sym (add-zero p))
+      (sym (add-zero p))
       ∙ ap end point ∙ ap faced faces ∙ ap halved edges
       ∙ ap (λ (r : Ring). putRing N r (tablesOf ps es is fs before))
-        (ring-read oe pe hs gs ms ds rows (tablesOf ps es is fs before) refl refl a b c)
+      (ring-read oe pe hs gs ms ds rows (tablesOf ps es is fs before) refl refl a b c)
 
 -- the perimeter split, once a row is taken for the face point
 pub along-split : (ps ps1 es es1 fs pe : List ℕ) (is is1 : List Float) (np n : ℕ) (taken all : Counts)
     → _≡_ {A = State} (scratch ps1 es1 is1 all)
-        (splitAll np pe n (scratch ps es is (record { points = taken .points + 1; edges = taken .edges; faces = taken .faces })))
+    (splitAll np pe n (scratch ps es is (record { points = taken .points + 1; edges = taken .edges; faces = taken .faces })))
     → _≡_ {A = State} (tablesOf ps1 es1 is1 fs all) (splitAll np pe n (take 1 0 0 (tablesOf ps es is fs taken)))
 along-split ps ps1 es es1 fs pe is is1 np n taken all h =
     rw (add-zero (taken .edges), add-zero (taken .faces))
@@ -104,9 +104,9 @@ module _ (oe ps ps1 ps2 es es1 es2 fs fs2 pe : List ℕ) (is is1 is2 found : Lis
       found ≡ filled n (λ i. getD is (getD pe i 0) nan) (replicate 64 (ofBits binary64 0))
       → _≡_ {A = State} (tablesOf ps1 es1 is1 fs all) (splitAll np pe n (take 1 0 0 S))
       → _≡_ {A = State} (tablesOf ps2 es2 is2 fs2 (record { points = all .points; edges = all .edges + n; faces = all .faces + (n - 1) }))
-          (putRing O (ringOf O f pe n (taken .points) found (tablesOf ps1 es1 is1 fs all)) (tablesOf ps1 es1 is1 fs all))
+      (putRing O (ringOf O f pe n (taken .points) found (tablesOf ps1 es1 is1 fs all)) (tablesOf ps1 es1 is1 fs all))
       → _≡_ {A = State} (tablesOf ps2 es2 is2 fs2 (record { points = all .points; edges = all .edges + n; faces = all .faces + (n - 1) }))
-          (visitAlong O np f pe n S)
+      (visitAlong O np f pe n S)
   unfolding visitAlong filled
   along-visited a b c =
       c ∙ ap (λ (d : List Float). putRing O (ringOf O f pe n (taken .points) d (tablesOf ps1 es1 is1 fs all)) (tablesOf ps1 es1 is1 fs all)) a

@@ -3,11 +3,10 @@
 --     holds-of-closed     the tables of a mesh hold its rows
 --     holds-of-rows       tables with the rows of the refined mesh hold those of the mesh
 --     fits-of-closed      every visit fits
-use mathlib.Core.Path.{_≡_, refl, sym, _∙_, ap, subst}
 use mathlib.Core.List.{List}
-use Prim.Native.Nat.{ℕ, _+_, _*_, _≤_, _<_}
+use Prim.Native.Nat.{ℕ, _+_, _*_, _≤_}
 use native.Mathlib.Omega.{arith}
-use lib.ListN.{length, getD}
+use lib.ListN.{getD}
 use Rattle.tables.specs.Mesh.{Mesh}
 use Rattle.audited_meshes.specs.Walks.{faceWalk}
 use Rattle.audited_meshes.specs.Audit.{pointRows, edgeRows, faceRows}
@@ -17,6 +16,7 @@ use Rattle.refined_meshes.specs.Order.{EachOnce}
 use Rattle.refined_meshes.specs.Visits.{ringOf, visits}
 use Rattle.refined_meshes.specs.Fits.{VisitFits}
 use Rattle.refined_meshes.proofs.Fits.{visits-fit}
+use Rattle.refined_meshes.proofs.Runs.{rooms-of}
 use Rattle.visiting.specs.Visiting.{bare, Holds, Ceilings, Fits}
 use Rattle.visiting.proofs.Laws.{visits-bare}
 
@@ -43,9 +43,6 @@ visitFits-bare m np ne nf f s h =
       points-fit = h .points-fit;
     }
 
-pub holds-of-rows : (t : Mesh) (np ne nf : ℕ) → np + ne + nf ≤ pointRows t → 4 * ne ≤ edgeRows t → nf ≤ faceRows t → Holds t np ne nf
-holds-of-rows t np ne nf p e f = record { points = omega arith; edges = omega arith; intervals = omega arith; faces = omega arith }
-
 module _ (m : Mesh) (np ne nf : ℕ) (h : HoldsClosed m np ne nf) where
   pub holds-of-closed : Holds m np ne nf
   holds-of-closed = record {
@@ -55,15 +52,20 @@ module _ (m : Mesh) (np ne nf : ℕ) (h : HoldsClosed m np ne nf) where
     faces = omega (arith, h .fit .faces-fit);
   }
 
-  pub fits-of-closed : (order : List ℕ) → EachOnce nf order → (t : Mesh)
-      → np + ne + nf ≤ pointRows t → 4 * ne ≤ edgeRows t → 2 * ne ≤ faceRows t → Ceilings np ne nf
-      → Fits (bare m) np ne nf order (copied m np ne nf t)
-  fits-of-closed order once t p e f limits = record {
-    ceilings = limits;
-    edges = holds-of-closed .edges;
-    faces = holds-of-closed .faces;
-    ordered = omega (arith, once .as-many);
-    each = λ k l.
-      rw (visits-bare m np ne order (copied m np ne nf t) k)
-      (visitFits-bare m np ne nf (getD order k 0) (visits m np ne k order (copied m np ne nf t)) (visits-fit m np ne nf h order once t p e f k l));
-  }
+  module _ (order : List ℕ) (once : EachOnce nf order) (t : Mesh)
+      (p : np + ne + nf ≤ pointRows t) (e : 4 * ne ≤ edgeRows t) (f : 2 * ne ≤ faceRows t) where
+    pub holds-of-rows : Holds t np ne nf
+    holds-of-rows =
+        let less = rooms-of m h order once t p e f .faces-less in
+        record { points = omega arith; edges = omega arith; intervals = omega arith; faces = omega arith }
+
+    pub fits-of-closed : Ceilings np ne nf → Fits (bare m) np ne nf order (copied m np ne nf t)
+    fits-of-closed limits = record {
+      ceilings = limits;
+      edges = holds-of-closed .edges;
+      faces = holds-of-closed .faces;
+      ordered = omega (arith, once .as-many);
+      each = λ k l.
+          rw (visits-bare m np ne order (copied m np ne nf t) k)
+          (visitFits-bare m np ne nf (getD order k 0) (visits m np ne k order (copied m np ne nf t)) (visits-fit m np ne nf h order once t p e f k l));
+    }

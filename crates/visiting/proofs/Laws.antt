@@ -5,11 +5,10 @@
 --     visit-bare, visits-bare              a visit looks at the mesh's edges and faces alone
 --     refinedRows-bare                     so do all visits, begun with a copy of the rows
 --     rows-copied                          such a copy, table by table
-use mathlib.Core.Path.{_≡_, refl, sym, _∙_, ap}
+use mathlib.Core.Path.{_≡_, refl, _∙_, ap}
 use mathlib.Core.Bool.{Bool, true, false, cond}
 use mathlib.Core.List.{List, []}
-use Prim.Native.Nat.{ℕ, zero, suc, _+_, _*_}
-use native.Mathlib.Numerals.{add-one}
+use Prim.Native.Nat.{ℕ, _+_, _*_}
 use lib.ListN.{getD}
 use lib.Ieee.{Float}
 use Rattle.tables.specs.declared.Counts.{Counts}
@@ -18,7 +17,6 @@ use Rattle.tables.specs.Rows.{over}
 use Rattle.audited_meshes.specs.Walks.{Walk, back, lost, edgesOf, passed, faceWalk}
 use Rattle.walks.specs.Border.{padded, border, borderOf}
 use Rattle.walks.specs.Steps.{faceTables}
-use Rattle.refined_meshes.specs.Turns.{turns}
 use Rattle.refined_meshes.specs.State.{State, copied}
 use Rattle.refined_meshes.specs.Ring.{firstHalfOf, secondHalfOf, putFirst, putSecond, putNewFace}
 use Rattle.refined_meshes.specs.Visits.{ringOf, putRing, visitAlong, visit, visits, refinedRows}

@@ -1,14 +1,13 @@
 -- A visit reads its perimeter by places alone, so a perimeter that is padded serves as well. Assumes nothing.
 --     splitAll-places, visitAlong-places      two lists with the same edges at every place
-use mathlib.Core.Path.{_≡_, refl, sym, _∙_, ap}
+use mathlib.Core.Path.{_≡_, refl, _∙_, ap}
 use mathlib.Core.List.{List}
 use Prim.Native.Nat.{ℕ, _-_}
 use lib.ListN.{getD, replicate}
 use lib.Ieee.{Float, nan, ofBits, binary64}
 use Rattle.tables.specs.Mesh.{Mesh}
-use Rattle.audited_meshes.specs.Walks.{firstPoint}
 use Rattle.refined_meshes.specs.Turns.{turns, filled}
-use Rattle.refined_meshes.specs.State.{State, edgeOf, take, putFace, putEdge}
+use Rattle.refined_meshes.specs.State.{State, edgeOf, take}
 use Rattle.refined_meshes.specs.Split.{splitWhole}
 use Rattle.refined_meshes.specs.Ring.{Ring, onLeft, firstHalfOf, secondHalfOf, putJoin, putFirst, putSecond, putNewFace, putFacePoint}
 use Rattle.refined_meshes.specs.Visits.{foundOn, splitAll, ringOf, putRing, visitAlong}
@@ -27,7 +26,7 @@ along r es =
       firsts = r .firsts;
       seconds = r .seconds;
       mids = r .mids;
-      found = r .found
+      found = r .found;
     }
 
 module _ (m : Mesh) (pe es : List ℕ) (same : (i : ℕ) → getD pe i 0 ≡ getD es i 0) where
@@ -73,14 +72,14 @@ module _ (m : Mesh) (pe es : List ℕ) (same : (i : ℕ) → getD pe i 0 ≡ get
   unfolding ringOf along
   ringOf-places f n centre found s =
       let firsts =
-            filled-same (λ i. firstHalfOf (onLeft m f (getD pe i 0)) s (getD pe i 0)) (λ i. firstHalfOf (onLeft m f (getD es i 0)) s (getD es i 0)) n
-            (replicate 64 0) (λ i. ap (λ (e : ℕ). firstHalfOf (onLeft m f e) s e) (same i)) in
+      filled-same (λ i. firstHalfOf (onLeft m f (getD pe i 0)) s (getD pe i 0)) (λ i. firstHalfOf (onLeft m f (getD es i 0)) s (getD es i 0)) n
+      (replicate 64 0) (λ i. ap (λ (e : ℕ). firstHalfOf (onLeft m f e) s e) (same i)) in
       let seconds =
-            filled-same (λ i. secondHalfOf (onLeft m f (getD pe i 0)) s (getD pe i 0)) (λ i. secondHalfOf (onLeft m f (getD es i 0)) s (getD es i 0)) n
-            (replicate 64 0) (λ i. ap (λ (e : ℕ). secondHalfOf (onLeft m f e) s e) (same i)) in
+      filled-same (λ i. secondHalfOf (onLeft m f (getD pe i 0)) s (getD pe i 0)) (λ i. secondHalfOf (onLeft m f (getD es i 0)) s (getD es i 0)) n
+      (replicate 64 0) (λ i. ap (λ (e : ℕ). secondHalfOf (onLeft m f e) s e) (same i)) in
       let mids =
-            filled-same (λ i. edgeOf s (getD pe i 0) .dest) (λ i. edgeOf s (getD es i 0) .dest) n (replicate 64 0)
-            (λ i. ap (λ (e : ℕ). edgeOf s e .dest) (same i)) in
+      filled-same (λ i. edgeOf s (getD pe i 0) .dest) (λ i. edgeOf s (getD es i 0) .dest) n (replicate 64 0)
+      (λ i. ap (λ (e : ℕ). edgeOf s e .dest) (same i)) in
       rw (firsts, seconds, mids)
 
   pub visitAlong-places : (np f n : ℕ) (s : State) → visitAlong m np f pe n s ≡ visitAlong m np f es n s

@@ -1,7 +1,7 @@
 -- Where a visit finds its rows and has room, over plain variables. Assumes nothing.
 --     along-of-visit     a visit that fits, along its perimeter
 --     ring-fits          what its ring then needs
-use mathlib.Core.Path.{_≡_, refl, sym, _∙_, ap, subst}
+use mathlib.Core.Path.{_≡_, refl, _∙_, ap, subst}
 use mathlib.Core.List.{List, []}
 use Prim.Native.Nat.{ℕ, zero, suc, _+_, _-_, _*_, _≤_, _<_}
 use native.Mathlib.Nat.{add-zero}
@@ -18,14 +18,13 @@ use Rattle.walks.specs.Steps.{faceTables}
 use Rattle.walks.proofs.Laws.{getD-padded}
 use Rattle.refined_meshes.specs.Turns.{filled}
 use Rattle.refined_meshes.specs.State.{State, edgeOf, take, putEdge, putPoint, putStart}
-use Rattle.refined_meshes.specs.Split.{split, splitWhole}
+use Rattle.refined_meshes.specs.Split.{split}
 use Rattle.refined_meshes.specs.Ring.{onLeft, firstHalfOf, secondHalfOf}
-use Rattle.refined_meshes.specs.Visits.{splitAll, ringOf, foundOn}
-use Rattle.refined_meshes.specs.Fits.{VisitFits, splitSome, ringAt}
-use Rattle.splitting.specs.Scratch.{tablesOf, scratch, InRows, Room}
+use Rattle.refined_meshes.specs.Visits.{splitAll, ringOf}
+use Rattle.refined_meshes.specs.Fits.{VisitFits, splitSome}
+use Rattle.splitting.specs.Scratch.{tablesOf, scratch, Room}
 use Rattle.splitting.proofs.Laws.{splitWhole-split, splitWhole-kept, splitAll-none, splitAll-suc, faces-splitAll, points-splitAll-faces, edges-splitAll-faces}
-use Rattle.rings.specs.declared.RingRows.{RingRows}
-use Rattle.rings.specs.Rings.{Small, Rows, firstOf, secondOf}
+use Rattle.rings.specs.Rings.{Rows, firstOf, secondOf}
 use Rattle.rings.proofs.Laws.{getD-filled}
 use Rattle.visiting.specs.Visiting.{Ceilings, RingFits, AlongFits}
 use Rattle.visiting.proofs.Laws.{firstHalfOf-is, secondHalfOf-is, border-edges, border-n}
@@ -169,9 +168,9 @@ module _ (oe ps es fs pe : List ℕ) (is : List Float) (np f n : ℕ) (taken : C
   split-room =
       let x : splitAll np pe n (tablesOf ps es is fs first) ≡ after = rw (add-zero (taken .edges), add-zero (taken .faces)) in
       let a : splitAll np pe n (scratch ps es is first) .pointsTaken ≡ after .pointsTaken =
-            points-splitAll-faces np pe n ps es is fs first ∙ ap (λ (s : State). s .pointsTaken) x in
+      points-splitAll-faces np pe n ps es is fs first ∙ ap (λ (s : State). s .pointsTaken) x in
       let b : splitAll np pe n (scratch ps es is first) .edgesTaken ≡ after .edgesTaken =
-            edges-splitAll-faces np pe n ps es is fs first ∙ ap (λ (s : State). s .edgesTaken) x in
+      edges-splitAll-faces np pe n ps es is fs first ∙ ap (λ (s : State). s .edgesTaken) x in
       let r = h .room in
       record {
         points = omega (arith, r .points);
@@ -189,7 +188,7 @@ module _ (oe ps es fs pe : List ℕ) (is : List Float) (np f n : ℕ) (taken : C
       let e : all .edges ≡ after .edgesTaken = ap (λ (s : State). s .edgesTaken) t in
       let w : es1 ≡ after .edges = ap (λ (s : State). s .edges) t in
       let g : all .faces ≡ taken .faces =
-            ap (λ (s : State). s .facesTaken) t ∙ faces-splitAll np pe n (take 1 0 0 (tablesOf ps es is fs taken)) ∙ add-zero (taken .faces) in
+      ap (λ (s : State). s .facesTaken) t ∙ faces-splitAll np pe n (take 1 0 0 (tablesOf ps es is fs taken)) ∙ add-zero (taken .faces) in
       record {
         small = record {
           some-places = h .some-places;

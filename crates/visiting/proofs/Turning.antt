@@ -1,6 +1,6 @@
 -- The loop of `visits` after i turns, over plain variables: m is the mesh, with np points, ne edges and nf faces, s0 the state that the loop
 -- began with, ps, es, is, fs and taken the scratch tables and the rows taken. Assumes nothing.
-use mathlib.Core.Path.{_≡_, refl, sym, _∙_, ap, subst}
+use mathlib.Core.Path.{_≡_, refl, _∙_, ap}
 use mathlib.Core.List.{List}
 use Prim.Native.Nat.{ℕ, _+_, _≤_, _<_}
 use native.Mathlib.Omega.{arith}
@@ -52,7 +52,7 @@ module _ (m : Mesh) (np ne nf : ℕ) (order : List ℕ) where
       same-intervals = c ∙ h .same-intervals;
       same-faces = d ∙ h .same-faces;
       stands =
-        t ∙ ap (λ (g : ℕ). visit m np ne g (tablesOf ps es is fs taken)) e ∙ visits-more m np ne order s0 i (tablesOf ps es is fs taken) (h .stands);
+          t ∙ ap (λ (g : ℕ). visit m np ne g (tablesOf ps es is fs taken)) e ∙ visits-more m np ne order s0 i (tablesOf ps es is fs taken) (h .stands);
     }
 
     pub turning-end : nf ≤ i → _≡_ {A = State} (tablesOf ps es is fs taken) (visits m np ne nf order s0)

@@ -6,7 +6,7 @@
 --     RingFits oe pe rows ..   the ring with these rows, of the split perimeter pe, finds its rows and has room in the scratch tables
 --     AlongFits oe np f pe n s   the visit of the face f in s along the perimeter pe of n edges finds its rows and has room
 --     Fits ..                  every visit in the order finds its rows and has room
-use mathlib.Core.List.{List, []}
+use mathlib.Core.List.{List}
 use Prim.Native.Nat.{ℕ, _+_, _-_, _*_, _≤_, _<_}
 use lib.ListN.{length, getD}
 use lib.Ieee.{Float}
@@ -57,7 +57,7 @@ pub record AlongFits (oe : List ℕ) (np f : ℕ) (pe : List ℕ) (n : ℕ) (s :
   pub centre : s .pointsTaken * 3 + 3 ≤ length (s .points)
   pub few-points : s .pointsTaken < 65536
   pub room :
-    Room (s .points) (s .edges) (s .intervals) (splitAll np pe n (take 1 0 0 s) .pointsTaken) (splitAll np pe n (take 1 0 0 s) .edgesTaken + n)
+      Room (s .points) (s .edges) (s .intervals) (splitAll np pe n (take 1 0 0 s) .pointsTaken) (splitAll np pe n (take 1 0 0 s) .edgesTaken + n)
   pub face : f * 5 + 5 ≤ length (s .faces)
   pub face-below : f < 65536
   pub faces : (s .facesTaken + (n - 1)) * 5 ≤ length (s .faces)

@@ -6,7 +6,7 @@ use mathlib.Core.List.{List}
 use lib.ListN.{getD, replicate}
 use Prim.Native.Nat.{ℕ, _≤_, _-_}
 use native.Mathlib.Omega.{arith}
-use mathlib.Core.Path.{_≡_, refl, _∙_, ap}
+use mathlib.Core.Path.{_≡_, _∙_, ap}
 use borrow.Author.Needs.{needs}
 use Rattle.rings.proofs.found_on.Statement.{statement}
 use Rattle.rings.proofs.found_on.Tie as tie
@@ -24,19 +24,31 @@ abbrev μ-loop : tie.MeasureT-loop
 μ-loop intervals perimeter n found₀ i₀ found i = n - i
 
 loop-holds : tie.Need-loop-holds Inv-loop μ-loop
-loop-holds c = (search needs, filled-none (found-at (c .before .args .intervals .now) (c .before .args .perimeter .now)) zeros)
+loop-holds c = let a = c .before .args in (search needs, filled-none (found-at (a .intervals .now) (a .perimeter .now)) zeros)
 
 mul-found : tie.Need-mul-found Inv-loop μ-loop
-mul-found c = let l = c .before .before .loop-test .taken in let e = c .index .ensures in omega (arith, c .before .before .before .before .before .pre .1 (c .before .before .before .loop .i) l)
+mul-found c =
+    let l = c .before .before .loop-test .taken in
+    let e = c .index .ensures in
+    omega (arith, c .before .before .before .before .before .pre .1 (c .before .before .before .loop .i) l)
 
 shared-slice-read-found : tie.Need-shared-slice-read-found Inv-loop μ-loop
-shared-slice-read-found c = let l = c .before .before .before .loop-test .taken in let e = c .before .index .ensures in omega (arith, c .before .before .before .before .before .before .pre .1 (c .before .before .before .before .loop .i) l)
+shared-slice-read-found c =
+    let l = c .before .before .before .loop-test .taken in
+    let e = c .before .index .ensures in
+    omega (arith, c .before .before .before .before .before .before .pre .1 (c .before .before .before .before .loop .i) l)
 
 loop-again : tie.Need-loop-again Inv-loop μ-loop
-loop-again c = (search needs, filled-turn (found-at (c .before .before .before .before .before .before .args .intervals .now) (c .before .before .before .before .before .before .args .perimeter .now)) (c .before .before .before .before .loop .i) _ zeros _ (c .before .before .before .before .loop .inv .1) (ap (λ (e : ℕ). getD (c .before .before .before .before .before .before .args .intervals .now) e nan) (c .before .index .ensures)))
+loop-again c =
+    let a = c .before .before .before .before .before .before .args in
+    let t = c .before .before .before .before .loop in
+    (search needs, filled-turn (found-at (a .intervals .now) (a .perimeter .now)) (t .i) _ zeros _ (t .inv .1) (ap (λ (e : ℕ). getD (a .intervals .now) e nan) (c .before .index .ensures)))
 
 returns : tie.Need-returns Inv-loop μ-loop
-returns c = c .before .loop .inv .1 ∙ filled-end (found-at (c .before .before .before .args .intervals .now) (c .before .before .before .args .perimeter .now)) (c .before .loop .i) (c .before .before .before .args .n) zeros (search needs)
+returns c =
+    let a = c .before .before .before .args in
+    let t = c .before .loop in
+    t .inv .1 ∙ filled-end (found-at (a .intervals .now) (a .perimeter .now)) (t .i) (a .n) zeros (search needs)
 
 pub found-on-spec : {M : Type 1} → statement M
 found-on-spec =

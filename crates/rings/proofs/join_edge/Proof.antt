@@ -5,7 +5,9 @@ use Rattle.rings.proofs.join_edge.Statement.{statement}
 use Rattle.rings.proofs.join_edge.Tie as tie
 
 returns : tie.Need-returns
-returns c = λ es s. join-put (c .before .before .before .before .before .before .before .before .before .before .before .before .args .rows) (c .before .before .before .before .before .before .before .before .before .before .before .before .args .i) es _ _ _ _ s _ _ _ _ (c .before .before .before .before .before .before .before .before .before .before .before .next-place .ensures .0) (c .before .before .before .before .before .before .before .before .before .before .prev-place .ensures .0) (c .before .before .before .before .before .face-row .ensures) (c .before .before .before .before .face-row2 .ensures)
+returns c =
+    let a = c .before .before .before .before .before .before .before .before .before .before .before .before .args in
+    λ es s. join-put (a .rows) (a .i) es _ _ _ _ s _ _ _ _ (c .before .before .before .before .before .before .before .before .before .before .before .next-place .ensures .0) (c .before .before .before .before .before .before .before .before .before .before .prev-place .ensures .0) (c .before .before .before .before .before .face-row .ensures) (c .before .before .before .before .face-row2 .ensures)
 
 pub join-edge-spec : {M : Type 1} → statement M
 join-edge-spec =

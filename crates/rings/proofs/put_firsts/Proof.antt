@@ -24,19 +24,27 @@ abbrev μ-loop : tie.MeasureT-loop
 μ-loop oldedges edges₀ perimeter firsts seconds rows n i₀ edges i = n - i
 
 loop-holds : tie.Need-loop-holds Inv-loop μ-loop
-loop-holds c = (search needs, refl, refl, λ ms ps fs ds is k. turns-none (putFirst (faceTables (c .before .before .args .oldedges .now) []) (ring (c .before .before .args .rows) (c .before .before .args .perimeter .now) (c .before .before .args .firsts .now) (c .before .before .args .seconds .now) ms ds)) (tablesOf ps (c .before .before .args .edges .now) is fs k))
+loop-holds c =
+    let a = c .before .before .args in
+    (search needs, refl, refl, λ ms ps fs ds is k. turns-none (putFirst (faceTables (a .oldedges .now) []) (ring (a .rows) (a .perimeter .now) (a .firsts .now) (a .seconds .now) ms ds)) (tablesOf ps (a .edges .now) is fs k))
 
 put-first-requires : tie.Need-put-first-requires Inv-loop μ-loop
-put-first-requires c κs = let l = c .before .loop-test .taken in let q = c .before .before .loop .inv .1 in let e = c .before .before .loop .inv .2 in (c .before .before .before .before .before .pre .0, (omega arith, (c .before .before .before .before .before .pre .1 .0 (c .before .before .loop .i) (omega arith), omega (arith, c .before .before .before .before .before .pre .1 .1 (c .before .before .loop .i) (omega arith)))))
+put-first-requires c κs =
+    let t = c .before .before .loop in
+    let p = c .before .before .before .before .before .pre in let l = c .before .loop-test .taken in let q = t .inv .1 in let e = t .inv .2 in (p .0, (omega arith, (p .1 .0 (t .i) (omega arith), omega (arith, p .1 .1 (t .i) (omega arith)))))
 
 loop-again : tie.Need-loop-again Inv-loop μ-loop
-loop-again c = (search needs, c .before .before .before .before .before .loop .inv .1, c .before .before .put-first .kept .1 .0 ∙ c .before .before .before .before .before .loop .inv .2, λ ms ps fs ds is k. c .before .before .put-first .ensures ms ps fs ds is k ∙ turns-turn (putFirst (faceTables (c .before .before .before .before .before .before .before .before .args .oldedges .now) []) (ring (c .before .before .before .before .before .before .before .before .args .rows) (c .before .before .before .before .before .before .before .before .args .perimeter .now) (c .before .before .before .before .before .before .before .before .args .firsts .now) (c .before .before .before .before .before .before .before .before .args .seconds .now) ms ds)) (c .before .before .before .before .before .loop .i) (tablesOf ps _ is fs k) (tablesOf ps (c .before .before .before .before .before .before .before .before .args .edges .now) is fs k) (c .before .before .before .before .before .loop .inv .3 ms ps fs ds is k))
+loop-again c =
+    let put-first = c .before .before .put-first in
+    let a = c .before .before .before .before .before .before .before .before .args in let t = c .before .before .before .before .before .loop in (search needs, t .inv .1, put-first .kept .1 .0 ∙ t .inv .2, λ ms ps fs ds is k. put-first .ensures ms ps fs ds is k ∙ turns-turn (putFirst (faceTables (a .oldedges .now) []) (ring (a .rows) (a .perimeter .now) (a .firsts .now) (a .seconds .now) ms ds)) (t .i) (tablesOf ps _ is fs k) (tablesOf ps (a .edges .now) is fs k) (t .inv .3 ms ps fs ds is k))
 
 same-length : tie.Need-same-length Inv-loop μ-loop
 same-length c = c .before .loop .inv .2
 
 returns : tie.Need-returns Inv-loop μ-loop
-returns c = λ ms ps fs ds is k. c .before .loop .inv .3 ms ps fs ds is k ∙ turns-end (putFirst (faceTables (c .before .before .before .before .args .oldedges .now) []) (ring (c .before .before .before .before .args .rows) (c .before .before .before .before .args .perimeter .now) (c .before .before .before .before .args .firsts .now) (c .before .before .before .before .args .seconds .now) ms ds)) (c .before .loop .i) (c .before .before .before .before .args .rows .size) (tablesOf ps (c .before .before .before .before .args .edges .now) is fs k) (let l = c .loop-test .left in let q = c .before .loop .inv .1 in let w = c .before .loop .inv .0 in omega arith)
+returns c =
+    let t = c .before .loop in
+    let a = c .before .before .before .before .args in λ ms ps fs ds is k. t .inv .3 ms ps fs ds is k ∙ turns-end (putFirst (faceTables (a .oldedges .now) []) (ring (a .rows) (a .perimeter .now) (a .firsts .now) (a .seconds .now) ms ds)) (t .i) (a .rows .size) (tablesOf ps (a .edges .now) is fs k) (let l = c .loop-test .left in let q = t .inv .1 in let w = t .inv .0 in omega arith)
 
 pub put-firsts-spec : {M : Type 1} → statement M
 put-firsts-spec =

@@ -23,20 +23,33 @@ abbrev μ-loop : tie.MeasureT-loop
 μ-loop edges₀ intervals₀ firsts seconds mids found rows n i₀ edges intervals i = n - i
 
 loop-holds : tie.Need-loop-holds Inv-loop μ-loop
-loop-holds c = (search needs, refl, refl, refl, λ es ps fs k. turns-none (putJoin (ring (c .before .before .args .rows) es (c .before .before .args .firsts .now) (c .before .before .args .seconds .now) (c .before .before .args .mids .now) (c .before .before .args .found .now))) (tablesOf ps (c .before .before .args .edges .now) (c .before .before .args .intervals .now) fs k))
+loop-holds c =
+    let a = c .before .before .args in
+    (search needs, refl, refl, refl, λ es ps fs k. turns-none (putJoin (ring (a .rows) es (a .firsts .now) (a .seconds .now) (a .mids .now) (a .found .now))) (tablesOf ps (a .edges .now) (a .intervals .now) fs k))
 
 join-edge-requires : tie.Need-join-edge-requires Inv-loop μ-loop
-join-edge-requires c κs = let l = c .loop-test .taken in let q = c .before .loop .inv .1 in (c .before .before .before .before .pre .0, omega arith)
+join-edge-requires c κs =
+    let l = c .loop-test .taken in
+    let q = c .before .loop .inv .1 in
+    (c .before .before .before .before .pre .0, omega arith)
 
 add-store-edge : tie.Need-add-store-edge Inv-loop μ-loop
-add-store-edge c = let l = c .before .before .before .before .loop-test .taken in let q = c .before .before .before .before .before .loop .inv .1 in let s = c .before .before .before .before .before .before .before .before .pre .0 .few-edges in omega arith
+add-store-edge c =
+    let l = c .before .before .before .before .loop-test .taken in
+    let q = c .before .before .before .before .before .loop .inv .1 in
+    let s = c .before .before .before .before .before .before .before .before .pre .0 .few-edges in
+    omega arith
 
 store-edge-requires : tie.Need-store-edge-requires Inv-loop μ-loop
-store-edge-requires c κs = let l = c .before .before .before .before .loop-test .taken in let q = c .before .before .before .before .before .loop .inv .1 in let e = c .before .before .before .before .before .loop .inv .2 in let j = c .before .before .before .before .before .loop .inv .3 in let a = c .before .before .before .before .before .before .before .before .pre .1 .0 in let b = c .before .before .before .before .before .before .before .before .pre .1 .1 in (omega arith, omega arith)
+store-edge-requires c κs =
+    let t = c .before .before .before .before .before .loop in
+    let p = c .before .before .before .before .before .before .before .before .pre in let l = c .before .before .before .before .loop-test .taken in let q = t .inv .1 in let e = t .inv .2 in let j = t .inv .3 in let a = p .1 .0 in let b = p .1 .1 in (omega arith, omega arith)
 
 loop-again : tie.Need-loop-again Inv-loop μ-loop
 unfolding putEdge
-loop-again c = (search needs, c .before .before .before .before .before .before .before .before .before .before .loop .inv .1, c .before .before .before .before .store-edge .kept .0 ∙ c .before .before .before .before .before .before .before .before .before .before .loop .inv .2, c .before .before .before .before .store-edge .kept .1 .0 ∙ c .before .before .before .before .before .before .before .before .before .before .loop .inv .3, λ es ps fs k. ap₂ (λ (xs : List ℕ) (ys : List Float). tablesOf ps xs ys fs k) (c .before .before .before .before .store-edge .ensures .0) (c .before .before .before .before .store-edge .ensures .1) ∙ c .before .before .before .before .before .before .before .before .join-edge .ensures es (tablesOf ps (c .before .before .before .before .before .before .before .before .before .before .loop .edges) (c .before .before .before .before .before .before .before .before .before .before .loop .intervals) fs k) ∙ turns-turn (putJoin (ring (c .before .before .before .before .before .before .before .before .before .before .before .before .before .args .rows) es (c .before .before .before .before .before .before .before .before .before .before .before .before .before .args .firsts .now) (c .before .before .before .before .before .before .before .before .before .before .before .before .before .args .seconds .now) (c .before .before .before .before .before .before .before .before .before .before .before .before .before .args .mids .now) (c .before .before .before .before .before .before .before .before .before .before .before .before .before .args .found .now))) (c .before .before .before .before .before .before .before .before .before .before .loop .i) (tablesOf ps (c .before .before .before .before .before .before .before .before .before .before .loop .edges) (c .before .before .before .before .before .before .before .before .before .before .loop .intervals) fs k) (tablesOf ps (c .before .before .before .before .before .before .before .before .before .before .before .before .before .args .edges .now) (c .before .before .before .before .before .before .before .before .before .before .before .before .before .args .intervals .now) fs k) (c .before .before .before .before .before .before .before .before .before .before .loop .inv .4 es ps fs k))
+loop-again c =
+    let store-edge = c .before .before .before .before .store-edge in
+    let a = c .before .before .before .before .before .before .before .before .before .before .before .before .before .args in let t = c .before .before .before .before .before .before .before .before .before .before .loop in (search needs, t .inv .1, store-edge .kept .0 ∙ t .inv .2, store-edge .kept .1 .0 ∙ t .inv .3, λ es ps fs k. ap₂ (λ (xs : List ℕ) (ys : List Float). tablesOf ps xs ys fs k) (store-edge .ensures .0) (store-edge .ensures .1) ∙ c .before .before .before .before .before .before .before .before .join-edge .ensures es (tablesOf ps (t .edges) (t .intervals) fs k) ∙ turns-turn (putJoin (ring (a .rows) es (a .firsts .now) (a .seconds .now) (a .mids .now) (a .found .now))) (t .i) (tablesOf ps (t .edges) (t .intervals) fs k) (tablesOf ps (a .edges .now) (a .intervals .now) fs k) (t .inv .4 es ps fs k))
 
 same-length : tie.Need-same-length Inv-loop μ-loop
 same-length c = c .before .loop .inv .2
@@ -45,7 +58,9 @@ same-length-2 : tie.Need-same-length-2 Inv-loop μ-loop
 same-length-2 c = c .before .loop .inv .3
 
 returns : tie.Need-returns Inv-loop μ-loop
-returns c = λ es ps fs k. c .before .loop .inv .4 es ps fs k ∙ turns-end (putJoin (ring (c .before .before .before .before .args .rows) es (c .before .before .before .before .args .firsts .now) (c .before .before .before .before .args .seconds .now) (c .before .before .before .before .args .mids .now) (c .before .before .before .before .args .found .now))) (c .before .loop .i) (c .before .before .before .before .args .rows .size) (tablesOf ps (c .before .before .before .before .args .edges .now) (c .before .before .before .before .args .intervals .now) fs k) (let l = c .loop-test .left in let q = c .before .loop .inv .1 in let w = c .before .loop .inv .0 in omega arith)
+returns c =
+    let t = c .before .loop in
+    let a = c .before .before .before .before .args in λ es ps fs k. t .inv .4 es ps fs k ∙ turns-end (putJoin (ring (a .rows) es (a .firsts .now) (a .seconds .now) (a .mids .now) (a .found .now))) (t .i) (a .rows .size) (tablesOf ps (a .edges .now) (a .intervals .now) fs k) (let l = c .loop-test .left in let q = t .inv .1 in let w = t .inv .0 in omega arith)
 
 pub put-joins-spec : {M : Type 1} → statement M
 put-joins-spec =

@@ -11,7 +11,9 @@ use Rattle.rings.proofs.put_new_face.Tie as tie
 
 returns : tie.Need-returns
 unfolding putFace
-returns c = λ gs ps es ds is k. ap (λ (fs : List ℕ). tablesOf ps es is fs k) (c .before .before .store-face .ensures) ∙ face-put (c .before .before .before .before .before .before .before .before .before .before .before .before .before .before .before .args .rows) (c .before .before .before .before .before .before .before .before .before .before .before .before .before .before .before .args .i) (c .before .before .before .before .before .before .before .before .before .before .before .before .before .before .before .args .perimeter .now) (c .before .before .before .before .before .before .before .before .before .before .before .before .before .before .before .args .firsts .now) gs (c .before .before .before .before .before .before .before .before .before .before .before .before .before .before .before .args .mids .now) ds (tablesOf ps es is (c .before .before .before .before .before .before .before .before .before .before .before .before .before .before .before .args .faces .now) k) (c .before .before .before .before .before .before .before .before .before .before .before .before .before .before .before .args .oldedges .now) _ (c .before .before .before .before .before .before .before .before .before .before .index .ensures) _ _ _ (c .before .before .before .before .before .before .before .before .before .before .before .before .prev-place .ensures .0) (c .before .before .before .before .before .before .before .before .before .first-point .ensures) (c .before .before .before .before .before .before .before .before .face-row .ensures)
+returns c =
+    let a = c .before .before .before .before .before .before .before .before .before .before .before .before .before .before .before .args in
+    λ gs ps es ds is k. ap (λ (fs : List ℕ). tablesOf ps es is fs k) (c .before .before .store-face .ensures) ∙ face-put (a .rows) (a .i) (a .perimeter .now) (a .firsts .now) gs (a .mids .now) ds (tablesOf ps es is (a .faces .now) k) (a .oldedges .now) _ (c .before .before .before .before .before .before .before .before .before .before .index .ensures) _ _ _ (c .before .before .before .before .before .before .before .before .before .before .before .before .prev-place .ensures .0) (c .before .before .before .before .before .before .before .before .before .first-point .ensures) (c .before .before .before .before .before .before .before .before .face-row .ensures)
 
 pub put-new-face-spec : {M : Type 1} → statement M
 put-new-face-spec =

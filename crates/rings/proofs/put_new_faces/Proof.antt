@@ -25,19 +25,27 @@ abbrev μ-loop : tie.MeasureT-loop
 μ-loop oldedges faces₀ perimeter firsts mids rows n i₀ faces i = n - i
 
 loop-holds : tie.Need-loop-holds Inv-loop μ-loop
-loop-holds c = (search needs, refl, refl, λ gs ps es ds is k. turns-none (putNewFace (faceTables (c .before .before .args .oldedges .now) []) (ring (c .before .before .args .rows) (c .before .before .args .perimeter .now) (c .before .before .args .firsts .now) gs (c .before .before .args .mids .now) ds)) (tablesOf ps es is (c .before .before .args .faces .now) k))
+loop-holds c =
+    let a = c .before .before .args in
+    (search needs, refl, refl, λ gs ps es ds is k. turns-none (putNewFace (faceTables (a .oldedges .now) []) (ring (a .rows) (a .perimeter .now) (a .firsts .now) gs (a .mids .now) ds)) (tablesOf ps es is (a .faces .now) k))
 
 put-new-face-requires : tie.Need-put-new-face-requires Inv-loop μ-loop
-put-new-face-requires c κs = let l = c .before .loop-test .taken in let q = c .before .before .loop .inv .1 in let e = c .before .before .loop .inv .2 in (c .before .before .before .before .before .pre .0, (omega arith, (c .before .before .before .before .before .pre .1 .0 (c .before .before .loop .i) (omega arith), faces-fit (c .before .before .before .before .before .args .rows) (c .before .before .loop .i) (c .before .before .loop .faces) (omega arith) (omega (arith, c .before .before .before .before .before .pre .1 .1 .0)) (omega (arith, c .before .before .before .before .before .pre .1 .1 .1)))))
+put-new-face-requires c κs =
+    let t = c .before .before .loop in
+    let p = c .before .before .before .before .before .pre in let l = c .before .loop-test .taken in let q = t .inv .1 in let e = t .inv .2 in (p .0, (omega arith, (p .1 .0 (t .i) (omega arith), faces-fit (c .before .before .before .before .before .args .rows) (t .i) (t .faces) (omega arith) (omega (arith, p .1 .1 .0)) (omega (arith, p .1 .1 .1)))))
 
 loop-again : tie.Need-loop-again Inv-loop μ-loop
-loop-again c = (search needs, c .before .before .before .before .before .loop .inv .1, c .before .before .put-new-face .kept .1 .0 ∙ c .before .before .before .before .before .loop .inv .2, λ gs ps es ds is k. c .before .before .put-new-face .ensures gs ps es ds is k ∙ turns-turn (putNewFace (faceTables (c .before .before .before .before .before .before .before .before .args .oldedges .now) []) (ring (c .before .before .before .before .before .before .before .before .args .rows) (c .before .before .before .before .before .before .before .before .args .perimeter .now) (c .before .before .before .before .before .before .before .before .args .firsts .now) gs (c .before .before .before .before .before .before .before .before .args .mids .now) ds)) (c .before .before .before .before .before .loop .i) (tablesOf ps es is _ k) (tablesOf ps es is (c .before .before .before .before .before .before .before .before .args .faces .now) k) (c .before .before .before .before .before .loop .inv .3 gs ps es ds is k))
+loop-again c =
+    let put-new-face = c .before .before .put-new-face in
+    let a = c .before .before .before .before .before .before .before .before .args in let t = c .before .before .before .before .before .loop in (search needs, t .inv .1, put-new-face .kept .1 .0 ∙ t .inv .2, λ gs ps es ds is k. put-new-face .ensures gs ps es ds is k ∙ turns-turn (putNewFace (faceTables (a .oldedges .now) []) (ring (a .rows) (a .perimeter .now) (a .firsts .now) gs (a .mids .now) ds)) (t .i) (tablesOf ps es is _ k) (tablesOf ps es is (a .faces .now) k) (t .inv .3 gs ps es ds is k))
 
 same-length : tie.Need-same-length Inv-loop μ-loop
 same-length c = c .before .loop .inv .2
 
 returns : tie.Need-returns Inv-loop μ-loop
-returns c = λ gs ps es ds is k. c .before .loop .inv .3 gs ps es ds is k ∙ turns-end (putNewFace (faceTables (c .before .before .before .before .args .oldedges .now) []) (ring (c .before .before .before .before .args .rows) (c .before .before .before .before .args .perimeter .now) (c .before .before .before .before .args .firsts .now) gs (c .before .before .before .before .args .mids .now) ds)) (c .before .loop .i) (c .before .before .before .before .args .rows .size) (tablesOf ps es is (c .before .before .before .before .args .faces .now) k) (let l = c .loop-test .left in let q = c .before .loop .inv .1 in let w = c .before .loop .inv .0 in omega arith)
+returns c =
+    let t = c .before .loop in
+    let a = c .before .before .before .before .args in λ gs ps es ds is k. t .inv .3 gs ps es ds is k ∙ turns-end (putNewFace (faceTables (a .oldedges .now) []) (ring (a .rows) (a .perimeter .now) (a .firsts .now) gs (a .mids .now) ds)) (t .i) (a .rows .size) (tablesOf ps es is (a .faces .now) k) (let l = c .loop-test .left in let q = t .inv .1 in let w = t .inv .0 in omega arith)
 
 pub put-new-faces-spec : {M : Type 1} → statement M
 put-new-faces-spec =

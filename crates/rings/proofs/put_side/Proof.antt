@@ -12,7 +12,9 @@ slice-write-edges-3 : tie.Need-slice-write-edges-3
 slice-write-edges-3 c = rw (length-set, length-set) (search needs)
 
 returns : tie.Need-returns
-returns c = λ ps fs is k. left-put ps (c .before .args .edges .now) fs is k (c .before .args .left) (c .before .args .e) (c .before .args .f) (c .before .args .acw) (c .before .args .cw) (c .if1 .taken)
+returns c =
+    let a = c .before .args in
+    λ ps fs is k. left-put ps (a .edges .now) fs is k (a .left) (a .e) (a .f) (a .acw) (a .cw) (c .if1 .taken)
 
 slice-write-edges-5 : tie.Need-slice-write-edges-5
 slice-write-edges-5 c = rw length-set (search needs)
@@ -21,7 +23,9 @@ slice-write-edges-6 : tie.Need-slice-write-edges-6
 slice-write-edges-6 c = rw (length-set, length-set) (search needs)
 
 returns-2 : tie.Need-returns-2
-returns-2 c = λ ps fs is k. right-put ps (c .before .args .edges .now) fs is k (c .before .args .left) (c .before .args .e) (c .before .args .f) (c .before .args .acw) (c .before .args .cw) (c .if1 .left)
+returns-2 c =
+    let a = c .before .args in
+    λ ps fs is k. right-put ps (a .edges .now) fs is k (a .left) (a .e) (a .f) (a .acw) (a .cw) (c .if1 .left)
 
 pub put-side-spec : {M : Type 1} → statement M
 put-side-spec =

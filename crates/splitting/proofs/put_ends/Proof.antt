@@ -1,5 +1,4 @@
 -- put_ends meets its contract: four stores, one after the other.
-use native.Mathlib.Omega.{arith}
 use lib.ListN.{length-set}
 use borrow.Author.Needs.{needs}
 use Rattle.splitting.proofs.put_ends.Statement.{statement}

@@ -15,10 +15,14 @@ loop-holds : tie.Need-loop-holds Inv-loop μ-loop
 loop-holds c = splitting-start _ _ _ _ _ _ _
 
 split-whole-requires : tie.Need-split-whole-requires Inv-loop μ-loop
-split-whole-requires c κs = let l = c .before .before .before .before .loop-test .taken in (splitting-rows _ _ _ _ _ _ _ _ _ _ _ _ (c .before .before .before .before .before .loop .inv) (c .before .before .before .before .before .before .before .before .before .pre .1 .0) l, (splitting-old _ _ _ _ _ _ _ _ _ _ _ _ (c .before .before .before .before .before .loop .inv) (c .before .before .before .before .before .before .before .before .before .pre .1 .1 .0), splitting-room _ _ _ _ _ _ _ _ _ _ _ _ (c .before .before .before .before .before .loop .inv) l (c .before .before .before .before .before .before .before .before .before .pre .1 .1 .1)))
+split-whole-requires c κs =
+    let t = c .before .before .before .before .before .loop in
+    let p = c .before .before .before .before .before .before .before .before .before .pre in let l = c .before .before .before .before .loop-test .taken in (splitting-rows _ _ _ _ _ _ _ _ _ _ _ _ (t .inv) (p .1 .0) l, (splitting-old _ _ _ _ _ _ _ _ _ _ _ _ (t .inv) (p .1 .1 .0), splitting-room _ _ _ _ _ _ _ _ _ _ _ _ (t .inv) l (p .1 .1 .1)))
 
 loop-again : tie.Need-loop-again Inv-loop μ-loop
-loop-again c = splitting-turn _ _ _ _ _ _ _ _ _ _ _ _ (c .before .before .before .before .before .before .before .before .before .before .before .before .loop .inv) _ _ _ _ (c .before .before .before .before .before .before .before .before .before .before .before .loop-test .taken) (c .before .before .before .before .before .before .split-whole .kept .0) (c .before .before .before .before .before .before .split-whole .kept .1 .0) (c .before .before .before .before .before .before .split-whole .kept .1 .1 .0) (c .before .before .before .before .before .before .split-whole .ensures)
+loop-again c =
+    let split-whole = c .before .before .before .before .before .before .split-whole in
+    splitting-turn _ _ _ _ _ _ _ _ _ _ _ _ (c .before .before .before .before .before .before .before .before .before .before .before .before .loop .inv) _ _ _ _ (c .before .before .before .before .before .before .before .before .before .before .before .loop-test .taken) (split-whole .kept .0) (split-whole .kept .1 .0) (split-whole .kept .1 .1 .0) (split-whole .ensures)
 
 same-length : tie.Need-same-length Inv-loop μ-loop
 same-length c = c .before .loop .inv .same-points

@@ -5,7 +5,9 @@ use Rattle.splitting.proofs.split_edge.Statement.{statement}
 use Rattle.splitting.proofs.split_edge.Tie as tie
 
 returns : tie.Need-returns
-returns c = edge-split _ _ _ _ _ _ _ _ (c .before .before .before .before .before .before .before .before .before .before .before .before .before .before .before .before .before .before .args .taken) (c .before .before .before .before .before .before .before .before .before .before .put-halves .ensures .0) (c .before .before .before .before .before .before .before .before .before .before .put-halves .ensures .1 .0) (c .before .before .before .before .before .before .before .before .before .before .put-halves .ensures .1 .1) (c .before .before .before .before .put-ends .ensures)
+returns c =
+    let put-halves = c .before .before .before .before .before .before .before .before .before .before .put-halves in
+    edge-split _ _ _ _ _ _ _ _ (c .before .before .before .before .before .before .before .before .before .before .before .before .before .before .before .before .before .before .args .taken) (put-halves .ensures .0) (put-halves .ensures .1 .0) (put-halves .ensures .1 .1) (c .before .before .before .before .put-ends .ensures)
 
 pub split-edge-spec : {M : Type 1} → statement M
 split-edge-spec =

@@ -9,13 +9,27 @@ use Rattle.splitting.proofs.split_whole.Statement.{statement}
 use Rattle.splitting.proofs.split_whole.Tie as tie
 
 split-edge-requires : tie.Need-split-edge-requires
-split-edge-requires c κs = let t = c .before .before .before .if1 .taken in let x = c .before .before .before .before .index .ensures in let a = c .before .before .before .before .before .before .before .before .before .pre .1 .0 in let r = whole-room (c .before .before .before .before .before .before .before .before .before .args .points .now) (c .before .before .before .before .before .before .before .before .before .args .edges .now) (c .before .before .before .before .before .before .before .before .before .args .intervals .now) (c .before .before .before .before .before .before .before .before .before .args .np) (c .before .before .before .before .before .before .before .before .before .args .e) (c .before .before .before .before .before .before .before .before .before .args .taken) (omega arith) (c .before .before .before .before .before .before .before .before .before .pre .1 .1) in (c .before .before .before .before .before .before .before .before .before .pre .0, (r, omega (arith, r .points)))
+split-edge-requires c κs =
+    let p = c .before .before .before .before .before .before .before .before .before .pre in
+    let t = c .before .before .before .if1 .taken in
+    let x = c .before .before .before .before .index .ensures in
+    let a = p .1 .0 in
+    let r = whole-room (c .before .before .before .before .before .before .before .before .before .args .points .now) (c .before .before .before .before .before .before .before .before .before .args .edges .now) (c .before .before .before .before .before .before .before .before .before .args .intervals .now) (c .before .before .before .before .before .before .before .before .before .args .np) (c .before .before .before .before .before .before .before .before .before .args .e) (c .before .before .before .before .before .before .before .before .before .args .taken) (omega arith) (p .1 .1) in
+    (p .0, (r, omega (arith, r .points)))
 
 returns : tie.Need-returns
-returns c = let t = c .before .before .before .before .before .before .before .before .before .before .if1 .taken in let x = c .before .before .before .before .before .before .before .before .before .before .before .index .ensures in c .before .before .before .before .before .before .split-edge .ensures ∙ sym (splitWhole-split (c .before .before .before .before .before .before .before .before .before .before .before .before .before .before .before .before .args .np) (c .before .before .before .before .before .before .before .before .before .before .before .before .before .before .before .before .args .e) (scratch (c .before .before .before .before .before .before .before .before .before .before .before .before .before .before .before .before .args .points .now) (c .before .before .before .before .before .before .before .before .before .before .before .before .before .before .before .before .args .edges .now) (c .before .before .before .before .before .before .before .before .before .before .before .before .before .before .before .before .args .intervals .now) (c .before .before .before .before .before .before .before .before .before .before .before .before .before .before .before .before .args .taken)) (omega arith))
+returns c =
+    let a = c .before .before .before .before .before .before .before .before .before .before .before .before .before .before .before .before .args in
+    let t = c .before .before .before .before .before .before .before .before .before .before .if1 .taken in
+    let x = c .before .before .before .before .before .before .before .before .before .before .before .index .ensures in
+    c .before .before .before .before .before .before .split-edge .ensures ∙ sym (splitWhole-split (a .np) (a .e) (scratch (a .points .now) (a .edges .now) (a .intervals .now) (a .taken)) (omega arith))
 
 returns-2 : tie.Need-returns-2
-returns-2 c = let t = c .if1 .left in let x = c .before .index .ensures in sym (splitWhole-kept (c .before .before .before .before .before .before .args .np) (c .before .before .before .before .before .before .args .e) (scratch (c .before .before .before .before .before .before .args .points .now) (c .before .before .before .before .before .before .args .edges .now) (c .before .before .before .before .before .before .args .intervals .now) (c .before .before .before .before .before .before .args .taken)) (omega arith))
+returns-2 c =
+    let a = c .before .before .before .before .before .before .args in
+    let t = c .if1 .left in
+    let x = c .before .index .ensures in
+    sym (splitWhole-kept (a .np) (a .e) (scratch (a .points .now) (a .edges .now) (a .intervals .now) (a .taken)) (omega arith))
 
 pub split-whole-spec : {M : Type 1} → statement M
 split-whole-spec =

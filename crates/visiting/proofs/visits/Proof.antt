@@ -7,10 +7,6 @@ use Prim.Native.Nat.{_-_}
 use borrow.Author.Needs.{needs}
 use Rattle.visiting.proofs.visits.Statement.{statement}
 use Rattle.visiting.proofs.visits.Tie as tie
-use Rattle.visiting.proofs.visits.Reads as reads
-use Rattle.visiting.proofs.visits.Lts as lts
-use Rattle.tables.proofs.index.Reads as index-reads
-use Rattle.visiting.proofs.visit.Reads as visit-reads
 
 abbrev Inv-loop : tie.InvT-loop
 Inv-loop oldedges oldfaces points₀ edges₀ intervals₀ faces₀ old order taken₀ i₀ points edges intervals faces taken i = Turning (faceTables oldedges oldfaces) (old .points) (old .edges) (old .faces) order (tablesOf points₀ edges₀ intervals₀ faces₀ old) points edges intervals faces taken i
@@ -18,55 +14,41 @@ Inv-loop oldedges oldfaces points₀ edges₀ intervals₀ faces₀ old order ta
 abbrev μ-loop : tie.MeasureT-loop
 μ-loop oldedges oldfaces points₀ edges₀ intervals₀ faces₀ old order taken₀ i₀ points edges intervals faces taken i = old .faces - i
 
--- src/lib.rt:172:5
 loop-holds : tie.Need-loop-holds Inv-loop μ-loop
-loop-holds c = let a = c .before .before .before .before .before .before .before .args in turning-start (faceTables (a .oldedges .now) (a .oldfaces .now)) (a .old .points) (a .old .edges) (a .old .faces) (a .order .now) (a .points .now) (a .edges .now) (a .intervals .now) (a .faces .now) (a .old)
+loop-holds c =
+    let a = c .before .before .before .before .before .before .before .args in
+    turning-start (faceTables (a .oldedges .now) (a .oldfaces .now)) (a .old .points) (a .old .edges) (a .old .faces) (a .order .now) (a .points .now) (a .edges .now) (a .intervals .now) (a .faces .now) (a .old)
 
--- src/lib.rt:173:23
 mul-index : tie.Need-mul-index Inv-loop μ-loop
 mul-index c = let p = c .before .before .before .before .before .before .before .before .before .before .pre in omega (arith, p .ordered)
 
--- src/lib.rt:173:23
 shared-slice-read-index : tie.Need-shared-slice-read-index Inv-loop μ-loop
-shared-slice-read-index c = let p = c .before .before .before .before .before .before .before .before .before .before .before .pre in omega (arith, p .ordered)
+shared-slice-read-index c =
+    let p = c .before .before .before .before .before .before .before .before .before .before .before .pre in
+    omega (arith, p .ordered)
 
--- src/lib.rt:173:13
-index-requires : tie.Need-index-requires Inv-loop μ-loop
-index-requires c κs = search needs
-
--- src/lib.rt:174:9
 visit-requires : tie.Need-visit-requires Inv-loop μ-loop
-visit-requires c κs = let p = c .before .before .before .before .before .before .before .before .before .before .before .before .before .before .before .before .pre in (p .ceilings, (p .edges, (p .faces, turning-fits _ _ _ _ _ _ _ _ _ _ _ _ (c .before .before .before .before .before .before .before .before .loop .inv) _ (c .before .before .before .before .index .ensures) p (c .before .before .before .before .before .before .if1 .taken))))
+visit-requires c κs =
+    let p = c .before .before .before .before .before .before .before .before .before .before .before .before .before .before .before .before .pre in
+    (p .ceilings, (p .edges, (p .faces, turning-fits _ _ _ _ _ _ _ _ _ _ _ _ (c .before .before .before .before .before .before .before .before .loop .inv) _ (c .before .before .before .before .index .ensures) p (c .before .before .before .before .before .before .if1 .taken))))
 
--- src/lib.rt:175:9
-add-i : tie.Need-add-i Inv-loop μ-loop
-add-i c = search needs
-
--- src/lib.rt:172:5
-loop-less : tie.Need-loop-less Inv-loop μ-loop
-loop-less c = search needs
-
--- src/lib.rt:172:5
 loop-again : tie.Need-loop-again Inv-loop μ-loop
-loop-again c = turning-turn _ _ _ _ _ _ _ _ _ _ _ _ (c .before .before .before .before .before .before .before .before .before .before .before .before .before .before .before .before .before .loop .inv) _ _ _ _ _ _ (c .before .before .before .before .before .before .before .before .before .before .before .before .before .index .ensures) (c .before .before .before .before .before .before .before .before .before .before .before .before .before .before .before .if1 .taken) (c .before .before .before .before .before .before .before .before .visit .kept .1 .1 .0) (c .before .before .before .before .before .before .before .before .visit .kept .1 .1 .1 .0) (c .before .before .before .before .before .before .before .before .visit .kept .1 .1 .1 .1 .0) (c .before .before .before .before .before .before .before .before .visit .kept .1 .1 .1 .1 .1 .0) (c .before .before .before .before .before .before .before .before .visit .ensures)
+loop-again c =
+    let visit = c .before .before .before .before .before .before .before .before .visit in
+    turning-turn _ _ _ _ _ _ _ _ _ _ _ _ (c .before .before .before .before .before .before .before .before .before .before .before .before .before .before .before .before .before .loop .inv) _ _ _ _ _ _ (c .before .before .before .before .before .before .before .before .before .before .before .before .before .index .ensures) (c .before .before .before .before .before .before .before .before .before .before .before .before .before .before .before .if1 .taken) (visit .kept .1 .1 .0) (visit .kept .1 .1 .1 .0) (visit .kept .1 .1 .1 .1 .0) (visit .kept .1 .1 .1 .1 .1 .0) (visit .ensures)
 
--- src/lib.rt:158:1
 same-length : tie.Need-same-length Inv-loop μ-loop
 same-length c = c .before .before .loop .inv .same-points
 
--- src/lib.rt:158:1
 same-length-2 : tie.Need-same-length-2 Inv-loop μ-loop
 same-length-2 c = c .before .before .loop .inv .same-edges
 
--- src/lib.rt:158:1
 same-length-3 : tie.Need-same-length-3 Inv-loop μ-loop
 same-length-3 c = c .before .before .loop .inv .same-intervals
 
--- src/lib.rt:158:1
 same-length-4 : tie.Need-same-length-4 Inv-loop μ-loop
 same-length-4 c = c .before .before .loop .inv .same-faces
 
--- src/lib.rt:158:1
 returns : tie.Need-returns Inv-loop μ-loop
 returns c = turning-end _ _ _ _ _ _ _ _ _ _ _ _ (c .before .before .loop .inv) (c .if1 .left)
 
@@ -79,10 +61,10 @@ visits-spec =
     loop-holds
     mul-index
     shared-slice-read-index
-    index-requires
+    (λ c κs. search needs)
     visit-requires
-    add-i
-    loop-less
+    (λ c. search needs)
+    (λ c. search needs)
     loop-again
     same-length
     same-length-2
