@@ -29,10 +29,10 @@ module _
     unfoldable pub point : NewPoint (Row (c .points)) (Row (c .edges)) (Row (c .faces)) → Row (refinedCounts c .points)
     point x = r .numbering .points .to x
 
-    edge-no : NewEdge (Row (c .edges)) → Row (refinedCounts c .edges)
+    unfoldable pub edge-no : NewEdge (Row (c .edges)) → Row (refinedCounts c .edges)
     edge-no x = r .numbering .edges .to x
 
-    face-no : Dart (Row (c .edges)) → Row (refinedCounts c .faces)
+    unfoldable pub face-no : Dart (Row (c .edges)) → Row (refinedCounts c .faces)
     face-no d = r .numbering .faces .to d
 
     -- what stands in the tables, by kind
@@ -71,7 +71,7 @@ module _
       point-name (mid e) = a .midpoint e _ (sym (r .mid-row e))
       point-name (facePoint f) = a .face-point f _ (sym (r .centre-row f))
 
-      edge-name : (x : NewEdge (Row (c .edges))) → n' .names .edge (edge-no x) ≡ newEdgeName k (n .holds .mesh) (n .names) x
+      pub edge-name : (x : NewEdge (Row (c .edges))) → n' .names .edge (edge-no x) ≡ newEdgeName k (n .holds .mesh) (n .names) x
       unfolding point edge-no
       edge-name (org e) = a .origin-half e _ (r .origin-row e)
       edge-name (dst e) =
@@ -81,7 +81,7 @@ module _
           a .joining-edge (face (n .holds .mesh) d) (edge d) (edge-no (join d))
           (origin-there (join d) ∙ sym (r .centre-row (face (n .holds .mesh) d))) (dest-there (join d) ∙ sym (r .mid-row (edge d)))
 
-      face-name : (d : Dart (Row (c .edges))) → n' .names .face (face-no d) ≡ newFaceName k (n .holds .mesh) (n .names) d
+      pub face-name : (d : Dart (Row (c .edges))) → n' .names .face (face-no d) ≡ newFaceName k (n .holds .mesh) (n .names) d
       unfolding point face-no
       face-name d =
           a .new-face (face (n .holds .mesh) d) (first (n .holds .mesh) d) (face-no d)

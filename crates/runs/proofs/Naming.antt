@@ -3,6 +3,7 @@
 --     Reached s k l n        k steps of closed_meshes lead from the stage s to a mesh with the names n, in the tables l
 --     reached                the names of a run are reached, in as many steps as it has accepted ones
 --     named                  there are names
+--     settled                there is one naming of a run
 use mathlib.Core.Path.{_≡_, refl, sym, _∙_, ap, ap₂, subst, pathJ}
 use mathlib.Core.List.{List, [], _∷_}
 use mathlib.Core.Logic.{_⊎_, inl, inr}
@@ -17,13 +18,14 @@ use Rattle.closed_meshes.specs.Names.{midpointOf, facePointOf, destinationHalfO
 use Rattle.closed_meshes.specs.Shared.{Stage}
 use Rattle.closed_meshes.specs.Runs.{Run, begin, then}
 use Rattle.closed_meshes.proofs.Counting.{row-path}
+use Rattle.closed_meshes.proofs.Isomorphisms.{onto}
 use Rattle.audited_meshes.specs.Rows.{HoldsClosed}
 use Rattle.steps.specs.declared.Stepped.{Stepped}
 use Rattle.steps.specs.declared.Stepped.the-variants.{Refined, NotClosed, NotEachFaceOnce, NoRoom, NotFinite}
 use Rattle.steps.specs.Step.{numberOf, refinedCounts, firstRows}
 use Rattle.steps.specs.OneStep.{Refinement, Binary64}
 use Rattle.runs.specs.Runs.{Lent, Handed, outcome, after, run, oneMore, accepted, lent, NamedMesh, stage, NewNames, SameNames, Renamed, Naming, done, further}
-use Rattle.runs.proofs.Names.{step-of-names, named-after, new-names}
+use Rattle.runs.proofs.Names.{point, edge-no, face-no, point-name, edge-name, face-name, step-of-names, named-after, new-names}
 use Rattle.runs.proofs.Steps.{answered, refused-number, same-names-of, renamed-same, after-refused, made-of, after-accepted, numbers-after}
 
 module _ {first : Counts} {l : Lent} where
@@ -160,3 +162,56 @@ module _ {first : Counts} where
       let w = next-names k l n b h in
       let v = named hs (oneMore (outcome l h .answer) k) (after l h) (w .0) (numbers-after l h b (n .holds)) in
       (v .0, further (w .1) (v .1))
+
+-- ---- names are settled
+
+-- Names by the rules from the same names are the same.
+module _ {first c : Counts} (m m' : Mesh) (n : NamedMesh first (lent m c)) (r : Refinement (firstRows c m) c (n .holds .mesh) (n .holds .closed) m') (k : ℕ) where
+  new-names-settled :
+      (o o' : NamedMesh first (lent m' (refinedCounts c))) → NewNames k n o → NewNames k n o' → SameNames o o'
+  unfolding point edge-no face-no
+  new-names-settled o o' a b =
+      record {
+        points =
+            λ p p' q.
+            ap (o' .names .point) (row-path p' p q)
+            ∙ onto (r .numbering .points) (λ p. o' .names .point p ≡ o .names .point p)
+              (λ x. point-name m m' n r k o' b x ∙ sym (point-name m m' n r k o a x)) p;
+        edges =
+            λ e e' q.
+            ap (o' .names .edge) (row-path e' e q)
+            ∙ onto (r .numbering .edges) (λ e. o' .names .edge e ≡ o .names .edge e)
+              (λ x. edge-name m m' n r k o' b x ∙ sym (edge-name m m' n r k o a x)) e;
+        faces =
+            λ f f' q.
+            ap (o' .names .face) (row-path f' f q)
+            ∙ onto (r .numbering .faces) (λ f. o' .names .face f ≡ o .names .face f)
+              (λ d. face-name m m' n r k o' b d ∙ sym (face-name m m' n r k o a d)) f;
+      }
+
+module _ {first : Counts} where
+  settled-step :
+      (k : ℕ) (l : Lent) (n o : NamedMesh first l) → SameNames n o → Binary64 (l .counts) (l .tables) → (h : Handed)
+      (n' o' : NamedMesh first (after l h)) → Renamed k (outcome l h .answer) n n' → Renamed k (outcome l h .answer) o o' → SameNames n' o'
+  settled-step k l n o s b h n' o' x y = go (answered (outcome l h .answer))
+    where
+      go : ((c : Counts) × (outcome l h .answer ≡ Refined c)) ⊎ ((g : ℕ) × (numberOf (outcome l h .answer) ≡ some g)) → SameNames n' o'
+      go (inl (c, e)) =
+          pathJ (λ z q. (n' o' : NamedMesh first z) → NewNames (suc k) n n' → NewNames (suc k) o o' → SameNames n' o')
+          (λ n' o' x y.
+            new-names-settled (l .tables) (outcome l h .tables) n (made-of l h b (n .holds) c e .refinement) (suc k) n' o' x (new-names-same s y))
+          (sym (after-accepted l h b (n .holds) c e)) n' o' (subst (λ g. Renamed k g n n') e x) (subst (λ g. Renamed k g o o') e y)
+      go (inr (g, q)) =
+          pathJ (λ z q. (n' o' : NamedMesh first z) → SameNames n n' → SameNames o o' → SameNames n' o')
+          (λ n' o' x y. same-names-trans (same-names-sym x) (same-names-trans s y))
+          (sym (after-refused l h g q)) n' o' (same-names-of n n' (outcome l h .answer) g k q x) (same-names-of o o' (outcome l h .answer) g k q y)
+
+  -- Every naming of a run that begins with the same names ends with the names that there are.
+  pub settled :
+      {k : ℕ} {l l' : Lent} {n : NamedMesh first l} {hs : List Handed} {n' : NamedMesh first l'} → Naming k l n hs l' n' →
+      (o : NamedMesh first l) → SameNames o n → (b : Binary64 (l .counts) (l .tables)) → SameNames (named hs k l o b .0) n'
+  unfolding run named
+  settled done o s b = s
+  settled (further {k} {l} {l''} {n} {h} {hs} {n'} {n''} x xs) o s b =
+      let w = next-names k l o b h in
+      settled xs (w .0) (settled-step k l o n s b h (w .0) n' (w .1) x) (numbers-after l h b (o .holds))

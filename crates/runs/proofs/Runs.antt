@@ -26,7 +26,7 @@ use Rattle.steps.proofs.Rows.{SameRows, same-of-firstRows, room-of-firstRows, r
 use Rattle.runs.specs.Runs.{Lent, Handed, run, accepted, inNumberedOrder, lent, NamedMesh, stage, SameNames, NamedRun, TwoRuns, Demand3}
 use Rattle.runs.proofs.Readings.{reading-same, matching-same, first-reading, first-points-first}
 use Rattle.runs.proofs.Steps.{each-step}
-use Rattle.runs.proofs.Naming.{same-names-refl, same-names-sym, Reached, reached, named}
+use Rattle.runs.proofs.Naming.{same-names-refl, same-names-sym, same-names-trans, Reached, reached, named, settled}
 use Rattle.runs.proofs.Positions.{Positions, afterOne, positions}
 
 -- Matches compose.
@@ -84,18 +84,23 @@ module _ {c : Counts} {m : Mesh} (numbers : Binary64 c m) {hs : List Handed} (n 
         (accepted (lent m c) hs) (stage (reached-end .mesh)))
       (n .given) (reached-end .run)))
 
+-- In the first mesh a row's name is its number, in both runs.
+same-givens :
+    {c : Counts} {a b : Mesh} {hsA hsB : List Handed} (n : NamedRun c a hsA) (n' : NamedRun c b hsB) →
+    SameNames (n .begun) (n' .begun)
+same-givens n n' =
+    record {
+      points = λ p p' e. ap (λ x. x .point p') (n' .given ∙ sym (n .given)) ∙ ap (n .begun .names .point) (row-path p' p e);
+      edges = λ e e' q. ap (λ x. x .edge e') (n' .given ∙ sym (n .given)) ∙ ap (n .begun .names .edge) (row-path e' e q);
+      faces = λ f f' q. ap (λ x. x .face f') (n' .given ∙ sym (n .given)) ∙ ap (n .begun .names .face) (row-path f' f q);
+    }
+
 module _
     {c : Counts} {a b : Mesh} (s : SameRows c a b) (na : Binary64 c a) (nb : Binary64 c b) {hsA hsB : List Handed} (n : NamedRun c a hsA)
     (n' : NamedRun c b hsB)
   where
     begin-matches : Matching (stage (n .begun)) (stage (n' .begun))
-    begin-matches =
-        matching-same s (n .begun) (n' .begun)
-        (record {
-          points = λ p p' e. ap (λ x. x .point p') (n' .given) ∙ sym (ap (λ x. x .point p') (n .given)) ∙ ap (n .begun .names .point) (row-path p' p e);
-          edges = λ e e' q. ap (λ x. x .edge e') (n' .given) ∙ sym (ap (λ x. x .edge e') (n .given)) ∙ ap (n .begun .names .edge) (row-path e' e q);
-          faces = λ f f' q. ap (λ x. x .face f') (n' .given) ∙ sym (ap (λ x. x .face f') (n .given)) ∙ ap (n .begun .names .face) (row-path f' f q);
-        })
+    begin-matches = matching-same s (n .begun) (n' .begun) (same-givens n n')
 
     module _ (k : accepted (lent a c) hsA ≡ accepted (lent b c) hsB) where
       runs-shared : Shared (stage (n .ended)) (stage (n' .ended))
@@ -177,6 +182,13 @@ named-run c m hs numbers h =
     let w = named hs 0 (lent m c) start numbers in
     record { begun = start; given = refl; ended = w .0; naming = w .1 }
 
+-- All names of a run are the same.
+settled-run : (c : Counts) (m : Mesh) (hs : List Handed) → Binary64 c m → (n n' : NamedRun c m hs) → SameNames (n .ended) (n' .ended)
+settled-run c m hs numbers n n' =
+    let s = settled (n .naming) (n .begun) (same-names-refl (n .begun)) numbers in
+    let s' = settled (n' .naming) (n .begun) (same-givens n n') numbers in
+    same-names-trans (same-names-sym s) s'
+
 -- Two runs in any orders.
 two-runs :
     (c : Counts) (a b : Mesh) → HoldsClosed a (c .points) (c .edges) (c .faces) → Binary64 c a → firstRows c a ≡ firstRows c b →
@@ -190,6 +202,8 @@ two-runs c a b h na e hsA hsB =
       steps-B = each-step hsB (lent b c) nb h';
       named-A = named-run c a hsA na h;
       named-B = named-run c b hsB nb h';
+      settled-A = settled-run c a hsA na;
+      settled-B = settled-run c b hsB nb;
       shared = λ k n n'. runs-shared s na nb n n' k;
       positions = λ k l n n' p p' q. positions-agree e na nb n n' k p p' q l;
     }

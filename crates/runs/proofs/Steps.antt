@@ -112,6 +112,7 @@ module _ (l : Lent) (h : Handed) (numbers : Binary64 (l .counts) (l .tables)) wh
           closed = audit-is-closed _ _ _ _ .1 holds-after;
           counted = counts-accepted H;
           refined = in-order H;
+          on-kinds = λ c e n. made-of n c e .refinement;
           refused = after-refused l h;
         }
 

@@ -36,7 +36,7 @@ use Rattle.audited_meshes.specs.Rows.{HoldsClosed, place}
 use Rattle.steps.specs.declared.Stepped.{Stepped}
 use Rattle.steps.specs.declared.Stepped.the-variants.{Refined, NotClosed, NotEachFaceOnce, NoRoom, NotFinite}
 use Rattle.steps.specs.Step.{numberOf, refinedCounts, firstRows, whole, made, Outcome, step}
-use Rattle.steps.specs.OneStep.{Binary64}
+use Rattle.steps.specs.OneStep.{Refinement, Binary64}
 
 -- ---- runs
 
@@ -170,6 +170,11 @@ pub record StepClaim (l : Lent) (h : Handed) : Type 0 where
       (c : Counts) → outcome l h .answer ≡ Refined c →
       made (firstRows (l .counts) (l .tables)) (l .counts) (h .order) (firstRows c (h .scratch))
       ≡ whole (firstRows c (after l h .tables))
+  -- That is the refinement on kinds, and every position is its rule's answer.
+  pub on-kinds :
+      (c : Counts) → outcome l h .answer ≡ Refined c →
+      (n : HoldsClosed (l .tables) (l .counts .points) (l .counts .edges) (l .counts .faces)) →
+      Refinement (firstRows (l .counts) (l .tables)) (l .counts) (n .mesh) (n .closed) (after l h .tables)
   -- A refused step changes nothing.
   pub refused : (g : ℕ) → numberOf (outcome l h .answer) ≡ some g → after l h ≡ l
 
@@ -198,6 +203,8 @@ pub record TwoRuns (c : Counts) (a b : Mesh) (hsA hsB : List Handed) : Type 0 wh
   -- There are names, and they are settled.
   pub named-A : NamedRun c a hsA
   pub named-B : NamedRun c b hsB
+  pub settled-A : (n n' : NamedRun c a hsA) → SameNames (n .ended) (n' .ended)
+  pub settled-B : (n n' : NamedRun c b hsB) → SameNames (n .ended) (n' .ended)
   -- With as many accepted steps the two meshes are shared.
   pub shared :
       accepted (lent a c) hsA ≡ accepted (lent b c) hsB → (n : NamedRun c a hsA) (n' : NamedRun c b hsB) →
