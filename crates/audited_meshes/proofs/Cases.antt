@@ -59,105 +59,105 @@ polygon-64-passes = refl
 
 -- The last face row lacks a word.
 face-row-cut : Refused (withFaces (take 19 (tetrahedron .faces))) 4 6 4 (false ∷ true ∷ true ∷ true ∷ true ∷ true ∷ true ∷ true ∷ true ∷ [])
-unfolding audit clauses every countsFit inRange numbersFit edgesDiffer linked faceWalked faceWalk pointWalked pointWalk cornersFit marksFit
+unfolding audit
 face-row-cut = record { fails = refl; breaks = refl }
 
 -- One point fewer is counted than the edges name.
 origin-out-of-range : Refused tetrahedron 3 6 4 (true ∷ false ∷ true ∷ true ∷ true ∷ true ∷ true ∷ false ∷ true ∷ [])
-unfolding audit clauses every countsFit inRange numbersFit edgesDiffer linked faceWalked faceWalk pointWalked pointWalk cornersFit marksFit
+unfolding audit
 origin-out-of-range = record { fails = refl; breaks = refl }
 
 -- One face fewer is counted than the edges name.
 face-out-of-range : Refused tetrahedron 4 6 3 (true ∷ false ∷ true ∷ true ∷ true ∷ true ∷ true ∷ true ∷ true ∷ [])
-unfolding audit clauses every countsFit inRange numbersFit edgesDiffer linked faceWalked faceWalk pointWalked pointWalk cornersFit marksFit
+unfolding audit
 face-out-of-range = record { fails = refl; breaks = refl }
 
 -- A coordinate is not a number.
 coordinate-nan : Refused (withPositions (set (tetrahedron .positions) 7 nan)) 4 6 4 (true ∷ true ∷ false ∷ true ∷ true ∷ true ∷ true ∷ true ∷ true ∷ [])
-unfolding audit clauses every countsFit inRange numbersFit edgesDiffer linked faceWalked faceWalk pointWalked pointWalk cornersFit marksFit
+unfolding audit
 coordinate-nan = record { fails = refl; breaks = refl }
 
 -- An interval is infinite.
 interval-infinite : Refused (withIntervals (set (tetrahedron .intervals) 5 (inf false))) 4 6 4 (true ∷ true ∷ false ∷ true ∷ true ∷ true ∷ true ∷ true ∷ true ∷ [])
-unfolding audit clauses every countsFit inRange numbersFit edgesDiffer linked faceWalked faceWalk pointWalked pointWalk cornersFit marksFit
+unfolding audit
 interval-infinite = record { fails = refl; breaks = refl }
 
 -- An interval is -0: its sign bit is set.
 interval-negative-zero : Refused (withIntervals (set (tetrahedron .intervals) 2 (fin true 0 (pos 0)))) 4 6 4 (true ∷ true ∷ false ∷ true ∷ true ∷ true ∷ true ∷ true ∷ true ∷ [])
-unfolding audit clauses every countsFit inRange numbersFit edgesDiffer linked faceWalked faceWalk pointWalked pointWalk cornersFit marksFit
+unfolding audit
 interval-negative-zero = record { fails = refl; breaks = refl }
 
 -- Edge 0 ends where it begins.
 ends-same : Refused (withEdges (set (tetrahedron .edges) 1 0)) 4 6 4 (true ∷ true ∷ true ∷ false ∷ false ∷ false ∷ false ∷ true ∷ true ∷ [])
-unfolding audit clauses every countsFit inRange numbersFit edgesDiffer linked faceWalked faceWalk pointWalked pointWalk cornersFit marksFit
+unfolding audit
 ends-same = record { fails = refl; breaks = refl }
 
 -- Edge 0 has one face on both sides.
 sides-same : Refused (withEdges (set (tetrahedron .edges) 3 0)) 4 6 4 (true ∷ true ∷ true ∷ false ∷ false ∷ false ∷ true ∷ true ∷ true ∷ [])
-unfolding audit clauses every countsFit inRange numbersFit edgesDiffer linked faceWalked faceWalk pointWalked pointWalk cornersFit marksFit
+unfolding audit
 sides-same = record { fails = refl; breaks = refl }
 
 -- Two edges join the same two points.
 double-edge : Refused doubleEdge 4 6 4 (true ∷ true ∷ true ∷ false ∷ true ∷ true ∷ true ∷ true ∷ true ∷ [])
-unfolding audit clauses every countsFit inRange numbersFit edgesDiffer linked faceWalked faceWalk pointWalked pointWalk cornersFit marksFit
+unfolding audit
 double-edge = record { fails = refl; breaks = refl }
 
 -- Edge 0 runs the other way.
 direction-turned : Refused (withEdges (set (set (tetrahedron .edges) 0 1) 1 0)) 4 6 4 (true ∷ true ∷ true ∷ true ∷ false ∷ false ∷ false ∷ true ∷ true ∷ [])
-unfolding audit clauses every countsFit inRange numbersFit edgesDiffer linked faceWalked faceWalk pointWalked pointWalk cornersFit marksFit
+unfolding audit
 direction-turned = record { fails = refl; breaks = refl }
 
 -- LeftCw of edge 0 goes to edge 1.
 link-wrong : Refused (withEdges (set (tetrahedron .edges) 4 1)) 4 6 4 (true ∷ true ∷ true ∷ true ∷ false ∷ true ∷ false ∷ true ∷ true ∷ [])
-unfolding audit clauses every countsFit inRange numbersFit edgesDiffer linked faceWalked faceWalk pointWalked pointWalk cornersFit marksFit
+unfolding audit
 link-wrong = record { fails = refl; breaks = refl }
 
 -- The walk about face 0 passes 3 of its 6 edges.
 face-edges-missed : Refused mergedFaces 8 12 7 (true ∷ true ∷ true ∷ true ∷ true ∷ false ∷ true ∷ true ∷ true ∷ [])
-unfolding audit clauses every countsFit inRange numbersFit edgesDiffer linked faceWalked faceWalk pointWalked pointWalk cornersFit marksFit
+unfolding audit
 face-edges-missed = record { fails = refl; breaks = refl }
 
 -- Face 2 passes a point twice.
 face-point-twice : Refused bowTie 5 6 3 (true ∷ true ∷ true ∷ true ∷ true ∷ false ∷ true ∷ true ∷ true ∷ [])
-unfolding audit clauses every countsFit inRange numbersFit edgesDiffer linked faceWalked faceWalk pointWalked pointWalk cornersFit marksFit
+unfolding audit
 face-point-twice = record { fails = refl; breaks = refl }
 
 -- Face 0 starts at an edge that does not border it.
 face-start-elsewhere : Refused (withFaces (set (tetrahedron .faces) 0 5)) 4 6 4 (true ∷ true ∷ true ∷ true ∷ true ∷ false ∷ true ∷ true ∷ true ∷ [])
-unfolding audit clauses every countsFit inRange numbersFit edgesDiffer linked faceWalked faceWalk pointWalked pointWalk cornersFit marksFit
+unfolding audit
 face-start-elsewhere = record { fails = refl; breaks = refl }
 
 -- Two faces of 65 edges.
 face-of-65 : Refused (polygon 65) 65 65 2 (true ∷ true ∷ true ∷ true ∷ true ∷ false ∷ true ∷ true ∷ true ∷ [])
-unfolding audit clauses every countsFit inRange numbersFit edgesDiffer linked faceWalked faceWalk pointWalked pointWalk cornersFit marksFit
+unfolding audit
 face-of-65 = record { fails = refl; breaks = refl }
 
 -- Two faces of 2 edges.
 face-of-2 : Refused (polygon 2) 2 2 2 (true ∷ true ∷ true ∷ false ∷ true ∷ false ∷ true ∷ true ∷ true ∷ [])
-unfolding audit clauses every countsFit inRange numbersFit edgesDiffer linked faceWalked faceWalk pointWalked pointWalk cornersFit marksFit
+unfolding audit
 face-of-2 = record { fails = refl; breaks = refl }
 
 -- The walk about point 0 passes 3 of its 6 edges.
 point-edges-missed : Refused pinched 7 12 8 (true ∷ true ∷ true ∷ true ∷ true ∷ true ∷ false ∷ true ∷ true ∷ [])
-unfolding audit clauses every countsFit inRange numbersFit edgesDiffer linked faceWalked faceWalk pointWalked pointWalk cornersFit marksFit
+unfolding audit
 point-edges-missed = record { fails = refl; breaks = refl }
 
 -- The valence of point 0 is not the number of its edges.
 valence-wrong : Refused (withPoints (set (tetrahedron .points) 0 4)) 4 6 4 (true ∷ true ∷ true ∷ true ∷ true ∷ true ∷ false ∷ true ∷ true ∷ [])
-unfolding audit clauses every countsFit inRange numbersFit edgesDiffer linked faceWalked faceWalk pointWalked pointWalk cornersFit marksFit
+unfolding audit
 valence-wrong = record { fails = refl; breaks = refl }
 
 -- Point 0 starts at an edge that does not touch it.
 point-start-elsewhere : Refused (withPoints (set (tetrahedron .points) 1 1)) 4 6 4 (true ∷ true ∷ true ∷ true ∷ true ∷ true ∷ false ∷ true ∷ true ∷ [])
-unfolding audit clauses every countsFit inRange numbersFit edgesDiffer linked faceWalked faceWalk pointWalked pointWalk cornersFit marksFit
+unfolding audit
 point-start-elsewhere = record { fails = refl; breaks = refl }
 
 -- A corner is neither a point number nor the none mark.
 corner-wrong : Refused (withFaces (set (tetrahedron .faces) 4 4)) 4 6 4 (true ∷ true ∷ true ∷ true ∷ true ∷ true ∷ true ∷ false ∷ true ∷ [])
-unfolding audit clauses every countsFit inRange numbersFit edgesDiffer linked faceWalked faceWalk pointWalked pointWalk cornersFit marksFit
+unfolding audit
 corner-wrong = record { fails = refl; breaks = refl }
 
 -- A mark is 2.
 mark-wrong : Refused (withPoints (set (tetrahedron .points) 2 2)) 4 6 4 (true ∷ true ∷ true ∷ true ∷ true ∷ true ∷ true ∷ true ∷ false ∷ [])
-unfolding audit clauses every countsFit inRange numbersFit edgesDiffer linked faceWalked faceWalk pointWalked pointWalk cornersFit marksFit
+unfolding audit
 mark-wrong = record { fails = refl; breaks = refl }

@@ -1,16 +1,14 @@
 -- The laws of sums over the numbers below a bound, and of how often a number stands in a list. Assumes nothing.
 use mathlib.Core.Path.{_≡_, refl, sym, _∙_, ap, ap₂, subst}
-use mathlib.Core.Bool.{Bool, true, false, _||_}
 use mathlib.Core.List.{List, [], _∷_}
-use mathlib.Core.Logic.{_↔_, _≢_}
 use Prim.Native.Nat.{ℕ, zero, suc, _+_, _*_, _≤_, _<_}
 use native.Mathlib.Omega.{arith}
-use native.Mathlib.Decide.{decLe, ℕ-discrete}
+use native.Mathlib.Decide.{decLe}
 use lib.Dec.{eqb}
 use lib.ListN.{length}
-use borrow.Author.Tests.{eqb-true, eqb-false, eq-eqb, ne-eqb}
+use borrow.Author.Tests.{eq-eqb, ne-eqb}
 use Rattle.closed_meshes.specs.Renumbering.{sumTo}
-use Rattle.audited_meshes.specs.Folds.{every, one, occurrences}
+use Rattle.audited_meshes.specs.Folds.{one, occurrences}
 
 -- a number below suc n is below n or is n
 pub below-suc : {A : Type 0} (k n : ℕ) → k < suc n → (k < n → A) → (k ≡ n → A) → A
@@ -32,15 +30,15 @@ sumTo-le (suc n) a b h = omega (arith, sumTo-le n a b (λ k l. h k (omega arith)
 
 -- sums that agree, of values of which none is above the other, agree everywhere
 pub sumTo-tight :
-  (n : ℕ) (a b : ℕ → ℕ) → ((k : ℕ) → k < n → a k ≤ b k) → sumTo n a ≡ sumTo n b → (k : ℕ) → k < n → a k ≡ b k
+    (n : ℕ) (a b : ℕ → ℕ) → ((k : ℕ) → k < n → a k ≤ b k) → sumTo n a ≡ sumTo n b → (k : ℕ) → k < n → a k ≡ b k
 unfolding sumTo
 sumTo-tight zero a b h e k l = absurd (omega arith)
 sumTo-tight (suc n) a b h e k l =
     let below : sumTo n a ≤ sumTo n b = sumTo-le n a b (λ k l. h k (omega arith)) in
     let top : a n ≤ b n = h n (omega arith) in
     below-suc k n l
-      (λ lt. sumTo-tight n a b (λ k l. h k (omega arith)) (omega arith) k lt)
-      (λ same. subst (λ k. a k ≡ b k) (sym same) (omega arith))
+    (λ lt. sumTo-tight n a b (λ k l. h k (omega arith)) (omega arith) k lt)
+    (λ same. subst (λ k. a k ≡ b k) (sym same) (omega arith))
 
 pub sumTo-add : (n : ℕ) (a b : ℕ → ℕ) → sumTo n (λ k. a k + b k) ≡ sumTo n a + sumTo n b
 unfolding sumTo
@@ -75,8 +73,8 @@ unfolding sumTo
 sumTo-one zero i h = absurd (omega arith)
 sumTo-one (suc n) i h =
     below-suc i n h
-      (λ lt. ap₂ (λ (x y : ℕ). x + y) (sumTo-one n i lt) (ap one (ne-eqb i n (λ e. omega arith))))
-      (λ same. ap₂ (λ (x y : ℕ). x + y) (sumTo-above n i (omega arith)) (ap one (eq-eqb i n same)))
+    (λ lt. ap₂ (λ (x y : ℕ). x + y) (sumTo-one n i lt) (ap one (ne-eqb i n (λ e. omega arith))))
+    (λ same. ap₂ (λ (x y : ℕ). x + y) (sumTo-above n i (omega arith)) (ap one (eq-eqb i n same)))
 
 -- the length of a list of numbers below n is the sum of how often each stands in it
 pub length-sumTo : (n : ℕ) (ks : List ℕ) → ((i : ℕ) → 0 < occurrences i ks → i < n) → length ks ≡ sumTo n (λ i. occurrences i ks)

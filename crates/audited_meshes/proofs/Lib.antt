@@ -3,6 +3,13 @@ pub mod Folds
 pub mod Walks
 pub mod Audited
 pub mod Sums
+pub mod OneEdge
 pub mod Quick
+pub mod Positions
+pub mod Cycles
+pub mod Rows
+pub mod Darts
+pub mod Closed
+pub mod Holds
 pub mod Meshes
 pub mod Cases

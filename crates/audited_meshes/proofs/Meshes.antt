@@ -26,7 +26,7 @@ tetrahedron =
       points = 3 ∷ 3 ∷ 1 ∷ 3 ∷ 4 ∷ 1 ∷ 3 ∷ 5 ∷ 1 ∷ 3 ∷ 5 ∷ 1 ∷ [];
       edges = 0 ∷ 1 ∷ 0 ∷ 1 ∷ 2 ∷ 1 ∷ 4 ∷ 3 ∷ 1 ∷ 2 ∷ 0 ∷ 2 ∷ 0 ∷ 2 ∷ 5 ∷ 4 ∷ 2 ∷ 0 ∷ 0 ∷ 3 ∷ 1 ∷ 0 ∷ 3 ∷ 5 ∷ 0 ∷ 3 ∷ 1 ∷ 3 ∷ 0 ∷ 4 ∷ 5 ∷ 2 ∷ 3 ∷ 1 ∷ 1 ∷ 2 ∷ 3 ∷ 0 ∷ 1 ∷ 5 ∷ 3 ∷ 2 ∷ 2 ∷ 3 ∷ 4 ∷ 1 ∷ 2 ∷ 3 ∷ [];
       intervals = replicate 6 unit;
-      faces = 0 ∷ 0 ∷ 1 ∷ 2 ∷ 4294967295 ∷ 3 ∷ 0 ∷ 3 ∷ 1 ∷ 4294967295 ∷ 4 ∷ 1 ∷ 3 ∷ 2 ∷ 4294967295 ∷ 5 ∷ 2 ∷ 3 ∷ 0 ∷ 4294967295 ∷ []
+      faces = 0 ∷ 0 ∷ 1 ∷ 2 ∷ 4294967295 ∷ 3 ∷ 0 ∷ 3 ∷ 1 ∷ 4294967295 ∷ 4 ∷ 1 ∷ 3 ∷ 2 ∷ 4294967295 ∷ 5 ∷ 2 ∷ 3 ∷ 0 ∷ 4294967295 ∷ [];
     }
 
 -- document 01's cube: 8 points, 12 edges, 6 faces
@@ -37,7 +37,7 @@ cube =
       points = 3 ∷ 9 ∷ 1 ∷ 3 ∷ 8 ∷ 1 ∷ 3 ∷ 10 ∷ 1 ∷ 3 ∷ 11 ∷ 1 ∷ 3 ∷ 9 ∷ 1 ∷ 3 ∷ 8 ∷ 1 ∷ 3 ∷ 10 ∷ 1 ∷ 3 ∷ 11 ∷ 1 ∷ [];
       edges = 0 ∷ 2 ∷ 0 ∷ 4 ∷ 3 ∷ 1 ∷ 10 ∷ 9 ∷ 2 ∷ 3 ∷ 0 ∷ 3 ∷ 0 ∷ 2 ∷ 11 ∷ 10 ∷ 3 ∷ 1 ∷ 0 ∷ 5 ∷ 1 ∷ 3 ∷ 8 ∷ 11 ∷ 1 ∷ 0 ∷ 0 ∷ 2 ∷ 2 ∷ 0 ∷ 9 ∷ 8 ∷ 4 ∷ 5 ∷ 1 ∷ 2 ∷ 7 ∷ 5 ∷ 8 ∷ 9 ∷ 5 ∷ 7 ∷ 1 ∷ 5 ∷ 4 ∷ 6 ∷ 11 ∷ 8 ∷ 7 ∷ 6 ∷ 1 ∷ 3 ∷ 5 ∷ 7 ∷ 10 ∷ 11 ∷ 6 ∷ 4 ∷ 1 ∷ 4 ∷ 6 ∷ 4 ∷ 9 ∷ 10 ∷ 1 ∷ 5 ∷ 2 ∷ 5 ∷ 3 ∷ 4 ∷ 5 ∷ 2 ∷ 4 ∷ 0 ∷ 2 ∷ 4 ∷ 4 ∷ 3 ∷ 0 ∷ 7 ∷ 2 ∷ 6 ∷ 3 ∷ 4 ∷ 1 ∷ 6 ∷ 7 ∷ 0 ∷ 7 ∷ 3 ∷ 3 ∷ 5 ∷ 6 ∷ 1 ∷ 2 ∷ 5 ∷ [];
       intervals = replicate 12 unit;
-      faces = 0 ∷ 0 ∷ 2 ∷ 3 ∷ 1 ∷ 4 ∷ 4 ∷ 5 ∷ 7 ∷ 6 ∷ 3 ∷ 0 ∷ 1 ∷ 5 ∷ 4 ∷ 10 ∷ 2 ∷ 6 ∷ 7 ∷ 3 ∷ 9 ∷ 0 ∷ 4 ∷ 6 ∷ 2 ∷ 2 ∷ 1 ∷ 3 ∷ 7 ∷ 5 ∷ []
+      faces = 0 ∷ 0 ∷ 2 ∷ 3 ∷ 1 ∷ 4 ∷ 4 ∷ 5 ∷ 7 ∷ 6 ∷ 3 ∷ 0 ∷ 1 ∷ 5 ∷ 4 ∷ 10 ∷ 2 ∷ 6 ∷ 7 ∷ 3 ∷ 9 ∷ 0 ∷ 4 ∷ 6 ∷ 2 ∷ 2 ∷ 1 ∷ 3 ∷ 7 ∷ 5 ∷ [];
     }
 
 -- two triangles back to back: 3 points, 3 edges, 2 faces
@@ -48,7 +48,7 @@ twoTriangles =
       points = 2 ∷ 2 ∷ 1 ∷ 2 ∷ 1 ∷ 1 ∷ 2 ∷ 2 ∷ 1 ∷ [];
       edges = 0 ∷ 1 ∷ 0 ∷ 1 ∷ 2 ∷ 1 ∷ 1 ∷ 2 ∷ 1 ∷ 2 ∷ 0 ∷ 1 ∷ 0 ∷ 2 ∷ 2 ∷ 0 ∷ 2 ∷ 0 ∷ 0 ∷ 1 ∷ 1 ∷ 0 ∷ 0 ∷ 1 ∷ [];
       intervals = replicate 3 unit;
-      faces = 0 ∷ 0 ∷ 1 ∷ 2 ∷ 4294967295 ∷ 2 ∷ 0 ∷ 2 ∷ 1 ∷ 4294967295 ∷ []
+      faces = 0 ∷ 0 ∷ 1 ∷ 2 ∷ 4294967295 ∷ 2 ∷ 0 ∷ 2 ∷ 1 ∷ 4294967295 ∷ [];
     }
 
 -- three by three squares: 9 points, 18 edges, 9 faces
@@ -59,7 +59,7 @@ torus =
       points = 4 ∷ 15 ∷ 0 ∷ 4 ∷ 16 ∷ 0 ∷ 4 ∷ 17 ∷ 0 ∷ 4 ∷ 9 ∷ 0 ∷ 4 ∷ 11 ∷ 0 ∷ 4 ∷ 13 ∷ 0 ∷ 4 ∷ 15 ∷ 0 ∷ 4 ∷ 16 ∷ 0 ∷ 4 ∷ 17 ∷ 0 ∷ [];
       edges = 0 ∷ 3 ∷ 0 ∷ 2 ∷ 3 ∷ 1 ∷ 7 ∷ 8 ∷ 3 ∷ 4 ∷ 0 ∷ 3 ∷ 0 ∷ 2 ∷ 11 ∷ 9 ∷ 4 ∷ 1 ∷ 0 ∷ 1 ∷ 1 ∷ 3 ∷ 6 ∷ 4 ∷ 1 ∷ 0 ∷ 0 ∷ 6 ∷ 2 ∷ 0 ∷ 15 ∷ 16 ∷ 4 ∷ 5 ∷ 1 ∷ 4 ∷ 2 ∷ 5 ∷ 13 ∷ 11 ∷ 5 ∷ 2 ∷ 1 ∷ 2 ∷ 4 ∷ 6 ∷ 8 ∷ 7 ∷ 2 ∷ 1 ∷ 1 ∷ 7 ∷ 5 ∷ 2 ∷ 16 ∷ 17 ∷ 5 ∷ 3 ∷ 2 ∷ 5 ∷ 5 ∷ 0 ∷ 9 ∷ 13 ∷ 0 ∷ 2 ∷ 2 ∷ 8 ∷ 0 ∷ 5 ∷ 17 ∷ 15 ∷ 3 ∷ 6 ∷ 3 ∷ 5 ∷ 1 ∷ 10 ∷ 14 ∷ 7 ∷ 6 ∷ 7 ∷ 3 ∷ 6 ∷ 9 ∷ 11 ∷ 16 ∷ 15 ∷ 7 ∷ 4 ∷ 3 ∷ 4 ∷ 10 ∷ 1 ∷ 4 ∷ 12 ∷ 7 ∷ 8 ∷ 4 ∷ 7 ∷ 11 ∷ 13 ∷ 17 ∷ 16 ∷ 8 ∷ 5 ∷ 4 ∷ 5 ∷ 12 ∷ 4 ∷ 7 ∷ 14 ∷ 8 ∷ 6 ∷ 5 ∷ 8 ∷ 13 ∷ 9 ∷ 15 ∷ 17 ∷ 6 ∷ 0 ∷ 6 ∷ 8 ∷ 10 ∷ 3 ∷ 8 ∷ 14 ∷ 1 ∷ 7 ∷ 6 ∷ 7 ∷ 3 ∷ 10 ∷ 12 ∷ 6 ∷ 2 ∷ 8 ∷ 7 ∷ 8 ∷ 6 ∷ 12 ∷ 14 ∷ 8 ∷ [];
       intervals = replicate 18 unit;
-      faces = 0 ∷ 0 ∷ 3 ∷ 4 ∷ 1 ∷ 2 ∷ 1 ∷ 4 ∷ 5 ∷ 2 ∷ 5 ∷ 2 ∷ 5 ∷ 3 ∷ 0 ∷ 9 ∷ 3 ∷ 6 ∷ 7 ∷ 4 ∷ 11 ∷ 4 ∷ 7 ∷ 8 ∷ 5 ∷ 13 ∷ 5 ∷ 8 ∷ 6 ∷ 3 ∷ 15 ∷ 6 ∷ 0 ∷ 1 ∷ 7 ∷ 16 ∷ 7 ∷ 1 ∷ 2 ∷ 8 ∷ 17 ∷ 8 ∷ 2 ∷ 0 ∷ 6 ∷ []
+      faces = 0 ∷ 0 ∷ 3 ∷ 4 ∷ 1 ∷ 2 ∷ 1 ∷ 4 ∷ 5 ∷ 2 ∷ 5 ∷ 2 ∷ 5 ∷ 3 ∷ 0 ∷ 9 ∷ 3 ∷ 6 ∷ 7 ∷ 4 ∷ 11 ∷ 4 ∷ 7 ∷ 8 ∷ 5 ∷ 13 ∷ 5 ∷ 8 ∷ 6 ∷ 3 ∷ 15 ∷ 6 ∷ 0 ∷ 1 ∷ 7 ∷ 16 ∷ 7 ∷ 1 ∷ 2 ∷ 8 ∷ 17 ∷ 8 ∷ 2 ∷ 0 ∷ 6 ∷ [];
     }
 
 -- two edges join the points 0 and 1: 4 points, 6 edges, 4 faces
@@ -70,7 +70,7 @@ doubleEdge =
       points = 4 ∷ 4 ∷ 0 ∷ 4 ∷ 5 ∷ 0 ∷ 2 ∷ 3 ∷ 1 ∷ 2 ∷ 5 ∷ 1 ∷ [];
       edges = 0 ∷ 1 ∷ 0 ∷ 3 ∷ 2 ∷ 3 ∷ 5 ∷ 4 ∷ 0 ∷ 1 ∷ 2 ∷ 1 ∷ 4 ∷ 5 ∷ 3 ∷ 2 ∷ 0 ∷ 2 ∷ 1 ∷ 0 ∷ 1 ∷ 3 ∷ 3 ∷ 0 ∷ 2 ∷ 1 ∷ 1 ∷ 0 ∷ 2 ∷ 1 ∷ 0 ∷ 2 ∷ 0 ∷ 3 ∷ 3 ∷ 2 ∷ 0 ∷ 5 ∷ 5 ∷ 1 ∷ 3 ∷ 1 ∷ 3 ∷ 2 ∷ 4 ∷ 0 ∷ 1 ∷ 4 ∷ [];
       intervals = replicate 6 unit;
-      faces = 0 ∷ 0 ∷ 1 ∷ 2 ∷ 4294967295 ∷ 2 ∷ 0 ∷ 2 ∷ 1 ∷ 4294967295 ∷ 1 ∷ 0 ∷ 1 ∷ 3 ∷ 4294967295 ∷ 4 ∷ 0 ∷ 3 ∷ 1 ∷ 4294967295 ∷ []
+      faces = 0 ∷ 0 ∷ 1 ∷ 2 ∷ 4294967295 ∷ 2 ∷ 0 ∷ 2 ∷ 1 ∷ 4294967295 ∷ 1 ∷ 0 ∷ 1 ∷ 3 ∷ 4294967295 ∷ 4 ∷ 0 ∷ 3 ∷ 1 ∷ 4294967295 ∷ [];
     }
 
 -- face 0 has the borders of two triangles: 8 points, 12 edges, 7 faces
@@ -81,7 +81,7 @@ mergedFaces =
       points = 3 ∷ 3 ∷ 1 ∷ 3 ∷ 4 ∷ 1 ∷ 3 ∷ 5 ∷ 1 ∷ 3 ∷ 5 ∷ 1 ∷ 3 ∷ 9 ∷ 1 ∷ 3 ∷ 10 ∷ 1 ∷ 3 ∷ 11 ∷ 1 ∷ 3 ∷ 11 ∷ 1 ∷ [];
       edges = 0 ∷ 1 ∷ 0 ∷ 1 ∷ 2 ∷ 1 ∷ 4 ∷ 3 ∷ 1 ∷ 2 ∷ 0 ∷ 2 ∷ 0 ∷ 2 ∷ 5 ∷ 4 ∷ 2 ∷ 0 ∷ 0 ∷ 3 ∷ 1 ∷ 0 ∷ 3 ∷ 5 ∷ 0 ∷ 3 ∷ 1 ∷ 3 ∷ 0 ∷ 4 ∷ 5 ∷ 2 ∷ 3 ∷ 1 ∷ 1 ∷ 2 ∷ 3 ∷ 0 ∷ 1 ∷ 5 ∷ 3 ∷ 2 ∷ 2 ∷ 3 ∷ 4 ∷ 1 ∷ 2 ∷ 3 ∷ 4 ∷ 5 ∷ 0 ∷ 4 ∷ 8 ∷ 7 ∷ 10 ∷ 9 ∷ 5 ∷ 6 ∷ 0 ∷ 5 ∷ 6 ∷ 8 ∷ 11 ∷ 10 ∷ 6 ∷ 4 ∷ 0 ∷ 6 ∷ 7 ∷ 6 ∷ 9 ∷ 11 ∷ 4 ∷ 7 ∷ 4 ∷ 6 ∷ 6 ∷ 10 ∷ 11 ∷ 8 ∷ 7 ∷ 5 ∷ 4 ∷ 5 ∷ 9 ∷ 6 ∷ 7 ∷ 11 ∷ 7 ∷ 6 ∷ 5 ∷ 6 ∷ 10 ∷ 7 ∷ 8 ∷ 9 ∷ [];
       intervals = replicate 12 unit;
-      faces = 0 ∷ 0 ∷ 1 ∷ 2 ∷ 4294967295 ∷ 3 ∷ 0 ∷ 3 ∷ 1 ∷ 4294967295 ∷ 4 ∷ 1 ∷ 3 ∷ 2 ∷ 4294967295 ∷ 5 ∷ 2 ∷ 3 ∷ 0 ∷ 4294967295 ∷ 9 ∷ 4 ∷ 7 ∷ 5 ∷ 4294967295 ∷ 10 ∷ 5 ∷ 7 ∷ 6 ∷ 4294967295 ∷ 11 ∷ 6 ∷ 7 ∷ 4 ∷ 4294967295 ∷ []
+      faces = 0 ∷ 0 ∷ 1 ∷ 2 ∷ 4294967295 ∷ 3 ∷ 0 ∷ 3 ∷ 1 ∷ 4294967295 ∷ 4 ∷ 1 ∷ 3 ∷ 2 ∷ 4294967295 ∷ 5 ∷ 2 ∷ 3 ∷ 0 ∷ 4294967295 ∷ 9 ∷ 4 ∷ 7 ∷ 5 ∷ 4294967295 ∷ 10 ∷ 5 ∷ 7 ∷ 6 ∷ 4294967295 ∷ 11 ∷ 6 ∷ 7 ∷ 4 ∷ 4294967295 ∷ [];
     }
 
 -- the walk about point 0 passes 3 of its 6 edges, and 3 stands for its valence: 7 points, 12 edges, 8 faces
@@ -92,7 +92,7 @@ pinched =
       points = 3 ∷ 3 ∷ 1 ∷ 3 ∷ 4 ∷ 1 ∷ 3 ∷ 5 ∷ 1 ∷ 3 ∷ 5 ∷ 1 ∷ 3 ∷ 10 ∷ 1 ∷ 3 ∷ 11 ∷ 1 ∷ 3 ∷ 11 ∷ 1 ∷ [];
       edges = 0 ∷ 1 ∷ 0 ∷ 1 ∷ 2 ∷ 1 ∷ 4 ∷ 3 ∷ 1 ∷ 2 ∷ 0 ∷ 2 ∷ 0 ∷ 2 ∷ 5 ∷ 4 ∷ 2 ∷ 0 ∷ 0 ∷ 3 ∷ 1 ∷ 0 ∷ 3 ∷ 5 ∷ 0 ∷ 3 ∷ 1 ∷ 3 ∷ 0 ∷ 4 ∷ 5 ∷ 2 ∷ 3 ∷ 1 ∷ 1 ∷ 2 ∷ 3 ∷ 0 ∷ 1 ∷ 5 ∷ 3 ∷ 2 ∷ 2 ∷ 3 ∷ 4 ∷ 1 ∷ 2 ∷ 3 ∷ 0 ∷ 4 ∷ 4 ∷ 5 ∷ 8 ∷ 7 ∷ 10 ∷ 9 ∷ 4 ∷ 5 ∷ 4 ∷ 6 ∷ 6 ∷ 8 ∷ 11 ∷ 10 ∷ 5 ∷ 0 ∷ 4 ∷ 7 ∷ 7 ∷ 6 ∷ 9 ∷ 11 ∷ 0 ∷ 6 ∷ 5 ∷ 7 ∷ 6 ∷ 10 ∷ 11 ∷ 8 ∷ 6 ∷ 4 ∷ 5 ∷ 6 ∷ 9 ∷ 6 ∷ 7 ∷ 11 ∷ 6 ∷ 5 ∷ 6 ∷ 7 ∷ 10 ∷ 7 ∷ 8 ∷ 9 ∷ [];
       intervals = replicate 12 unit;
-      faces = 0 ∷ 0 ∷ 1 ∷ 2 ∷ 4294967295 ∷ 3 ∷ 0 ∷ 3 ∷ 1 ∷ 4294967295 ∷ 4 ∷ 1 ∷ 3 ∷ 2 ∷ 4294967295 ∷ 5 ∷ 2 ∷ 3 ∷ 0 ∷ 4294967295 ∷ 6 ∷ 0 ∷ 4 ∷ 5 ∷ 4294967295 ∷ 9 ∷ 0 ∷ 6 ∷ 4 ∷ 4294967295 ∷ 10 ∷ 4 ∷ 6 ∷ 5 ∷ 4294967295 ∷ 11 ∷ 5 ∷ 6 ∷ 0 ∷ 4294967295 ∷ []
+      faces = 0 ∷ 0 ∷ 1 ∷ 2 ∷ 4294967295 ∷ 3 ∷ 0 ∷ 3 ∷ 1 ∷ 4294967295 ∷ 4 ∷ 1 ∷ 3 ∷ 2 ∷ 4294967295 ∷ 5 ∷ 2 ∷ 3 ∷ 0 ∷ 4294967295 ∷ 6 ∷ 0 ∷ 4 ∷ 5 ∷ 4294967295 ∷ 9 ∷ 0 ∷ 6 ∷ 4 ∷ 4294967295 ∷ 10 ∷ 4 ∷ 6 ∷ 5 ∷ 4294967295 ∷ 11 ∷ 5 ∷ 6 ∷ 0 ∷ 4294967295 ∷ [];
     }
 
 -- face 2 passes point 2 twice: 5 points, 6 edges, 3 faces
@@ -103,7 +103,7 @@ bowTie =
       points = 2 ∷ 2 ∷ 1 ∷ 2 ∷ 1 ∷ 1 ∷ 4 ∷ 5 ∷ 0 ∷ 2 ∷ 4 ∷ 1 ∷ 2 ∷ 5 ∷ 1 ∷ [];
       edges = 0 ∷ 1 ∷ 0 ∷ 2 ∷ 2 ∷ 1 ∷ 1 ∷ 2 ∷ 1 ∷ 2 ∷ 0 ∷ 2 ∷ 0 ∷ 2 ∷ 3 ∷ 0 ∷ 2 ∷ 0 ∷ 0 ∷ 2 ∷ 1 ∷ 0 ∷ 0 ∷ 5 ∷ 2 ∷ 3 ∷ 1 ∷ 2 ∷ 5 ∷ 4 ∷ 4 ∷ 1 ∷ 3 ∷ 4 ∷ 1 ∷ 2 ∷ 3 ∷ 5 ∷ 5 ∷ 3 ∷ 4 ∷ 2 ∷ 1 ∷ 2 ∷ 4 ∷ 3 ∷ 2 ∷ 4 ∷ [];
       intervals = replicate 6 unit;
-      faces = 0 ∷ 0 ∷ 1 ∷ 2 ∷ 4294967295 ∷ 3 ∷ 2 ∷ 3 ∷ 4 ∷ 4294967295 ∷ 2 ∷ 0 ∷ 2 ∷ 4 ∷ 3 ∷ []
+      faces = 0 ∷ 0 ∷ 1 ∷ 2 ∷ 4294967295 ∷ 3 ∷ 2 ∷ 3 ∷ 4 ∷ 4294967295 ∷ 2 ∷ 0 ∷ 2 ∷ 4 ∷ 3 ∷ [];
     }
 
 -- the edge rows from 0 below k of two faces of n edges back to back
@@ -126,7 +126,7 @@ polygon n =
       points = polygonPoints n;
       edges = polygonEdges n n;
       intervals = replicate n unit;
-      faces = 0 ∷ none ∷ none ∷ none ∷ none ∷ 0 ∷ none ∷ none ∷ none ∷ none ∷ []
+      faces = 0 ∷ none ∷ none ∷ none ∷ none ∷ 0 ∷ none ∷ none ∷ none ∷ none ∷ [];
     }
 
 abbrev pub withPositions : List Float → Mesh
@@ -136,7 +136,7 @@ withPositions t =
       points = tetrahedron .points;
       edges = tetrahedron .edges;
       intervals = tetrahedron .intervals;
-      faces = tetrahedron .faces
+      faces = tetrahedron .faces;
     }
 
 abbrev pub withPoints : List ℕ → Mesh
@@ -146,7 +146,7 @@ withPoints t =
       points = t;
       edges = tetrahedron .edges;
       intervals = tetrahedron .intervals;
-      faces = tetrahedron .faces
+      faces = tetrahedron .faces;
     }
 
 abbrev pub withEdges : List ℕ → Mesh
@@ -156,7 +156,7 @@ withEdges t =
       points = tetrahedron .points;
       edges = t;
       intervals = tetrahedron .intervals;
-      faces = tetrahedron .faces
+      faces = tetrahedron .faces;
     }
 
 abbrev pub withIntervals : List Float → Mesh
@@ -166,7 +166,7 @@ withIntervals t =
       points = tetrahedron .points;
       edges = tetrahedron .edges;
       intervals = t;
-      faces = tetrahedron .faces
+      faces = tetrahedron .faces;
     }
 
 abbrev pub withFaces : List ℕ → Mesh
@@ -176,5 +176,5 @@ withFaces t =
       points = tetrahedron .points;
       edges = tetrahedron .edges;
       intervals = tetrahedron .intervals;
-      faces = t
+      faces = t;
     }

@@ -1,54 +1,56 @@
 -- The quick test equals the audit. Assumes nothing.
-use mathlib.Core.Path.{_≡_, refl, sym, _∙_, ap, ap₂, subst}
-use mathlib.Core.Bool.{Bool, true, false, not, _&&_, _||_, cond, false≢true}
-use mathlib.Core.List.{List, [], _∷_, map}
-use mathlib.Core.Logic.{_↔_, _⊎_, inl, inr, ⊎-elim, _≢_, Iff·trans}
-use Prim.Native.Nat.{ℕ, zero, suc, _+_, _*_, _≤_, _<_}
+use mathlib.Core.Path.{_≡_, refl, sym, _∙_, ap, subst}
+use mathlib.Core.Bool.{Bool, true, false, _&&_, false≢true}
+use mathlib.Core.List.{List, map}
+use mathlib.Core.Logic.{_↔_, _⊎_, _≢_, Iff·trans}
+use Prim.Native.Nat.{ℕ, _*_, _≤_, _<_}
 use native.Mathlib.Omega.{arith}
-use native.Mathlib.Decide.{decLe, ℕ-discrete}
-use lib.Dec.{eqb, ltb, leb}
+use native.Mathlib.Decide.{decLe}
+use lib.Dec.{leb}
 use lib.ListN.{length}
 use lib.Ieee.Scale.{finite}
-use Rattle.tables.specs.Mesh.{Mesh, none, x, y, z, valence, start, mark, origin, dest, leftFace, rightFace, leftAcw, interval, faceStart, corner}
+use Rattle.tables.specs.Mesh.{Mesh, none, x, y, z, valence, start, mark, origin, dest, leftFace, rightFace, interval, faceStart, corner}
 use Rattle.closed_meshes.specs.Renumbering.{sumTo}
-use Rattle.audited_meshes.specs.Folds.{every, one, occurrences, distinct}
+use Rattle.audited_meshes.specs.Folds.{one, occurrences, distinct}
 use Rattle.audited_meshes.specs.Walks.{Walk, back, lost, edgesOf, passed, borders, touches, acwOfFace, acwOfPoint, firstPoint, faceWalk, pointWalk}
-use Rattle.audited_meshes.specs.Audit.{pointRows, edgeRows, faceRows, countsFit, intervalFit, audit}
-use Rattle.audited_meshes.specs.Audited.{Borders, Touches, SameEnds, Distinct, Passes, last, more, EdgeInRange, FaceWalked, PointWalked, Audited}
-use Rattle.audited_meshes.specs.Quick.{pointFit, edgeFit, faceFit, faceBack, pointBack, free, alone, aloneAt, oneEdge, quick}
-use Rattle.audited_meshes.proofs.Tests.{Is, and-is, or-is, not-is, eqb-is, ltb-is, leb-is, self-is, every-is, same-test}
+use Rattle.audited_meshes.specs.Audit.{pointRows, edgeRows, faceRows, intervalFit}
+use Rattle.audited_meshes.specs.Audited.{Borders, Touches, Distinct, Passes, EdgeInRange, PointWalked, Audited}
+use Rattle.audited_meshes.specs.Quick.{pointFit, edgeFit, faceFit, faceBack, pointBack, oneEdge, quick}
+use Rattle.audited_meshes.specs.Claims.{QuickIsAudit}
+use Rattle.audited_meshes.proofs.Tests.{Is, and-is, not-is, eqb-is, ltb-is, leb-is, self-is, every-is, same-test}
 use Rattle.audited_meshes.proofs.Folds.{sumTo-cong}
-use Rattle.audited_meshes.proofs.Walks.{occurrences-here, in-longer, passes-on, passes-once}
+use Rattle.audited_meshes.proofs.Walks.{passes-on, passes-once}
 use Rattle.audited_meshes.proofs.Sums.{sum-is}
-use Rattle.audited_meshes.proofs.Audited.{borders-is, touches-is, edgeInRange-is, Linked, linked-is, distinct-is, countsFit-is, corners-is, mark-is, faceWalk-is, pointWalk-is, audit-is}
+use Rattle.audited_meshes.proofs.OneEdge.{oneEdge-is}
+use Rattle.audited_meshes.proofs.Audited.{borders-is, touches-is, edgeInRange-is, Linked, linked-is, distinct-is, countsFit-is, corners-is, mark-is, faceWalk-is, pointWalk-is, audit-is-audited}
 
 -- ---- the tests of one row
 
 module _ (m : Mesh) (np ne nf : ℕ) where
   pointFit-is :
-    (p : ℕ) →
-    Is (pointFit m ne p)
+      (p : ℕ) →
+      Is (pointFit m ne p)
       ((((start m p < ne) × (((finite (x m p) ≡ true) × (finite (y m p) ≡ true)) × (finite (z m p) ≡ true))) × (2 ≤ valence m p))
-        × ((mark m p ≡ 0) ⊎ (mark m p ≡ 1)))
+      × ((mark m p ≡ 0) ⊎ (mark m p ≡ 1)))
   unfolding pointFit
   pointFit-is p =
       and-is
-        (and-is
-          (and-is (ltb-is (start m p) ne) (and-is (and-is (self-is (finite (x m p))) (self-is (finite (y m p)))) (self-is (finite (z m p)))))
-          (leb-is 2 (valence m p)))
-        (mark-is m np ne nf p)
+      (and-is
+      (and-is (ltb-is (start m p) ne) (and-is (and-is (self-is (finite (x m p))) (self-is (finite (y m p)))) (self-is (finite (z m p)))))
+      (leb-is 2 (valence m p)))
+      (mark-is m np ne nf p)
 
   edgeFit-is :
-    (e : ℕ) →
-    Is (edgeFit m np ne nf e)
+      (e : ℕ) →
+      Is (edgeFit m np ne nf e)
       ((((EdgeInRange m np ne nf e × (intervalFit (interval m e) ≡ true)) × (origin m e ≢ dest m e)) × (leftFace m e ≢ rightFace m e)) × Linked m e)
   unfolding edgeFit
   edgeFit-is e =
       and-is
-        (and-is
-          (and-is (and-is (edgeInRange-is m np ne nf e) (self-is (intervalFit (interval m e)))) (not-is (eqb-is (origin m e) (dest m e))))
-          (not-is (eqb-is (leftFace m e) (rightFace m e))))
-        (linked-is m e)
+      (and-is
+      (and-is (and-is (edgeInRange-is m np ne nf e) (self-is (intervalFit (interval m e)))) (not-is (eqb-is (origin m e) (dest m e))))
+      (not-is (eqb-is (leftFace m e) (rightFace m e))))
+      (linked-is m e)
 
   faceFit-is : (f : ℕ) → Is (faceFit m np ne f) ((faceStart m f < ne) × ((k : ℕ) → k < 4 → (corner m f k < np) ⊎ (corner m f k ≡ none)))
   unfolding faceFit
@@ -58,8 +60,8 @@ module _ (m : Mesh) (np ne nf : ℕ) where
 
 -- how often a walk passes an edge: at most once, and an edge of its class alone
 at-most :
-  (step : ℕ → ℕ) (On : ℕ → Type 0) (s : ℕ) (w : Walk) → ((es : List ℕ) → w ≡ back es → Passes step On s s es) →
-  (i : ℕ) (b : Bool) → (On i → b ≡ true) → occurrences i (edgesOf w) ≤ one b
+    (step : ℕ → ℕ) (On : ℕ → Type 0) (s : ℕ) (w : Walk) → ((es : List ℕ) → w ≡ back es → Passes step On s s es) →
+    (i : ℕ) (b : Bool) → (On i → b ≡ true) → occurrences i (edgesOf w) ≤ one b
 unfolding occurrences
 at-most step On s (back es) h i true on = passes-once step On s s es (h es refl) i
 at-most step On s (back es) h i false on = go (decLe 1 (occurrences i es))
@@ -70,8 +72,8 @@ at-most step On s (back es) h i false on = go (decLe 1 (occurrences i es))
 at-most step On s lost h i b on = omega arith
 
 passes-below :
-  (step : ℕ → ℕ) (On : ℕ → Type 0) (s n : ℕ) (w : Walk) → ((es : List ℕ) → w ≡ back es → Passes step On s s es) →
-  ((i : ℕ) → On i → i < n) → (i : ℕ) → 0 < occurrences i (edgesOf w) → i < n
+    (step : ℕ → ℕ) (On : ℕ → Type 0) (s n : ℕ) (w : Walk) → ((es : List ℕ) → w ≡ back es → Passes step On s s es) →
+    ((i : ℕ) → On i → i < n) → (i : ℕ) → 0 < occurrences i (edgesOf w) → i < n
 unfolding occurrences
 passes-below step On s n (back es) h on i l = on i (passes-on step On s s es (h es refl) i l)
 passes-below step On s n lost h on i l = absurd (omega arith)
@@ -101,125 +103,39 @@ pointBack-is v (back es) = (
 )
 pointBack-is v lost = (λ t. absurd (false≢true t), λ r. cc (r .came))
 
--- ---- no other edge joins the ends of e
-
-module _ (m : Mesh) (ne e p q : ℕ) where
-  free-is : (i : ℕ) → Is (free m ne e q i) ((i < ne) × ((i ≡ e) ⊎ (¬ Touches m q i)))
-  free-is i = and-is (ltb-is i ne) (or-is (eqb-is i e) (not-is (touches-is m q i)))
-
-  alone-suc :
-    (k : ℕ) (ok : Bool) (i : ℕ) →
-    Is (alone m ne e p q (suc k) ok i) ((ok ≡ true) × (alone m ne e p q k (free m ne e q (acwOfPoint m p i)) (acwOfPoint m p i) ≡ true))
-  unfolding alone
-  alone-suc k true i = (λ t. (refl, t), λ h. h .1)
-  alone-suc k false i = (λ t. absurd (false≢true t), λ h. h .0)
-
-  -- the test along a walk is a test of each edge that the walk passes
-  alone-is :
-    (On : ℕ → Type 0) (s i : ℕ) (es : List ℕ) → Passes (acwOfPoint m p) On s i es →
-    Is (alone m ne e p q (length es) (free m ne e q i) i) ((j : ℕ) → 0 < occurrences j es → free m ne e q j ≡ true)
-  unfolding alone occurrences
-  alone-is On s i es (last {e = k} o b) = (
-    λ t j l.
-      in-longer j k [] l (λ same. subst (λ j. free m ne e q j ≡ true) same (alone-suc 0 (free m ne e q k) k .0 t .0)) (λ l. absurd (omega arith)),
-    λ h. alone-suc 0 (free m ne e q k) k .1 (h k (omega (arith, occurrences-here k [])), refl),
-  )
-  alone-is On s i es (more {e = k} {es = rest} o b w) = go (alone-is On s (acwOfPoint m p k) rest w)
-    where
-      go : Is (alone m ne e p q (length rest) (free m ne e q (acwOfPoint m p k)) (acwOfPoint m p k)) ((j : ℕ) → 0 < occurrences j rest → free m ne e q j ≡ true) →
-        Is (alone m ne e p q (suc (length rest)) (free m ne e q k) k) ((j : ℕ) → 0 < occurrences j (k ∷ rest) → free m ne e q j ≡ true)
-      go ih = (
-        λ t j l.
-          in-longer j k rest l
-            (λ same. subst (λ j. free m ne e q j ≡ true) same (alone-suc (length rest) (free m ne e q k) k .0 t .0))
-            (ih .0 (alone-suc (length rest) (free m ne e q k) k .0 t .1) j),
-        λ h.
-          alone-suc (length rest) (free m ne e q k) k .1
-            (h k (omega (arith, occurrences-here k rest)), ih .1 (λ j l. h j (omega arith))),
-      )
-
-  aloneAt-is : PointWalked m ne p → Is (aloneAt m ne e p q) ((j : ℕ) → j < ne → Touches m p j → Touches m q j → j ≡ e)
-  unfolding aloneAt
-  aloneAt-is r = Iff·trans walked (into, out)
-    where
-      walked : Is (alone m ne e p q (valence m p) (free m ne e q (start m p)) (start m p)) ((j : ℕ) → 0 < occurrences j (r .edges) → free m ne e q j ≡ true)
-      walked =
-          subst (λ v. Is (alone m ne e p q v (free m ne e q (start m p)) (start m p)) ((j : ℕ) → 0 < occurrences j (r .edges) → free m ne e q j ≡ true)) (r .is-valence)
-            (alone-is _ (start m p) (start m p) (r .edges) (r .passes))
-      into : ((j : ℕ) → 0 < occurrences j (r .edges) → free m ne e q j ≡ true) → (j : ℕ) → j < ne → Touches m p j → Touches m q j → j ≡ e
-      into h j l tp tq =
-          ⊎-elim (λ same. same) (λ away. absurd (away tq)) (free-is j .0 (h j (omega (arith, r .each-once j l tp))) .1)
-      out : ((j : ℕ) → j < ne → Touches m p j → Touches m q j → j ≡ e) → (j : ℕ) → 0 < occurrences j (r .edges) → free m ne e q j ≡ true
-      out h j l =
-          let on : (j < ne) × Touches m p j = passes-on _ _ _ _ (r .edges) (r .passes) j l in
-          free-is j .1 (on .0, go on (touches m q j) refl)
-        where
-          go : (j < ne) × Touches m p j → (t : Bool) → touches m q j ≡ t → (j ≡ e) ⊎ (¬ Touches m q j)
-          go on true t = inl (h j (on .0) (on .1) (touches-is m q j .0 t))
-          go on false t = inr (λ tq. false≢true (sym t ∙ touches-is m q j .1 tq))
-
--- an edge at both ends of e joins the same two points, if these differ
-same-of-touches : (m : Mesh) (e j : ℕ) → origin m e ≢ dest m e → Touches m (origin m e) j → Touches m (dest m e) j → SameEnds m e j
-same-of-touches m e j h (inl a) (inl b) = absurd (h (sym a ∙ b))
-same-of-touches m e j h (inl a) (inr b) = inl (sym a, sym b)
-same-of-touches m e j h (inr a) (inl b) = inr (sym a, sym b)
-same-of-touches m e j h (inr a) (inr b) = absurd (h (sym a ∙ b))
-
-touches-of-same : (m : Mesh) (e j : ℕ) → SameEnds m e j → Touches m (origin m e) j × Touches m (dest m e) j
-touches-of-same m e j (inl h) = (inl (sym (h .0)), inr (sym (h .1)))
-touches-of-same m e j (inr h) = (inr (sym (h .0)), inl (sym (h .1)))
-
-oneEdge-is :
-  (m : Mesh) (ne e : ℕ) → origin m e ≢ dest m e → PointWalked m ne (origin m e) → PointWalked m ne (dest m e) →
-  Is (oneEdge m ne e) ((j : ℕ) → j < ne → SameEnds m e j → e ≡ j)
-unfolding oneEdge
-oneEdge-is m ne e differ po pd = go (leb (valence m (origin m e)) (valence m (dest m e)))
-  where
-    go : (b : Bool) → Is (cond b (aloneAt m ne e (origin m e) (dest m e)) (aloneAt m ne e (dest m e) (origin m e))) ((j : ℕ) → j < ne → SameEnds m e j → e ≡ j)
-    go true =
-        Iff·trans (aloneAt-is m ne e (origin m e) (dest m e) po) (
-          λ h j l s. sym (h j l (touches-of-same m e j s .0) (touches-of-same m e j s .1)),
-          λ h j l a b. sym (h j l (same-of-touches m e j differ a b)),
-        )
-    go false =
-        Iff·trans (aloneAt-is m ne e (dest m e) (origin m e) pd) (
-          λ h j l s. sym (h j l (touches-of-same m e j s .1) (touches-of-same m e j s .0)),
-          λ h j l b a. sym (h j l (same-of-touches m e j differ a b)),
-        )
-
 -- ---- the sums
 
 module _ (m : Mesh) (np ne nf : ℕ) (ranges : (e : ℕ) → e < ne → EdgeInRange m np ne nf e) where
   -- the sizes of the faces add up to twice the edges exactly if each walk passes each edge of its face once
   face-sum :
-    ((e : ℕ) → e < ne → leftFace m e ≢ rightFace m e) →
-    (sumTo nf (λ f. passed (faceWalk m ne f)) ≡ 2 * ne)
-    ↔ ((f e : ℕ) → f < nf → e < ne → occurrences e (edgesOf (faceWalk m ne f)) ≡ one (borders m f e))
+      ((e : ℕ) → e < ne → leftFace m e ≢ rightFace m e) →
+      (sumTo nf (λ f. passed (faceWalk m ne f)) ≡ 2 * ne)
+      ↔ ((f e : ℕ) → f < nf → e < ne → occurrences e (edgesOf (faceWalk m ne f)) ≡ one (borders m f e))
   face-sum differ =
       let walks : (f : ℕ) (es : List ℕ) → faceWalk m ne f ≡ back es → Passes (acwOfFace m f) (λ e. (e < ne) × Borders m f e) (faceStart m f) (faceStart m f) es
-          = λ f es q. faceWalk-is m ne f es .0 q .0 in
+      = λ f es q. faceWalk-is m ne f es .0 q .0 in
       sum-is nf ne (leftFace m) (rightFace m) (λ e l. ranges e l .leftFace-in-range) (λ e l. ranges e l .rightFace-in-range) differ
-        (λ f. edgesOf (faceWalk m ne f))
-        (λ f. passes-below (acwOfFace m f) (λ e. (e < ne) × Borders m f e) (faceStart m f) ne (faceWalk m ne f) (walks f) (λ i o. o .0))
-        (λ f i. at-most (acwOfFace m f) (λ e. (e < ne) × Borders m f e) (faceStart m f) (faceWalk m ne f) (walks f) i (borders m f i) (λ o. borders-is m f i .1 (o .1)))
+      (λ f. edgesOf (faceWalk m ne f))
+      (λ f. passes-below (acwOfFace m f) (λ e. (e < ne) × Borders m f e) (faceStart m f) ne (faceWalk m ne f) (walks f) (λ i o. o .0))
+      (λ f i. at-most (acwOfFace m f) (λ e. (e < ne) × Borders m f e) (faceStart m f) (faceWalk m ne f) (walks f) i (borders m f i) (λ o. borders-is m f i .1 (o .1)))
 
   -- the lengths of the walks about points, likewise; v gives the bound of each walk
   point-sum :
-    (v : ℕ → ℕ) → ((e : ℕ) → e < ne → origin m e ≢ dest m e) →
-    (sumTo np (λ p. passed (pointWalk m ne (v p) p)) ≡ 2 * ne)
-    ↔ ((p e : ℕ) → p < np → e < ne → occurrences e (edgesOf (pointWalk m ne (v p) p)) ≡ one (touches m p e))
+      (v : ℕ → ℕ) → ((e : ℕ) → e < ne → origin m e ≢ dest m e) →
+      (sumTo np (λ p. passed (pointWalk m ne (v p) p)) ≡ 2 * ne)
+      ↔ ((p e : ℕ) → p < np → e < ne → occurrences e (edgesOf (pointWalk m ne (v p) p)) ≡ one (touches m p e))
   point-sum v differ =
       let walks : (p : ℕ) (es : List ℕ) → pointWalk m ne (v p) p ≡ back es → Passes (acwOfPoint m p) (λ e. (e < ne) × Touches m p e) (start m p) (start m p) es
-          = λ p es q. pointWalk-is m ne p (v p) es .0 q .0 in
+      = λ p es q. pointWalk-is m ne p (v p) es .0 q .0 in
       sum-is np ne (origin m) (dest m) (λ e l. ranges e l .origin-in-range) (λ e l. ranges e l .dest-in-range) differ
-        (λ p. edgesOf (pointWalk m ne (v p) p))
-        (λ p. passes-below (acwOfPoint m p) (λ e. (e < ne) × Touches m p e) (start m p) ne (pointWalk m ne (v p) p) (walks p) (λ i o. o .0))
-        (λ p i. at-most (acwOfPoint m p) (λ e. (e < ne) × Touches m p e) (start m p) (pointWalk m ne (v p) p) (walks p) i (touches m p i) (λ o. touches-is m p i .1 (o .1)))
+      (λ p. edgesOf (pointWalk m ne (v p) p))
+      (λ p. passes-below (acwOfPoint m p) (λ e. (e < ne) × Touches m p e) (start m p) ne (pointWalk m ne (v p) p) (walks p) (λ i o. o .0))
+      (λ p i. at-most (acwOfPoint m p) (λ e. (e < ne) × Touches m p e) (start m p) (pointWalk m ne (v p) p) (walks p) i (touches m p i) (λ o. touches-is m p i .1 (o .1)))
 
 -- what a walk passes of an edge: once if the edge is one of its class
 once-of :
-  (step : ℕ → ℕ) (On : ℕ → Type 0) (s e : ℕ) (es : List ℕ) {A : Type 0} {b : Bool} → Is b A →
-  Passes step On s s es → (On e → A) → (A → occurrences e es ≡ 1) → occurrences e es ≡ one b
+    (step : ℕ → ℕ) (On : ℕ → Type 0) (s e : ℕ) (es : List ℕ) {A : Type 0} {b : Bool} → Is b A →
+    Passes step On s s es → (On e → A) → (A → occurrences e es ≡ 1) → occurrences e es ≡ one b
 once-of step On s e es {A} {b} = go b
   where
     go : (b : Bool) → Is b A → Passes step On s s es → (On e → A) → (A → occurrences e es ≡ 1) → occurrences e es ≡ one b
@@ -237,12 +153,12 @@ module _ (m : Mesh) (np ne nf : ℕ) where
   record Parts : Type 0 where
     counts : ((np ≤ pointRows m) × (ne ≤ edgeRows m)) × (nf ≤ faceRows m)
     points :
-      (p : ℕ) → p < np →
-      (((start m p < ne) × (((finite (x m p) ≡ true) × (finite (y m p) ≡ true)) × (finite (z m p) ≡ true))) × (2 ≤ valence m p))
-      × ((mark m p ≡ 0) ⊎ (mark m p ≡ 1))
+        (p : ℕ) → p < np →
+        (((start m p < ne) × (((finite (x m p) ≡ true) × (finite (y m p) ≡ true)) × (finite (z m p) ≡ true))) × (2 ≤ valence m p))
+        × ((mark m p ≡ 0) ⊎ (mark m p ≡ 1))
     edges :
-      (e : ℕ) → e < ne →
-      (((EdgeInRange m np ne nf e × (intervalFit (interval m e) ≡ true)) × (origin m e ≢ dest m e)) × (leftFace m e ≢ rightFace m e)) × Linked m e
+        (e : ℕ) → e < ne →
+        (((EdgeInRange m np ne nf e × (intervalFit (interval m e) ≡ true)) × (origin m e ≢ dest m e)) × (leftFace m e ≢ rightFace m e)) × Linked m e
     faces : (f : ℕ) → f < nf → (faceStart m f < ne) × ((k : ℕ) → k < 4 → (corner m f k < np) ⊎ (corner m f k ≡ none))
     valences : sumTo np (λ p. valence m p) ≡ 2 * ne
     face-back : (f : ℕ) → f < nf → Back (faceWalk m ne f) (λ es. (3 ≤ length es) × Distinct (map (firstPoint m f) es))
@@ -254,21 +170,20 @@ module _ (m : Mesh) (np ne nf : ℕ) where
   unfolding quick
   parts-is =
       Iff·trans
-        (and-is
-          (and-is
-            (and-is
-              (and-is
-                (and-is
-                  (and-is
-                    (and-is (and-is (countsFit-is m np ne nf) (every-is np (pointFit-is m np ne nf))) (every-is ne (edgeFit-is m np ne nf)))
-                    (every-is nf (faceFit-is m np ne nf)))
-                  (eqb-is (sumTo np (λ p. valence m p)) (2 * ne)))
-                (every-is nf (λ f. faceBack-is m f (faceWalk m ne f))))
-              (eqb-is (sumTo nf (λ f. passed (faceWalk m ne f))) (2 * ne)))
-            (every-is np (λ p. pointBack-is (valence m p) (pointWalk m ne (valence m p) p))))
-          (every-is ne (λ e. self-is (oneEdge m ne e))))
-        (
-          λ h.
+      (and-is
+      (and-is
+      (and-is
+      (and-is
+      (and-is
+      (and-is
+      (and-is (and-is (countsFit-is m np ne nf) (every-is np (pointFit-is m np ne nf))) (every-is ne (edgeFit-is m np ne nf)))
+      (every-is nf (faceFit-is m np ne nf)))
+      (eqb-is (sumTo np (λ p. valence m p)) (2 * ne)))
+      (every-is nf (λ f. faceBack-is m f (faceWalk m ne f))))
+      (eqb-is (sumTo nf (λ f. passed (faceWalk m ne f))) (2 * ne)))
+      (every-is np (λ p. pointBack-is (valence m p) (pointWalk m ne (valence m p) p))))
+      (every-is ne (λ e. self-is (oneEdge m ne e)))) (
+        λ h.
             record {
               counts = h .0 .0 .0 .0 .0 .0 .0 .0;
               points = h .0 .0 .0 .0 .0 .0 .0 .1;
@@ -278,10 +193,10 @@ module _ (m : Mesh) (np ne nf : ℕ) where
               face-back = h .0 .0 .0 .1;
               sizes = h .0 .0 .1;
               point-back = h .0 .1;
-              one-edge = h .1
+              one-edge = h .1;
             },
-          λ r. ((((((((r .counts, r .points), r .edges), r .faces), r .valences), r .face-back), r .sizes), r .point-back), r .one-edge),
-        )
+        λ r. ((((((((r .counts, r .points), r .edges), r .faces), r .valences), r .face-back), r .sizes), r .point-back), r .one-edge),
+      )
 
   audited-of-parts : Parts → Audited m np ne nf
   audited-of-parts r =
@@ -299,38 +214,42 @@ module _ (m : Mesh) (np ne nf : ℕ) where
         ends-differ = ends;
         sides-differ = sides;
         one-edge = λ e i l k same.
-          oneEdge-is m ne e (ends e l) (walked (origin m e) (ranges e l .origin-in-range)) (walked (dest m e) (ranges e l .dest-in-range)) .0 (r .one-edge e l) i k same;
+            oneEdge-is m ne e (ends e l) (walked (origin m e) (ranges e l .origin-in-range)) (walked (dest m e) (ranges e l .dest-in-range)) .0 (r .one-edge e l) i k same;
         left-acw = λ e l. r .edges e l .1 .left-acw;
         right-acw = λ e l. r .edges e l .1 .right-acw;
         left-cw = λ e l. r .edges e l .1 .left-cw;
         right-cw = λ e l. r .edges e l .1 .right-cw;
         face-walked = λ f l.
-          let w = r .face-back f l in
-          record {
-            edges = w .edges;
-            passes = faceWalk-is m ne f (w .edges) .0 (w .came) .0;
-            each-once = λ e k b.
-              ap (λ v. occurrences e (edgesOf v)) (sym (w .came)) ∙ face-sum m np ne nf ranges sides .0 (r .sizes) f e l k ∙ ap one (borders-is m f e .1 b);
-            no-point-twice = w .holds .1;
-            at-least-3 = w .holds .0;
-            at-most-64 = faceWalk-is m ne f (w .edges) .0 (w .came) .1
-          };
+            let w = r .face-back f l in
+            record {
+              edges = w .edges;
+              passes = faceWalk-is m ne f (w .edges) .0 (w .came) .0;
+              each-once = λ e k b.
+                  ap (λ v. occurrences e (edgesOf v)) (sym (w .came)) ∙ face-sum m np ne nf ranges sides .0 (r .sizes) f e l k ∙ ap one (borders-is m f e .1 b);
+              no-point-twice = w .holds .1;
+              at-least-3 = w .holds .0;
+              at-most-64 = faceWalk-is m ne f (w .edges) .0 (w .came) .1;
+            };
         point-walked = walked;
         corner-fit = λ f k l j. r .faces f l .1 k j;
-        mark-fit = λ p l. r .points p l .1
+        mark-fit = λ p l. r .points p l .1;
       }
     where
       ranges : (e : ℕ) → e < ne → EdgeInRange m np ne nf e
       ranges e l = r .edges e l .0 .0 .0 .0
+
       ends : (e : ℕ) → e < ne → origin m e ≢ dest m e
       ends e l = r .edges e l .0 .0 .1
+
       sides : (e : ℕ) → e < ne → leftFace m e ≢ rightFace m e
       sides e l = r .edges e l .0 .1
+
       lengths : sumTo np (λ p. passed (pointWalk m ne (valence m p) p)) ≡ 2 * ne
       lengths =
           sumTo-cong np (λ p. passed (pointWalk m ne (valence m p) p)) (λ p. valence m p)
-            (λ p l. ap passed (r .point-back p l .came) ∙ r .point-back p l .holds)
+          (λ p l. ap passed (r .point-back p l .came) ∙ r .point-back p l .holds)
           ∙ r .valences
+
       walked : (p : ℕ) → p < np → PointWalked m ne p
       walked p l =
           let w = r .point-back p l in
@@ -338,51 +257,51 @@ module _ (m : Mesh) (np ne nf : ℕ) where
             edges = w .edges;
             passes = pointWalk-is m ne p (valence m p) (w .edges) .0 (w .came) .0;
             each-once = λ e k t.
-              ap (λ v. occurrences e (edgesOf v)) (sym (w .came)) ∙ point-sum m np ne nf ranges (λ p. valence m p) ends .0 lengths p e l k ∙ ap one (touches-is m p e .1 t);
+                ap (λ v. occurrences e (edgesOf v)) (sym (w .came)) ∙ point-sum m np ne nf ranges (λ p. valence m p) ends .0 lengths p e l k ∙ ap one (touches-is m p e .1 t);
             at-least-2 = subst (λ n. 2 ≤ n) (sym (w .holds)) (r .points p l .0 .1);
-            is-valence = w .holds
+            is-valence = w .holds;
           }
 
   parts-of-audited : Audited m np ne nf → Parts
   parts-of-audited a =
       record {
         counts = ((a .points-fit, a .edges-fit), a .faces-fit);
-        points = λ p l.
-          (
-            ((a .start-in-range p l, ((a .x-finite p l, a .y-finite p l), a .z-finite p l)), subst (λ n. 2 ≤ n) (a .point-walked p l .is-valence) (a .point-walked p l .at-least-2)),
-            a .mark-fit p l,
-          );
-        edges = λ e l.
-          (
-            (((a .edge-in-range e l, a .interval-fit e l), a .ends-differ e l), a .sides-differ e l),
-            record { left-acw = a .left-acw e l; right-acw = a .right-acw e l; left-cw = a .left-cw e l; right-cw = a .right-cw e l },
-          );
+        points = λ p l. (
+          ((a .start-in-range p l, ((a .x-finite p l, a .y-finite p l), a .z-finite p l)), subst (λ n. 2 ≤ n) (a .point-walked p l .is-valence) (a .point-walked p l .at-least-2)),
+          a .mark-fit p l,
+        );
+        edges = λ e l. (
+          (((a .edge-in-range e l, a .interval-fit e l), a .ends-differ e l), a .sides-differ e l),
+          record { left-acw = a .left-acw e l; right-acw = a .right-acw e l; left-cw = a .left-cw e l; right-cw = a .right-cw e l },
+        );
         faces = λ f l. (a .faceStart-in-range f l, λ k j. a .corner-fit f k l j);
         valences =
-          sumTo-cong np (λ p. valence m p) (λ p. passed (pointWalk m ne (valence m p) p)) (λ p l. sym (a .point-walked p l .is-valence) ∙ sym (ap passed (point-came p l)))
-          ∙ point-sum m np ne nf (a .edge-in-range) (λ p. valence m p) (a .ends-differ) .1
-              (λ p e l k.
-                let w = a .point-walked p l in
-                ap (λ v. occurrences e (edgesOf v)) (point-came p l)
-                ∙ once-of _ _ _ e (w .edges) (touches-is m p e) (w .passes) (λ o. o .1) (w .each-once e k));
+            sumTo-cong np (λ p. valence m p) (λ p. passed (pointWalk m ne (valence m p) p)) (λ p l. sym (a .point-walked p l .is-valence) ∙ sym (ap passed (point-came p l)))
+            ∙ point-sum m np ne nf (a .edge-in-range) (λ p. valence m p) (a .ends-differ) .1
+            (λ p e l k.
+            let w = a .point-walked p l in
+            ap (λ v. occurrences e (edgesOf v)) (point-came p l)
+            ∙ once-of _ _ _ e (w .edges) (touches-is m p e) (w .passes) (λ o. o .1) (w .each-once e k));
         face-back = λ f l. let w = a .face-walked f l in record { edges = w .edges; came = face-came f l; holds = (w .at-least-3, w .no-point-twice) };
         sizes =
-          face-sum m np ne nf (a .edge-in-range) (a .sides-differ) .1
+            face-sum m np ne nf (a .edge-in-range) (a .sides-differ) .1
             (λ f e l k.
-              let w = a .face-walked f l in
-              ap (λ v. occurrences e (edgesOf v)) (face-came f l)
-              ∙ once-of _ _ _ e (w .edges) (borders-is m f e) (w .passes) (λ o. o .1) (w .each-once e k));
+            let w = a .face-walked f l in
+            ap (λ v. occurrences e (edgesOf v)) (face-came f l)
+            ∙ once-of _ _ _ e (w .edges) (borders-is m f e) (w .passes) (λ o. o .1) (w .each-once e k));
         point-back = λ p l. record { edges = a .point-walked p l .edges; came = point-came p l; holds = a .point-walked p l .is-valence };
         one-edge = λ e l.
-          oneEdge-is m ne e (a .ends-differ e l) (a .point-walked (origin m e) (a .edge-in-range e l .origin-in-range)) (a .point-walked (dest m e) (a .edge-in-range e l .dest-in-range)) .1
-            (λ j k. a .one-edge e j l k)
+            oneEdge-is m ne e (a .ends-differ e l) (a .point-walked (origin m e) (a .edge-in-range e l .origin-in-range)) (a .point-walked (dest m e) (a .edge-in-range e l .dest-in-range)) .1
+            (λ j k. a .one-edge e j l k);
       }
     where
       face-came : (f : ℕ) (l : f < nf) → faceWalk m ne f ≡ back (a .face-walked f l .edges)
       face-came f l = let w = a .face-walked f l in faceWalk-is m ne f (w .edges) .1 (w .passes, w .at-most-64)
+
       point-came : (p : ℕ) (l : p < np) → pointWalk m ne (valence m p) p ≡ back (a .point-walked p l .edges)
       point-came p l = let w = a .point-walked p l in pointWalk-is m ne p (valence m p) (w .edges) .1 (w .passes, omega (arith, w .is-valence))
 
-  -- The quick test is the audit.
-  pub quick-is-audit : quick m np ne nf ≡ audit m np ne nf
-  quick-is-audit = same-test (Iff·trans parts-is (audited-of-parts, parts-of-audited)) (audit-is m np ne nf)
+-- The quick test is the audit.
+pub quick-is-audit : QuickIsAudit
+quick-is-audit m np ne nf =
+    same-test (Iff·trans (parts-is m np ne nf) (audited-of-parts m np ne nf, parts-of-audited m np ne nf)) (audit-is-audited m np ne nf)

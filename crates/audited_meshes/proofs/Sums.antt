@@ -1,15 +1,13 @@
 -- Walks that pass no edge twice pass all their edges exactly if their lengths add up to twice the number of edges: each edge is
 -- an edge of two of them. One law serves faces, with the sides of an edge, and points, with its ends. Assumes nothing.
-use mathlib.Core.Path.{_≡_, refl, sym, _∙_, ap, ap₂, subst}
+use mathlib.Core.Path.{_≡_, refl, sym, _∙_, ap₂, subst}
 use mathlib.Core.Bool.{Bool, true, false, _||_}
 use mathlib.Core.List.{List}
 use mathlib.Core.Logic.{_↔_, _≢_}
 use Prim.Native.Nat.{ℕ, _+_, _*_, _≤_, _<_}
-use native.Mathlib.Omega.{arith}
-use native.Mathlib.Decide.{ℕ-discrete}
 use lib.Dec.{eqb}
 use lib.ListN.{length}
-use borrow.Author.Tests.{eqb-true, eqb-false, eq-eqb, ne-eqb}
+use borrow.Author.Tests.{eqb-true}
 use Rattle.closed_meshes.specs.Renumbering.{sumTo}
 use Rattle.audited_meshes.specs.Folds.{one, occurrences}
 use Rattle.audited_meshes.proofs.Folds.{sumTo-cong, sumTo-le, sumTo-tight, sumTo-add, sumTo-const, sumTo-swap, sumTo-one, length-sumTo}
@@ -26,14 +24,14 @@ one-or a b k h = go (eqb a k) refl (eqb b k) refl
 
 -- n classes, ne edges; a e and b e are the two classes of edge e; es k are the edges that the walk about class k passes
 module _
-  (n ne : ℕ)
-  (a b : ℕ → ℕ)
-  (a-below : (e : ℕ) → e < ne → a e < n)
-  (b-below : (e : ℕ) → e < ne → b e < n)
-  (differ : (e : ℕ) → e < ne → a e ≢ b e)
-  (es : ℕ → List ℕ)
-  (below : (k i : ℕ) → 0 < occurrences i (es k) → i < ne)
-  (at-most : (k i : ℕ) → occurrences i (es k) ≤ one (eqb (a i) k || eqb (b i) k)) where
+    (n ne : ℕ)
+    (a b : ℕ → ℕ)
+    (a-below : (e : ℕ) → e < ne → a e < n)
+    (b-below : (e : ℕ) → e < ne → b e < n)
+    (differ : (e : ℕ) → e < ne → a e ≢ b e)
+    (es : ℕ → List ℕ)
+    (below : (k i : ℕ) → 0 < occurrences i (es k) → i < ne)
+    (at-most : (k i : ℕ) → occurrences i (es k) ≤ one (eqb (a i) k || eqb (b i) k)) where
   -- each edge is in two classes
   two-classes : (e : ℕ) → e < ne → sumTo n (λ k. one (eqb (a e) k || eqb (b e) k)) ≡ 2
   two-classes e l =
@@ -52,20 +50,21 @@ module _
   length-walk k = length-sumTo ne (es k) (below k)
 
   pub sum-is :
-    (sumTo n (λ k. length (es k)) ≡ 2 * ne)
-    ↔ ((k e : ℕ) → k < n → e < ne → occurrences e (es k) ≡ one (eqb (a e) k || eqb (b e) k))
+      (sumTo n (λ k. length (es k)) ≡ 2 * ne)
+      ↔ ((k e : ℕ) → k < n → e < ne → occurrences e (es k) ≡ one (eqb (a e) k || eqb (b e) k))
   sum-is = (into, out)
     where
       into : sumTo n (λ k. length (es k)) ≡ 2 * ne → (k e : ℕ) → k < n → e < ne → occurrences e (es k) ≡ one (eqb (a e) k || eqb (b e) k)
       into sum k e l j =
           let short : (k : ℕ) → k < n → length (es k) ≤ sumTo ne (λ e. one (eqb (a e) k || eqb (b e) k))
-              = λ k l. subst (λ x. x ≤ sumTo ne (λ e. one (eqb (a e) k || eqb (b e) k))) (sym (length-walk k))
-                  (sumTo-le ne (λ e. occurrences e (es k)) (λ e. one (eqb (a e) k || eqb (b e) k)) (λ e j. at-most k e)) in
+          = λ k l. subst (λ x. x ≤ sumTo ne (λ e. one (eqb (a e) k || eqb (b e) k))) (sym (length-walk k))
+          (sumTo-le ne (λ e. occurrences e (es k)) (λ e. one (eqb (a e) k || eqb (b e) k)) (λ e j. at-most k e)) in
           let full : length (es k) ≡ sumTo ne (λ e. one (eqb (a e) k || eqb (b e) k))
-              = sumTo-tight n (λ k. length (es k)) (λ k. sumTo ne (λ e. one (eqb (a e) k || eqb (b e) k))) short (sum ∙ sym all-classes) k l in
+          = sumTo-tight n (λ k. length (es k)) (λ k. sumTo ne (λ e. one (eqb (a e) k || eqb (b e) k))) short (sum ∙ sym all-classes) k l in
           sumTo-tight ne (λ e. occurrences e (es k)) (λ e. one (eqb (a e) k || eqb (b e) k)) (λ e j. at-most k e) (sym (length-walk k) ∙ full) e j
+
       out : ((k e : ℕ) → k < n → e < ne → occurrences e (es k) ≡ one (eqb (a e) k || eqb (b e) k)) → sumTo n (λ k. length (es k)) ≡ 2 * ne
       out all =
           sumTo-cong n (λ k. length (es k)) (λ k. sumTo ne (λ e. one (eqb (a e) k || eqb (b e) k)))
-            (λ k l. length-walk k ∙ sumTo-cong ne (λ e. occurrences e (es k)) (λ e. one (eqb (a e) k || eqb (b e) k)) (λ e j. all k e l j))
+          (λ k l. length-walk k ∙ sumTo-cong ne (λ e. occurrences e (es k)) (λ e. one (eqb (a e) k || eqb (b e) k)) (λ e j. all k e l j))
           ∙ all-classes

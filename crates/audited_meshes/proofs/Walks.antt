@@ -1,10 +1,10 @@
 -- The laws of walks: the walk by fuel comes back exactly if there is a list of edges that it passes, and it passes no edge twice.
 -- Assumes nothing.
-use mathlib.Core.Path.{_≡_, refl, sym, _∙_, ap, ap₂, subst}
-use mathlib.Core.Bool.{Bool, true, false, _||_}
+use mathlib.Core.Path.{_≡_, refl, ap, subst}
+use mathlib.Core.Bool.{Bool, true, false}
 use mathlib.Core.List.{List, [], _∷_}
-use mathlib.Core.Logic.{_↔_, _≢_, _⊎_, inl, inr}
-use Prim.Native.Nat.{ℕ, zero, suc, _+_, _≤_, _<_}
+use mathlib.Core.Logic.{_≢_}
+use Prim.Native.Nat.{ℕ, zero, suc, _≤_, _<_}
 use native.Mathlib.Omega.{arith}
 use native.Mathlib.Decide.{ℕ-discrete}
 use lib.Dec.{eqb}
@@ -38,7 +38,7 @@ never-back es w = let z : _≡_ {A = ℕ} 0 1 = cc in omega arith
 
 module _ (step : ℕ → ℕ) (On : ℕ → Type 0) (s : ℕ) where
   -- A walk passes the edge that it comes to.
-  passes-head : (e : ℕ) (es : List ℕ) → Passes step On s e es → 0 < occurrences e es
+  pub passes-head : (e : ℕ) (es : List ℕ) → Passes step On s e es → 0 < occurrences e es
   passes-head e es (last {e = i} o b) = omega (arith, occurrences-here i [])
   passes-head e es (more {e = i} {es = rest} o b p) = omega (arith, occurrences-here i rest)
 
@@ -50,14 +50,14 @@ module _ (step : ℕ → ℕ) (On : ℕ → Type 0) (s : ℕ) where
 
   -- Behind an edge from which the step does not meet the start, the walk passes the edge that the step comes to.
   passes-on-from :
-    (e : ℕ) (es : List ℕ) → Passes step On s e es → (i : ℕ) → 0 < occurrences i es → step i ≢ s →
-    one (eqb e (step i)) < occurrences (step i) es
+      (e : ℕ) (es : List ℕ) → Passes step On s e es → (i : ℕ) → 0 < occurrences i es → step i ≢ s →
+      one (eqb e (step i)) < occurrences (step i) es
   unfolding occurrences
   passes-on-from e es (last {e = k} o b) i l h = in-longer i k [] l (λ same. absurd (h (subst (λ x. step x ≡ s) same b))) (λ l. absurd (omega arith))
   passes-on-from e es (more {e = k} {es = rest} o b p) i l h =
       in-longer i k rest l
-        (λ same. let front : 0 < occurrences (step i) rest = subst (λ x. 0 < occurrences (step x) rest) same (passes-head (step k) rest p) in omega arith)
-        (λ l. omega (arith, passes-on-from (step k) rest p i l h))
+      (λ same. let front : 0 < occurrences (step i) rest = subst (λ x. 0 < occurrences (step x) rest) same (passes-head (step k) rest p) in omega arith)
+      (λ l. omega (arith, passes-on-from (step k) rest p i l h))
 
   -- A walk that meets its start passes no edge twice: it would go round for ever.
   pub passes-once : (e : ℕ) (es : List ℕ) → Passes step On s e es → (i : ℕ) → occurrences i es ≤ 1
@@ -74,6 +74,7 @@ module _ (step : ℕ → ℕ) (On : ℕ → Type 0) (s : ℕ) where
           let again : one (eqb (step k) (step k)) < occurrences (step k) rest = passes-on-from (step k) rest p k l b in
           let first : one (eqb (step k) (step k)) ≡ 1 = ap one (eq-eqb (step k) (step k) refl) in
           omega (arith, below (step k))
+
       go : ((i : ℕ) → occurrences i rest ≤ 1) → Dec (k ≡ i) → occurrences i (k ∷ rest) ≤ 1
       go below (yes h) =
           let none : ¬ (0 < occurrences k rest) = once below in
@@ -104,28 +105,23 @@ module _ (step : ℕ → ℕ) (On : ℕ → Type 0) (s : ℕ) where
       where
         Found : Type 0
         Found = Passes step On s e es × (length es ≤ suc k)
+
         came : ((rs : List ℕ) → walk step on s k false (on (step e)) (step e) ≡ back rs → Passes step On s (step e) rs × (length rs ≤ k)) →
-          On e → step e ≢ s → (r : Walk) → walk step on s k false (on (step e)) (step e) ≡ r → pass e r ≡ back es → Found
+            On e → step e ≢ s → (r : Walk) → walk step on s k false (on (step e)) (step e) ≡ r → pass e r ≡ back es → Found
         came ih o b (back rs) q w =
             let same : e ∷ rs ≡ es = cc in
             subst (λ x. Passes step On s e x × (length x ≤ suc k)) same (more o b (ih rs q .0), omega (arith, ih rs q .1))
         came ih o b lost q w = absurd (never-back es w)
+
         met : ((rs : List ℕ) → walk step on s k false (on (step e)) (step e) ≡ back rs → Passes step On s (step e) rs × (length rs ≤ k)) →
-          On e → (t : Bool) → eqb (step e) s ≡ t → pass e (walk step on s k t (on (step e)) (step e)) ≡ back es → Found
+            On e → (t : Bool) → eqb (step e) s ≡ t → pass e (walk step on s k t (on (step e)) (step e)) ≡ back es → Found
         met ih o true t w =
             let here : pass e (back []) ≡ back es = rw walk-met at w in
             let same : e ∷ [] ≡ es = cc in
             subst (λ x. Passes step On s e x × (length x ≤ suc k)) same (last o (eqb-true (step e) s t), omega arith)
         met ih o false t w = came ih o (eqb-false (step e) s t) (walk step on s k false (on (step e)) (step e)) refl w
+
         go : ((rs : List ℕ) → walk step on s k false (on (step e)) (step e) ≡ back rs → Passes step On s (step e) rs × (length rs ≤ k)) →
-          (b : Bool) → on e ≡ b → walk step on s (suc k) false b e ≡ back es → Found
+            (b : Bool) → on e ≡ b → walk step on s (suc k) false b e ≡ back es → Found
         go ih false h w = absurd (never-back es w)
         go ih true h w = met ih (on-is e .0 h) (eqb (step e) s) refl w
-
-    -- Two lists that a walk passes are one.
-    pub passes-unique : (e : ℕ) (es es′ : List ℕ) → Passes step On s e es → Passes step On s e es′ → es ≡ es′
-    passes-unique e es es′ p p′ =
-        let long = length es + length es′ in
-        let a : walk step on s long false (on e) e ≡ back es = walk-of-passes e es p long (omega arith) in
-        let b : walk step on s long false (on e) e ≡ back es′ = walk-of-passes e es′ p′ long (omega arith) in
-        cc

@@ -16,8 +16,8 @@
 --     cornersFit                       a corner is a point number or the none mark
 --     marksFit                         a point's extraordinary mark is 0 or 1
 --     audit                            all of it
-use mathlib.Core.Bool.{Bool, true, false, not, _&&_, _||_}
-use mathlib.Core.List.{List, map}
+use mathlib.Core.Bool.{Bool, false, not, _&&_, _||_}
+use mathlib.Core.List.{map}
 use Prim.Native.Nat.{ℕ, _/_, min}
 use lib.Dec.{eqb, ltb, leb}
 use lib.ListN.{length}

@@ -3,3 +3,5 @@ pub mod Walks
 pub mod Audit
 pub mod Audited
 pub mod Quick
+pub mod Rows
+pub mod Claims

@@ -8,7 +8,7 @@
 -- The sizes of all faces add up to 2 ne, and so do the valences: each walk passes each edge at most once, so this says that
 -- each passes all of its edges. The valences are added up first, which bounds all the walks about points together.
 use mathlib.Core.Bool.{Bool, true, false, not, _&&_, _||_, cond}
-use mathlib.Core.List.{List, map}
+use mathlib.Core.List.{map}
 use Prim.Native.Nat.{ℕ, zero, suc, _*_}
 use lib.Dec.{eqb, ltb, leb}
 use lib.ListN.{length}

@@ -5,7 +5,8 @@
 --     acwOfFace m f e          the edge one step anticlockwise about face f from edge e, which borders it
 --     cwOfFace m f e           the edge one step clockwise
 --     acwOfPoint m p e         the edge one step anticlockwise about point p from edge e, which touches it
---     firstPoint m f e         the end of e at which a walk about face f comes to e; the walk leaves e at the other end
+--     firstPoint m f e         the point from which a walk about face f goes along e: the origin on the left side, the
+--                              destination on the right
 --     Walk                     back es: it met its start after the edges es; lost: it left the rows, lost its face or its
 --                              point, or did not meet its start within its bound
 --     edgesOf w, passed w      the edges that a walk passed before it met its start, and their number; none if it is lost

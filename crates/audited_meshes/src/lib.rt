@@ -5,3 +5,6 @@
 // `specs/Rows.antt` (the closed mesh over bounded numbers whose words stand in the tables).
 // Theorems, stated in `specs/Claims.antt`: the test and the propositions are equivalent, the quick test equals the test, and
 // tables pass it exactly if they hold a closed mesh over bounded numbers.
+// Proofs: `audit-is-audited` in `proofs/Audited.antt`, `quick-is-audit` in `proofs/Quick.antt`, `audit-is-closed` in
+// `proofs/Holds.antt`. Laws for callers: `proofs/Tests.antt`, `proofs/Walks.antt`, `proofs/Audited.antt`, and of closed meshes
+// `closed-rows`, `passed-faceWalk`, `passed-pointWalk` in `proofs/Closed.antt`. Computed meshes: `proofs/Cases.antt`.

@@ -1,12 +1,12 @@
 -- Rows are counted: an injective map between rows goes to no fewer, and one onto as many is a bijection. Assumes nothing.
 use mathlib.Core.Path.{_≡_, refl, sym, _∙_, ap, subst}
 use mathlib.Core.Logic.{_⊎_, inl, inr}
-use Prim.Native.Nat.{ℕ, zero, suc, _+_, _-_, _*_, _≤_, _<_}
+use Prim.Native.Nat.{ℕ, zero, suc, _≤_, _<_}
 use native.Mathlib.Omega.{arith}
 use native.Mathlib.Bridge.{le-prop}
-use native.Mathlib.Decide.{decLt, decLe, ℕ-discrete}
+use native.Mathlib.Decide.{decLt, ℕ-discrete}
 use mathlib.Core.HLevel.{Σ-prop-path}
-use Rattle.closed_meshes.specs.Renumbering.{Bijection, Row}
+use Rattle.closed_meshes.specs.Renumbering.{Injective, Bijection, Row}
 
 -- Rows with one number are one.
 pub row-path : {n : ℕ} (i j : Row n) → i .0 ≡ j .0 → i ≡ j
@@ -20,7 +20,7 @@ abbrev pub latter : {n : ℕ} → Row (suc n)
 latter {n} = (n, omega arith)
 
 -- One row fewer on both sides: what goes to the last row goes to the row z instead, which is free.
-module _ {n m : ℕ} (g : Row (suc n) → Row (suc m)) (injective : (x y : Row (suc n)) → g x ≡ g y → x ≡ y) where
+module _ {n m : ℕ} (g : Row (suc n) → Row (suc m)) (injective : Injective g) where
   Lowered : Row n → Row m → Type 0
   Lowered i y = ((g (former i) .0 ≡ m) × (y .0 ≡ g latter .0)) ⊎ ((¬ (g (former i) .0 ≡ m)) × (y .0 ≡ g (former i) .0))
 
@@ -50,13 +50,13 @@ module _ {n m : ℕ} (g : Row (suc n) → Row (suc m)) (injective : (x y : Row (
   lowered-injective i j y (inr s) (inr t) = former-injective i j (sym (s .1) ∙ t .1)
 
 -- An injective map goes to no fewer rows.
-pub rows-le : (n m : ℕ) (g : Row n → Row m) → ((x y : Row n) → g x ≡ g y → x ≡ y) → n ≤ m
+pub rows-le : (n m : ℕ) (g : Row n → Row m) → Injective g → n ≤ m
 rows-le zero m g h = omega arith
 rows-le (suc n) zero g h = absurd (omega (arith, g latter .1))
 rows-le (suc n) (suc m) g h =
     let le : n ≤ m =
-          rows-le n m (λ i. lowered g h i .0) λ i j e.
-            lowered-injective g h i j (lowered g h i .0) (lowered g h i .1) (subst (Lowered g h j) (sym e) (lowered g h j .1)) in
+    rows-le n m (λ i. lowered g h i .0) λ i j e.
+    lowered-injective g h i j (lowered g h i .0) (lowered g h i .1) (subst (Lowered g h j) (sym e) (lowered g h j .1)) in
     omega arith
 
 -- A row is a former one or the last.
@@ -76,8 +76,8 @@ found zero g y = inr λ x. absurd (omega (arith, x .1))
 found (suc n) g y = go (found n (λ i. g (former i)) y) (ℕ-discrete (g latter .0) (y .0))
   where
     go :
-      ((x : Row n) × (g (former x) ≡ y)) ⊎ ((x : Row n) → ¬ (g (former x) ≡ y)) → Dec (g latter .0 ≡ y .0) →
-      ((x : Row (suc n)) × (g x ≡ y)) ⊎ ((x : Row (suc n)) → ¬ (g x ≡ y))
+        ((x : Row n) × (g (former x) ≡ y)) ⊎ ((x : Row n) → ¬ (g (former x) ≡ y)) → Dec (g latter .0 ≡ y .0) →
+        ((x : Row (suc n)) × (g x ≡ y)) ⊎ ((x : Row (suc n)) → ¬ (g x ≡ y))
     go (inl x) d = inl (former (x .0), x .1)
     go (inr h) (yes e) = inl (latter, row-path _ _ e)
     go (inr h) (no k) = inr λ x. none x (parted x)
@@ -86,14 +86,15 @@ found (suc n) g y = go (found n (λ i. g (former i)) y) (ℕ-discrete (g latter 
         none x (inl t) e = h (t .0) (ap g (sym (t .1)) ∙ e)
         none x (inr t) e = k (ap (λ r. g r .0) (sym t) ∙ ap (λ r. r .0) e)
 
-module _ {n : ℕ} (g : Row n → Row n) (injective : (x y : Row n) → g x ≡ g y → x ≡ y) where
+module _ {n : ℕ} (g : Row n → Row n) (injective : Injective g) where
   -- One more row goes to y.
   extended : (y : Row n) (x : Row (suc n)) → Parted x → Row n
   extended y x (inl t) = g (t .0)
   extended y x (inr t) = y
 
   extended-injective :
-    (y : Row n) → ((x : Row n) → ¬ (g x ≡ y)) → (u v : Row (suc n)) (s : Parted u) (t : Parted v) → extended y u s ≡ extended y v t → u ≡ v
+      (y : Row n) → ((x : Row n) → ¬ (g x ≡ y)) → (u v : Row (suc n)) (s : Parted u) (t : Parted v) →
+      extended y u s ≡ extended y v t → u ≡ v
   unfolding extended
   extended-injective y free u v (inl s) (inl t) e = s .1 ∙ ap former (injective (s .0) (t .0) e) ∙ sym (t .1)
   extended-injective y free u v (inl s) (inr t) e = absurd (free (s .0) e)
@@ -108,24 +109,24 @@ module _ {n : ℕ} (g : Row n → Row n) (injective : (x y : Row n) → g x ≡ 
       go (inl t) = t
       go (inr free) =
           let le : suc n ≤ n =
-                rows-le (suc n) n (λ x. extended y x (parted x)) (λ u v. extended-injective y free u v (parted u) (parted v)) in
+          rows-le (suc n) n (λ x. extended y x (parted x)) (λ u v. extended-injective y free u v (parted u) (parted v)) in
           absurd (omega arith)
 
 -- An injective map that is onto is a bijection.
-abbrev pub bijection : {A B : Type 0} (g : A → B) → ((x y : A) → g x ≡ g y → x ≡ y) → ((y : B) → (x : A) × (g x ≡ y)) → Bijection A B
+abbrev pub bijection : {A B : Type 0} (g : A → B) → Injective g → ((y : B) → (x : A) × (g x ≡ y)) → Bijection A B
 bijection g injective at =
     record { to = g; from = λ y. at y .0; from-to = λ x. injective _ _ (at (g x) .1); to-from = λ y. at y .1 }
 
 -- Numbers that are injective and in range number the rows of a type that has as many.
 pub numbered-onto :
-  {A : Type 0} {n : ℕ} → Bijection A (Row n) → (g : A → Row n) → ((x y : A) → g x ≡ g y → x ≡ y) → (y : Row n) → (x : A) × (g x ≡ y)
+    {A : Type 0} {n : ℕ} → Bijection A (Row n) → (g : A → Row n) → Injective g → (y : Row n) → (x : A) × (g x ≡ y)
 numbered-onto {A} {n} b g injective y = (b .from (at .0), at .1)
   where
     at : (x : Row n) × (g (b .from x) ≡ y)
     at =
         injective-onto (λ x. g (b .from x))
-          (λ x y e. sym (b .to-from x) ∙ ap (b .to) (injective (b .from x) (b .from y) e) ∙ b .to-from y)
-          y
+        (λ x y e. sym (b .to-from x) ∙ ap (b .to) (injective (b .from x) (b .from y) e) ∙ b .to-from y)
+        y
 
-abbrev pub numbering : {A : Type 0} {n : ℕ} → Bijection A (Row n) → (g : A → Row n) → ((x y : A) → g x ≡ g y → x ≡ y) → Bijection A (Row n)
+abbrev pub numbering : {A : Type 0} {n : ℕ} → Bijection A (Row n) → (g : A → Row n) → Injective g → Bijection A (Row n)
 numbering b g injective = bijection g injective (numbered-onto b g injective)

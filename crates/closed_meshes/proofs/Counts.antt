@@ -1,14 +1,14 @@
 -- How many rows a refined mesh has: of np points, ne edges and nf faces it has np + ne + nf points, 4 ne edges and 2 ne faces.
 -- The sizes of all faces of a closed mesh add up to 2 ne, and so do the valences. Assumes nothing.
-use mathlib.Core.Path.{_≡_, refl, sym, _∙_, ap, subst}
+use mathlib.Core.Path.{_≡_, refl, _∙_, ap, subst}
 use mathlib.Core.Logic.{_⊎_, inl, inr}
-use Prim.Native.Nat.{ℕ, _+_, _-_, _*_, _≤_, _<_}
+use Prim.Native.Nat.{ℕ, _+_, _-_, _*_, _<_}
 use native.Mathlib.Omega.{arith}
 use native.Mathlib.Decide.{decLt}
 use Rattle.closed_meshes.specs.Mesh.{Mesh, Dart, lft, rgt, flip}
 use Rattle.closed_meshes.specs.Closed.{Closed}
 use Rattle.closed_meshes.specs.Refinement.{NewPoint, old, mid, facePoint, NewEdge, org, dst, join}
-use Rattle.closed_meshes.specs.Renumbering.{Bijection, Row, sumTo}
+use Rattle.closed_meshes.specs.Renumbering.{Injective, Bijection, Row, sumTo}
 use Rattle.closed_meshes.proofs.Counting.{row-path, bijection}
 use Rattle.closed_meshes.proofs.Darts.{flip-flip}
 use Rattle.closed_meshes.proofs.Groupoid.{identity, composed}
@@ -21,7 +21,7 @@ module _ (a b : ℕ) where
   joint (inl i) = (i .0, omega (arith, i .1))
   joint (inr i) = (a + i .0, omega (arith, i .1))
 
-  joint-injective : (x y : Row a ⊎ Row b) → joint x ≡ joint y → x ≡ y
+  joint-injective : Injective joint
   unfolding joint
   joint-injective (inl i) (inl j) h = ap inl (row-path i j (ap (λ r. r .0) h))
   joint-injective (inl i) (inr j) h = let e : i .0 ≡ a + j .0 = ap (λ r. r .0) h in absurd (omega (arith, i .1))
@@ -45,7 +45,8 @@ either g h (inl x) = inl (g x)
 either g h (inr y) = inr (h y)
 
 either-back :
-  {A B A' B' : Type 0} (k : Bijection A A') (l : Bijection B B') (x : A ⊎ B) → either (k .from) (l .from) (either (k .to) (l .to) x) ≡ x
+    {A B A' B' : Type 0} (k : Bijection A A') (l : Bijection B B') (x : A ⊎ B) →
+    either (k .from) (l .from) (either (k .to) (l .to) x) ≡ x
 unfolding either
 either-back k l (inl x) = ap inl (k .from-to x)
 either-back k l (inr y) = ap inr (l .from-to y)
@@ -59,7 +60,7 @@ both {A} {B} {a} {b} k l = composed halves (rows-joint a b)
           to = either (k .to) (l .to);
           from = either (k .from) (l .from);
           from-to = either-back k l;
-          to-from = either-back (inverse k) (inverse l)
+          to-from = either-back (inverse k) (inverse l);
         }
 
 -- The kinds of rows as sums.
@@ -69,7 +70,7 @@ kinds-of-darts =
       to = elim [ lft e ↦ inl e | rgt e ↦ inr e ];
       from = elim [ inl e ↦ lft e | inr e ↦ rgt e ];
       from-to = elim [ lft e ↦ refl | rgt e ↦ refl ];
-      to-from = elim [ inl e ↦ refl | inr e ↦ refl ]
+      to-from = elim [ inl e ↦ refl | inr e ↦ refl ];
     }
 
 kinds-of-points : {P E F : Type 0} → Bijection (NewPoint P E F) ((P ⊎ E) ⊎ F)
@@ -78,7 +79,7 @@ kinds-of-points =
       to = elim [ old p ↦ inl (inl p) | mid e ↦ inl (inr e) | facePoint f ↦ inr f ];
       from = elim [ inl (inl p) ↦ old p | inl (inr e) ↦ mid e | inr f ↦ facePoint f ];
       from-to = elim [ old p ↦ refl | mid e ↦ refl | facePoint f ↦ refl ];
-      to-from = elim [ inl (inl p) ↦ refl | inl (inr e) ↦ refl | inr f ↦ refl ]
+      to-from = elim [ inl (inl p) ↦ refl | inl (inr e) ↦ refl | inr f ↦ refl ];
     }
 
 kinds-of-edges : {E : Type 0} → Bijection (NewEdge E) ((E ⊎ E) ⊎ Dart E)
@@ -87,16 +88,18 @@ kinds-of-edges =
       to = elim [ org e ↦ inl (inl e) | dst e ↦ inl (inr e) | join d ↦ inr d ];
       from = elim [ inl (inl e) ↦ org e | inl (inr e) ↦ dst e | inr d ↦ join d ];
       from-to = elim [ org e ↦ refl | dst e ↦ refl | join d ↦ refl ];
-      to-from = elim [ inl (inl e) ↦ refl | inl (inr e) ↦ refl | inr d ↦ refl ]
+      to-from = elim [ inl (inl e) ↦ refl | inl (inr e) ↦ refl | inr d ↦ refl ];
     }
 
 -- The same rows under another name of their number.
 recounted : {A : Type 0} {n n' : ℕ} → n ≡ n' → Bijection A (Row n) → Bijection A (Row n')
 recounted {A} e b = subst (λ n. Bijection A (Row n)) e b
 
-module _ {P E F : Type 0} {np ne nf : ℕ} (points : Bijection P (Row np)) (edges : Bijection E (Row ne)) (faces : Bijection F (Row nf)) where
-  pub count-points : Bijection (NewPoint P E F) (Row (np + ne + nf))
-  count-points = composed kinds-of-points (both (both points edges) faces)
+module _
+    {P E F : Type 0} {np ne nf : ℕ} (points : Bijection P (Row np)) (edges : Bijection E (Row ne)) (faces : Bijection F (Row nf))
+  where
+    pub count-points : Bijection (NewPoint P E F) (Row (np + ne + nf))
+    count-points = composed kinds-of-points (both (both points edges) faces)
 
 module _ {E : Type 0} {ne : ℕ} (edges : Bijection E (Row ne)) where
   pub count-darts : Bijection (Dart E) (Row (2 * ne))
@@ -114,4 +117,4 @@ module _ {np ne nf : ℕ} {m : Mesh (Row np) (Row ne) (Row nf)} (c : Closed m) (
   pub sum-of-valences : ((p : Row np) → g (p .0) ≡ m .valence p) → sumTo np g ≡ 2 * ne
   sum-of-valences h =
       sum-of-lengths (count-darts (identity (Row ne))) (c .about-points) (λ d. c .next (flip d))
-        (λ d. ap flip (c .prev-next (flip d)) ∙ flip-flip d) g h
+      (λ d. ap flip (c .prev-next (flip d)) ∙ flip-flip d) g h

@@ -5,7 +5,7 @@ use mathlib.Core.Logic.{_⊎_, inl, inr}
 use Prim.Native.Nat.{ℕ, zero, suc, _+_, _-_, _≤_, _<_}
 use native.Mathlib.Omega.{arith}
 use native.Mathlib.Decide.{decLt, decLe}
-use Rattle.closed_meshes.specs.Cycles.{Cycles, steps}
+use Rattle.closed_meshes.specs.Cycles.{Cycles, steps, PassedOnce}
 
 -- The number j of steps from rank r on to rank k in a cycle of n.
 Shifted : ℕ → ℕ → ℕ → ℕ → Type 0
@@ -34,7 +34,7 @@ Stepped : ℕ → ℕ → ℕ → Type 0
 Stepped k n k' = ((suc k < n) × (k' ≡ suc k)) ⊎ ((suc k ≡ n) × (k' ≡ 0))
 
 shifted-step :
-  (k k' r n j j' : ℕ) → Shifted k r n j → Shifted k' r n j' → Stepped k n k' → r < n → suc j < n → j' ≡ suc j
+    (k k' r n j j' : ℕ) → Shifted k r n j → Shifted k' r n j' → Stepped k n k' → r < n → suc j < n → j' ≡ suc j
 unfolding Shifted Stepped
 shifted-step k k' r n j j' (inl s) (inl s') (inl t) h l = omega arith
 shifted-step k k' r n j j' (inl s) (inl s') (inr t) h l = omega arith
@@ -129,6 +129,16 @@ module _ {D C : Type 0} {step : D → D} {cls : D → C} {start : C → D} {len 
     rank-injective d d' k r =
         sym (steps-rank d) ∙ ap (λ x. steps step x (start (cls d))) r ∙ ap (λ x. steps step (c .rank d') (start x)) k ∙ steps-rank d'
 
+    -- The walk passes each dart of its class exactly once.
+    pub passed-once : (d : D) → PassedOnce step start len d (cls d)
+    passed-once d =
+        record {
+          after = c .rank d;
+          in-time = c .rank-below d;
+          passed = steps-rank d;
+          only-then = λ n h e. sym (rank-steps n (cls d) h) ∙ ap (c .rank) e;
+        }
+
     -- What a step does to the rank.
     rank-after : (d : D) → Stepped (c .rank d) (len (cls d)) (c .rank (step d))
     unfolding Stepped
@@ -151,15 +161,17 @@ module _ {D C : Type 0} {step : D → D} {cls : D → C} {start : C → D} {len 
           rank-below = λ d. shifted-below _ _ _ _ (at d .1) (c .rank-below d);
           rank-step = λ d h. shifted-step _ _ _ _ _ _ (at d .1) (at-step d) (rank-after d) (below (cls d)) h;
           step-last =
-            λ d h.
+              λ d h.
               rank-injective (step d) (start' (cls d)) (c .cls-step d ∙ sym (touches (cls d)))
-                (shifted-last _ _ _ _ _ (at d .1) (rank-after d) (below (cls d)) h)
+              (shifted-last _ _ _ _ _ (at d .1) (rank-after d) (below (cls d)) h);
         }
       where
         below : (x : C) → c .rank (start' x) < len x
         below x = subst (λ y. c .rank (start' x) < len y) (touches x) (c .rank-below (start' x))
+
         at : (d : D) → (j : ℕ) × Shifted (c .rank d) (c .rank (start' (cls d))) (len (cls d)) j
         at d = shifted (c .rank d) (c .rank (start' (cls d))) (len (cls d)) (below (cls d))
+
         at-step : (d : D) → Shifted (c .rank (step d)) (c .rank (start' (cls d))) (len (cls d)) (at (step d) .0)
         at-step d =
             subst (λ x. Shifted (c .rank (step d)) (c .rank (start' x)) (len x) (at (step d) .0)) (c .cls-step d) (at (step d) .1)
@@ -167,7 +179,7 @@ module _ {D C : Type 0} {step : D → D} {cls : D → C} {start : C → D} {len 
 module _ {D C : Type 0} {step : D → D} {cls : D → C} where
   -- With one start, no length is below the other.
   len-least :
-    {start : C → D} {len len' : C → ℕ} → Cycles step cls start len → Cycles step cls start len' → (x : C) → len x ≤ len' x
+      {start : C → D} {len len' : C → ℕ} → Cycles step cls start len → Cycles step cls start len' → (x : C) → len x ≤ len' x
   len-least {start} {len} {len'} c c' x = go (decLe (len x) (len' x))
     where
       go : Dec (len x ≤ len' x) → len x ≤ len' x
@@ -180,8 +192,8 @@ module _ {D C : Type 0} {step : D → D} {cls : D → C} where
 
   -- The length of a cycle is unique, whatever the starts.
   pub len-unique :
-    {start start' : C → D} {len len' : C → ℕ} (back : D → D) → ((d : D) → step (back d) ≡ d) →
-    Cycles step cls start len → Cycles step cls start' len' → (x : C) → len x ≡ len' x
+      {start start' : C → D} {len len' : C → ℕ} (back : D → D) → ((d : D) → step (back d) ≡ d) →
+      Cycles step cls start len → Cycles step cls start' len' → (x : C) → len x ≡ len' x
   len-unique {start} {start'} {len} {len'} back step-back c c' x =
       let c'' : Cycles step cls start len' = any-start c' back step-back start (c .cls-start) in
       let l : len x ≤ len' x = len-least c c'' x in

@@ -47,7 +47,7 @@ module _ {P E F : Type 0} {m : Mesh P E F} (c : Closed m) where
   dart-of-second d d' k h =
       sym (flip-flip d)
       ∙ ap flip
-          (dart-of-first (flip d) (flip d') (edge-flip d ∙ k ∙ sym (edge-flip d')) (first-flip m d ∙ h ∙ sym (first-flip m d')))
+      (dart-of-first (flip d) (flip d') (edge-flip d ∙ k ∙ sym (edge-flip d')) (first-flip m d ∙ h ∙ sym (first-flip m d')))
       ∙ flip-flip d'
 
   -- The next dart and the previous one are of the same face, and of another edge.
@@ -56,9 +56,6 @@ module _ {P E F : Type 0} {m : Mesh P E F} (c : Closed m) where
 
   pub face-prev : (d : Dart E) → face m (c .prev d) ≡ face m d
   face-prev d = sym (face-next (c .prev d)) ∙ ap (face m) (c .next-prev d)
-
-  pub second-prev : (d : Dart E) → second m (c .prev d) ≡ first m d
-  second-prev d = sym (c .first-next (c .prev d)) ∙ ap (first m) (c .next-prev d)
 
   pub edge-moves : (d : Dart E) → ¬ (edge (c .next d) ≡ edge d)
   edge-moves d h =

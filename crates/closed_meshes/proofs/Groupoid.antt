@@ -1,7 +1,7 @@
 -- A mesh is isomorphic to itself, and isomorphisms can be turned round and composed. Assumes nothing.
 use mathlib.Core.Path.{_≡_, refl, sym, _∙_, ap}
 use mathlib.Core.Option.{Option, some, none, Option·map}
-use Rattle.closed_meshes.specs.Mesh.{Mesh, Place}
+use Rattle.closed_meshes.specs.Mesh.{Mesh}
 use Rattle.closed_meshes.specs.Renumbering.{Bijection, Isomorphism}
 use Rattle.closed_meshes.proofs.Isomorphisms.{inverse}
 
@@ -14,7 +14,7 @@ composed b k =
       to = λ x. k .to (b .to x);
       from = λ z. b .from (k .from z);
       from-to = λ x. ap (b .from) (k .from-to (b .to x)) ∙ b .from-to x;
-      to-from = λ z. ap (k .to) (b .to-from (k .from z)) ∙ k .to-from z
+      to-from = λ z. ap (k .to) (b .to-from (k .from z)) ∙ k .to-from z;
     }
 
 pub map-id : {A : Type 0} (o : Option A) → Option·map (λ x. x) o ≡ o
@@ -31,8 +31,8 @@ map-back b (some x) = ap some (b .from-to x)
 
 -- A field that corresponds one way corresponds the other way.
 pub field-back :
-  {A B A' B' : Type 0} (b : Bijection A A') (k : Bijection B B') (g : A → B) (g' : A' → B') →
-  ((x : A) → g' (b .to x) ≡ k .to (g x)) → (y : A') → g (b .from y) ≡ k .from (g' y)
+    {A B A' B' : Type 0} (b : Bijection A A') (k : Bijection B B') (g : A → B) (g' : A' → B') →
+    ((x : A) → g' (b .to x) ≡ k .to (g x)) → (y : A') → g (b .from y) ≡ k .from (g' y)
 field-back b k g g' h y = sym (k .from-to _) ∙ ap (k .from) (sym (h (b .from y)) ∙ ap g' (b .to-from y))
 
 unfoldable pub isomorphism-refl : {P E F : Type 0} (m : Mesh P E F) → Isomorphism m m
@@ -50,11 +50,11 @@ isomorphism-refl {P} {E} {F} m =
       leftAcw = λ e. refl;
       rightCw = λ e. refl;
       rightAcw = λ e. refl;
-      corner = λ f k. sym (map-id (m .corner f k))
+      corner = λ f k. sym (map-id (m .corner f k));
     }
 
 unfoldable pub isomorphism-sym :
-  {P E F P' E' F' : Type 0} {m : Mesh P E F} {m' : Mesh P' E' F'} → Isomorphism m m' → Isomorphism m' m
+    {P E F P' E' F' : Type 0} {m : Mesh P E F} {m' : Mesh P' E' F'} → Isomorphism m m' → Isomorphism m' m
 isomorphism-sym {m} {m'} i =
     record {
       points = inverse (i .points);
@@ -70,14 +70,14 @@ isomorphism-sym {m} {m'} i =
       rightCw = field-back (i .edges) (i .edges) (m .rightCw) (m' .rightCw) (i .rightCw);
       rightAcw = field-back (i .edges) (i .edges) (m .rightAcw) (m' .rightAcw) (i .rightAcw);
       corner =
-        λ f k.
+          λ f k.
           sym (map-back (i .points) _)
-          ∙ ap (Option·map (i .points .from)) (sym (i .corner (i .faces .from f) k) ∙ ap (λ x. m' .corner x k) (i .faces .to-from f))
+          ∙ ap (Option·map (i .points .from)) (sym (i .corner (i .faces .from f) k) ∙ ap (λ x. m' .corner x k) (i .faces .to-from f));
     }
 
 unfoldable pub isomorphism-trans :
-  {P E F P' E' F' P'' E'' F'' : Type 0} {m : Mesh P E F} {m' : Mesh P' E' F'} {m'' : Mesh P'' E'' F''} →
-  Isomorphism m m' → Isomorphism m' m'' → Isomorphism m m''
+    {P E F P' E' F' P'' E'' F'' : Type 0} {m : Mesh P E F} {m' : Mesh P' E' F'} {m'' : Mesh P'' E'' F''} →
+    Isomorphism m m' → Isomorphism m' m'' → Isomorphism m m''
 isomorphism-trans {m} {m'} {m''} i j =
     record {
       points = composed (i .points) (j .points);
@@ -93,6 +93,6 @@ isomorphism-trans {m} {m'} {m''} i j =
       rightCw = λ e. j .rightCw _ ∙ ap (j .edges .to) (i .rightCw e);
       rightAcw = λ e. j .rightAcw _ ∙ ap (j .edges .to) (i .rightAcw e);
       corner =
-        λ f k.
-          j .corner _ k ∙ ap (Option·map (j .points .to)) (i .corner f k) ∙ map-map (i .points .to) (j .points .to) (m .corner f k)
+          λ f k.
+          j .corner _ k ∙ ap (Option·map (j .points .to)) (i .corner f k) ∙ map-map (i .points .to) (j .points .to) (m .corner f k);
     }

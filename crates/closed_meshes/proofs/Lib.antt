@@ -1,11 +1,19 @@
-pub mod Cycles
 pub mod Darts
+pub mod Cycles
+pub mod NewDarts
+pub mod NewWalks
 pub mod Refinement
 pub mod Isomorphisms
 pub mod Groupoid
-pub mod Lift
+pub mod Unique
+pub mod NewBorders
 pub mod Counting
 pub mod Sums
-
 pub mod Counts
+pub mod Names
+pub mod RefinementLifts
 pub mod Runs
+pub mod SameKind
+pub mod SharedIsAll
+pub mod TwoRuns
+pub mod Cases

@@ -1,13 +1,19 @@
 -- Two meshes that are one but for the numbering of their rows and their start edges.
+--     Injective g           no two values of g are the same
 --     Bijection A B         a one-to-one correspondence of A and B
 --     Isomorphism m m'      points, edges and faces correspond, and each field of a row but its start edge with them
 --     Touching m            the start edge of each point touches it, and the start edge of each face borders it
+--     CarriesOver           the claim: closed carries over any isomorphism, with any start edges that touch
 --     Row n                 the rows of a table of n rows: the numbers below n
 --     sumTo n g             the sum of g k over the numbers k below n
 use mathlib.Core.Path.{_≡_}
-use mathlib.Core.Option.{Option, Option·map}
+use mathlib.Core.Option.{Option·map}
 use Prim.Native.Nat.{ℕ, zero, suc, _+_, _<_}
 use Rattle.closed_meshes.specs.Mesh.{Mesh, Place, Dart, edge, first, face}
+use Rattle.closed_meshes.specs.Closed.{Closed}
+
+abbrev pub Injective : {A B : Type 0} → (A → B) → Type 0
+Injective {A} g = (x y : A) → g x ≡ g y → x ≡ y
 
 pub record Bijection (A B : Type 0) : Type 0 where
   pub to : A → B
@@ -33,6 +39,10 @@ pub record Isomorphism {P E F P' E' F' : Type 0} (m : Mesh P E F) (m' : Mesh P' 
 pub record Touching {P E F : Type 0} (m : Mesh P E F) : Type 0 where
   pub start : (p : P) → (d : Dart E) × (edge d ≡ m .start p) × (first m d ≡ p)
   pub faceStart : (f : F) → (d : Dart E) × (edge d ≡ m .faceStart f) × (face m d ≡ f)
+
+abbrev pub CarriesOver : Type 1
+CarriesOver =
+    (P E F P' E' F' : Type 0) (m : Mesh P E F) (m' : Mesh P' E' F') → Isomorphism m m' → Touching m' → Closed m → Closed m'
 
 abbrev pub Row : ℕ → Type 0
 Row n = (k : ℕ) × (k < n)

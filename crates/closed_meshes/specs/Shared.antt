@@ -1,14 +1,14 @@
 -- What two meshes with names share (document 01, "Shared means").
 --     Stage P E F           a closed mesh with names, reached from a first mesh over P E F
---     walk step n d         the n darts that a walk by step passes from d on
+--     passed s d            the names of d's edge and of the point from which it leaves
 --     border s d            the names of the edges and points that the walk about d's face passes in turn, begun at d
 --     SharedEdge s s' e e'  the edges e and e' agree, every reference read as a name
 --     Shared s s'           the same names occur in both meshes and, every reference read as a name, rows of one name agree
 use mathlib.Core.Path.{_≡_}
-use mathlib.Core.List.{List, [], _∷_, map}
+use mathlib.Core.List.{List, map}
 use mathlib.Core.Option.{Option·map}
-use Prim.Native.Nat.{ℕ, zero, suc}
 use Rattle.closed_meshes.specs.Mesh.{Mesh, Place, Dart, edge, first, face}
+use Rattle.closed_meshes.specs.Cycles.{walk}
 use Rattle.closed_meshes.specs.Closed.{Closed}
 use Rattle.closed_meshes.specs.Names.{PointName, EdgeName, Names}
 
@@ -19,10 +19,6 @@ pub record Stage (P E F : Type 0) : Type 1 where
   pub mesh : Mesh Point Edge Face
   pub closed : Closed mesh
   pub names : Names P E F Point Edge Face
-
-unfoldable pub walk : {D : Type 0} → (D → D) → ℕ → D → List D
-walk step zero d = []
-walk step (suc n) d = d ∷ walk step n (step d)
 
 module _ {P E F : Type 0} where
   -- the names of d's edge and of the point from which the walk leaves along it
@@ -53,15 +49,15 @@ module _ {P E F : Type 0} where
     pub face-here : (f' : s' .Face) → (f : s .Face) × (s .names .face f ≡ s' .names .face f')
     -- Points of one name agree in valence.
     pub valence :
-      (p : s .Point) (p' : s' .Point) → s .names .point p ≡ s' .names .point p' → s .mesh .valence p ≡ s' .mesh .valence p'
+        (p : s .Point) (p' : s' .Point) → s .names .point p ≡ s' .names .point p' → s .mesh .valence p ≡ s' .mesh .valence p'
     -- Edges of one name agree in direction, sides and neighbours.
     pub edges : (e : s .Edge) (e' : s' .Edge) → s .names .edge e ≡ s' .names .edge e' → SharedEdge s s' e e'
     -- Faces of one name agree in border: wherever a walk about the one begins, there is a beginning about the other from which the
     -- same edges and points are passed in turn.
     pub borders :
-      (f : s .Face) (f' : s' .Face) → s .names .face f ≡ s' .names .face f' → (d : Dart (s .Edge)) → face (s .mesh) d ≡ f →
-      (d' : Dart (s' .Edge)) × (face (s' .mesh) d' ≡ f') × (border s d ≡ border s' d')
+        (f : s .Face) (f' : s' .Face) → s .names .face f ≡ s' .names .face f' → (d : Dart (s .Edge)) → face (s .mesh) d ≡ f →
+        (d' : Dart (s' .Edge)) × (face (s' .mesh) d' ≡ f') × (border s d ≡ border s' d')
     -- They agree in the four corners.
     pub corners :
-      (f : s .Face) (f' : s' .Face) → s .names .face f ≡ s' .names .face f' → (k : Place) →
-      Option·map (s .names .point) (s .mesh .corner f k) ≡ Option·map (s' .names .point) (s' .mesh .corner f' k)
+        (f : s .Face) (f' : s' .Face) → s .names .face f ≡ s' .names .face f' → (k : Place) →
+        Option·map (s .names .point) (s .mesh .corner f k) ≡ Option·map (s' .names .point) (s' .mesh .corner f' k)

@@ -63,7 +63,11 @@ impl Position {
         ensures { λ r. ⌜ r ≡ finitePosition self ⌝ }
     {
         if is_finite(self.x) {
-            if is_finite(self.y) { is_finite(self.z) } else { false }
+            if is_finite(self.y) {
+                is_finite(self.z)
+            } else {
+                false
+            }
         } else {
             false
         }
@@ -92,9 +96,5 @@ pub fn is_finite(v: f64) -> bool
 pub fn is_small(v: f64) -> bool
     ensures { λ r. ⌜ r ≡ small v ⌝ }
 {
-    if -0.000001 <= v {
-        v <= 0.000001
-    } else {
-        false
-    }
+    if -0.000001 <= v { v <= 0.000001 } else { false }
 }

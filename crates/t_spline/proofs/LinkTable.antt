@@ -75,13 +75,20 @@ and-false false = refl
 pub links-face-past : (f v : ℕ) → 4 ≤ f → linksOf f v ≡ Mismatch
 unfolding linksOf
 links-face-past f v h =
-    simp
-    (ne-eqb 0 f (λ (e : 0 ≡ f). omega arith), ne-eqb 1 f (λ (e : 1 ≡ f). omega arith),
-    ne-eqb 2 f (λ (e : 2 ≡ f). omega arith), ne-eqb 3 f (λ (e : 3 ≡ f). omega arith))
+    simp (
+      ne-eqb 0 f (λ (e : 0 ≡ f). omega arith),
+      ne-eqb 1 f (λ (e : 1 ≡ f). omega arith),
+      ne-eqb 2 f (λ (e : 2 ≡ f). omega arith),
+      ne-eqb 3 f (λ (e : 3 ≡ f). omega arith),
+    )
 
 pub links-vertex-past : (f v : ℕ) → 4 ≤ v → linksOf f v ≡ Mismatch
 unfolding linksOf
 links-vertex-past f v h =
-    simp
-    (ne-eqb 0 v (λ (e : 0 ≡ v). omega arith), ne-eqb 1 v (λ (e : 1 ≡ v). omega arith),
-    ne-eqb 2 v (λ (e : 2 ≡ v). omega arith), ne-eqb 3 v (λ (e : 3 ≡ v). omega arith), and-false)
+    simp (
+      ne-eqb 0 v (λ (e : 0 ≡ v). omega arith),
+      ne-eqb 1 v (λ (e : 1 ≡ v). omega arith),
+      ne-eqb 2 v (λ (e : 2 ≡ v). omega arith),
+      ne-eqb 3 v (λ (e : 3 ≡ v). omega arith),
+      and-false,
+    )

@@ -37,8 +37,13 @@ connectionOf e c = getD (e .connections) (indexOf c) 0
 abbrev pub withConnection : TnurccEdge → ℕ → TnurccConnection → TnurccEdge
 withConnection e n c =
     record {
-      connections = set (e .connections) (indexOf c) n; «face_left» = e .«face_left»; «face_right» = e .«face_right»;
-      origin = e .origin; dest = e .dest; «knot_interval» = e .«knot_interval» }
+      connections = set (e .connections) (indexOf c) n;
+      «face_left» = e .«face_left»;
+      «face_right» = e .«face_right»;
+      origin = e .origin;
+      dest = e .dest;
+      «knot_interval» = e .«knot_interval»;
+    }
 
 abbrev pub acwAtEnd : TnurccVertexEnd → TnurccConnection
 acwAtEnd Origin = LeftCw

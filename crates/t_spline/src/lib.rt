@@ -82,8 +82,11 @@ pub struct Pair {
 
 impl TnurccConnection {
     pub const LEFT_CW: usize = 0;
+
     pub const LEFT_ACW: usize = 1;
+
     pub const RIGHT_CW: usize = 2;
+
     pub const RIGHT_ACW: usize = 3;
 
     // The connection with this number. A number past the last one is read as the last.

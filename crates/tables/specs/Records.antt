@@ -36,21 +36,29 @@ positionAt ps p = record { x = getD ps (p * 3) nan; y = getD ps (p * 3 + 1) nan;
 abbrev pub pointAt : List Float → List ℕ → ℕ → TnurccControlPoint
 pointAt ps ws p =
     record {
-      point = positionAt ps p; valence = getD ws (p * 3) 0; «incoming_edge» = getD ws (p * 3 + 1) 0;
-      extraordinary = getD ws (p * 3 + 2) 0 }
+      point = positionAt ps p;
+      valence = getD ws (p * 3) 0;
+      «incoming_edge» = getD ws (p * 3 + 1) 0;
+      extraordinary = getD ws (p * 3 + 2) 0;
+    }
 
 abbrev pub edgeAt : List ℕ → List Float → ℕ → TnurccEdge
 edgeAt es is e =
     record {
       connections = getD es (e * 8 + 4) 0 ∷ getD es (e * 8 + 5) 0 ∷ getD es (e * 8 + 6) 0 ∷ getD es (e * 8 + 7) 0 ∷ [];
-      «face_left» = getD es (e * 8 + 2) 0; «face_right» = getD es (e * 8 + 3) 0; origin = getD es (e * 8) 0;
-      dest = getD es (e * 8 + 1) 0; «knot_interval» = getD is e nan }
+      «face_left» = getD es (e * 8 + 2) 0;
+      «face_right» = getD es (e * 8 + 3) 0;
+      origin = getD es (e * 8) 0;
+      dest = getD es (e * 8 + 1) 0;
+      «knot_interval» = getD is e nan;
+    }
 
 abbrev pub faceAt : List ℕ → ℕ → TnurccFace
 faceAt fs f =
     record {
       edge = getD fs (f * 5) 0;
-      corners = getD fs (f * 5 + 1) 0 ∷ getD fs (f * 5 + 2) 0 ∷ getD fs (f * 5 + 3) 0 ∷ getD fs (f * 5 + 4) 0 ∷ [] }
+      corners = getD fs (f * 5 + 1) 0 ∷ getD fs (f * 5 + 2) 0 ∷ getD fs (f * 5 + 3) 0 ∷ getD fs (f * 5 + 4) 0 ∷ [];
+    }
 
 abbrev pub pointRows : List Float → List ℕ → ℕ
 pointRows ps ws = min (length ps / 3) (length ws / 3)

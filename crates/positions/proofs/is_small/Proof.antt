@@ -1,5 +1,4 @@
 -- is_small meets its contract: each of the two tests decides its half of `small`.
-use Rattle.positions.specs.Position.{small, tolerance}
 use Rattle.positions.proofs.is_small.Statement.{statement}
 use Rattle.positions.proofs.is_small.Tie as tie
 

@@ -2,22 +2,16 @@
 use borrow.Author.Tests.{eq-eqb, ne-eqb}
 use Rattle.t_spline.proofs.TnurccConnection.from_usize.Statement.{statement}
 use Rattle.t_spline.proofs.TnurccConnection.from_usize.Tie as tie
-use Rattle.t_spline.proofs.TnurccConnection.from_usize.Reads as reads
-use Rattle.t_spline.proofs.TnurccConnection.from_usize.Lts as lts
 
--- src/lib.rt:82:13
 returns : tie.Need-returns
 returns c = simp (eq-eqb _ _ (c .if1 .taken))
 
--- src/lib.rt:85:13
 returns-2 : tie.Need-returns-2
 returns-2 c = simp (ne-eqb _ _ (c .before .if1 .left), eq-eqb _ _ (c .if2 .taken))
 
--- src/lib.rt:88:13
 returns-3 : tie.Need-returns-3
 returns-3 c = simp (ne-eqb _ _ (c .before .before .if1 .left), ne-eqb _ _ (c .before .if2 .left), eq-eqb _ _ (c .if3 .taken))
 
--- src/lib.rt:78:5
 returns-4 : tie.Need-returns-4
 returns-4 c = simp (ne-eqb _ _ (c .before .before .if1 .left), ne-eqb _ _ (c .before .if2 .left), ne-eqb _ _ (c .if3 .left))
 

@@ -2,18 +2,13 @@
 use borrow.Author.Tests.{eq-eqb, ne-eqb}
 use Rattle.t_spline.proofs.TnurccEdge.point_end.Statement.{statement}
 use Rattle.t_spline.proofs.TnurccEdge.point_end.Tie as tie
-use Rattle.t_spline.proofs.TnurccEdge.point_end.Reads as reads
-use Rattle.t_spline.proofs.TnurccEdge.point_end.Lts as lts
 
--- src/t_nurcc_edge.rt:120:13
 returns : tie.Need-returns
 returns c = simp (eq-eqb _ _ (c .if1 .taken))
 
--- src/t_nurcc_edge.rt:123:13
 returns-2 : tie.Need-returns-2
 returns-2 c = simp (ne-eqb _ _ (c .before .before .if1 .left), eq-eqb _ _ (c .if2 .taken))
 
--- src/t_nurcc_edge.rt:116:5
 returns-3 : tie.Need-returns-3
 returns-3 c = simp (ne-eqb _ _ (c .before .before .if1 .left), ne-eqb _ _ (c .if2 .left))
 

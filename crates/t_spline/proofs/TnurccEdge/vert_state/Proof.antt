@@ -2,29 +2,22 @@
 use borrow.Author.Tests.{eq-eqb, ne-eqb}
 use Rattle.t_spline.proofs.TnurccEdge.vert_state.Statement.{statement}
 use Rattle.t_spline.proofs.TnurccEdge.vert_state.Tie as tie
-use Rattle.t_spline.proofs.TnurccEdge.vert_state.Reads as reads
-use Rattle.t_spline.proofs.TnurccEdge.vert_state.Lts as lts
 
--- src/connect.rt:49:13
 returns : tie.Need-returns
 returns c = simp (eq-eqb _ _ (c .if1 .taken))
 
--- src/connect.rt:52:13
 returns-2 : tie.Need-returns-2
 returns-2 c = simp (ne-eqb _ _ (c .before .before .before .if1 .left), eq-eqb _ _ (c .if2 .taken))
 
--- src/connect.rt:55:13
 returns-3 : tie.Need-returns-3
 returns-3 c = simp (ne-eqb _ _ (c .before .before .before .before .before .before .if1 .left), ne-eqb _ _ (c .before .before .before .if2 .left), eq-eqb _ _ (c .if3 .taken))
 
--- src/connect.rt:58:13
 returns-4 : tie.Need-returns-4
-returns-4 c = 
+returns-4 c =
     simp (ne-eqb _ _ (c .before .before .before .before .before .before .before .before .before .if1 .left), ne-eqb _ _ (c .before .before .before .before .before .before .if2 .left), ne-eqb _ _ (c .before .before .before .if3 .left), eq-eqb _ _ (c .if4 .taken))
 
--- src/connect.rt:45:5
 returns-5 : tie.Need-returns-5
-returns-5 c = 
+returns-5 c =
     simp (ne-eqb _ _ (c .before .before .before .before .before .before .before .before .before .if1 .left), ne-eqb _ _ (c .before .before .before .before .before .before .if2 .left), ne-eqb _ _ (c .before .before .before .if3 .left), ne-eqb _ _ (c .if4 .left))
 
 pub vert-state-spec : {M : Type 1} → statement M

@@ -2,14 +2,10 @@
 use borrow.Author.Tests.{eq-eqb, ne-eqb}
 use Rattle.t_spline.proofs.t_nurcc_edge.same_face.Statement.{statement}
 use Rattle.t_spline.proofs.t_nurcc_edge.same_face.Tie as tie
-use Rattle.t_spline.proofs.t_nurcc_edge.same_face.Reads as reads
-use Rattle.t_spline.proofs.t_nurcc_edge.same_face.Lts as lts
 
--- src/t_nurcc_edge.rt:147:9
 returns : tie.Need-returns
 returns c = simp (eq-eqb _ _ (c .if1 .taken))
 
--- src/t_nurcc_edge.rt:143:1
 returns-2 : tie.Need-returns-2
 returns-2 c = simp (ne-eqb _ _ (c .if1 .left))
 

@@ -2,7 +2,7 @@
 -- refinements. Assumes nothing.
 use mathlib.Core.Path.{_≡_, refl, sym, _∙_, ap}
 use mathlib.Core.Option.{some}
-use Rattle.closed_meshes.specs.Mesh.{Mesh, Place, place0, place1, place2, place3, Dart, lft, rgt, edge, first, face}
+use Rattle.closed_meshes.specs.Mesh.{Mesh, place0, place1, place2, place3, Dart, lft, rgt, edge}
 use Rattle.closed_meshes.specs.Closed.{Closed}
 use Rattle.closed_meshes.specs.Refinement.{NewPoint, old, mid, facePoint, NewEdge, org, dst, join, firstHalf, secondHalf, refined}
 use Rattle.closed_meshes.specs.Renumbering.{Bijection, Isomorphism}
@@ -14,8 +14,8 @@ module _ {P E F P' E' F' : Type 0} {m : Mesh P E F} {m' : Mesh P' E' F'} (c : Cl
   pub next-to : (d : Dart E) → c' .next (dartTo i d) ≡ dartTo i (c .next d)
   next-to d =
       dart-of-face c' (c' .next (dartTo i d)) (dartTo i (c .next d))
-        (c' .edge-next (dartTo i d) ∙ acw-to i d ∙ ap (i .edges .to) (sym (c .edge-next d)) ∙ sym (edge-mapDart (i .edges .to) (c .next d)))
-        (face-next c' (dartTo i d) ∙ face-to i d ∙ ap (i .faces .to) (sym (face-next c d)) ∙ sym (face-to i (c .next d)))
+      (c' .edge-next (dartTo i d) ∙ acw-to i d ∙ ap (i .edges .to) (sym (c .edge-next d)) ∙ sym (edge-mapDart (i .edges .to) (c .next d)))
+      (face-next c' (dartTo i d) ∙ face-to i d ∙ ap (i .faces .to) (sym (face-next c d)) ∙ sym (face-to i (c .next d)))
 
   pub prev-to : (d : Dart E) → c' .prev (dartTo i d) ≡ dartTo i (c .prev d)
   prev-to d = ap (λ x. c' .prev (dartTo i x)) (sym (c .next-prev d)) ∙ ap (c' .prev) (sym (next-to (c .prev d))) ∙ c' .prev-next _
@@ -23,13 +23,13 @@ module _ {P E F P' E' F' : Type 0} {m : Mesh P E F} {m' : Mesh P' E' F'} (c : Cl
   pub size-to : (f : F) → c' .size (i .faces .to f) ≡ c .size f
   size-to f =
       len-unique {len' = λ x. c .size (i .faces .from x)} (c' .prev) (c' .next-prev) (c' .about-faces)
-        (cycles-carried (darts (i .edges)) (i .faces) next-to (face-to i) (λ x. ap (c .size) (i .faces .from-to x)) (c .about-faces))
-        (i .faces .to f)
+      (cycles-carried (darts (i .edges)) (i .faces) next-to (face-to i) (λ x. ap (c .size) (i .faces .from-to x)) (c .about-faces))
+      (i .faces .to f)
       ∙ ap (c .size) (i .faces .from-to f)
 
 -- The kinds of new rows over corresponding old rows.
 abbrev pub mapPoint :
-  {P E F P' E' F' : Type 0} → (P → P') → (E → E') → (F → F') → NewPoint P E F → NewPoint P' E' F'
+    {P E F P' E' F' : Type 0} → (P → P') → (E → E') → (F → F') → NewPoint P E F → NewPoint P' E' F'
 mapPoint p e f (old x) = old (p x)
 mapPoint p e f (mid x) = mid (e x)
 mapPoint p e f (facePoint x) = facePoint (f x)
@@ -40,8 +40,8 @@ mapEdge e (dst x) = dst (e x)
 mapEdge e (join d) = join (mapDart e d)
 
 pub mapPoint-inverse :
-  {P E F P' E' F' : Type 0} (p : Bijection P P') (e : Bijection E E') (f : Bijection F F') (x : NewPoint P E F) →
-  mapPoint (p .from) (e .from) (f .from) (mapPoint (p .to) (e .to) (f .to) x) ≡ x
+    {P E F P' E' F' : Type 0} (p : Bijection P P') (e : Bijection E E') (f : Bijection F F') (x : NewPoint P E F) →
+    mapPoint (p .from) (e .from) (f .from) (mapPoint (p .to) (e .to) (f .to) x) ≡ x
 mapPoint-inverse p e f (old x) = ap old (p .from-to x)
 mapPoint-inverse p e f (mid x) = ap mid (e .from-to x)
 mapPoint-inverse p e f (facePoint x) = ap facePoint (f .from-to x)
@@ -72,19 +72,19 @@ module _ {P E F P' E' F' : Type 0} {m : Mesh P E F} {m' : Mesh P' E' F'} (c : Cl
   lifted =
       record {
         points =
-          record {
-            to = mapPoint (i .points .to) (i .edges .to) (i .faces .to);
-            from = mapPoint (i .points .from) (i .edges .from) (i .faces .from);
-            from-to = mapPoint-inverse (i .points) (i .edges) (i .faces);
-            to-from = mapPoint-inverse (inverse (i .points)) (inverse (i .edges)) (inverse (i .faces))
-          };
+            record {
+              to = mapPoint (i .points .to) (i .edges .to) (i .faces .to);
+              from = mapPoint (i .points .from) (i .edges .from) (i .faces .from);
+              from-to = mapPoint-inverse (i .points) (i .edges) (i .faces);
+              to-from = mapPoint-inverse (inverse (i .points)) (inverse (i .edges)) (inverse (i .faces));
+            };
         edges =
-          record {
-            to = mapEdge (i .edges .to);
-            from = mapEdge (i .edges .from);
-            from-to = mapEdge-inverse (i .edges);
-            to-from = mapEdge-inverse (inverse (i .edges))
-          };
+            record {
+              to = mapEdge (i .edges .to);
+              from = mapEdge (i .edges .from);
+              from-to = mapEdge-inverse (i .edges);
+              to-from = mapEdge-inverse (inverse (i .edges));
+            };
         faces = darts (i .edges);
         valence = elim [ old p ↦ i .valence p | mid e ↦ refl | facePoint f ↦ size-to c c' i f ];
         origin = elim [ org e ↦ ap old (i .origin e) | dst e ↦ refl | join d ↦ ap facePoint (face-to i d) ];
@@ -96,11 +96,12 @@ module _ {P E F P' E' F' : Type 0} {m : Mesh P E F} {m' : Mesh P' E' F'} (c : Cl
         rightCw = elim [ org e ↦ refl | dst e ↦ secondHalf-prev (rgt e) | join d ↦ firstHalf-to (i .edges .to) d ];
         rightAcw = elim [ org e ↦ firstHalf-next (rgt e) | dst e ↦ refl | join d ↦ ap join (prev-to c c' i d) ];
         corner =
-          λ d.
+            λ d.
             elim [
-              place0 ↦ ap (λ f. some (facePoint f)) (face-to i d)
-            | place1 ↦ ap (λ x. some (mid (edge x))) (prev-to c c' i d) ∙ ap (λ e. some (mid e)) (edge-mapDart (i .edges .to) (c .prev d))
-            | place2 ↦ ap (λ p. some (old p)) (first-to i d)
-            | place3 ↦ ap (λ e. some (mid e)) (edge-mapDart (i .edges .to) d)
-            ]
+              | place0 ↦ ap (λ f. some (facePoint f)) (face-to i d)
+              | place1 ↦
+                  ap (λ x. some (mid (edge x))) (prev-to c c' i d) ∙ ap (λ e. some (mid e)) (edge-mapDart (i .edges .to) (c .prev d))
+              | place2 ↦ ap (λ p. some (old p)) (first-to i d)
+              | place3 ↦ ap (λ e. some (mid e)) (edge-mapDart (i .edges .to) d)
+            ];
       }

@@ -1,0 +1,12 @@
+pub mod Answers
+pub mod Lists
+pub mod Faces
+pub mod Edges
+pub mod Perimeters
+pub mod Whole
+pub mod Building
+pub mod Places
+pub mod Beyond
+pub mod Grounds
+pub mod Claims
+pub mod Pieces

@@ -1,0 +1,72 @@
+-- What is handed to building, and its grounds 2, 3 and 4.
+--     Lists                   coordinates, 3 a point; side lengths, 4 a face; listed points; the interval beside each
+--     Limits                  the most points, faces and listed points
+--     general, refine         the limits of building, and those of the program refine
+--     pointsOf, facesOf       how many points and faces the lists give
+--     side l f k              the length of side k of face f, from 0
+--     size l f                the number of listed points of all four sides of face f
+--     offset l f              where the listed points of face f begin: the sides are joined in their order
+--     countsFit               within the limits, and the lengths of the lists agree: else ground 2
+--     numbersFit              all numbers finite, intervals with sign bit clear: else ground 3
+--     rowsFit                 the tables have rows for the points, the faces, and for as many edges as points are listed: else 4
+-- A listed point past the end of its list reads as 0, a number as a NaN.
+use mathlib.Core.Bool.{Bool, _&&_}
+use mathlib.Core.List.{List}
+use Prim.Native.Nat.{ℕ, _+_, _*_, _/_, _%_}
+use lib.Dec.{eqb, leb}
+use lib.ListN.{length, getD}
+use lib.Ieee.{Float, nan}
+use lib.Ieee.Scale.{finite}
+use Rattle.tables.specs.Mesh.{Mesh}
+use Rattle.closed_meshes.specs.Renumbering.{sumTo}
+use Rattle.audited_meshes.specs.Folds.{every}
+use Rattle.audited_meshes.specs.Audit.{pointRows, edgeRows, faceRows, intervalFit}
+
+pub record Lists : Type 0 where
+  pub coordinates : List Float
+  pub sides : List ℕ
+  pub listed : List ℕ
+  pub intervals : List Float
+
+pub record Limits : Type 0 where
+  pub points : ℕ
+  pub faces : ℕ
+  pub listed : ℕ
+
+abbrev pub general : Limits
+general = record { points = 4096; faces = 4096; listed = 16384 }
+
+abbrev pub refine : Limits
+refine = record { points = 64; faces = 64; listed = 256 }
+
+abbrev pub pointsOf : Lists → ℕ
+pointsOf l = length (l .coordinates) / 3
+
+abbrev pub facesOf : Lists → ℕ
+facesOf l = length (l .sides) / 4
+
+abbrev pub side : Lists → ℕ → ℕ → ℕ
+side l f k = getD (l .sides) (f * 4 + k) 0
+
+abbrev pub size : Lists → ℕ → ℕ
+size l f = side l f 0 + side l f 1 + side l f 2 + side l f 3
+
+unfoldable pub offset : Lists → ℕ → ℕ
+unfolding sumTo
+offset l f = sumTo f (λ k. size l k)
+
+unfoldable pub countsFit : Limits → Lists → Bool
+unfolding sumTo
+countsFit c l =
+    leb (pointsOf l) (c .points) && leb (facesOf l) (c .faces) && leb (length (l .listed)) (c .listed)
+    && eqb (length (l .coordinates) % 3) 0 && eqb (length (l .sides) % 4) 0 && eqb (length (l .listed)) (length (l .intervals))
+    && eqb (sumTo (length (l .sides)) (λ k. getD (l .sides) k 0)) (length (l .listed))
+
+unfoldable pub numbersFit : Lists → Bool
+unfolding every
+numbersFit l =
+    every (length (l .coordinates)) (λ k. finite (getD (l .coordinates) k nan))
+    && every (length (l .intervals)) (λ k. intervalFit (getD (l .intervals) k nan))
+
+unfoldable pub rowsFit : Lists → Mesh → Bool
+rowsFit l m = leb (pointsOf l) (pointRows m) && leb (facesOf l) (faceRows m) && leb (length (l .listed)) (edgeRows m)

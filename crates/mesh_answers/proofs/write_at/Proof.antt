@@ -1,0 +1,90 @@
+-- `write_at` meets its contract: one run of bytes after another.
+use native.Mathlib.Omega.{arith}
+use Rattle.mesh_answers.proofs.Laws.{written-append, length-bits}
+use borrow.Author.Needs.{needs}
+use Rattle.mesh_answers.proofs.write_at.Statement.{statement}
+use Rattle.mesh_answers.proofs.write_at.Tie as tie
+use Rattle.mesh_answers.proofs.write_at.Reads as reads
+use Rattle.mesh_answers.proofs.write_at.Lts as lts
+use Rattle.mesh_answers.proofs.write.Reads as write-reads
+use Rattle.mesh_answers.proofs.write_bits.Reads as write-bits-reads
+
+-- src/lib.rt:122:28
+slice-aggregate-write : tie.Need-slice-aggregate-write
+slice-aggregate-write c = search needs
+
+-- src/lib.rt:122:9
+write-requires : tie.Need-write-requires
+write-requires c κs = search needs
+
+-- src/lib.rt:123:9
+write-bits-requires : tie.Need-write-bits-requires
+write-bits-requires c κs = search needs
+
+-- src/lib.rt:124:9
+write-bits-requires-2 : tie.Need-write-bits-requires-2
+write-bits-requires-2 c κs =
+    let p = c .before .before .before .before .before .before .before .before .before .before .before .pre in
+    let e0 = c .before .before .before .before .before .before .before .write .ensures .place in
+    let k0 = c .before .before .before .before .before .before .before .write .kept .0 in
+    let e1 = c .before .before .before .write-bits .ensures .place in
+    let k1 = c .before .before .before .write-bits .kept .0 in
+    let l1 = length-bits (c .before .before .before .before .before .before .before .before .before .before .before .args .x) in
+    omega arith
+
+-- src/lib.rt:125:9
+write-bits-requires-3 : tie.Need-write-bits-requires-3
+write-bits-requires-3 c κs =
+    let p = c .before .before .before .before .before .before .before .before .before .before .before .before .before .before .before .pre in
+    let e0 = c .before .before .before .before .before .before .before .before .before .before .before .write .ensures .place in
+    let k0 = c .before .before .before .before .before .before .before .before .before .before .before .write .kept .0 in
+    let e1 = c .before .before .before .before .before .before .before .write-bits .ensures .place in
+    let k1 = c .before .before .before .before .before .before .before .write-bits .kept .0 in
+    let l1 = length-bits (c .before .before .before .before .before .before .before .before .before .before .before .before .before .before .before .args .x) in
+    let e2 = c .before .before .before .write-bits2 .ensures .place in
+    let k2 = c .before .before .before .write-bits2 .kept .0 in
+    let l2 = length-bits (c .before .before .before .before .before .before .before .before .before .before .before .before .before .before .before .args .y) in
+    omega arith
+
+-- src/lib.rt:126:19
+slice-aggregate-write-2 : tie.Need-slice-aggregate-write-2
+slice-aggregate-write-2 c = search needs
+
+-- src/lib.rt:126:5
+write-requires-2 : tie.Need-write-requires-2
+write-requires-2 c κs =
+    let p = c .before .before .before .before .before .before .before .before .before .before .before .before .before .before .before .before .before .before .before .before .pre in
+    let e0 = c .before .before .before .before .before .before .before .before .before .before .before .before .before .before .before .before .write .ensures .place in
+    let k0 = c .before .before .before .before .before .before .before .before .before .before .before .before .before .before .before .before .write .kept .0 in
+    let e1 = c .before .before .before .before .before .before .before .before .before .before .before .before .write-bits .ensures .place in
+    let k1 = c .before .before .before .before .before .before .before .before .before .before .before .before .write-bits .kept .0 in
+    let l1 = length-bits (c .before .before .before .before .before .before .before .before .before .before .before .before .before .before .before .before .before .before .before .before .args .x) in
+    let e2 = c .before .before .before .before .before .before .before .before .write-bits2 .ensures .place in
+    let k2 = c .before .before .before .before .before .before .before .before .write-bits2 .kept .0 in
+    let l2 = length-bits (c .before .before .before .before .before .before .before .before .before .before .before .before .before .before .before .before .before .before .before .before .args .y) in
+    let e3 = c .before .before .before .before .write-bits3 .ensures .place in
+    let k3 = c .before .before .before .before .write-bits3 .kept .0 in
+    let l3 = length-bits (c .before .before .before .before .before .before .before .before .before .before .before .before .before .before .before .before .before .before .before .before .args .z) in
+    omega arith
+
+-- src/lib.rt:118:1
+same-length : tie.Need-same-length
+same-length c = search needs
+
+-- src/lib.rt:118:1
+returns : tie.Need-returns
+returns c = written-append (written-append (written-append (written-append (c .before .before .before .before .before .before .before .before .before .before .before .before .before .before .before .before .before .before .before .write .ensures) (c .before .before .before .before .before .before .before .before .before .before .before .before .before .before .before .write-bits .ensures)) (c .before .before .before .before .before .before .before .before .before .before .before .write-bits2 .ensures)) (c .before .before .before .before .before .before .before .write-bits3 .ensures)) (c .before .before .write2 .ensures)
+
+pub write-at-spec : {M : Type 1} → statement M
+write-at-spec =
+    tie.close
+    (tie.spec
+    slice-aggregate-write
+    write-requires
+    write-bits-requires
+    write-bits-requires-2
+    write-bits-requires-3
+    slice-aggregate-write-2
+    write-requires-2
+    same-length
+    returns)

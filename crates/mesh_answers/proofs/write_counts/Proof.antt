@@ -1,0 +1,85 @@
+-- `write_counts` meets its contract: one run of bytes after another.
+use native.Mathlib.Omega.{arith}
+use Rattle.mesh_answers.proofs.Laws.{written-append, length-number}
+use borrow.Author.Needs.{needs}
+use Rattle.mesh_answers.proofs.write_counts.Statement.{statement}
+use Rattle.mesh_answers.proofs.write_counts.Tie as tie
+use Rattle.mesh_answers.proofs.write_counts.Reads as reads
+use Rattle.mesh_answers.proofs.write_counts.Lts as lts
+use Rattle.mesh_answers.proofs.write.Reads as write-reads
+use Rattle.mesh_answers.proofs.write_number.Reads as write-number-reads
+
+-- src/lib.rt:94:9
+write-requires : tie.Need-write-requires
+write-requires c κs = search needs
+
+-- src/lib.rt:95:9
+write-number-requires : tie.Need-write-number-requires
+write-number-requires c κs = search needs
+
+-- src/lib.rt:96:9
+write-number-requires-2 : tie.Need-write-number-requires-2
+write-number-requires-2 c κs =
+    let p = c .before .before .before .before .before .before .before .before .before .before .before .pre in
+    let e0 = c .before .before .before .before .before .before .before .write .ensures .place in
+    let k0 = c .before .before .before .before .before .before .before .write .kept .0 in
+    let e1 = c .before .before .before .write-number .ensures .place in
+    let k1 = c .before .before .before .write-number .kept .0 in
+    let l1 = length-number (c .before .before .before .before .before .before .before .before .before .before .before .args .p) in
+    omega arith
+
+-- src/lib.rt:97:9
+write-number-requires-3 : tie.Need-write-number-requires-3
+write-number-requires-3 c κs =
+    let p = c .before .before .before .before .before .before .before .before .before .before .before .before .before .before .before .pre in
+    let e0 = c .before .before .before .before .before .before .before .before .before .before .before .write .ensures .place in
+    let k0 = c .before .before .before .before .before .before .before .before .before .before .before .write .kept .0 in
+    let e1 = c .before .before .before .before .before .before .before .write-number .ensures .place in
+    let k1 = c .before .before .before .before .before .before .before .write-number .kept .0 in
+    let l1 = length-number (c .before .before .before .before .before .before .before .before .before .before .before .before .before .before .before .args .p) in
+    let e2 = c .before .before .before .write-number2 .ensures .place in
+    let k2 = c .before .before .before .write-number2 .kept .0 in
+    let l2 = length-number (c .before .before .before .before .before .before .before .before .before .before .before .before .before .before .before .args .e) in
+    omega arith
+
+-- src/lib.rt:98:19
+slice-aggregate-write : tie.Need-slice-aggregate-write
+slice-aggregate-write c = search needs
+
+-- src/lib.rt:98:5
+write-requires-2 : tie.Need-write-requires-2
+write-requires-2 c κs =
+    let p = c .before .before .before .before .before .before .before .before .before .before .before .before .before .before .before .before .before .before .before .before .pre in
+    let e0 = c .before .before .before .before .before .before .before .before .before .before .before .before .before .before .before .before .write .ensures .place in
+    let k0 = c .before .before .before .before .before .before .before .before .before .before .before .before .before .before .before .before .write .kept .0 in
+    let e1 = c .before .before .before .before .before .before .before .before .before .before .before .before .write-number .ensures .place in
+    let k1 = c .before .before .before .before .before .before .before .before .before .before .before .before .write-number .kept .0 in
+    let l1 = length-number (c .before .before .before .before .before .before .before .before .before .before .before .before .before .before .before .before .before .before .before .before .args .p) in
+    let e2 = c .before .before .before .before .before .before .before .before .write-number2 .ensures .place in
+    let k2 = c .before .before .before .before .before .before .before .before .write-number2 .kept .0 in
+    let l2 = length-number (c .before .before .before .before .before .before .before .before .before .before .before .before .before .before .before .before .before .before .before .before .args .e) in
+    let e3 = c .before .before .before .before .write-number3 .ensures .place in
+    let k3 = c .before .before .before .before .write-number3 .kept .0 in
+    let l3 = length-number (c .before .before .before .before .before .before .before .before .before .before .before .before .before .before .before .before .before .before .before .before .args .f) in
+    omega arith
+
+-- src/lib.rt:90:1
+same-length : tie.Need-same-length
+same-length c = search needs
+
+-- src/lib.rt:90:1
+returns : tie.Need-returns
+returns c = written-append (written-append (written-append (written-append (c .before .before .before .before .before .before .before .before .before .before .before .before .before .before .before .before .before .before .before .write .ensures) (c .before .before .before .before .before .before .before .before .before .before .before .before .before .before .before .write-number .ensures)) (c .before .before .before .before .before .before .before .before .before .before .before .write-number2 .ensures)) (c .before .before .before .before .before .before .before .write-number3 .ensures)) (c .before .before .write2 .ensures)
+
+pub write-counts-spec : {M : Type 1} → statement M
+write-counts-spec =
+    tie.close
+    (tie.spec
+    write-requires
+    write-number-requires
+    write-number-requires-2
+    write-number-requires-3
+    slice-aggregate-write
+    write-requires-2
+    same-length
+    returns)

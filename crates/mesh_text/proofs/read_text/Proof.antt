@@ -1,0 +1,34 @@
+-- `read_text` meets its contract: the text is counted, then the counts are tested, and then its numbers are stored.
+mod Parts
+use mathlib.Core.Path.{sym, _∙_}
+use borrow.Author.Tests.{not-true, not-false}
+use Rattle.mesh_text.proofs.read_text.Proof.Parts.{not-text, over-limits, whole}
+use borrow.Author.Needs.{needs}
+use Rattle.mesh_text.proofs.read_text.Statement.{statement}
+use Rattle.mesh_text.proofs.read_text.Tie as tie
+
+returns : tie.Need-returns
+returns c = not-text _ _ _ (c .before .before .sizes .ensures) (c .enum-told .given .1)
+
+returns-2 : tie.Need-returns-2
+returns-2 c = over-limits _ _ _ (c .before .before .before .before .before .sizes .ensures) (c .before .before .before .points .given .1) (sym (c .before .within .ensures) ∙ not-true _ (c .if1 .taken))
+
+returns-3 : tie.Need-returns-3
+returns-3 c = whole _ _ _ (c .before .before .before .before .before .before .before .before .before .before .before .before .before .before .before .before .before .before .sizes .ensures) (c .before .before .before .before .before .before .before .before .before .before .before .before .before .before .before .before .points .given .1) (sym (c .before .before .before .before .before .before .before .before .before .before .before .before .before .before .within .ensures) ∙ not-false _ (c .before .before .before .before .before .before .before .before .before .before .before .before .before .if1 .left)) (c .before .before .before .before .before .before .before .before .scan .ensures .0) (c .before .before .before .before .before .before .before .before .scan .ensures .1 .0) (c .before .before .before .before .before .before .before .before .scan .ensures .1 .1 .0) (c .before .before .before .before .before .before .before .before .scan .ensures .1 .1 .1 .0) (c .before .before .before .before .before .before .before .before .scan .ensures .1 .1 .1 .1)
+
+pub read-text-spec : {M : Type 1} → statement M
+read-text-spec =
+    tie.close
+    (tie.spec
+    (λ c κs. search needs)
+    (λ c. search needs)
+    (λ c. search needs)
+    returns
+    (λ c κs. search needs)
+    returns-2
+    (λ c κs. search needs)
+    (λ c. search needs)
+    (λ c. search needs)
+    (λ c. search needs)
+    (λ c. search needs)
+    returns-3)

@@ -1,0 +1,91 @@
+-- The whole text: r is the answer for the point lines, p of them, which end at i; q that for the face lines, f of them with c listed points, which
+-- end at j; xs′, ls′, ps′ and ds′ are the lists that they leave.
+use mathlib.Core.List.{List, map}
+use mathlib.Core.Path.{_≡_, refl, sym, _∙_}
+use mathlib.Core.Bool.{true, false}
+use Prim.Native.Nat.{ℕ, _≤_}
+use native.Mathlib.Omega.{arith}
+use lib.ListN.{length}
+use lib.Ieee.{Float}
+use Rattle.text_numbers.specs.Form.{bytes, found, Form, many, stands}
+use Rattle.mesh_text.specs.Text.{Listed, point, face, ends, mesh, text}
+use Rattle.text_numbers.specs.Numbers.{float}
+use Rattle.mesh_text.specs.Reading.{flat, sidePoints, sideIntervals, coordinates, listedPoints, intervals}
+use Rattle.mesh_text.specs.Parts.{lengthWord, lengthWords, run, linesOf, totalOf, stored, AtRun, AtLines}
+use Rattle.mesh_text.specs.declared.Run.{Run}
+use Rattle.mesh_text.specs.declared.Run.the-variants as Run
+use Rattle.mesh_text.specs.declared.Lines.{Lines}
+use Rattle.mesh_text.specs.declared.Lines.the-variants as Lines
+use Rattle.mesh_text.specs.declared.Total.the-variants as Total
+use Rattle.text_numbers.proofs.Laws.{takes-many, stands-inside}
+use Rattle.mesh_text.proofs.Laws.{takes-point, takes-face}
+use Rattle.text_numbers.proofs.Turns.{literal-found, literal-none}
+use Rattle.mesh_text.proofs.Answers.{run-of, run-none, lines-are, lines-none}
+
+abbrev pointLines : List ℕ → Form (List (List ℕ))
+pointLines s = many s (bytes "[point") (point s) (length s)
+
+abbrev faceLines : List ℕ → Form (List (List (List Listed)))
+faceLines s = many s (bytes "[face") (face s) (length s)
+
+module _ (s : List ℕ) where
+  pub no-head : stands s 0 (bytes "[mesh 1]\n") ≡ false → Total.None ≡ totalOf (text s)
+  unfolding mesh text
+  no-head e = rw (literal-none s (bytes "[mesh 1]\n") 0 e)
+
+  module _ (e : stands s 0 (bytes "[mesh 1]\n") ≡ true) where
+    pub head-inside : 9 ≤ length s
+    head-inside = stands-inside s (bytes "[mesh 1]\n") 0 refl (omega arith) e
+
+    module _ {r : Run} (er : r ≡ run length (pointLines s 9)) where
+      pub no-points : r ≡ Run.None → Total.None ≡ totalOf (text s)
+      unfolding mesh text
+      no-points en = rw (literal-found s (bytes "[mesh 1]\n") 0 e, run-none length (pointLines s 9) (sym er ∙ en))
+
+      module _ {p i : ℕ} (ep : r ≡ Run.Of p i) where
+        points-read : (a : List (List ℕ)) × (pointLines s 9 ≡ found a i) × (length a ≡ p)
+        points-read = run-of length (pointLines s 9) (sym er ∙ ep)
+
+        pub points-inside : i ≤ length s
+        points-inside =
+            takes-many s (bytes "[point") (λ l. 0) (point s) (length s) refl (takes-point s) 9 head-inside (points-read .0) i (points-read .1) .1
+
+        module _ {q : Lines} (eq : q ≡ linesOf (faceLines s i)) where
+          pub no-faces : q ≡ Lines.None → Total.None ≡ totalOf (text s)
+          unfolding mesh text
+          no-faces en = rw (literal-found s (bytes "[mesh 1]\n") 0 e, points-read .1, lines-none (faceLines s i) (sym eq ∙ en))
+
+          module _ {f c j : ℕ} (ef : q ≡ Lines.Are f c j) where
+            faces-read : (a : List (List (List Listed))) × (faceLines s i ≡ found a j) × (length a ≡ f) × (length (flat (flat sidePoints) a) ≡ c)
+            faces-read = lines-are (faceLines s i) (sym eq ∙ ef)
+
+            pub faces-inside : j ≤ length s
+            faces-inside = takes-many s (bytes "[face") _ (face s) (length s) refl (takes-face s) i points-inside (faces-read .0) j (faces-read .1) .1
+
+            pub no-end : ends s j ≡ false → Total.None ≡ totalOf (text s)
+            unfolding mesh text
+            no-end en = rw (literal-found s (bytes "[mesh 1]\n") 0 e, points-read .1, faces-read .1, en)
+
+            read : ends s j ≡ true → text s ≡ found (record { points = points-read .0; faces = faces-read .0 }) j
+            unfolding mesh text
+            read ee = rw (literal-found s (bytes "[mesh 1]\n") 0 e, points-read .1, faces-read .1, ee)
+
+            pub whole : ends s j ≡ true → (xs : List Float) (ls ps : List ℕ) (ds : List Float) {xs′ : List Float} {ls′ ps′ : List ℕ} {ds′ : List Float}
+                → AtRun r (xs′ ≡ stored (flat (map float)) xs 0 (pointLines s 9))
+                → AtLines q (ls′ ≡ stored (flat (map lengthWord)) ls 0 (faceLines s i))
+                → AtLines q (ps′ ≡ stored (flat (flat sidePoints)) ps 0 (faceLines s i))
+                → AtLines q (ds′ ≡ stored (flat (flat sideIntervals)) ds 0 (faceLines s i))
+                → (Total.Of p f c ≡ totalOf (text s))
+                × ((xs′ ≡ stored coordinates xs 0 (text s))
+                × ((ls′ ≡ stored lengthWords ls 0 (text s)) × ((ps′ ≡ stored listedPoints ps 0 (text s)) × (ds′ ≡ stored intervals ds 0 (text s)))))
+            whole ee xs ls ps ds ex el epp ed =
+                let t = read ee in (
+                  rw (t, points-read .2, faces-read .2, faces-read .3),
+                  (
+                    rw t (rw (ep, points-read .1) at ex),
+                    (
+                      rw t (rw (ef, faces-read .1) at el),
+                      (rw t (rw (ef, faces-read .1) at epp), rw t (rw (ef, faces-read .1) at ed)),
+                    ),
+                  ),
+                )

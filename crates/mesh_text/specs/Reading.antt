@@ -1,0 +1,81 @@
+-- What reading a text answers, and what it leaves in the lent lists.
+--     flat f l                     the lists of l's elements joined
+--     coordinates lengths listedPoints intervals m   the four lists that a text stands for
+--     counts m                     how many points, faces and listed points
+--     Lists                        the four lent lists
+--     within c limits xs ls ps ds  the counts are within the limits and the rooms of the lists
+--     readInto s limits l          the answer, and the lists after it
+use mathlib.Core.List.{List, [], _∷_, _++_, map}
+use mathlib.Core.Bool.{Bool, _&&_, cond}
+use Prim.Native.Nat.{ℕ, _*_}
+use lib.ListN.{length}
+use lib.Seq.{sets}
+use lib.Dec.{leb}
+use lib.Ieee.{Float}
+use Rattle.text_numbers.specs.Numbers.{float}
+use Rattle.text_numbers.specs.Form.{given}
+use Rattle.mesh_text.specs.Text.{Mesh, Listed, text}
+use Rattle.mesh_text.specs.declared.Counts.{Counts}
+use Rattle.mesh_text.specs.declared.Reading.{Reading}
+use Rattle.mesh_text.specs.declared.Reading.the-variants as Reading
+
+unfoldable pub flat : {A B : Type 0} → (A → List B) → List A → List B
+flat f [] = []
+flat f (a ∷ l) = f a ++ flat f l
+
+abbrev pub sidePoints : List Listed → List ℕ
+sidePoints ps = map (λ (p : Listed). p .point) ps
+
+abbrev pub sideIntervals : List Listed → List Float
+sideIntervals ps = map (λ (p : Listed). float (p .interval)) ps
+
+abbrev pub coordinates : Mesh → List Float
+coordinates m = flat (map float) (m .points)
+
+-- of each side, how many points it lists
+abbrev pub lengths : Mesh → List ℕ
+lengths m = flat (map length) (m .faces)
+
+abbrev pub listedPoints : Mesh → List ℕ
+listedPoints m = flat (flat sidePoints) (m .faces)
+
+abbrev pub intervals : Mesh → List Float
+intervals m = flat (flat sideIntervals) (m .faces)
+
+abbrev pub counts : Mesh → Counts
+counts m = record { points = length (m .points); faces = length (m .faces); listed = length (listedPoints m) }
+
+pub record Lists : Type 0 where
+  pub coordinates : List Float
+  pub lengths : List ℕ
+  pub listed : List ℕ
+  pub intervals : List Float
+
+-- each list with what the text stands for at its front
+abbrev pub filled : Mesh → Lists → Lists
+filled m l = record {
+  coordinates = sets (l .coordinates) 0 (coordinates m);
+  lengths = sets (l .lengths) 0 (lengths m);
+  listed = sets (l .listed) 0 (listedPoints m);
+  intervals = sets (l .intervals) 0 (intervals m);
+}
+
+-- the counts c are within the limits and within the rooms of the four lists, and a length fits a word of 32 bits
+unfoldable pub within : Counts → Counts → ℕ → ℕ → ℕ → ℕ → Bool
+within c limits xs ls ps ds =
+    leb (c .points) (limits .points) && (leb (c .faces) (limits .faces) && (leb (c .listed) (limits .listed) && (leb (c .listed) 4294967295
+    && (leb (3 * c .points) xs && (leb (4 * c .faces) ls && (leb (c .listed) ps && leb (c .listed) ds))))))
+
+pub record Answer : Type 0 where
+  pub reading : Reading
+  pub lists : Lists
+
+-- the form of the whole text is tested before anything is counted; a text that is not read leaves the lists as they are
+unfoldable pub readInto : List ℕ → Counts → Lists → Answer
+readInto s limits l =
+    given (λ m n.
+    cond (within (counts m) limits (length (l .coordinates)) (length (l .lengths)) (length (l .listed)) (length (l .intervals)))
+    (record { reading = Reading.Read (counts m); lists = filled m l })
+    (record { reading = Reading.OverLimits; lists = l }))
+    (record { reading = Reading.NotText; lists = l })
+    (text s)

@@ -1,0 +1,76 @@
+-- The rules look at the mesh before the step and at the points of its faces and edges, wherever these stand. Assumes nothing.
+use mathlib.Core.Path.{_≡_, refl, sym, _∙_, ap}
+use mathlib.Core.List.{List, [], _∷_, _++_}
+use Prim.Native.Nat.{ℕ, zero, suc, _+_, _≤_, _<_}
+use native.Mathlib.Omega.{arith}
+use native.Mathlib.Numerals.{add-one}
+use lib.Dec.{ltb}
+use mathlib.Core.Bool.{_&&_}
+use lib.ListN.{getD, length, List·getD-append}
+use lib.Seq.{getD-at}
+use lib.Ieee.{Float}
+use Rattle.positions.specs.declared.Position.{Position}
+use Rattle.t_spline.specs.Edge.{commonFace}
+use Rattle.tables.specs.Mesh.{start, valence}
+use Rattle.tables.specs.Records.{edgeAt}
+use Rattle.audited_meshes.specs.Walks.{touches, acwOfPoint, faceWalk, pointWalk}
+use Rattle.walks.proofs.Back.{back-first, back-next}
+use Rattle.position_rules.specs.Intervals.{acwAbout}
+use Rattle.position_rules.specs.FacePoint.{facePointAbout, facePointOf}
+use Rattle.position_rules.specs.EdgePoint.{edgePoint}
+use Rattle.position_rules.specs.OldPoint.{radialEdge, radialTerms, radialSum, oldPoint}
+use Rattle.position_rules.specs.Rules.{edgePointOf, oldPointOf}
+use Rattle.position_rules.specs.Fits.{EdgesFit}
+use Rattle.position_rules.specs.Claims.{FacePointTables, EdgePointStands, OldPointStands, RadialRound}
+use Rattle.position_rules.proofs.Fits.{acw-below}
+use Rattle.position_rules.proofs.Sums.{radialEdge-none, radialEdge-more, radialSum-none, radialSum-more}
+use Rattle.position_rules.proofs.Audited.{edges-fit, common-below}
+
+pub facePoint-tables : FacePointTables
+unfolding facePointOf facePointAbout faceWalk
+facePoint-tables m ne f = refl
+
+pub edgePoint-stands : EdgePointStands
+unfolding edgePointOf edgePoint
+edgePoint-stands m np ne nf new fs′ a h e l =
+    rw (← h _ (a .edge-in-range e l .leftFace-in-range), ← h _ (a .edge-in-range e l .rightFace-in-range))
+
+-- The sum about a point looks at the points of the edges about it and of the faces between them.
+module _ (es : List ℕ) (is : List Float) (ne nf p s : ℕ) (fit : EdgesFit es is ne)
+    (common : (r : ℕ) → r < ne → commonFace (edgeAt es is r) (edgeAt es is (acwAbout es p r)) < nf) (ep fp ep′ fp′ : ℕ → Position)
+    (he : (e : ℕ) → e < ne → ep e ≡ ep′ e) (hf : (f : ℕ) → f < nf → fp f ≡ fp′ f) where
+  radial-below : s < ne → (i : ℕ) → radialEdge es p s i < ne
+  radial-below l zero = rw (radialEdge-none es p s) l
+  radial-below l (suc i) = rw (sym (add-one i), radialEdge-more es p s i) (acw-below es is ne p (radialEdge es p s i) fit (radial-below l i))
+
+  terms-same : (r : ℕ) → r < ne → (t : _) → radialTerms es is ep fp p r t ≡ radialTerms es is ep′ fp′ p r t
+  unfolding radialTerms
+  terms-same r l t = rw (he r l, hf _ (common r l))
+
+  sum-same : s < ne → (n : ℕ) → radialSum es is ep fp p s n ≡ radialSum es is ep′ fp′ p s n
+  sum-same l zero = radialSum-none es is ep fp p s ∙ sym (radialSum-none es is ep′ fp′ p s)
+  sum-same l (suc n) =
+      rw (sym (add-one n), radialSum-more es is ep fp p s n, radialSum-more es is ep′ fp′ p s n, sum-same l n)
+      (terms-same (radialEdge es p s n) (radial-below l n) _)
+
+pub oldPoint-stands : OldPointStands
+unfolding oldPointOf oldPoint
+oldPoint-stands m np ne nf new es′ fs′ a h hf he p l =
+    rw (sum-same (m .edges) (m .intervals) ne nf p (start m p) (edges-fit m np ne nf a) (common-below m np ne nf a h p) _ _ _ _ he hf
+    (a .start-in-range p l) (valence m p))
+
+pub radial-round : RadialRound
+unfolding pointWalk acwAbout
+radial-round m ne k p es w =
+    (λ i l. at i (omega arith) ∙ List·getD-append es (start m p ∷ []) 0 i l, at (length es) (omega arith) ∙ getD-at es (start m p) [] 0 (length es) refl)
+  where
+    first : (getD es 0 0 ≡ start m p) × (0 < length es)
+    first = back-first (acwOfPoint m p) (λ e. ltb e ne && touches m p e) (start m p) k es w
+
+    at : (i : ℕ) → i ≤ length es → radialEdge (m .edges) p (start m p) i ≡ getD (es ++ start m p ∷ []) i 0
+    at zero l = radialEdge-none (m .edges) p (start m p) ∙ sym (List·getD-append es (start m p ∷ []) 0 0 (first .1) ∙ first .0)
+    at (suc i) l =
+        let here : radialEdge (m .edges) p (start m p) i ≡ getD es i 0 = at i (omega arith) ∙ List·getD-append es (start m p ∷ []) 0 i (omega arith) in
+        rw (sym (add-one i))
+        (radialEdge-more (m .edges) p (start m p) i ∙ ap (acwAbout (m .edges) p) here
+        ∙ back-next (acwOfPoint m p) (λ e. ltb e ne && touches m p e) (start m p) k es w i (omega arith))

@@ -1,0 +1,9 @@
+pub mod Audited
+pub mod Cases
+pub mod Claims
+pub mod FacePoint
+pub mod Fits
+pub mod Floats
+pub mod Joins
+pub mod Sums
+pub mod Windows

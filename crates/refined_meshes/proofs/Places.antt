@@ -1,0 +1,87 @@
+-- The places of a perimeter: the darts of a face of a closed mesh, numbered from its start. Assumes nothing.
+--     dartAt c f i       the dart at place i of the face f
+--     place c d          the place of the dart d on its face
+use mathlib.Core.Path.{_≡_, refl, sym, _∙_, ap}
+use Prim.Native.Nat.{ℕ, zero, suc, _+_, _-_, _<_}
+use native.Mathlib.Omega.{arith}
+use native.Mathlib.Decide.{decLt}
+use borrow.Author.Tests.{eq-eqb, ne-eqb}
+use Rattle.closed_meshes.specs.Mesh.{Mesh, Dart, face}
+use Rattle.closed_meshes.specs.Cycles.{steps}
+use Rattle.closed_meshes.specs.Closed.{Closed}
+use Rattle.closed_meshes.proofs.Cycles.{rank-steps, cls-steps-start, steps-len, steps-rank, rank-injective}
+use Rattle.refined_meshes.specs.Ring.{nextPlace, prevPlace}
+
+-- What the places beside i are.
+nextPlace-more : (n i : ℕ) → suc i < n → nextPlace n i ≡ suc i
+nextPlace-more n i h = let e : ¬ (i + 1 ≡ n) = omega arith in rw (ne-eqb (i + 1) n e) (omega arith)
+
+nextPlace-last : (n i : ℕ) → suc i ≡ n → nextPlace n i ≡ 0
+nextPlace-last n i h = let e : i + 1 ≡ n = omega arith in rw (eq-eqb (i + 1) n e)
+
+pub nextPlace-below : (n i : ℕ) → i < n → nextPlace n i < n
+nextPlace-below n i h = go (decLt (suc i) n)
+  where
+    go : Dec (suc i < n) → nextPlace n i < n
+    go (yes l) = rw (nextPlace-more n i l) l
+    go (no l) = rw (nextPlace-last n i (omega arith)) (omega arith)
+
+prevPlace-more : (n i : ℕ) → prevPlace n (suc i) ≡ i
+prevPlace-more n i = let e : ¬ (suc i ≡ 0) = omega arith in rw (ne-eqb (suc i) 0 e) (omega arith)
+
+pub prevPlace-below : (n i : ℕ) → i < n → prevPlace n i < n
+prevPlace-below n zero h = omega arith
+prevPlace-below n (suc i) h = rw (prevPlace-more n i) (omega arith)
+
+nextPlace-prevPlace : (n i : ℕ) → i < n → nextPlace n (prevPlace n i) ≡ i
+nextPlace-prevPlace n zero h = nextPlace-last n (n - 1) (omega arith)
+nextPlace-prevPlace n (suc i) h = rw (prevPlace-more n i) (nextPlace-more n i h)
+
+module _ {P E F : Type 0} {t : Mesh P E F} (c : Closed t) where
+  unfoldable pub dartAt : F → ℕ → Dart E
+  dartAt f i = steps (c .next) i (c .faceDart f)
+
+  unfoldable pub place : Dart E → ℕ
+  place d = c .about-faces .rank d
+
+  pub face-dartAt : (f : F) (i : ℕ) → face t (dartAt f i) ≡ f
+  unfolding dartAt
+  face-dartAt f i = cls-steps-start (c .about-faces) i f
+
+  pub place-dartAt : (f : F) (i : ℕ) → i < c .size f → place (dartAt f i) ≡ i
+  unfolding dartAt place
+  place-dartAt f i h = rank-steps (c .about-faces) i f h
+
+  pub dartAt-place : (d : Dart E) → dartAt (face t d) (place d) ≡ d
+  unfolding dartAt place
+  dartAt-place d = steps-rank (c .about-faces) (c .prev) (c .next-prev) d
+
+  pub place-below : (d : Dart E) → place d < c .size (face t d)
+  unfolding place
+  place-below d = c .about-faces .rank-below d
+
+  pub place-injective : (d d' : Dart E) → face t d ≡ face t d' → place d ≡ place d' → d ≡ d'
+  unfolding place
+  place-injective d d' h k = rank-injective (c .about-faces) (c .prev) (c .next-prev) d d' h k
+
+  -- The dart at place 0 is the one from which the walk begins.
+  pub dartAt-zero : (f : F) → dartAt f 0 ≡ c .faceDart f
+  unfolding dartAt steps
+  dartAt-zero f = refl
+
+  -- The dart at the next place is the next one, and the dart at the previous place the previous one.
+  pub dartAt-next : (f : F) (i : ℕ) → i < c .size f → dartAt f (nextPlace (c .size f) i) ≡ c .next (dartAt f i)
+  unfolding dartAt steps
+  dartAt-next f i h = go (decLt (suc i) (c .size f))
+    where
+      go : Dec (suc i < c .size f) → dartAt f (nextPlace (c .size f) i) ≡ c .next (dartAt f i)
+      go (yes l) = rw (nextPlace-more (c .size f) i l)
+      go (no l) =
+          let e : suc i ≡ c .size f = omega arith in
+          rw (nextPlace-last (c .size f) i e) (sym (ap (λ k. steps (c .next) k (c .faceDart f)) e ∙ steps-len (c .about-faces) f))
+
+  pub dartAt-prev : (f : F) (i : ℕ) → i < c .size f → dartAt f (prevPlace (c .size f) i) ≡ c .prev (dartAt f i)
+  dartAt-prev f i h =
+      let b : prevPlace (c .size f) i < c .size f = prevPlace-below (c .size f) i h in
+      sym (c .prev-next _) ∙ ap (c .prev) (sym (dartAt-next f (prevPlace (c .size f) i) b))
+      ∙ ap (λ k. c .prev (dartAt f k)) (nextPlace-prevPlace (c .size f) i h)

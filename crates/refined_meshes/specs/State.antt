@@ -1,0 +1,107 @@
+-- The scratch tables while faces are visited: their rows, and how many rows of each kind are taken. Positions are no part of it: no
+-- visit reads or writes them, and they are put into their rows later.
+--     State                    the four tables and the rows taken so far
+--     meshOf ps s              the five tables, with ps for positions
+--     edgeOf s e               the edge in row e
+--     putEdge e r s            the edge r stored in row e
+--     putPoint p v e k s       valence v, start edge e and mark k stored in the row of point p
+--     putStart p e s           the start edge e stored in the row of point p
+--     putFace f e .. s         the start edge e and the four corners stored in the row of face f
+--     copied m np ne nf t      the rows of the mesh m copied into the tables t: what the visits begin with
+use mathlib.Core.List.{List, [], _∷_}
+use Prim.Native.Nat.{ℕ, _+_, _*_}
+use lib.ListN.{set}
+use lib.Ieee.{Float}
+use Rattle.t_spline.specs.declared.TnurccEdge.{TnurccEdge}
+use Rattle.tables.specs.Mesh.{Mesh}
+use Rattle.tables.specs.Rows.{putRow, over}
+use Rattle.tables.specs.Records.{edgeAt, edgeWords}
+
+pub record State : Type 0 where
+  pub points : List ℕ
+  pub edges : List ℕ
+  pub intervals : List Float
+  pub faces : List ℕ
+  pub pointsTaken : ℕ
+  pub edgesTaken : ℕ
+  pub facesTaken : ℕ
+
+abbrev pub meshOf : List Float → State → Mesh
+meshOf ps s =
+    record { positions = ps; points = s .points; edges = s .edges; intervals = s .intervals; faces = s .faces }
+
+abbrev pub edgeOf : State → ℕ → TnurccEdge
+edgeOf s e = edgeAt (s .edges) (s .intervals) e
+
+unfoldable pub putEdge : ℕ → TnurccEdge → State → State
+putEdge e r s =
+    record {
+      points = s .points;
+      edges = putRow (s .edges) (e * 8) (edgeWords r);
+      intervals = set (s .intervals) e (r .«knot_interval»);
+      faces = s .faces;
+      pointsTaken = s .pointsTaken;
+      edgesTaken = s .edgesTaken;
+      facesTaken = s .facesTaken;
+    }
+
+unfoldable pub putPoint : ℕ → ℕ → ℕ → ℕ → State → State
+putPoint p v e k s =
+    record {
+      points = putRow (s .points) (p * 3) (v ∷ e ∷ k ∷ []);
+      edges = s .edges;
+      intervals = s .intervals;
+      faces = s .faces;
+      pointsTaken = s .pointsTaken;
+      edgesTaken = s .edgesTaken;
+      facesTaken = s .facesTaken;
+    }
+
+unfoldable pub putStart : ℕ → ℕ → State → State
+putStart p e s =
+    record {
+      points = set (s .points) (p * 3 + 1) e;
+      edges = s .edges;
+      intervals = s .intervals;
+      faces = s .faces;
+      pointsTaken = s .pointsTaken;
+      edgesTaken = s .edgesTaken;
+      facesTaken = s .facesTaken;
+    }
+
+unfoldable pub putFace : ℕ → ℕ → ℕ → ℕ → ℕ → ℕ → State → State
+putFace f e c0 c1 c2 c3 s =
+    record {
+      points = s .points;
+      edges = s .edges;
+      intervals = s .intervals;
+      faces = putRow (s .faces) (f * 5) (e ∷ c0 ∷ c1 ∷ c2 ∷ c3 ∷ []);
+      pointsTaken = s .pointsTaken;
+      edgesTaken = s .edgesTaken;
+      facesTaken = s .facesTaken;
+    }
+
+-- further rows taken
+abbrev pub take : ℕ → ℕ → ℕ → State → State
+take p e f s =
+    record {
+      points = s .points;
+      edges = s .edges;
+      intervals = s .intervals;
+      faces = s .faces;
+      pointsTaken = s .pointsTaken + p;
+      edgesTaken = s .edgesTaken + e;
+      facesTaken = s .facesTaken + f;
+    }
+
+unfoldable pub copied : Mesh → ℕ → ℕ → ℕ → Mesh → State
+copied m np ne nf t =
+    record {
+      points = over (np * 3) (m .points) (t .points);
+      edges = over (ne * 8) (m .edges) (t .edges);
+      intervals = over ne (m .intervals) (t .intervals);
+      faces = over (nf * 5) (m .faces) (t .faces);
+      pointsTaken = np;
+      edgesTaken = ne;
+      facesTaken = nf;
+    }

@@ -1,0 +1,6 @@
+pub mod Readings
+pub mod Names
+pub mod Steps
+pub mod Naming
+pub mod Positions
+pub mod Runs

@@ -1,0 +1,117 @@
+-- The step computed on document 01's filed pieces, and on pieces that meet each ground.
+--     Piece       a mesh in lent tables, an order, scratch tables, and what is to be answered
+--     pieces      two triangles back to back; the cube, in two orders; the cube with all intervals 0; the cube with an interval, an
+--                 order, scratch tables or tables that a ground refuses
+use mathlib.Core.Path.{_≡_, refl}
+use mathlib.Core.List.{List, [], _∷_, _++_, map}
+use Prim.Native.Nat.{ℕ, _*_}
+use lib.ListN.{replicate, take, set}
+use lib.Ieee.{Float, nan, add, sub, mul, div, neg, le, ofBits, ofInt, binary64}
+use Rattle.tables.specs.Mesh.{Mesh}
+use Rattle.tables.specs.Rows.{over, zeroed}
+use Rattle.tables.specs.declared.Counts.{Counts}
+use Rattle.audited_meshes.specs.Walks.{faceWalk}
+use Rattle.walks.specs.Border.{again}
+use Rattle.refined_meshes.specs.Turns.{turns, filled}
+use Rattle.refined_meshes.specs.State.{putEdge, putPoint, putStart, putFace, copied}
+use Rattle.refined_meshes.specs.Split.{split, splitWhole}
+use Rattle.refined_meshes.specs.Ring.{putJoin, putFirst, putSecond, putNewFace, putFacePoint}
+use Rattle.refined_meshes.specs.Visits.{splitAll, ringOf, putRing, visitAlong, visit, visits, refinedRows}
+use Rattle.refined_meshes.proofs.Records.{bits, cube, triangles}
+use Rattle.position_rules.specs.Intervals.{acwAbout, cwAbout, threeTerms}
+use Rattle.position_rules.specs.Sums.{after}
+use Rattle.position_rules.specs.FacePoint.{sixTerms, windowWeight, windowSum, facePoint, facePointAbout, facePointOf}
+use Rattle.position_rules.specs.EdgePoint.{shares, edgeMiddle, edgePoint}
+use Rattle.position_rules.specs.OldPoint.{radialEdge, edgeWeight, faceWeight, radialTerms, radialSum, oldPoint}
+use Rattle.steps.specs.declared.Stepped.{Stepped}
+use Rattle.steps.specs.declared.Stepped.the-variants.{Refined, NotClosed, NotEachFaceOnce, NoRoom, NotFinite}
+use Rattle.steps.specs.Step.{step}
+
+-- the counts after the step, or the ground's number
+abbrev answer : Stepped → List ℕ
+answer (Refined c) = c .points ∷ c .edges ∷ c .faces ∷ []
+answer NotClosed = 30 ∷ []
+answer NotEachFaceOnce = 31 ∷ []
+answer NoRoom = 32 ∷ []
+answer NotFinite = 33 ∷ []
+
+record Piece : Type 0 where
+  mesh : Mesh
+  counts : Counts
+  order : List ℕ
+  scratch : Mesh
+  expected : List ℕ
+
+abbrev answered : Piece → List ℕ
+answered p = answer (step (p .mesh) (p .counts) (p .order) (p .scratch) .answer)
+
+-- tables of np, ne and nf rows with other things in them
+abbrev used : ℕ → ℕ → ℕ → Mesh
+used np ne nf =
+    record {
+      positions = replicate (np * 3) nan; points = replicate (np * 3) 7; edges = replicate (ne * 8) 7; intervals = replicate ne nan;
+      faces = replicate (nf * 5) 7 }
+
+-- the mesh m with the positions ps and the intervals is, in tables with further rows
+abbrev inTables : List Float → List Float → Mesh → Mesh
+inTables ps is m =
+    record {
+      positions = ps ++ replicate 60 nan; points = m .points ++ replicate 60 7; edges = m .edges ++ replicate 300 7;
+      intervals = is ++ replicate 40 nan; faces = m .faces ++ replicate 100 7 }
+
+-- three points
+abbrev corners : List Float
+corners =
+    bits 0 ∷ bits 0 ∷ bits 0 ∷ bits 0x3ff0000000000000 ∷ bits 0 ∷ bits 0 ∷ bits 0 ∷ bits 0x3ff0000000000000 ∷ bits 0 ∷ []
+
+-- point k of the cube has x = 1 if bit 0 of k is set, else -1, y by bit 1, z by bit 2
+abbrev cubePoints : List Float
+cubePoints =
+    let o = bits 0x3ff0000000000000 in
+    let n = bits 0xbff0000000000000 in
+    n ∷ n ∷ n ∷ o ∷ n ∷ n ∷ n ∷ o ∷ n ∷ o ∷ o ∷ n ∷ n ∷ n ∷ o ∷ o ∷ n ∷ o ∷ n ∷ o ∷ o ∷ o ∷ o ∷ o ∷ []
+
+-- the cube with the intervals is, in tables with further rows
+abbrev cubeOf : List Float → Mesh
+cubeOf is = inTables cubePoints is cube
+
+-- the cube in tables of no further rows
+abbrev cubeAlone : Mesh
+cubeAlone =
+    record { positions = cubePoints; points = cube .points; edges = cube .edges; intervals = cube .intervals; faces = cube .faces }
+
+abbrev cubeWith : Mesh → List ℕ → Mesh → List ℕ → Piece
+cubeWith m order scratch expected =
+    record { mesh = m; counts = record { points = 8; edges = 12; faces = 6 }; order = order; scratch = scratch; expected = expected }
+
+abbrev numbered : List ℕ
+numbered = 0 ∷ 1 ∷ 2 ∷ 3 ∷ 4 ∷ 5 ∷ []
+
+pieces : List Piece
+pieces =
+    -- two triangles back to back
+    record {
+      mesh = inTables corners (triangles .intervals) triangles; counts = record { points = 3; edges = 3; faces = 2 };
+      order = 0 ∷ 1 ∷ []; scratch = used 9 12 6; expected = 8 ∷ 12 ∷ 6 ∷ [] }
+    -- the cube's counts
+    ∷ cubeWith (cubeOf (cube .intervals)) numbered (used 26 48 24) (26 ∷ 48 ∷ 24 ∷ [])
+    ∷ cubeWith (cubeOf (cube .intervals)) (3 ∷ 5 ∷ 0 ∷ 1 ∷ 4 ∷ 2 ∷ []) (used 27 48 24) (26 ∷ 48 ∷ 24 ∷ [])
+    -- the cube with all intervals 0
+    ∷ cubeWith (cubeOf (replicate 12 (bits 0))) numbered (used 26 48 24) (33 ∷ [])
+    -- an interval with its sign bit set, whatever the order
+    ∷ cubeWith (cubeOf (replicate 12 (bits 0x8000000000000000))) [] (used 0 0 0) (30 ∷ [])
+    -- orders that are too short, too long, name a face twice, or name no face, whatever the rows
+    ∷ cubeWith (cubeOf (cube .intervals)) (0 ∷ 1 ∷ 2 ∷ 3 ∷ 4 ∷ []) (used 0 0 0) (31 ∷ [])
+    ∷ cubeWith (cubeOf (cube .intervals)) (0 ∷ 1 ∷ 2 ∷ 3 ∷ 4 ∷ 5 ∷ 0 ∷ []) (used 26 48 24) (31 ∷ [])
+    ∷ cubeWith (cubeOf (cube .intervals)) (0 ∷ 1 ∷ 2 ∷ 3 ∷ 4 ∷ 4 ∷ []) (used 26 48 24) (31 ∷ [])
+    ∷ cubeWith (cubeOf (cube .intervals)) (0 ∷ 1 ∷ 2 ∷ 3 ∷ 4 ∷ 6 ∷ []) (used 26 48 24) (31 ∷ [])
+    -- a row too few of a kind, in scratch and in the tables
+    ∷ cubeWith (cubeOf (cube .intervals)) numbered (used 25 48 24) (32 ∷ [])
+    ∷ cubeWith (cubeOf (cube .intervals)) numbered (used 26 47 24) (32 ∷ [])
+    ∷ cubeWith (cubeOf (cube .intervals)) numbered (used 26 48 23) (32 ∷ [])
+    ∷ cubeWith cubeAlone numbered (used 26 48 24) (32 ∷ [])
+    ∷ []
+
+pieces-answered : map answered pieces ≡ map (λ p. p .expected) pieces
+unfolding pieces step over zeroed refinedRows copied visits visit faceWalk turns filled visitAlong splitAll splitWhole split ringOf putRing putJoin putFirst putSecond putNewFace putFacePoint putEdge putPoint putStart putFace facePointOf facePointAbout facePoint windowSum windowWeight sixTerms threeTerms acwAbout cwAbout after again edgePoint edgeMiddle shares oldPoint radialSum radialTerms radialEdge edgeWeight faceWeight add sub mul div neg le ofBits ofInt
+pieces-answered = refl

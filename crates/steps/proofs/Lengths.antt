@@ -1,0 +1,126 @@
+-- Visits leave every table as long as it was. Assumes nothing.
+use mathlib.Core.Path.{_≡_, refl, sym, _∙_, ap}
+use mathlib.Core.Bool.{Bool, true, false}
+use mathlib.Core.List.{List, [], _∷_}
+use Prim.Native.Nat.{ℕ, zero, suc, _+_, _*_, _≤_}
+use lib.Dec.{ltb}
+use lib.ListN.{length, getD, set, length-set}
+use lib.Ieee.{Float}
+use Rattle.t_spline.specs.declared.TnurccEdge.{TnurccEdge}
+use Rattle.tables.specs.Mesh.{Mesh}
+use Rattle.tables.specs.Rows.{putRow, over}
+use Rattle.tables.specs.Records.{edgeWords}
+use Rattle.tables.proofs.Laws.{length-putRow, length-over}
+use Rattle.audited_meshes.specs.Walks.{edgesOf, passed, faceWalk}
+use Rattle.refined_meshes.specs.Turns.{turns}
+use Rattle.refined_meshes.specs.State.{State, edgeOf, putEdge, putPoint, putStart, putFace, take, copied}
+use Rattle.refined_meshes.specs.Split.{split, splitIf, splitWhole, originHalf, destinationHalf}
+use Rattle.refined_meshes.specs.Ring.{Ring, putJoin, putFirst, putSecond, putNewFace, putFacePoint}
+use Rattle.refined_meshes.specs.Visits.{foundOn, splitAll, ringOf, putRing, visitAlong, visit, visits, refinedRows}
+
+-- The tables of s' are as long as those of s.
+pub record AsLong (s s' : State) : Type 0 where
+  pub points : length (s' .points) ≡ length (s .points)
+  pub edges : length (s' .edges) ≡ length (s .edges)
+  pub intervals : length (s' .intervals) ≡ length (s .intervals)
+  pub faces : length (s' .faces) ≡ length (s .faces)
+
+as-long-refl : (s : State) → AsLong s s
+as-long-refl s = record { points = refl; edges = refl; intervals = refl; faces = refl }
+
+as-long-trans : {s s' s'' : State} → AsLong s s' → AsLong s' s'' → AsLong s s''
+as-long-trans a b =
+    record {
+      points = b .points ∙ a .points;
+      edges = b .edges ∙ a .edges;
+      intervals = b .intervals ∙ a .intervals;
+      faces = b .faces ∙ a .faces;
+    }
+
+long-edge : (e : ℕ) (r : TnurccEdge) (s : State) → AsLong s (putEdge e r s)
+unfolding putEdge
+long-edge e r s =
+    record { points = refl; edges = length-putRow (edgeWords r) (s .edges) (e * 8); intervals = length-set (s .intervals) e _; faces = refl }
+
+long-point : (p v e k : ℕ) (s : State) → AsLong s (putPoint p v e k s)
+unfolding putPoint
+long-point p v e k s =
+    record { points = length-putRow (v ∷ e ∷ k ∷ []) (s .points) (p * 3); edges = refl; intervals = refl; faces = refl }
+
+long-start : (p e : ℕ) (s : State) → AsLong s (putStart p e s)
+unfolding putStart
+long-start p e s = record { points = length-set (s .points) (p * 3 + 1) e; edges = refl; intervals = refl; faces = refl }
+
+long-face : (f e c0 c1 c2 c3 : ℕ) (s : State) → AsLong s (putFace f e c0 c1 c2 c3 s)
+unfolding putFace
+long-face f e c0 c1 c2 c3 s =
+    record {
+      points = refl; edges = refl; intervals = refl; faces = length-putRow (e ∷ c0 ∷ c1 ∷ c2 ∷ c3 ∷ []) (s .faces) (f * 5) }
+
+long-take : (p e f : ℕ) (s : State) → AsLong s (take p e f s)
+long-take p e f s = record { points = refl; edges = refl; intervals = refl; faces = refl }
+
+-- as many turns as wanted
+long-turns : (turn : ℕ → State → State) → ((i : ℕ) (s : State) → AsLong s (turn i s)) → (n : ℕ) (s : State) → AsLong s (turns n turn s)
+unfolding turns
+long-turns turn h zero s = as-long-refl s
+long-turns turn h (suc n) s = as-long-trans (long-turns turn h n s) (h n (turns n turn s))
+
+long-split : (e : ℕ) (s : State) → AsLong s (split e s)
+unfolding split
+long-split e s =
+    let r = edgeOf s e in
+    let p = s .pointsTaken in
+    let h = s .edgesTaken in
+    as-long-trans (long-edge h (destinationHalf p e r) s)
+    (as-long-trans (long-edge e (originHalf p h r) _)
+    (as-long-trans (long-point p 4 e 0 _) (as-long-trans (long-start (r .dest) h _) (long-take 1 1 0 _))))
+
+long-splitWhole : (np e : ℕ) (s : State) → AsLong s (splitWhole np e s)
+unfolding splitWhole
+long-splitWhole np e s = go (ltb (edgeOf s e .dest) np)
+  where
+    go : (b : Bool) → AsLong s (splitIf b e s)
+    go true = long-split e s
+    go false = as-long-refl s
+
+long-join : (r : Ring) (i : ℕ) (s : State) → AsLong s (putJoin r i s)
+unfolding putJoin
+long-join r i s = long-edge _ _ s
+
+long-first : (m : Mesh) (r : Ring) (i : ℕ) (s : State) → AsLong s (putFirst m r i s)
+unfolding putFirst
+long-first m r i s = long-edge _ _ s
+
+long-second : (m : Mesh) (r : Ring) (i : ℕ) (s : State) → AsLong s (putSecond m r i s)
+unfolding putSecond
+long-second m r i s = long-edge _ _ s
+
+long-newFace : (m : Mesh) (r : Ring) (i : ℕ) (s : State) → AsLong s (putNewFace m r i s)
+unfolding putNewFace
+long-newFace m r i s = long-face _ _ _ _ _ _ s
+
+long-facePoint : (r : Ring) (s : State) → AsLong s (putFacePoint r s)
+unfolding putFacePoint
+long-facePoint r s = long-point _ _ _ _ s
+
+long-ring : (m : Mesh) (r : Ring) (s : State) → AsLong s (putRing m r s)
+unfolding putRing
+long-ring m r s =
+    as-long-trans (long-turns (putJoin r) (long-join r) (r .size) s)
+    (as-long-trans (long-turns (putFirst m r) (long-first m r) (r .size) _)
+    (as-long-trans (long-turns (putSecond m r) (long-second m r) (r .size) _)
+    (as-long-trans (long-turns (putNewFace m r) (long-newFace m r) (r .size) _)
+    (as-long-trans (long-facePoint r _) (long-take _ _ _ _)))))
+
+long-visit : (m : Mesh) (np ne f : ℕ) (s : State) → AsLong s (visit m np ne f s)
+unfolding visit visitAlong splitAll
+long-visit m np ne f s =
+    as-long-trans (long-take 1 0 0 s)
+    (as-long-trans (long-turns _ (λ i s. long-splitWhole np _ s) (passed (faceWalk m ne f)) _) (long-ring m _ _))
+
+-- The tables after all visits are as long as the scratch tables, where a copy of the mesh has room.
+module _ (m : Mesh) (np ne nf : ℕ) (order : List ℕ) (t : Mesh) where
+  pub long-refinedRows : AsLong (copied m np ne nf t) (refinedRows m np ne nf order t)
+  unfolding refinedRows visits
+  long-refinedRows = long-turns _ (λ i s. long-visit m np ne (getD order i 0) s) nf (copied m np ne nf t)

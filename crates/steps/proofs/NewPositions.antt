@@ -1,0 +1,158 @@
+-- The positions after a step, by kind of point: each is its rule's answer from the mesh alone, whatever rows the points have.
+-- Assumes nothing.
+--     PointRows                  the rows of the new points, all different
+--     AllPlaced, placed-all      what stands in the rows when all positions are put
+use mathlib.Core.Path.{_≡_, refl, sym, _∙_, ap}
+use mathlib.Core.Bool.{true}
+use mathlib.Core.List.{List}
+use mathlib.Core.Logic.{_≢_}
+use Prim.Native.Nat.{ℕ, zero, suc, _+_, _*_, _≤_, _<_}
+use native.Mathlib.Omega.{arith}
+use lib.ListN.{length, getD}
+use lib.Ieee.{Float}
+use Rattle.positions.specs.declared.Position.{Position}
+use Rattle.positions.specs.Position.{finitePosition}
+use Rattle.tables.specs.Mesh.{Mesh, none}
+use Rattle.tables.specs.Records.{positionAt}
+use Rattle.tables.specs.declared.Counts.{Counts}
+use Rattle.audited_meshes.specs.Audited.{Audited}
+use Rattle.refined_meshes.specs.State.{State}
+use Rattle.position_rules.specs.FacePoint.{facePointOf}
+use Rattle.position_rules.specs.Rules.{edgePointOf, oldPointOf}
+use Rattle.position_rules.specs.Places.{edgePointAt, facePointAt}
+use Rattle.position_rules.proofs.Claims.{edgePoint-stands, oldPoint-stands}
+use Rattle.steps.specs.Positions.{Placing, on, facePointRow, edgePointRow, placed, placedAll, facePointRule, edgePointRule, oldPointRule}
+use Rattle.steps.proofs.Placing.{PutAt, placed-begun, length-placed, placed-other, placed-at}
+
+-- The rows of the points after a step are n in number, and no two of them are one.
+pub record PointRows (c : Counts) (s : State) (n : ℕ) : Type 0 where
+  pub face-below : (f : ℕ) → f < c .faces → facePointRow s f < n
+  pub edge-below : (e : ℕ) → e < c .edges → edgePointRow s e < n
+  pub old-below : (p : ℕ) → p < c .points → p < n
+  pub face-face : (f g : ℕ) → f < c .faces → g < c .faces → facePointRow s f ≡ facePointRow s g → f ≡ g
+  pub edge-edge : (e i : ℕ) → e < c .edges → i < c .edges → edgePointRow s e ≡ edgePointRow s i → e ≡ i
+  pub face-edge : (f e : ℕ) → f < c .faces → e < c .edges → facePointRow s f ≢ edgePointRow s e
+  pub face-old : (f p : ℕ) → f < c .faces → p < c .points → facePointRow s f ≢ p
+  pub edge-old : (e p : ℕ) → e < c .edges → p < c .points → edgePointRow s e ≢ p
+
+pub record AllPlaced (m : Mesh) (c : Counts) (s : State) (qs : List Float) : Type 0 where
+  pub face-points : (f : ℕ) → f < c .faces → positionAt qs (facePointRow s f) ≡ facePointOf m (c .edges) f
+  pub edge-points : (e : ℕ) → e < c .edges → positionAt qs (edgePointRow s e) ≡ edgePointOf m (c .edges) e
+  pub old-points : (p : ℕ) → p < c .points → positionAt qs p ≡ oldPointOf m (c .edges) p
+  pub face-finite : (f : ℕ) → f < c .faces → finitePosition (facePointOf m (c .edges) f) ≡ true
+  pub edge-finite : (e : ℕ) → e < c .edges → finitePosition (edgePointOf m (c .edges) e) ≡ true
+  pub old-finite : (p : ℕ) → p < c .points → finitePosition (oldPointOf m (c .edges) p) ≡ true
+
+module _
+    (m : Mesh) (c : Counts) (a : Audited m (c .points) (c .edges) (c .faces)) (h : c .faces ≤ none) (s : State) (n : ℕ)
+    (r : PointRows c s n) (ps : List Float) (room : n * 3 ≤ length ps)
+  where
+    -- The face points are put.
+    module _ (ps1 : List Float) (e1 : placed (c .faces) (facePointRow s) (facePointRule m c) (on ps) ≡ on ps1) where
+      length1 : length ps1 ≡ length ps
+      length1 = length-placed (facePointRow s) (facePointRule m c) (c .faces) ps ps1 e1
+
+      faces1 : (f : ℕ) → f < c .faces → PutAt (facePointRow s) (facePointRule m c) f ps ps1
+      faces1 =
+          placed-at (facePointRow s) (facePointRule m c) (c .faces) ps ps1 e1 (r .face-face)
+          (λ f l. let b = r .face-below f l in omega arith)
+
+      -- Then the edge points.
+      module _ (ps2 : List Float) (e2 : placed (c .edges) (edgePointRow s) (edgePointRule m s) (on ps1) ≡ on ps2) where
+        length2 : length ps2 ≡ length ps
+        length2 = length-placed (edgePointRow s) (edgePointRule m s) (c .edges) ps1 ps2 e2 ∙ length1
+
+        -- No edge point is put over a face point, however many are put.
+        faces-at :
+            (k : ℕ) → k ≤ c .edges → (t : List Float) → placed k (edgePointRow s) (edgePointRule m s) (on ps1) ≡ on t → (f : ℕ) →
+            f < c .faces → facePointAt t (s .faces) f ≡ facePointOf m (c .edges) f
+        faces-at k b t e f l =
+            placed-other (edgePointRow s) (edgePointRule m s) k ps1 t e (facePointRow s f)
+            (λ i x. r .face-edge f i l (omega arith))
+            ∙ faces1 f l .stands
+
+        edges2 : (e : ℕ) → e < c .edges → PutAt (edgePointRow s) (edgePointRule m s) e ps1 ps2
+        edges2 =
+            placed-at (edgePointRow s) (edgePointRule m s) (c .edges) ps1 ps2 e2 (r .edge-edge)
+            (λ e l. let b = r .edge-below e l in rw length1 (omega arith))
+
+        -- The rule of an edge point read the face points.
+        rule2 : (e : ℕ) (l : e < c .edges) → edgePointRule m s e (edges2 e l .table) ≡ edgePointOf m (c .edges) e
+        rule2 e l =
+            let u = edges2 e l in
+            edgePoint-stands m _ _ _ (u .table) (s .faces) a (faces-at e (omega arith) (u .table) (u .before)) e l
+
+        edges-stand : (e : ℕ) → e < c .edges → positionAt ps2 (edgePointRow s e) ≡ edgePointOf m (c .edges) e
+        edges-stand e l = edges2 e l .stands ∙ rule2 e l
+
+        -- Then the old points.
+        module _ (qs : List Float) (e3 : placed (c .points) (λ p. p) (oldPointRule m s) (on ps2) ≡ on qs) where
+          faces-stay :
+              (k : ℕ) → k ≤ c .points → (t : List Float) → placed k (λ p. p) (oldPointRule m s) (on ps2) ≡ on t → (f : ℕ) →
+              f < c .faces → facePointAt t (s .faces) f ≡ facePointOf m (c .edges) f
+          faces-stay k b t e f l =
+              placed-other (λ p. p) (oldPointRule m s) k ps2 t e (facePointRow s f) (λ i x. r .face-old f i l (omega arith))
+              ∙ faces-at (c .edges) (omega arith) ps2 e2 f l
+
+          edges-stay :
+              (k : ℕ) → k ≤ c .points → (t : List Float) → placed k (λ p. p) (oldPointRule m s) (on ps2) ≡ on t → (e : ℕ) →
+              e < c .edges → edgePointAt t (s .edges) e ≡ edgePointOf m (c .edges) e
+          edges-stay k b t e i l =
+              placed-other (λ p. p) (oldPointRule m s) k ps2 t e (edgePointRow s i) (λ j x. r .edge-old i j l (omega arith))
+              ∙ edges-stand i l
+
+          olds3 : (p : ℕ) → p < c .points → PutAt (λ p. p) (oldPointRule m s) p ps2 qs
+          olds3 =
+              placed-at (λ p. p) (oldPointRule m s) (c .points) ps2 qs e3 (λ i j x y z. z)
+              (λ p l. let b = r .old-below p l in rw length2 (omega arith))
+
+          rule3 : (p : ℕ) (l : p < c .points) → oldPointRule m s p (olds3 p l .table) ≡ oldPointOf m (c .edges) p
+          rule3 p l =
+              let u = olds3 p l in
+              oldPoint-stands m _ _ _ (u .table) (s .edges) (s .faces) a h (faces-stay p (omega arith) (u .table) (u .before))
+              (edges-stay p (omega arith) (u .table) (u .before)) p l
+
+          all-placed : AllPlaced m c s qs
+          all-placed =
+              record {
+                face-points = faces-stay (c .points) (omega arith) qs e3;
+                edge-points = edges-stay (c .points) (omega arith) qs e3;
+                old-points = λ p l. olds3 p l .stands ∙ rule3 p l;
+                face-finite = λ f l. faces1 f l .is-finite;
+                edge-finite = λ e l. ap finitePosition (sym (rule2 e l)) ∙ edges2 e l .is-finite;
+                old-finite = λ p l. ap finitePosition (sym (rule3 p l)) ∙ olds3 p l .is-finite;
+              }
+
+    -- the tables after each kind of points
+    record Stages (qs : List Float) : Type 0 where
+      ps1 : List Float
+      face-points-put : placed (c .faces) (facePointRow s) (facePointRule m c) (on ps) ≡ on ps1
+      ps2 : List Float
+      edge-points-put : placed (c .edges) (edgePointRow s) (edgePointRule m s) (on ps1) ≡ on ps2
+      old-points-put : placed (c .points) (λ p. p) (oldPointRule m s) (on ps2) ≡ on qs
+
+    stages : (qs : List Float) → placedAll m c s ps ≡ on qs → Stages qs
+    unfolding placedAll
+    stages qs e =
+        let r1 = placed (c .faces) (facePointRow s) (facePointRule m c) (on ps) in
+        let r2 = placed (c .edges) (edgePointRow s) (edgePointRule m s) r1 in
+        let b2 = placed-begun (λ p. p) (oldPointRule m s) (c .points) r2 qs e in
+        let b1 = placed-begun (edgePointRow s) (edgePointRule m s) (c .edges) r1 (b2 .0) (b2 .1) in
+        record {
+          ps1 = b1 .0;
+          face-points-put = b1 .1;
+          ps2 = b2 .0;
+          edge-points-put = ap (placed (c .edges) (edgePointRow s) (edgePointRule m s)) (sym (b1 .1)) ∙ b2 .1;
+          old-points-put = ap (placed (c .points) (λ p. p) (oldPointRule m s)) (sym (b2 .1)) ∙ e;
+        }
+
+    -- What stands in the rows when all positions are put.
+    pub placed-all : (qs : List Float) → placedAll m c s ps ≡ on qs → AllPlaced m c s qs
+    placed-all qs e =
+        let t = stages qs e in all-placed (t .ps1) (t .face-points-put) (t .ps2) (t .edge-points-put) qs (t .old-points-put)
+
+    pub length-all : (qs : List Float) → placedAll m c s ps ≡ on qs → length qs ≡ length ps
+    length-all qs e =
+        let t = stages qs e in
+        length-placed (λ p. p) (oldPointRule m s) (c .points) (t .ps2) qs (t .old-points-put)
+        ∙ length2 (t .ps1) (t .face-points-put) (t .ps2) (t .edge-points-put)

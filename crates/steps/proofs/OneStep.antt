@@ -1,0 +1,327 @@
+-- An accepted step makes the refinement. The visits make it on kinds; each position is put, finite, into its row; halves and joining
+-- intervals are finite with sign bit clear. Assumes nothing.
+use mathlib.Core.Path.{_≡_, refl, sym, _∙_, ap, subst}
+use mathlib.Core.Bool.{Bool, true, false, _&&_, cond}
+use mathlib.Core.List.{List}
+use mathlib.Core.Logic.{_⊎_, inl, inr, _≢_}
+use Prim.Native.Nat.{ℕ, _+_, _*_, _≤_, _<_}
+use native.Mathlib.Omega.{arith}
+use native.Mathlib.Decide.{decLt}
+use lib.Dec.{T, ltb}
+use lib.ListN.{length, getD}
+use lib.Ieee.{Float, fits, binary64}
+use lib.Ieee.Fits.{add-fits, mul-fits}
+use lib.Ieee.Scale.{finite}
+use Rattle.positions.specs.declared.Position.{Position}
+use Rattle.positions.specs.Position.{finitePosition}
+use Rattle.tables.specs.Mesh.{Mesh, none, x, y, z, mark, dest, interval, corner}
+use Rattle.tables.specs.Records.{positionAt}
+use Rattle.tables.specs.declared.Counts.{Counts}
+use Rattle.tables.proofs.Laws.{length-over}
+use Rattle.closed_meshes.specs.Mesh.{Dart, edge, flip, face}
+use Rattle.closed_meshes.specs.Closed.{Closed}
+use Rattle.closed_meshes.specs.Refinement.{NewPoint, old, mid, facePoint, NewEdge, org, dst, join, refined}
+use Rattle.closed_meshes.specs.Renumbering.{Isomorphism, Row}
+use Rattle.closed_meshes.proofs.Counting.{row-path}
+use Rattle.closed_meshes.proofs.Isomorphisms.{to-injective, onto, carries-over}
+use Rattle.closed_meshes.proofs.Refinement.{stays-closed}
+use Rattle.audited_meshes.specs.Audit.{intervalFit}
+use Rattle.audited_meshes.specs.Audited.{Audited}
+use Rattle.audited_meshes.specs.Rows.{Fit, HoldsClosed}
+use Rattle.audited_meshes.proofs.Holds.{audited-of-closed}
+use Rattle.refined_meshes.specs.State.{State, meshOf, copied}
+use Rattle.refined_meshes.specs.Split.{half}
+use Rattle.refined_meshes.specs.Order.{EachOnce, turnIn}
+use Rattle.refined_meshes.specs.Visits.{refinedRows}
+use Rattle.refined_meshes.specs.Refines.{found, Refines}
+use Rattle.refined_meshes.proofs.Refines.{visits-refine}
+use Rattle.position_rules.specs.FacePoint.{facePointOf}
+use Rattle.position_rules.specs.Rules.{edgePointOf, oldPointOf}
+use Rattle.position_rules.specs.Claims.{Found}
+use Rattle.position_rules.proofs.Floats.{half-fit}
+use Rattle.steps.specs.declared.Stepped.the-variants.{Refined}
+use Rattle.steps.specs.Positions.{on, facePointRow, edgePointRow, placedAll}
+use Rattle.steps.specs.Step.{refinedCounts, firstRows, overRows, whole, made, step}
+use Rattle.steps.specs.OneStep.{Refinement, Binary64, OneStep}
+use Rattle.steps.proofs.Rows.{Room, points-fit, edges-fit, faces-fit, Exact, exact-firstRows, room-firstRows, room-of-exact, room-of-holds, holds-same, holds-firstRows, SameRows, firstRows-overRows, same-overRows, room-overRows, position-same}
+use Rattle.steps.proofs.NewPositions.{PointRows, AllPlaced, placed-all, length-all}
+use Rattle.steps.proofs.Lengths.{AsLong, long-refinedRows}
+use Rattle.steps.proofs.Joining.{joining-fit, binary64-firstRows}
+use Rattle.steps.proofs.Grounds.{Within, Taken, taken, Begun, made-is}
+
+-- the three coordinates of a finite position
+finite-parts :
+    (p : Position) → finitePosition p ≡ true → ((finite (p .x) ≡ true) × (finite (p .y) ≡ true)) × (finite (p .z) ≡ true)
+finite-parts p e = go (finite (p .x)) refl (finite (p .y)) refl (finite (p .z)) refl
+  where
+    go : (a : Bool) → finite (p .x) ≡ a → (b : Bool) → finite (p .y) ≡ b → (c : Bool) → finite (p .z) ≡ c → ((finite (p .x) ≡ true) × (finite (p .y) ≡ true)) × (finite (p .z) ≡ true)
+    go true ha true hb true hc = ((ha, hb), hc)
+    go true ha true hb false hc = absurd (let z : false ≡ true = sym (rw (ha, hb, hc)) ∙ e in let q : _≡_ {A = ℕ} 0 1 = cc in omega arith)
+    go true ha false hb c hc = absurd (let z : false ≡ true = sym (rw (ha, hb)) ∙ e in let q : _≡_ {A = ℕ} 0 1 = cc in omega arith)
+    go false ha b hb c hc = absurd (let z : false ≡ true = sym (rw ha) ∙ e in let q : _≡_ {A = ℕ} 0 1 = cc in omega arith)
+
+-- the interval that is found is whole or half
+halved-found : (b : Bool) (d : Float) → Found d (cond b (half d) d)
+halved-found true d = inr refl
+halved-found false d = inl refl
+
+module _ (m : Mesh) (c : Counts) (h : HoldsClosed m (c .points) (c .edges) (c .faces)) (order : List ℕ) (t : Mesh) (qs : List Float) where
+  -- the state after the visits
+  abbrev s : State
+  s = refinedRows m (c .points) (c .edges) (c .faces) order t
+
+  found-halved : (d : Dart (Row (c .edges))) → Found (interval m (edge d .0)) (found m (h .mesh) order d)
+  found-halved d =
+      halved-found (ltb (turnIn order (face (h .mesh) (flip d) .0)) (turnIn order (face (h .mesh) d .0))) (interval m (edge d .0))
+
+  module _ (visited : Refines m (h .mesh) (h .closed) order (meshOf qs s)) where
+    -- the row of a new point
+    row : NewPoint (Row (c .points)) (Row (c .edges)) (Row (c .faces)) → ℕ
+    row x = visited .numbering .points .to x .0
+
+    row-below : (x : NewPoint (Row (c .points)) (Row (c .edges)) (Row (c .faces))) → row x < refinedCounts c .points
+    unfolding row
+    row-below x = visited .numbering .points .to x .1
+
+    row-injective : (x y : NewPoint (Row (c .points)) (Row (c .edges)) (Row (c .faces))) → row x ≡ row y → x ≡ y
+    unfolding row
+    row-injective x y e = to-injective (visited .numbering .points) x y (row-path _ _ e)
+
+    face-row : (f : ℕ) (l : f < c .faces) → facePointRow s f ≡ row (facePoint (f, l))
+    unfolding row
+    face-row f l = visited .centre-row (f, l)
+
+    edge-row : (e : ℕ) (l : e < c .edges) → edgePointRow s e ≡ row (mid (e, l))
+    unfolding row
+    edge-row e l = visited .mid-row (e, l)
+
+    old-row : (p : ℕ) (l : p < c .points) → row (old (p, l)) ≡ p
+    unfolding row
+    old-row p l = visited .old-row (p, l)
+
+    -- Every face has a first new face.
+    faces-fewer : c .faces ≤ 2 * c .edges
+    faces-fewer = go (decLt (2 * c .edges) (c .faces))
+      where
+        go : Dec (2 * c .edges < c .faces) → c .faces ≤ 2 * c .edges
+        go (yes l) =
+            let r = visited .numbering .faces .to (h .closed .faceDart (2 * c .edges, l)) in
+            omega (arith, r .1, visited .first-row (2 * c .edges, l))
+        go (no l) = omega arith
+
+    point-rows : PointRows c s (refinedCounts c .points)
+    point-rows =
+        record {
+          face-below = λ f l. rw (face-row f l) (row-below (facePoint (f, l)));
+          edge-below = λ e l. rw (edge-row e l) (row-below (mid (e, l)));
+          old-below = λ p l. omega arith;
+          face-face =
+              λ f g l k q.
+              let z = row-injective (facePoint (f, l)) (facePoint (g, k)) (sym (face-row f l) ∙ q ∙ face-row g k) in
+              let w : _≡_ {A = Row (c .faces)} (f, l) (g, k) = cc in
+              ap (λ r. r .0) w;
+          edge-edge =
+              λ e i l k q.
+              let z = row-injective (mid (e, l)) (mid (i, k)) (sym (edge-row e l) ∙ q ∙ edge-row i k) in
+              let w : _≡_ {A = Row (c .edges)} (e, l) (i, k) = cc in
+              ap (λ r. r .0) w;
+          face-edge =
+              λ f e l k q.
+              let z = row-injective (facePoint (f, l)) (mid (e, k)) (sym (face-row f l) ∙ q ∙ edge-row e k) in
+              let w : _≡_ {A = ℕ} 0 1 = cc in
+              omega arith;
+          face-old =
+              λ f p l k q.
+              let z = row-injective (facePoint (f, l)) (old (p, k)) (sym (face-row f l) ∙ q ∙ sym (old-row p k)) in
+              let w : _≡_ {A = ℕ} 0 1 = cc in
+              omega arith;
+          edge-old =
+              λ e p l k q.
+              let z = row-injective (mid (e, l)) (old (p, k)) (sym (edge-row e l) ∙ q ∙ sym (old-row p k)) in
+              let w : _≡_ {A = ℕ} 0 1 = cc in
+              omega arith;
+        }
+
+    module _
+        (numbers : (e : ℕ) → T (fits binary64 (interval m e))) (few : c .faces ≤ none) (room : Exact (refinedCounts c) t)
+        (put : placedAll m c s (t .positions) ≡ on qs)
+      where
+        audited : Audited m (c .points) (c .edges) (c .faces)
+        audited = audited-of-closed m (h .mesh) (h .stands) (h .closed) (h .fit)
+
+        all : AllPlaced m c s qs
+        all = placed-all m c audited few s (refinedCounts c .points) point-rows (t .positions) (omega (arith, room .positions)) qs put
+
+        -- the position of each kind of point
+        rule : NewPoint (Row (c .points)) (Row (c .edges)) (Row (c .faces)) → Position
+        rule (old p) = oldPointOf m (c .edges) (p .0)
+        rule (mid e) = edgePointOf m (c .edges) (e .0)
+        rule (facePoint f) = facePointOf m (c .edges) (f .0)
+
+        rule-stands : (x : NewPoint (Row (c .points)) (Row (c .edges)) (Row (c .faces))) → positionAt qs (row x) ≡ rule x
+        unfolding rule
+        rule-stands (old p) = ap (positionAt qs) (old-row (p .0) (p .1)) ∙ all .old-points (p .0) (p .1)
+        rule-stands (mid e) = ap (positionAt qs) (sym (edge-row (e .0) (e .1))) ∙ all .edge-points (e .0) (e .1)
+        rule-stands (facePoint f) = ap (positionAt qs) (sym (face-row (f .0) (f .1))) ∙ all .face-points (f .0) (f .1)
+
+        rule-finite : (x : NewPoint (Row (c .points)) (Row (c .edges)) (Row (c .faces))) → finitePosition (rule x) ≡ true
+        unfolding rule
+        rule-finite (old p) = all .old-finite (p .0) (p .1)
+        rule-finite (mid e) = all .edge-finite (e .0) (e .1)
+        rule-finite (facePoint f) = all .face-finite (f .0) (f .1)
+
+        position-finite : (p : Row (refinedCounts c .points)) → finitePosition (positionAt qs (p .0)) ≡ true
+        unfolding row
+        position-finite =
+            onto (visited .numbering .points) (λ p. finitePosition (positionAt qs (p .0)) ≡ true)
+            (λ x. ap finitePosition (rule-stands x) ∙ rule-finite x)
+
+        interval-of : (x : NewEdge (Row (c .edges))) → intervalFit (interval (meshOf qs s) (visited .numbering .edges .to x .0)) ≡ true
+        interval-of (org e) =
+            rw (visited .origin-row e, visited .origin-interval e) (half-fit _ (h .fit .interval-fit (e .0) (e .1)) (numbers (e .0)) .is-fit)
+        interval-of (dst e) = rw (visited .destination-interval e) (half-fit _ (h .fit .interval-fit (e .0) (e .1)) (numbers (e .0)) .is-fit)
+        interval-of (join d) =
+            rw (visited .join-interval d)
+            (joining-fit m h numbers d (all .face-finite (face (h .mesh) d .0) (face (h .mesh) d .1)) _ _ (found-halved (h .closed .next d))
+            (found-halved (h .closed .prev d)))
+
+        number-of : (x : NewEdge (Row (c .edges))) → T (fits binary64 (interval (meshOf qs s) (visited .numbering .edges .to x .0)))
+        number-of (org e) = rw (visited .origin-row e, visited .origin-interval e) (mul-fits binary64 _ _)
+        number-of (dst e) = rw (visited .destination-interval e) (mul-fits binary64 _ _)
+        number-of (join d) = rw (visited .join-interval d) (add-fits binary64 _ _)
+
+        mark-of :
+            (x : NewPoint (Row (c .points)) (Row (c .edges)) (Row (c .faces))) →
+            (mark (meshOf qs s) (row x) ≡ 0) ⊎ (mark (meshOf qs s) (row x) ≡ 1)
+        unfolding row
+        mark-of (old p) =
+            subst (λ k. (mark (meshOf qs s) k ≡ 0) ⊎ (mark (meshOf qs s) k ≡ 1)) (sym (visited .old-row p))
+            (subst (λ w. (w ≡ 0) ⊎ (w ≡ 1)) (sym (visited .old-mark p)) (h .fit .mark-fit (p .0) (p .1)))
+        mark-of (mid e) = inl (visited .mid-mark e)
+        mark-of (facePoint f) = inl (visited .centre-mark f)
+
+        lengths : Exact (refinedCounts c) (meshOf qs s)
+        unfolding copied
+        lengths =
+            let l = long-refinedRows m (c .points) (c .edges) (c .faces) order t in
+            let r = room-of-holds h in
+            record {
+              positions =
+                  length-all m c audited few s (refinedCounts c .points) point-rows (t .positions) (omega (arith, room .positions)) qs put
+                  ∙ room .positions;
+              points =
+                  l .points ∙ length-over _ (m .points) (t .points) (r .points) (omega (arith, room .points)) ∙ room .points;
+              edges = l .edges ∙ length-over _ (m .edges) (t .edges) (r .edges) (omega (arith, room .edges)) ∙ room .edges;
+              intervals =
+                  l .intervals ∙ length-over _ (m .intervals) (t .intervals) (r .intervals) (omega (arith, room .intervals))
+                  ∙ room .intervals;
+              faces = l .faces ∙ length-over _ (m .faces) (t .faces) (r .faces) (omega (arith, room .faces, faces-fewer)) ∙ room .faces;
+            }
+
+        pub fit : Fit (meshOf qs s) (refinedCounts c .points) (refinedCounts c .edges) (refinedCounts c .faces)
+        unfolding row
+        fit =
+            let r = room-of-exact lengths in
+            record {
+              points-fit = points-fit r;
+              edges-fit = edges-fit r;
+              faces-fit = faces-fit r;
+              x-finite = λ p l. finite-parts (positionAt qs p) (position-finite (p, l)) .0 .0;
+              y-finite = λ p l. finite-parts (positionAt qs p) (position-finite (p, l)) .0 .1;
+              z-finite = λ p l. finite-parts (positionAt qs p) (position-finite (p, l)) .1;
+              interval-fit =
+                  λ e l. onto (visited .numbering .edges) (λ x. intervalFit (interval (meshOf qs s) (x .0)) ≡ true) interval-of (e, l);
+              mark-fit =
+                  λ p l. onto (visited .numbering .points) (λ x. (mark (meshOf qs s) (x .0) ≡ 0) ⊎ (mark (meshOf qs s) (x .0) ≡ 1)) mark-of (p, l);
+            }
+
+        -- The mesh that is made holds a closed mesh.
+        unfoldable pub holds : HoldsClosed (meshOf qs s) (refinedCounts c .points) (refinedCounts c .edges) (refinedCounts c .faces)
+        holds =
+            record {
+              mesh = visited .mesh;
+              stands = visited .stands;
+              closed =
+                  carries-over _ _ _ _ _ _ (refined (h .mesh) (h .closed)) (visited .mesh) (visited .numbering) (visited .touching)
+                  (stays-closed _ _ _ (h .mesh) (h .closed));
+              fit = fit;
+            }
+
+        -- Put over the first rows of the tables, it is the refinement there.
+        module _ (m0 : Mesh) where
+          there : Mesh
+          there = overRows (refinedCounts c) (meshOf qs s) m0
+
+          same : SameRows (refinedCounts c) (meshOf qs s) there
+          unfolding there
+          same = same-overRows (refinedCounts c) (meshOf qs s) m0 lengths
+
+          position-there :
+              (x : NewPoint (Row (c .points)) (Row (c .edges)) (Row (c .faces))) →
+              positionAt (there .positions) (visited .numbering .points .to x .0) ≡ rule x
+          unfolding row
+          position-there x = position-same same (row x) (row-below x) ∙ rule-stands x
+
+          mid-there : (e : Row (c .edges)) → dest there (e .0) ≡ visited .numbering .points .to (mid e) .0
+          mid-there e = same .edges (e .0 * 8 + 1) (omega (arith, e .1)) ∙ visited .mid-row e
+
+          centre-there : (f : Row (c .faces)) → corner there (f .0) 0 ≡ visited .numbering .points .to (facePoint f) .0
+          centre-there f = same .faces (f .0 * 5 + 1) (omega (arith, f .1, faces-fewer)) ∙ visited .centre-row f
+
+          holds-there : HoldsClosed there (refinedCounts c .points) (refinedCounts c .edges) (refinedCounts c .faces)
+          unfolding there
+          holds-there = holds-same same (room-overRows (refinedCounts c) (meshOf qs s) m0 lengths) holds
+
+          pub refinement-there : Refinement m c (h .mesh) (h .closed) (overRows (refinedCounts c) (meshOf qs s) m0)
+          unfolding there holds-there holds-same holds rule
+          refinement-there =
+              record {
+                holds = holds-there;
+                numbering = visited .numbering;
+                old-row = visited .old-row;
+                origin-row = visited .origin-row;
+                first-row = visited .first-row;
+                mid-row = mid-there;
+                centre-row = centre-there;
+                old-point = λ p. position-there (old p);
+                edge-point = λ e. position-there (mid e);
+                face-point = λ f. position-there (facePoint f);
+              }
+
+          pub numbers-there : Binary64 (refinedCounts c) (overRows (refinedCounts c) (meshOf qs s) m0)
+          unfolding there
+          numbers-there e l =
+              rw (same .intervals e l)
+              (onto (visited .numbering .edges) (λ x. T (fits binary64 (interval (meshOf qs s) (x .0)))) number-of (e, l))
+
+-- An accepted step makes the refinement.
+pub one-step : OneStep
+unfolding holds-firstRows
+one-step m c order t h numbers c' e =
+    let k = taken m c order t c' e in
+    let m1 = firstRows c m in
+    let h1 = holds-firstRows h in
+    let u = firstRows (refinedCounts c) t in
+    let x = exact-firstRows (refinedCounts c) t (k .scratch-room) in
+    let r = room-of-exact x in
+    let b = made-is m1 c order u (k .mesh) (k .is-made) in
+    let v = visits-refine m1 (c .points) (c .edges) (c .faces) h1 order (k .once) u (points-fit r) (edges-fit r) (faces-fit r) (b .positions) in
+    let held : (e : ℕ) → T (fits binary64 (interval m1 e)) = binary64-firstRows c m numbers in
+    let few : c .faces ≤ none = omega (arith, k .within .points) in
+    let q : step m c order t .tables ≡ overRows (refinedCounts c) (meshOf (b .positions) (refinedRows m1 (c .points) (c .edges) (c .faces) order u)) m =
+          k .tables ∙ ap (λ n. overRows (refinedCounts c) n m) (b .mesh) in
+    record {
+      counts = k .counts;
+      in-order =
+          k .is-made
+          ∙ ap whole
+          (b .mesh
+          ∙ sym (ap (firstRows (refinedCounts c)) q
+            ∙ firstRows-overRows (refinedCounts c) (meshOf (b .positions) (refinedRows m1 (c .points) (c .edges) (c .faces) order u)) m
+              (lengths m1 c h1 order u (b .positions) v held few x (b .put))));
+      refinement =
+          subst (Refinement m1 c (h .mesh) (h .closed)) (sym q)
+          (refinement-there m1 c h1 order u (b .positions) v held few x (b .put) m);
+      numbers =
+          subst (Binary64 (refinedCounts c)) (sym q) (numbers-there m1 c h1 order u (b .positions) v held few x (b .put) m);
+    }

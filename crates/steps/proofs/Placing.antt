@@ -1,0 +1,153 @@
+-- The laws of positions put one after the other into their rows. Assumes nothing.
+--     placed-stopped, stopped-stays      a rule that is not finite ends it
+--     placed-begun                       what ends in a table began with one
+--     length-placed, placed-other        the table stays as long, and other rows stay as they are
+--     Placed-at, placed-at               where a position was put, with the table that its rule read
+use mathlib.Core.Path.{_≡_, refl, sym, _∙_, ap, subst}
+use mathlib.Core.Bool.{Bool, true, false, _&&_}
+use mathlib.Core.List.{List, [], _∷_}
+use mathlib.Core.Logic.{_≢_}
+use Prim.Native.Nat.{ℕ, zero, suc, _+_, _*_, _≤_, _<_}
+use native.Mathlib.Nat.{add-zero}
+use native.Mathlib.Omega.{arith}
+use native.Mathlib.Decide.{ℕ-discrete}
+use lib.ListN.{length, getD}
+use lib.Ieee.{Float, nan}
+use Rattle.positions.specs.declared.Position.{Position}
+use Rattle.positions.specs.Position.{finitePosition, placedIf, placedAt}
+use Rattle.tables.specs.Rows.{putRow}
+use Rattle.tables.specs.Records.{positionAt, placeOf}
+use Rattle.tables.proofs.Laws.{length-putRow, getD-putRow, getD-putRow-other}
+use Rattle.steps.specs.Positions.{Placing, on, stopped, put, putNext, placed}
+
+-- a table is no word that a position was not finite
+not-stopped : (ps : List Float) → ¬ (stopped ≡ on ps)
+not-stopped ps e = let z : _≡_ {A = ℕ} 0 1 = cc in omega arith
+
+-- a position put into a row stands there
+position-put : (ps : List Float) (r : ℕ) (p : Position) → r * 3 + 3 ≤ length ps → positionAt (putRow ps (r * 3) (placeOf p)) r ≡ p
+position-put ps r p h =
+    let x : getD (putRow ps (r * 3) (placeOf p)) (r * 3) nan ≡ p .x =
+          rw (add-zero (r * 3)) at (getD-putRow (placeOf p) ps (r * 3) 0 nan (omega arith) h) in
+    let y : getD (putRow ps (r * 3) (placeOf p)) (r * 3 + 1) nan ≡ p .y = getD-putRow (placeOf p) ps (r * 3) 1 nan (omega arith) h in
+    let z : getD (putRow ps (r * 3) (placeOf p)) (r * 3 + 2) nan ≡ p .z = getD-putRow (placeOf p) ps (r * 3) 2 nan (omega arith) h in
+    rw (x, y, z)
+
+-- and every other row stays as it is
+position-other : (ps : List Float) (r s : ℕ) (p : Position) → s ≢ r → positionAt (putRow ps (r * 3) (placeOf p)) s ≡ positionAt ps s
+position-other ps r s p n =
+    let x : getD (putRow ps (r * 3) (placeOf p)) (s * 3) nan ≡ getD ps (s * 3) nan =
+          rw (add-zero (s * 3)) at (getD-putRow-other (placeOf p) ps 3 r s 0 nan refl n (omega arith)) in
+    let y : getD (putRow ps (r * 3) (placeOf p)) (s * 3 + 1) nan ≡ getD ps (s * 3 + 1) nan =
+          getD-putRow-other (placeOf p) ps 3 r s 1 nan refl n (omega arith) in
+    let z : getD (putRow ps (r * 3) (placeOf p)) (s * 3 + 2) nan ≡ getD ps (s * 3 + 2) nan =
+          getD-putRow-other (placeOf p) ps 3 r s 2 nan refl n (omega arith) in
+    rw (x, y, z)
+
+-- what one position puts
+put-is :
+    (r : ℕ) (p : Position) (ps qs : List Float) → put r (placedAt p) ps ≡ on qs →
+    (finitePosition p ≡ true) × (qs ≡ putRow ps (r * 3) (placeOf p))
+put-is r p ps qs e = go (finitePosition p) refl e
+  where
+    go :
+        (b : Bool) → finitePosition p ≡ b → put r (placedIf b p) ps ≡ on qs →
+        (finitePosition p ≡ true) × (qs ≡ putRow ps (r * 3) (placeOf p))
+    go true h e = (h, cc)
+    go false h e = absurd (not-stopped qs e)
+
+module _ (row : ℕ → ℕ) (rule : ℕ → List Float → Position) where
+  pub placed-stopped : (n : ℕ) → placed n row rule stopped ≡ stopped
+  unfolding placed
+  placed-stopped zero = refl
+  placed-stopped (suc n) = rw (placed-stopped n)
+
+  pub placed-begun : (n : ℕ) (r : Placing) (ps : List Float) → placed n row rule r ≡ on ps → (qs : List Float) × (r ≡ on qs)
+  placed-begun n (on qs) ps e = (qs, refl)
+  placed-begun n stopped ps e = absurd (not-stopped ps (sym (placed-stopped n) ∙ e))
+
+  -- one more position
+  pub record Last (n : ℕ) (ps qs : List Float) : Type 0 where
+    pub table : List Float
+    pub before : placed n row rule (on ps) ≡ on table
+    pub is-finite : finitePosition (rule n table) ≡ true
+    pub after : qs ≡ putRow table (row n * 3) (placeOf (rule n table))
+
+  pub placed-last : (n : ℕ) (ps qs : List Float) → placed (suc n) row rule (on ps) ≡ on qs → Last n ps qs
+  unfolding placed
+  placed-last n ps qs e = go (placed n row rule (on ps)) refl
+    where
+      go : (r : Placing) → placed n row rule (on ps) ≡ r → Last n ps qs
+      go (on table) h =
+          let i = put-is (row n) (rule n table) table qs (rw h at e) in
+          record { table = table; before = h; is-finite = i .0; after = i .1 }
+      go stopped h = absurd (not-stopped qs (rw h at e))
+
+  pub length-placed : (n : ℕ) (ps qs : List Float) → placed n row rule (on ps) ≡ on qs → length qs ≡ length ps
+  unfolding placed
+  length-placed zero ps qs e = let z : ps ≡ qs = cc in ap length (sym z)
+  length-placed (suc n) ps qs e =
+      let l = placed-last n ps qs e in
+      ap length (l .after) ∙ length-putRow (placeOf (rule n (l .table))) (l .table) (row n * 3) ∙ length-placed n ps (l .table) (l .before)
+
+  pub placed-other :
+      (n : ℕ) (ps qs : List Float) → placed n row rule (on ps) ≡ on qs → (s : ℕ) → ((i : ℕ) → i < n → s ≢ row i) →
+      positionAt qs s ≡ positionAt ps s
+  unfolding placed
+  placed-other zero ps qs e s h = let z : ps ≡ qs = cc in ap (λ t. positionAt t s) (sym z)
+  placed-other (suc n) ps qs e s h =
+      let l = placed-last n ps qs e in
+      ap (λ t. positionAt t s) (l .after)
+      ∙ position-other (l .table) (row n) s (rule n (l .table)) (h n (omega arith))
+      ∙ placed-other n ps (l .table) (l .before) s (λ i k. h i (omega arith))
+
+  -- The position i was put, finite, by its rule from a table in which it and those after it were not yet put.
+  pub record PutAt (i : ℕ) (ps qs : List Float) : Type 0 where
+    pub table : List Float
+    pub before : placed i row rule (on ps) ≡ on table
+    pub is-finite : finitePosition (rule i table) ≡ true
+    pub stands : positionAt qs (row i) ≡ rule i table
+
+  pub placed-at :
+      (n : ℕ) (ps qs : List Float) → placed n row rule (on ps) ≡ on qs → ((i j : ℕ) → i < n → j < n → row i ≡ row j → i ≡ j) →
+      ((i : ℕ) → i < n → row i * 3 + 3 ≤ length ps) → (i : ℕ) → i < n → PutAt i ps qs
+  placed-at zero ps qs e distinct there i h = absurd (omega arith)
+  placed-at (suc n) ps qs e distinct there i h =
+      let l = placed-last n ps qs e in
+      go l
+      (placed-at n ps (l .table) (l .before) (λ x y hx hy. distinct x y (omega arith) (omega arith)) (λ x hx. there x (omega arith)) i)
+      (ℕ-discrete i n)
+    where
+      go : (l : Last n ps qs) → (i < n → PutAt i ps (l .table)) → Dec (i ≡ n) → PutAt i ps qs
+      go l earlier (yes q) =
+          subst (λ k. PutAt k ps qs) (sym q)
+          (record {
+            table = l .table;
+            before = l .before;
+            is-finite = l .is-finite;
+            stands =
+                ap (λ t. positionAt t (row n)) (l .after)
+                ∙ position-put (l .table) (row n) (rule n (l .table))
+                (rw (length-placed n ps (l .table) (l .before)) (there n (omega arith)));
+          })
+      go l earlier (no q) =
+          let a = earlier (omega arith) in
+          record {
+            table = a .table;
+            before = a .before;
+            is-finite = a .is-finite;
+            stands =
+                ap (λ t. positionAt t (row i)) (l .after)
+                ∙ position-other (l .table) (row n) (row i) (rule n (l .table)) (λ x. q (distinct i n (omega arith) (omega arith) x))
+                ∙ a .stands;
+          }
+
+  -- A rule that is not finite ends it.
+  pub stopped-stays : (n i : ℕ) (r : Placing) → i ≤ n → placed i row rule r ≡ stopped → placed n row rule r ≡ stopped
+  unfolding placed
+  stopped-stays zero i r h e = let z : i ≡ 0 = omega arith in rw z at e
+  stopped-stays (suc n) i r h e = go (λ l. stopped-stays n i r l e) (ℕ-discrete i (suc n))
+    where
+      go : (i ≤ n → placed n row rule r ≡ stopped) → Dec (i ≡ suc n) → placed (suc n) row rule r ≡ stopped
+      go earlier (yes q) = rw q at e
+      go earlier (no q) = rw (earlier (omega arith))

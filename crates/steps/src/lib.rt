@@ -1,0 +1,18 @@
+// One step of refining (document 01, "One refinement" and grounds 30 to 33), as a definition over tables of any content, and
+// what a step makes of a mesh. Not here: the code of the step, and lists of steps (`runs`).
+// Definitions: `specs/Step.antt` (the step), over `specs/Positions.antt` (the positions of the new mesh).
+use tables::Counts;
+
+// The answer of a step: how many points, edges and faces the mesh has after it, or the ground. Document 01's number stands
+// beside each.
+pub enum Stepped {
+    Refined(Counts),
+    // 30: the audit fails
+    NotClosed,
+    // 31: the order is not each face once
+    NotEachFaceOnce,
+    // 32: tables or scratch have fewer rows of a kind than the mesh after the step, or that mesh is over the ceilings
+    NoRoom,
+    // 33: a stored number would not be finite
+    NotFinite,
+}
