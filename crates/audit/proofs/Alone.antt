@@ -1,8 +1,8 @@
 -- The loop of `is_alone`, over plain variables: n edges about point p are passed, none of them but e touches q, and the next is i.
 -- Assumes nothing.
-use mathlib.Core.Path.{_≡_, refl, sym, _∙_, ap}
-use mathlib.Core.Bool.{Bool, true, false, not, _&&_, _||_}
-use Prim.Native.Nat.{ℕ, zero, suc, _+_, _-_, _<_, _≤_}
+use mathlib.Core.Path.{_≡_, sym, _∙_}
+use mathlib.Core.Bool.{true, false, not, _||_}
+use Prim.Native.Nat.{ℕ, suc, _+_, _-_, _<_, _≤_}
 use native.Mathlib.Omega.{arith}
 use lib.Dec.{eqb, leb}
 use borrow.Author.Tests.{le-leb, lt-leb}
@@ -20,7 +20,7 @@ module _ (m : Mesh) (ne e p q : ℕ) where
   unfolding aloneAt
   lonely-start k i a b = record {
     within = omega arith;
-    rest = rw (less-none k, a, b)
+    rest = rw (less-none k, a, b);
   }
     where
       less-none : (k : ℕ) → k - 0 ≡ k
@@ -34,7 +34,7 @@ module _ (m : Mesh) (ne e p q : ℕ) where
     unfolding alone
     lonely-more next l o b = record {
       within = omega arith;
-      rest = h .rest ∙ rw (less-one l, o, b)
+      rest = h .rest ∙ rw (less-one l, o, b);
     }
 
     pub lonely-stop : n < k → free m ne e q i ≡ false → false ≡ aloneAt m ne e p q

@@ -1,16 +1,15 @@
 -- The tests of one edge: what each of its tests decides. Assumes nothing.
-use mathlib.Core.Path.{_≡_, refl, sym, _∙_, ap}
-use mathlib.Core.Bool.{Bool, true, false, not, _&&_, _||_, cond}
+use mathlib.Core.Path.{_≡_, refl}
+use mathlib.Core.Bool.{Bool, true, false, not, _&&_}
 use mathlib.Core.List.{List, []}
 use mathlib.Core.Logic.{_≢_}
-use Prim.Native.Nat.{ℕ, _+_, _*_, _<_, _≤_}
-use native.Mathlib.Omega.{arith}
-use lib.Dec.{eqb, ltb, leb}
+use Prim.Native.Nat.{ℕ}
+use lib.Dec.{eqb, ltb}
 use lib.Ieee.{Float}
 use borrow.Author.Tests.{eq-eqb, ne-eqb}
 use Rattle.tables.specs.Mesh.{Mesh, origin, dest, leftFace, rightFace, leftCw, leftAcw, rightCw, rightAcw, interval}
 use Rattle.audited_meshes.specs.Walks.{touches, borders, cwOfFace}
-use Rattle.audited_meshes.specs.Audit.{edgeInRange, intervalFit, acwLinks, cwLinks, linked}
+use Rattle.audited_meshes.specs.Audit.{edgeInRange, intervalFit, acwLinks, linked}
 use Rattle.audited_meshes.specs.Audited.{EdgeInRange}
 use Rattle.audited_meshes.specs.Quick.{edgeFit}
 use Rattle.audited_meshes.proofs.Audited.{edgeInRange-is}
@@ -27,8 +26,8 @@ module _ (es : List ℕ) where
   at = faceTables es []
 
   pub in-range-is :
-    (np ne nf e : ℕ) →
-    edgeInRange at np ne nf e
+      (np ne nf e : ℕ) →
+      edgeInRange at np ne nf e
       ≡ (below (origin at e) (dest at e) (leftFace at e) (rightFace at e) np nf && below (leftCw at e) (leftAcw at e) (rightCw at e) (rightAcw at e) ne ne)
   unfolding edgeInRange
   in-range-is np ne nf e = and-four (below (origin at e) (dest at e) (leftFace at e) (rightFace at e) np nf) _ _ _ _
@@ -86,8 +85,8 @@ module _ (m : Mesh) (np ne nf e : ℕ) where
       rw (eq-eqb (leftFace m e) (rightFace m e) h, and-false (edgeInRange m np ne nf e && intervalFit (interval m e) && not (eqb (origin m e) (dest m e))))
 
   pub edge-links :
-    edgeInRange m np ne nf e ≡ true → intervalFit (interval m e) ≡ true → origin m e ≢ dest m e → leftFace m e ≢ rightFace m e →
-    edgeFit m np ne nf e ≡ linked m e
+      edgeInRange m np ne nf e ≡ true → intervalFit (interval m e) ≡ true → origin m e ≢ dest m e → leftFace m e ≢ rightFace m e →
+      edgeFit m np ne nf e ≡ linked m e
   unfolding edgeFit
   edge-links a b c d = rw (a, b, ne-eqb (origin m e) (dest m e) c, ne-eqb (leftFace m e) (rightFace m e) d)
 

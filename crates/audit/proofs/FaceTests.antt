@@ -1,9 +1,9 @@
 -- The test of one face: what each of its tests decides. Assumes nothing.
 use mathlib.Core.Path.{_≡_, refl, sym, _∙_, ap, ap₂, subst}
 use mathlib.Core.Bool.{Bool, true, false, not, _&&_, _||_, cond}
-use mathlib.Core.List.{List, [], _∷_, map}
+use mathlib.Core.List.{List, map}
 use mathlib.Core.Logic.{_≢_}
-use Prim.Native.Nat.{ℕ, zero, suc, _+_, _<_, _≤_}
+use Prim.Native.Nat.{ℕ, _+_, _<_, _≤_}
 use native.Mathlib.Omega.{arith}
 use lib.Dec.{eqb, ltb, leb}
 use lib.ListN.{length, getD, length-map}
@@ -11,7 +11,7 @@ use borrow.Author.Tests.{lt-ltb, le-ltb, le-leb, lt-leb, leb-true}
 use Rattle.closed_meshes.specs.Renumbering.{sumTo}
 use Rattle.tables.specs.Mesh.{Mesh, none, faceStart, corner}
 use Rattle.audited_meshes.specs.Folds.{every, distinct}
-use Rattle.audited_meshes.specs.Walks.{Walk, back, lost, passed, firstPoint, acwOfFace, borders, faceWalk}
+use Rattle.audited_meshes.specs.Walks.{Walk, back, lost, passed, firstPoint, faceWalk}
 use Rattle.audited_meshes.specs.Quick.{faceFit, faceBack}
 use Rattle.walks.specs.declared.FaceBorder.{FaceBorder}
 use Rattle.walks.specs.Border.{borderOf, border}
@@ -143,7 +143,7 @@ module _ (m : Mesh) (ne : ℕ) where
       added-more p = record {
         all-back = every-more f come (h .all-back) (is-some .0);
         added = sumTo-more size f sum (h .added) n (e ∙ is-some .1);
-        not-past = p
+        not-past = p;
       }
 
   pub added-all : (nf total f sum : ℕ) → Added total f sum → nf ≡ f → eqb sum total ≡ facesWalked m ne nf total

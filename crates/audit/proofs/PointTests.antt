@@ -1,17 +1,17 @@
 -- The test of one point: what each of its tests decides. Assumes nothing.
-use mathlib.Core.Path.{_≡_, refl, sym, _∙_, ap}
+use mathlib.Core.Path.{_≡_, refl, _∙_, ap}
 use mathlib.Core.Bool.{Bool, true, false, _&&_, _||_}
 use Prim.Native.Nat.{ℕ, _<_, _≤_}
-use lib.Dec.{eqb, ltb, leb}
+use lib.Dec.{eqb, ltb}
 use lib.Ieee.Scale.{finite}
 use borrow.Author.Tests.{lt-ltb, le-ltb, le-leb, lt-leb}
 use Rattle.tables.specs.Mesh.{Mesh, x, y, z, valence, start, mark}
 use Rattle.audited_meshes.specs.Walks.{Walk, back, lost}
 use Rattle.audited_meshes.specs.Quick.{pointFit, pointBack}
-use Rattle.walks.specs.declared.Passed
 use Rattle.walks.specs.declared.Passed.{Passed}
 use Rattle.walks.specs.Steps.{passedBy}
 use Rattle.audit.proofs.Laws.{and-false, and-assoc}
+use Rattle.walks.specs.declared.Passed
 
 module _ (m : Mesh) (ne p : ℕ) where
   -- its coordinates are finite

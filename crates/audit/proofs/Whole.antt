@@ -6,10 +6,10 @@
 --                       counts, of the rows and of the walks
 use mathlib.Core.Path.{_≡_, refl, sym, _∙_, ap, ap₂}
 use mathlib.Core.Bool.{Bool, true, false, not, _&&_, cond}
-use mathlib.Core.List.{List, [], map}
-use Prim.Native.Nat.{ℕ, zero, suc, _+_, _*_, _/_, _<_, _≤_, min}
+use mathlib.Core.List.{List, []}
+use Prim.Native.Nat.{ℕ, zero, suc, _*_, _<_, _≤_}
 use native.Mathlib.Omega.{arith}
-use lib.Dec.{eqb, ltb, leb}
+use lib.Dec.{eqb, leb}
 use lib.ListN.{length}
 use lib.Ieee.{Float}
 use borrow.Author.Tests.{le-leb, lt-leb}
@@ -55,7 +55,7 @@ module _ (m : Mesh) (np ne nf : ℕ) where
         points-fit = omega (arith, c .0 .0);
         edges-fit = omega (arith, c .0 .1);
         intervals-fit = omega (arith, c .0 .1);
-        faces-fit = omega (arith, c .1)
+        faces-fit = omega (arith, c .1);
       }
 
 -- the tests of the quick form, in three groups
@@ -194,10 +194,10 @@ module _ (xs : List Float) (ps es : List ℕ) (is : List Float) (fs : List ℕ) 
   ends-below np ne nf h e l =
       let m : Mesh = edgeRows es is in
       let edges : every ne (λ e. edgeFit m np ne nf e) ≡ true =
-        and-is (and-is (self-is (every np (λ p. pointFit (pointRows xs ps) ne p))) (self-is (every ne (λ e. edgeFit m np ne nf e))))
-          (self-is (every nf (λ f. faceFit (faceTables [] fs) np ne f))) .0 h .0 .1 in
+      and-is (and-is (self-is (every np (λ p. pointFit (pointRows xs ps) ne p))) (self-is (every ne (λ e. edgeFit m np ne nf e))))
+      (self-is (every nf (λ f. faceFit (faceTables [] fs) np ne f))) .0 h .0 .1 in
       let edge : edgeFit m np ne nf e ≡ true = every-is ne (λ k. self-is (edgeFit m np ne nf k)) .0 edges e l in
       let r = edgeInRange-is m np ne nf e .0
-        (and-is (and-is (and-is (and-is (self-is (edgeInRange m np ne nf e)) (self-is (intervalFit (interval m e))))
-          (self-is (not (eqb (origin m e) (dest m e))))) (self-is (not (eqb (leftFace m e) (rightFace m e))))) (self-is (linked m e)) .0 edge .0 .0 .0 .0) in
+      (and-is (and-is (and-is (and-is (self-is (edgeInRange m np ne nf e)) (self-is (intervalFit (interval m e))))
+      (self-is (not (eqb (origin m e) (dest m e))))) (self-is (not (eqb (leftFace m e) (rightFace m e))))) (self-is (linked m e)) .0 edge .0 .0 .0 .0) in
       (r .origin-in-range, r .dest-in-range)

@@ -7,24 +7,14 @@ ghost use lib.Dec.{ltb};
 ghost use lib.ListN.{length};
 ghost use Rattle.tables.specs.Mesh.{origin, dest, leftCw, leftAcw, rightCw, rightAcw};
 ghost use Rattle.audited_meshes.specs.Folds.{every};
-ghost use Rattle.audited_meshes.specs.Audit.{intervalFit, edgeInRange, linked, acwLinks};
+ghost use Rattle.audited_meshes.specs.Audit.{edgeInRange, linked, acwLinks};
 ghost use Rattle.audited_meshes.specs.Quick.{edgeFit, free, aloneAt, oneEdge};
 ghost use Rattle.walks.specs.Steps.{faceTables, pointTables};
 ghost use Rattle.audit.specs.Parts.{edgeRows, linksBack};
-use positions::is_finite;
+use intervals::interval_fits;
 use tables::index;
 use walks::t_nurcc_control_point::acw_of_point;
 use walks::t_nurcc_control_point::touches;
-
-// Whether an interval is finite with its sign bit clear.
-pub fn interval_fit(d: f64) -> bool
-    ensures { λ r. ⌜ r ≡ intervalFit d ⌝ }
-{
-    if !is_finite(d) {
-        return false;
-    }
-    f64::to_bits(d) < 9223372036854775808
-}
 
 // Whether two row numbers are below n and two below k.
 pub fn are_below(a: u32, b: u32, c: u32, d: u32, n: usize, k: usize) -> bool
@@ -49,7 +39,14 @@ pub fn edge_in_range(edges: &[u32], np: usize, ne: usize, nf: usize, e: usize) -
 {
     let b = e * 8;
     if are_below(edges[b], edges[b + 1], edges[b + 2], edges[b + 3], np, nf) {
-        return are_below(edges[b + 4], edges[b + 5], edges[b + 6], edges[b + 7], ne, ne);
+        return are_below(
+            edges[b + 4],
+            edges[b + 5],
+            edges[b + 6],
+            edges[b + 7],
+            ne,
+            ne,
+        );
     }
     false
 }
@@ -119,7 +116,7 @@ pub fn edge_fit(edges: &[u32], intervals: &[f64], np: usize, ne: usize, nf: usiz
     if !edge_in_range(edges, np, ne, nf, e) {
         return false;
     }
-    if !interval_fit(intervals[e]) {
+    if !interval_fits(intervals[e]) {
         return false;
     }
     if edges[b] == edges[b + 1] {

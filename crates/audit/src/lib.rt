@@ -28,7 +28,14 @@ mod faces;
 mod points;
 
 // Whether the counts fit the lent rows.
-pub fn counts_fit(positions: &[f64], points: &[u32], edges: &[u32], intervals: &[f64], faces: &[u32], counts: Counts) -> bool
+pub fn counts_fit(
+    positions: &[f64],
+    points: &[u32],
+    edges: &[u32],
+    intervals: &[f64],
+    faces: &[u32],
+    counts: Counts,
+) -> bool
     ensures { λ r. ⌜ r ≡ countsFit (meshOf (now (positions .entry)) (now (points .entry)) (now (edges .entry)) (now (intervals .entry)) (now (faces .entry))) (counts .points) (counts .edges) (counts .faces) ⌝ }
 {
     if point_rows(positions, points) < counts.points {
@@ -41,7 +48,14 @@ pub fn counts_fit(positions: &[f64], points: &[u32], edges: &[u32], intervals: &
 }
 
 // The tests of single rows.
-pub fn rows_fit(positions: &[f64], points: &[u32], edges: &[u32], intervals: &[f64], faces: &[u32], counts: Counts) -> bool
+pub fn rows_fit(
+    positions: &[f64],
+    points: &[u32],
+    edges: &[u32],
+    intervals: &[f64],
+    faces: &[u32],
+    counts: Counts,
+) -> bool
     requires { ⌜ counts .points * 3 ≤ length (now positions) ⌝ }
     requires { ⌜ counts .points * 3 ≤ length (now points) ⌝ }
     requires { ⌜ counts .edges * 8 ≤ length (now edges) ⌝ }
@@ -86,7 +100,14 @@ pub fn walks_fit(points: &[u32], edges: &[u32], faces: &[u32], counts: Counts) -
 }
 
 // Whether the tables are a closed mesh.
-pub fn audit(positions: &[f64], points: &[u32], edges: &[u32], intervals: &[f64], faces: &[u32], counts: Counts) -> bool
+pub fn audit(
+    positions: &[f64],
+    points: &[u32],
+    edges: &[u32],
+    intervals: &[f64],
+    faces: &[u32],
+    counts: Counts,
+) -> bool
     ensures { λ r. ⌜ r ≡ audit (meshOf (now (positions .entry)) (now (points .entry)) (now (edges .entry)) (now (intervals .entry)) (now (faces .entry))) (counts .points) (counts .edges) (counts .faces) ⌝ }
 {
     if !counts_fit(positions, points, edges, intervals, faces, counts) {

@@ -11,7 +11,11 @@ use tables::Counts;
 fn byte(bytes: &[u8], at: usize) -> u64
     ensures { λ r. ⌜ r < 256 ⌝ }
 {
-    if at < bytes.len() { bytes[at] as u64 } else { 0 }
+    if at < bytes.len() {
+        bytes[at] as u64
+    } else {
+        0
+    }
 }
 
 // The word of 4 bytes at a place.
@@ -19,7 +23,10 @@ fn word(bytes: &[u8], at: usize) -> u64
     requires { ⌜ at ≤ 8589934592 ⌝ }
     ensures { λ r. ⌜ r < 4294967296 ⌝ }
 {
-    byte(bytes, at) + byte(bytes, at + 1) * 256 + byte(bytes, at + 2) * 65536 + byte(bytes, at + 3) * 16777216
+    byte(bytes, at)
+        + byte(bytes, at + 1) * 256
+        + byte(bytes, at + 2) * 65536
+        + byte(bytes, at + 3) * 16777216
 }
 
 // The number of 8 bytes at a place.
@@ -81,7 +88,16 @@ fn size(bytes: &[u8], at: usize, most: usize) -> usize
 }
 
 // Whether the mesh at a place is closed. Its tables have these lengths.
-fn is_closed(bytes: &[u8], at: usize, counts: Counts, xs: usize, ps: usize, es: usize, ds: usize, fs: usize) -> bool
+fn is_closed(
+    bytes: &[u8],
+    at: usize,
+    counts: Counts,
+    xs: usize,
+    ps: usize,
+    es: usize,
+    ds: usize,
+    fs: usize,
+) -> bool
     requires { ⌜ at ≤ 1073741824 ⌝ }
     requires { ⌜ xs ≤ 330 ⌝ }
     requires { ⌜ ps ≤ 330 ⌝ }
@@ -103,7 +119,14 @@ fn is_closed(bytes: &[u8], at: usize, counts: Counts, xs: usize, ps: usize, es: 
     fill_words(bytes, c, &mut edges);
     fill_numbers(bytes, d, &mut intervals);
     fill_words(bytes, e, &mut faces);
-    audit::audit(&positions[..xs], &points[..ps], &edges[..es], &intervals[..ds], &faces[..fs], counts)
+    audit::audit(
+        &positions[..xs],
+        &points[..ps],
+        &edges[..es],
+        &intervals[..ds],
+        &faces[..fs],
+        counts,
+    )
 }
 
 // Tells of the mesh at a place, and gives the place of the next one.

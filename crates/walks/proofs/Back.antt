@@ -4,16 +4,15 @@
 --     back-next        the step from each goes to the next, from the last to the start
 --     back-within      they are no more than the bound
 --     faceWalk-within  about a face, no more than 64
-use mathlib.Core.Path.{_≡_, refl, sym, _∙_, ap, subst}
+use mathlib.Core.Path.{_≡_, refl, sym, _∙_}
 use mathlib.Core.Bool.{Bool, true, false, _&&_}
 use mathlib.Core.List.{List, [], _∷_, _++_}
-use mathlib.Core.Logic.{_≢_}
 use Prim.Native.Nat.{ℕ, zero, suc, _+_, _<_, _≤_}
 use native.Mathlib.Nat.{le-of-suc-le-suc}
 use native.Mathlib.Omega.{arith}
+use native.Mathlib.Numerals.{add-one}
 use lib.Dec.{ltb}
 use lib.ListN.{length, getD, List·getD-append}
-use native.Mathlib.Numerals.{add-one}
 use Rattle.tables.specs.Mesh.{Mesh, faceStart}
 use Rattle.audited_meshes.specs.Walks.{Walk, back, lost, passed, walk, acwOfFace, borders, faceWalk}
 use Rattle.audited_meshes.specs.Audited.{Passes, last, more}

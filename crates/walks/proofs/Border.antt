@@ -1,15 +1,15 @@
 -- The loop of `border`, over plain variables. The walk about face f of the mesh m, along the edges below ne, has passed n edges
 -- and come to e; es and ps are the arrays. Assumes nothing.
-use mathlib.Core.Path.{_≡_, refl, sym, _∙_, ap, ap₂, subst}
-use mathlib.Core.Bool.{Bool, true, false, _&&_}
+use mathlib.Core.Path.{_≡_, refl, sym, _∙_, ap, subst}
+use mathlib.Core.Bool.{Bool, true, _&&_}
 use mathlib.Core.List.{List, [], _∷_, _++_, map}
 use mathlib.Core.Logic.{_≢_}
-use Prim.Native.Nat.{ℕ, zero, suc, _+_, _-_, _<_, _≤_}
+use Prim.Native.Nat.{ℕ, _+_, _<_, _≤_}
 use native.Mathlib.Omega.{arith}
-use lib.Dec.{eqb, ltb}
-use lib.ListN.{length, getD, set, replicate, length-append, length-map}
+use lib.Dec.{ltb}
+use lib.ListN.{length, set, length-append, length-map}
 use Rattle.tables.specs.Mesh.{Mesh, faceStart}
-use Rattle.audited_meshes.specs.Walks.{Walk, back, lost, borders, acwOfFace, firstPoint, faceWalk, walk}
+use Rattle.audited_meshes.specs.Walks.{back, lost, borders, acwOfFace, firstPoint, faceWalk}
 use Rattle.walks.specs.declared.Step.the-variants.{To, Lost}
 use Rattle.walks.specs.declared.FaceBorder.{FaceBorder}
 use Rattle.walks.specs.Steps.{toIf}

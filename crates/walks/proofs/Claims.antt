@@ -1,28 +1,26 @@
 -- What is proved of walks. Assumes nothing.
-use mathlib.Core.Path.{_≡_, refl, sym, _∙_, ap, subst}
+use mathlib.Core.Path.{_≡_, refl, sym, _∙_, ap}
 use mathlib.Core.Bool.{Bool, true, false, _&&_}
-use mathlib.Core.List.{List, [], _∷_}
-use mathlib.Core.Logic.{_≢_}
+use mathlib.Core.List.{List}
 use Prim.Native.Nat.{ℕ, zero, suc, _<_, _≤_}
 use native.Mathlib.Omega.{arith}
-use lib.Dec.{eqb, ltb}
+use lib.Dec.{ltb}
 use lib.ListN.{length}
 use borrow.Author.Tests.{eq-eqb, ne-eqb}
-use Rattle.tables.specs.Mesh.{Mesh, valence, start, faceStart}
+use Rattle.tables.specs.Mesh.{Mesh, start, faceStart}
 use Rattle.audited_meshes.specs.Folds.{one, occurrences}
-use Rattle.audited_meshes.specs.Walks.{Walk, back, walk, borders, touches, acwOfFace, acwOfPoint, faceWalk, pointWalk}
-use Rattle.audited_meshes.specs.Audited.{Audited, Passes, last, more, Borders, Touches, FaceWalked, PointWalked}
+use Rattle.audited_meshes.specs.Walks.{back, borders, touches, acwOfFace, acwOfPoint, faceWalk, pointWalk}
+use Rattle.audited_meshes.specs.Audited.{Passes, last, more, Borders, Touches, FaceWalked, PointWalked}
 use Rattle.audited_meshes.proofs.Tests.{self-is}
 use Rattle.audited_meshes.proofs.Folds.{sumTo-cong, length-sumTo}
 use Rattle.audited_meshes.proofs.Walks.{passes-on, walk-of-passes, passes-of-walk}
 use Rattle.audited_meshes.proofs.Audited.{borders-is, on-face-is, on-point-is}
-use Rattle.walks.specs.declared.FoundEdge.{FoundEdge}
 use Rattle.walks.specs.declared.FoundEdge.the-variants.{Nowhere}
-use Rattle.walks.specs.declared.Passed
 use Rattle.walks.specs.declared.Passed.{Passed}
 use Rattle.walks.specs.Steps.{passedBy}
-use Rattle.walks.specs.Neighbour.{seek, edgeTo, foundIf}
+use Rattle.walks.specs.Neighbour.{seek, edgeTo}
 use Rattle.walks.specs.Claims.{perimeter, firstOf, CountIsPerimeter, CountIsValence, FirstFound}
+use Rattle.walks.specs.declared.Passed
 
 -- a walk that passes each edge of its face, and no other, passes as many as there are
 module _ (m : Mesh) (ne f : ℕ) (w : FaceWalked m ne f) where

@@ -2,20 +2,20 @@
 --     Counted n e                  n edges are passed and the walk has come to e
 --     counted-start, counted-more  before the first turn, and after one turn more
 --     counted-last, counted-lost, counted-out      what the loop answers where the walk ends
-use mathlib.Core.Path.{_≡_, refl, sym, _∙_, ap, subst}
-use mathlib.Core.Bool.{Bool, true, false}
+use mathlib.Core.Path.{_≡_, sym, _∙_, ap, subst}
+use mathlib.Core.Bool.{Bool, false}
 use mathlib.Core.List.{List, [], _∷_, _++_}
 use mathlib.Core.Logic.{_≢_}
-use Prim.Native.Nat.{ℕ, zero, suc, _+_, _-_, _<_, _≤_}
+use Prim.Native.Nat.{ℕ, _+_, _<_, _≤_}
 use native.Mathlib.Omega.{arith}
-use lib.ListN.{length, length-append}
+use lib.ListN.{length-append}
 use Rattle.audited_meshes.specs.Walks.{Walk, walk}
 use Rattle.walks.specs.declared.Step.the-variants.{To, Lost}
-use Rattle.walks.specs.declared.Passed
 use Rattle.walks.specs.declared.Passed.{Passed}
 use Rattle.walks.specs.Steps.{toIf, passedBy}
 use Rattle.walks.proofs.Steps.{to-is, lost-is}
 use Rattle.walks.proofs.Walking.{Walking, walking-start, walking-more, walking-lost, walking-last, walking-out}
+use Rattle.walks.specs.declared.Passed
 
 module _ (step : ℕ → ℕ) (on : ℕ → Bool) (s k : ℕ) (w : Walk) where
   pub record Counted (n e : ℕ) : Type 0 where
@@ -33,7 +33,7 @@ module _ (step : ℕ → ℕ) (on : ℕ → Bool) (s k : ℕ) (w : Walk) where
         subst (λ i. Counted (n + 1) i) (t .2) record {
           within = omega arith;
           edges = h .edges ++ e ∷ [];
-          way = walking-more step on s k w (h .edges) n e (h .way) l (t .0) (λ q. b (sym (t .2) ∙ q))
+          way = walking-more step on s k w (h .edges) n e (h .way) l (t .0) (λ q. b (sym (t .2) ∙ q));
         }
 
     pub counted-last : (q p next : ℕ) → To p next ≡ toIf (on e) q (step e) → n < k → next ≡ s → Passed.Back (n + 1) ≡ passedBy w

@@ -1,22 +1,21 @@
 -- The loop of `radial_edges`, over plain variables. The walk about point p of the mesh m comes back; i of its n edges are stored in
 -- the words xs, which began as xs₀, and e is the next. Assumes nothing.
-use mathlib.Core.Path.{_≡_, refl, sym, _∙_, ap, ap₂, subst}
-use mathlib.Core.Bool.{Bool, true, false, _&&_}
+use mathlib.Core.Path.{_≡_, refl, sym, _∙_, ap, ap₂}
+use mathlib.Core.Bool.{Bool, true, _&&_}
 use mathlib.Core.List.{List, [], _∷_, _++_}
-use Prim.Native.Nat.{ℕ, zero, suc, _+_, _*_, _<_, _≤_}
+use Prim.Native.Nat.{ℕ, _+_, _<_, _≤_}
 use native.Mathlib.Omega.{arith}
-use lib.Dec.{ltb, eqb}
+use lib.Dec.{ltb}
 use lib.ListN.{length, getD, set, length-set, List·getD-append}
-use borrow.Author.Tests.{ltb-true}
 use Rattle.tables.specs.Mesh.{Mesh, start}
 use Rattle.tables.specs.Rows.{over}
 use Rattle.tables.proofs.Laws.{over-none, over-more}
 use Rattle.audited_meshes.specs.Walks.{Walk, back, lost, acwOfPoint, touches, pointWalk}
 use Rattle.audited_meshes.proofs.Tests.{and-is, ltb-is, self-is}
-use Rattle.walks.specs.declared.Passed
 use Rattle.walks.specs.declared.Passed.{Passed}
 use Rattle.walks.specs.Steps.{passedBy, radialOver}
 use Rattle.walks.proofs.Back.{back-first, back-on, back-next, back-within}
+use Rattle.walks.specs.declared.Passed
 
 -- a walk of which so many edges are answered comes back
 pub record CameBack (w : Walk) (n : ℕ) : Type 0 where
@@ -54,7 +53,7 @@ module _ (m : Mesh) (ne p n : ℕ) (xs₀ : List ℕ) where
         whole = w;
         same-length = refl;
         stands = sym (over-none (w .edges) xs₀);
-        here = sym (List·getD-append (w .edges) (start m p ∷ []) 0 0 (f .1) ∙ f .0)
+        here = sym (List·getD-append (w .edges) (start m p ∷ []) 0 0 (f .1) ∙ f .0);
       }
 
   module _ (xs : List ℕ) (i e : ℕ) (h : Radial xs i e) (l : i < n) where
@@ -83,7 +82,7 @@ module _ (m : Mesh) (ne p n : ℕ) (xs₀ : List ℕ) where
       whole = h .whole;
       same-length = length-set xs i e ∙ h .same-length;
       stands = ap₂ (λ (t : List ℕ) (v : ℕ). set t i v) (h .stands) at ∙ over-more i (h .whole .edges) xs₀ 0 long (omega (arith, radial-place, h .same-length));
-      here = to ∙ ap (acwOfPoint m p) at ∙ back-next (acwOfPoint m p) on (start m p) (length xs₀) (h .whole .edges) (h .whole .came) i long
+      here = to ∙ ap (acwOfPoint m p) at ∙ back-next (acwOfPoint m p) on (start m p) (length xs₀) (h .whole .edges) (h .whole .came) i long;
     }
 
   pub radial-end : (xs : List ℕ) (i e : ℕ) → Radial xs i e → n ≤ i → xs ≡ radialOver (pointWalk m ne (length xs₀) p) xs₀

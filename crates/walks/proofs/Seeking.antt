@@ -8,7 +8,6 @@ use mathlib.Core.Bool.{Bool, true, false}
 use mathlib.Core.Logic.{_≢_}
 use Prim.Native.Nat.{ℕ, zero, suc, _+_, _-_, _<_, _≤_}
 use native.Mathlib.Omega.{arith}
-use lib.Dec.{eqb}
 use borrow.Author.Tests.{eq-eqb, ne-eqb}
 use Rattle.walks.specs.declared.Step.the-variants.{To, Lost}
 use Rattle.walks.specs.declared.FoundEdge.{FoundEdge}
@@ -43,7 +42,7 @@ module _ (step : ℕ → ℕ) (on test : ℕ → Bool) (s k : ℕ) (r : FoundEdg
           let t = to-is (on e) q (step e) p next to in
           subst (λ i. Sought (n + 1) i) (t .2) record {
             within = omega arith;
-            rest = h .rest ∙ rw (less-one k n l, t .0, b, ne-eqb (step e) s (λ z. d (sym (t .2) ∙ z)))
+            rest = h .rest ∙ rw (less-one k n l, t .0, b, ne-eqb (step e) s (λ z. d (sym (t .2) ∙ z)));
           }
 
       pub sought-last : test e ≡ false → next ≡ s → Nowhere ≡ r

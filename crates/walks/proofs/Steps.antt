@@ -1,10 +1,10 @@
 -- What the answer of a step says of its test. Assumes nothing.
 use mathlib.Core.Path.{_≡_, refl}
 use mathlib.Core.Bool.{Bool, true, false, _&&_}
-use lib.Dec.{ltb}
-use Rattle.audited_meshes.proofs.Tests.{and-is, ltb-is, self-is}
 use Prim.Native.Nat.{ℕ, _<_}
 use native.Mathlib.Omega.{arith}
+use lib.Dec.{ltb}
+use Rattle.audited_meshes.proofs.Tests.{and-is, ltb-is, self-is}
 use Rattle.walks.specs.declared.Step.the-variants.{To, Lost}
 use Rattle.walks.specs.Steps.{toIf}
 

@@ -16,9 +16,9 @@ use Rattle.audited_meshes.specs.Audited.{Audited}
 use Rattle.walks.specs.declared.FoundEdge.{FoundEdge}
 use Rattle.walks.specs.declared.FoundEdge.the-variants.{Nowhere}
 use Rattle.walks.specs.declared.Passed.{Passed}
-use Rattle.walks.specs.declared.Passed
 use Rattle.walks.specs.Steps.{passedBy}
 use Rattle.walks.specs.Neighbour.{foundIf, edgeTo}
+use Rattle.walks.specs.declared.Passed
 
 unfoldable pub perimeter : Mesh → ℕ → ℕ → ℕ
 unfolding sumTo

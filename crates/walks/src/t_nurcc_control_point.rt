@@ -14,7 +14,13 @@ use crate::t_nurcc_iter::point_walk;
 use tables::index;
 
 // The edges about point p, anticlockwise from its start edge, in the lent words: as many as the walk passes, none if it is lost.
-pub fn radial_edges(edges: &[u32], points: &[u32], ne: usize, p: usize, radial: &mut [u32]) -> Passed
+pub fn radial_edges(
+    edges: &[u32],
+    points: &[u32],
+    ne: usize,
+    p: usize,
+    radial: &mut [u32],
+) -> Passed
     requires { ⌜ ne * 8 ≤ length (now edges) ⌝ }
     requires { ⌜ p * 3 + 3 ≤ length (now points) ⌝ }
     ensures { λ r. ⌜ r ≡ passedBy (pointWalk (pointTables (now (points .entry)) (now (edges .entry))) ne (length (now (radial .entry))) p) ⌝ }
@@ -59,7 +65,14 @@ pub fn touches(edges: &[u32], p: usize, e: usize) -> bool
 }
 
 // The first edge about point p, of at most k from its start edge, that touches point q too.
-pub fn edge_from_opposing_point(edges: &[u32], points: &[u32], ne: usize, k: usize, p: usize, q: usize) -> FoundEdge
+pub fn edge_from_opposing_point(
+    edges: &[u32],
+    points: &[u32],
+    ne: usize,
+    k: usize,
+    p: usize,
+    q: usize,
+) -> FoundEdge
     requires { ⌜ ne * 8 ≤ length (now edges) ⌝ }
     requires { ⌜ p * 3 + 3 ≤ length (now points) ⌝ }
     ensures { λ r. ⌜ r ≡ edgeTo (pointTables (now (points .entry)) (now (edges .entry))) ne k p q ⌝ }

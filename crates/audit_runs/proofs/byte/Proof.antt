@@ -3,8 +3,6 @@ use native.Mathlib.Omega.{arith}
 use borrow.Author.Needs.{needs}
 use Rattle.audit_runs.proofs.byte.Statement.{statement}
 use Rattle.audit_runs.proofs.byte.Tie as tie
-use Rattle.audit_runs.proofs.byte.Reads as reads
-use Rattle.audit_runs.proofs.byte.Lts as lts
 
 -- src/main.rt:13:27
 shared-slice-read-result : tie.Need-shared-slice-read-result

@@ -1,13 +1,9 @@
 use Prim.Native.Nat.{_≤_, _-_}
-use mathlib.Core.Path.{_≡_, refl, _∙_, sym}
-use native.Mathlib.Omega.{arith}
-use lib.ListN.{length, length-set}
+use mathlib.Core.Path.{_≡_}
+use lib.ListN.{length}
 use borrow.Author.Needs.{needs}
 use Rattle.audit_runs.proofs.fill_numbers.Statement.{statement}
 use Rattle.audit_runs.proofs.fill_numbers.Tie as tie
-use Rattle.audit_runs.proofs.fill_numbers.Reads as reads
-use Rattle.audit_runs.proofs.fill_numbers.Lts as lts
-use Rattle.audit_runs.proofs.number.Reads as number-reads
 
 abbrev Inv-loop : tie.InvT-loop
 Inv-loop bytes at numbers₀ n i₀ numbers i = (i ≤ n) × (length numbers ≡ length numbers₀) × (n ≡ length numbers₀)

@@ -1,13 +1,9 @@
 use Prim.Native.Nat.{_≤_, _-_}
-use mathlib.Core.Path.{_≡_, refl, _∙_, sym}
-use native.Mathlib.Omega.{arith}
-use lib.ListN.{length, length-set}
+use mathlib.Core.Path.{_≡_}
+use lib.ListN.{length}
 use borrow.Author.Needs.{needs}
 use Rattle.audit_runs.proofs.fill_words.Statement.{statement}
 use Rattle.audit_runs.proofs.fill_words.Tie as tie
-use Rattle.audit_runs.proofs.fill_words.Reads as reads
-use Rattle.audit_runs.proofs.fill_words.Lts as lts
-use Rattle.audit_runs.proofs.word.Reads as word-reads
 
 abbrev Inv-loop : tie.InvT-loop
 Inv-loop bytes at words₀ n i₀ words i = (i ≤ n) × (length words ≡ length words₀) × (n ≡ length words₀)

@@ -1,15 +1,10 @@
 -- is_closed meets its contract: each part that is lent is as long as asked.
-use native.Mathlib.Omega.{arith}
 use mathlib.Core.Path.{sym}
+use native.Mathlib.Omega.{arith}
 use lib.Seq.{length-take-le}
 use borrow.Author.Needs.{needs}
 use Rattle.audit_runs.proofs.is_closed.Statement.{statement}
 use Rattle.audit_runs.proofs.is_closed.Tie as tie
-use Rattle.audit_runs.proofs.is_closed.Reads as reads
-use Rattle.audit_runs.proofs.is_closed.Lts as lts
-use Rattle.audit.proofs.audit.Reads as audit-reads
-use Rattle.audit_runs.proofs.fill_numbers.Reads as fill-numbers-reads
-use Rattle.audit_runs.proofs.fill_words.Reads as fill-words-reads
 
 -- src/main.rt:97:18
 mul-b : tie.Need-mul-b

@@ -1,9 +1,6 @@
 use borrow.Author.Needs.{needs}
 use Rattle.audit_runs.proofs.long.Statement.{statement}
 use Rattle.audit_runs.proofs.long.Tie as tie
-use Rattle.audit_runs.proofs.long.Reads as reads
-use Rattle.audit_runs.proofs.long.Lts as lts
-use Rattle.audit_runs.proofs.word.Reads as word-reads
 
 -- src/main.rt:28:9
 word-requires : tie.Need-word-requires

@@ -1,16 +1,13 @@
 -- number meets its contract: no pattern of a NaN is read.
+use mathlib.Core.Bool.{Bool, not}
+use mathlib.Core.Path.{sym, _∙_, subst}
 use borrow.Author.Tests.{le-ltb}
 use lib.Ieee.Bits.{nanBits-above}
 use lib.Ieee.{binary64}
 use lib.Dec.{T}
-use mathlib.Core.Bool.{Bool, not}
-use mathlib.Core.Path.{sym, _∙_, subst}
 use borrow.Author.Needs.{needs}
 use Rattle.audit_runs.proofs.number.Statement.{statement}
 use Rattle.audit_runs.proofs.number.Tie as tie
-use Rattle.audit_runs.proofs.number.Reads as reads
-use Rattle.audit_runs.proofs.number.Lts as lts
-use Rattle.audit_runs.proofs.long.Reads as long-reads
 
 -- src/main.rt:37:9
 long-requires : tie.Need-long-requires

@@ -1,14 +1,9 @@
 -- tell_all meets its contract. The invariant: the meshes told of have at most 32,768 bytes each; the measure is what is left of the
 -- turns.
 use Prim.Native.Nat.{_≤_, _-_, _*_}
-use native.Mathlib.Omega.{arith}
 use borrow.Author.Needs.{needs}
 use Rattle.audit_runs.proofs.tell_all.Statement.{statement}
 use Rattle.audit_runs.proofs.tell_all.Tie as tie
-use Rattle.audit_runs.proofs.tell_all.Reads as reads
-use Rattle.audit_runs.proofs.tell_all.Lts as lts
-use Rattle.audit_runs.proofs.tell.Reads as tell-reads
-use Rattle.io.proofs.write_all.Reads as write-all-reads
 
 abbrev Inv-loop : tie.InvT-loop
 Inv-loop bytes at₀ turn₀ at turn = (turn ≤ 4096) × (at ≤ turn * 32768)

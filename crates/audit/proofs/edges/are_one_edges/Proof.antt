@@ -4,11 +4,11 @@ use mathlib.Core.Path.{_≡_, sym, _∙_}
 use mathlib.Core.Bool.{true}
 use native.Mathlib.Omega.{arith}
 use borrow.Author.Tests.{not-true, not-false}
+use borrow.Author.Needs.{needs}
 use Rattle.audited_meshes.specs.Folds.{every}
 use Rattle.audit.proofs.Laws.{every-none, every-more, every-stop, every-all}
 use Rattle.audited_meshes.specs.Quick.{oneEdge}
 use Rattle.walks.specs.Steps.{pointTables}
-use borrow.Author.Needs.{needs}
 use Rattle.audit.proofs.edges.are_one_edges.Statement.{statement}
 use Rattle.audit.proofs.edges.are_one_edges.Tie as tie
 
@@ -22,7 +22,7 @@ loop-holds : tie.Need-loop-holds Inv-loop μ-loop
 loop-holds c = (omega arith, every-none _)
 
 is-one-edge-requires : tie.Need-is-one-edge-requires Inv-loop μ-loop
-is-one-edge-requires c κs = 
+is-one-edge-requires c κs =
     let ends = c .before .before .before .before .pre .1 .1 (c .before .loop .e) (c .loop-test .taken) in
     (search needs, (search needs, (search needs, (ends .0, ends .1))))
 

@@ -1,12 +1,11 @@
 -- is_alone meets its contract. The invariant: what is left of the search is the whole; the measure is what is left of the valence.
 use Prim.Native.Nat.{_-_}
-use mathlib.Core.Path.{sym, _∙_, ap}
+use mathlib.Core.Path.{sym, _∙_}
 use native.Mathlib.Omega.{arith}
 use borrow.Author.Tests.{not-true, not-false}
-use Rattle.audited_meshes.specs.Walks.{acwOfPoint}
+use borrow.Author.Needs.{needs}
 use Rattle.walks.specs.Steps.{pointTables}
 use Rattle.audit.proofs.Alone.{Lonely, lonely-start, lonely-more, lonely-stop, lonely-end, free-below}
-use borrow.Author.Needs.{needs}
 use Rattle.audit.proofs.edges.is_alone.Statement.{statement}
 use Rattle.audit.proofs.edges.is_alone.Tie as tie
 
@@ -17,14 +16,17 @@ abbrev μ-loop : tie.MeasureT-loop
 μ-loop points edges ne e p q k i₀ n₀ i n = k - n
 
 loop-holds : tie.Need-loop-holds Inv-loop μ-loop
-loop-holds c = lonely-start (pointTables (c .before .before .before .before .before .before .args .points .now) (c .before .before .before .before .before .before .args .edges .now)) (c .before .before .before .before .before .before .args .ne) (c .before .before .before .before .before .before .args .e) (c .before .before .before .before .before .before .args .p) (c .before .before .before .before .before .before .args .q) _ _ (c .before .before .index .ensures) (c .index2 .ensures)
+loop-holds c =
+    let a = c .before .before .before .before .before .before .args in
+    lonely-start (pointTables (a .points .now) (a .edges .now)) (a .ne) (a .e) (a .p) (a .q) _ _ (c .before .before .index .ensures) (c .index2 .ensures)
 
 returns : tie.Need-returns Inv-loop μ-loop
 returns c = lonely-stop _ _ _ _ _ _ _ _ (c .before .before .before .loop .inv) (c .before .before .loop-test .taken) (sym (c .before .is-free .ensures) ∙ not-true _ (c .if1 .taken))
 
 acw-of-point-requires : tie.Need-acw-of-point-requires Inv-loop μ-loop
-acw-of-point-requires c κs = 
-    let l = free-below (pointTables (c .before .before .before .before .before .before .before .before .before .before .args .points .now) (c .before .before .before .before .before .before .before .before .before .before .args .edges .now)) (c .before .before .before .before .before .before .before .before .before .before .args .ne) (c .before .before .before .before .before .before .before .before .before .before .args .e) (c .before .before .before .before .before .before .before .before .before .before .args .p) (c .before .before .before .before .before .before .before .before .before .before .args .q) (c .before .before .before .loop .i) (sym (c .before .is-free .ensures) ∙ not-false _ (c .if1 .left)) in
+acw-of-point-requires c κs =
+    let a = c .before .before .before .before .before .before .before .before .before .before .args in
+    let l = free-below (pointTables (a .points .now) (a .edges .now)) (a .ne) (a .e) (a .p) (a .q) (c .before .before .before .loop .i) (sym (c .before .is-free .ensures) ∙ not-false _ (c .if1 .left)) in
     omega arith
 
 loop-again : tie.Need-loop-again Inv-loop μ-loop

@@ -1,8 +1,8 @@
 -- links_back meets its contract: its tests are the definition's.
+use Prim.Native.Nat.{ℕ}
+use mathlib.Core.Path.{ap}
 use borrow.Author.Tests.{eq-eqb, ne-eqb}
 use lib.Dec.{eqb}
-use Prim.Native.Nat.{ℕ}
-use mathlib.Core.Path.{sym, _∙_, ap}
 use borrow.Author.Needs.{needs}
 use Rattle.audit.proofs.edges.links_back.Statement.{statement}
 use Rattle.audit.proofs.edges.links_back.Tie as tie

@@ -4,10 +4,10 @@ use mathlib.Core.Path.{_≡_, sym, _∙_}
 use mathlib.Core.Bool.{true}
 use native.Mathlib.Omega.{arith}
 use borrow.Author.Tests.{not-true, not-false}
+use borrow.Author.Needs.{needs}
 use Rattle.audited_meshes.specs.Folds.{every}
 use Rattle.audit.proofs.Laws.{every-none, every-more, every-stop, every-all}
 use Rattle.audit.specs.Parts.{apart}
-use borrow.Author.Needs.{needs}
 use Rattle.audit.proofs.faces.are_distinct.Statement.{statement}
 use Rattle.audit.proofs.faces.are_distinct.Tie as tie
 

@@ -1,11 +1,10 @@
 -- face_walks_fit meets its contract. The invariant: the walks about the first f faces come back, and their sizes add up to the
 -- sum, which is not past the total; the measure is what is left of nf.
 use Prim.Native.Nat.{_≤_, _-_}
-use mathlib.Core.Path.{_≡_, sym, _∙_}
 use native.Mathlib.Omega.{arith}
+use borrow.Author.Needs.{needs}
 use Rattle.walks.specs.Steps.{faceTables}
 use Rattle.audit.proofs.FaceTests.{Added, added-start, added-zero, added-past, added-more, added-all, size-small}
-use borrow.Author.Needs.{needs}
 use Rattle.audit.proofs.faces.face_walks_fit.Statement.{statement}
 use Rattle.audit.proofs.faces.face_walks_fit.Tie as tie
 

@@ -2,14 +2,14 @@
 use Prim.Native.Nat.{_≤_, _-_}
 use mathlib.Core.Path.{_≡_, sym, _∙_}
 use mathlib.Core.Bool.{true}
+use mathlib.Core.List.{[]}
 use native.Mathlib.Omega.{arith}
 use borrow.Author.Tests.{not-true, not-false}
+use borrow.Author.Needs.{needs}
 use Rattle.audited_meshes.specs.Folds.{every}
 use Rattle.audit.proofs.Laws.{every-none, every-more, every-stop, every-all}
-use mathlib.Core.List.{[]}
 use Rattle.audited_meshes.specs.Quick.{faceFit}
 use Rattle.walks.specs.Steps.{faceTables}
-use borrow.Author.Needs.{needs}
 use Rattle.audit.proofs.faces.faces_fit.Statement.{statement}
 use Rattle.audit.proofs.faces.faces_fit.Tie as tie
 

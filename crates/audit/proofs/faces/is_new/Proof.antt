@@ -1,16 +1,13 @@
 -- is_new meets its contract. The invariant: the first j places have other points; the measure is what is left of i.
 use Prim.Native.Nat.{_≤_, _-_}
-use mathlib.Core.Path.{_≡_, sym, _∙_}
-use mathlib.Core.Bool.{true}
+use mathlib.Core.Path.{_≡_, sym, ap}
+use mathlib.Core.Bool.{true, not}
 use native.Mathlib.Omega.{arith}
-use borrow.Author.Tests.{not-true, not-false}
+use borrow.Author.Tests.{eq-eqb, ne-eqb}
+use borrow.Author.Needs.{needs}
 use Rattle.audited_meshes.specs.Folds.{every}
 use Rattle.audit.proofs.Laws.{every-none, every-more, every-stop, every-all}
-use mathlib.Core.Path.{ap}
-use mathlib.Core.Bool.{not}
-use borrow.Author.Tests.{eq-eqb, ne-eqb}
 use Rattle.audit.specs.Parts.{apart}
-use borrow.Author.Needs.{needs}
 use Rattle.audit.proofs.faces.is_new.Statement.{statement}
 use Rattle.audit.proofs.faces.is_new.Tie as tie
 

@@ -1,14 +1,14 @@
 -- points_fit meets its contract. The invariant: the first p points pass; the measure is what is left of np.
 use Prim.Native.Nat.{_≤_, _-_}
-use mathlib.Core.Path.{_≡_, sym, _∙_, ap, subst}
+use mathlib.Core.Path.{_≡_, sym, _∙_}
 use mathlib.Core.Bool.{true}
 use native.Mathlib.Omega.{arith}
 use borrow.Author.Tests.{not-true, not-false}
+use borrow.Author.Needs.{needs}
 use Rattle.audited_meshes.specs.Folds.{every}
 use Rattle.audited_meshes.specs.Quick.{pointFit}
 use Rattle.audit.specs.Parts.{pointRows}
 use Rattle.audit.proofs.Laws.{every-none, every-more, every-stop, every-all}
-use borrow.Author.Needs.{needs}
 use Rattle.audit.proofs.points.points_fit.Statement.{statement}
 use Rattle.audit.proofs.points.points_fit.Tie as tie
 

@@ -1,15 +1,14 @@
 -- valences_fit meets its contract. The invariant: the sum is that of the first p valences and not past the total; the measure is
 -- what is left of np.
-use Prim.Native.Nat.{ℕ, _≤_, _-_, _+_, _*_, _<_}
-use mathlib.Core.Path.{_≡_, sym, _∙_, ap}
+use Prim.Native.Nat.{_≤_, _-_, _*_}
+use mathlib.Core.Path.{_≡_, sym}
 use mathlib.Core.List.{[]}
 use native.Mathlib.Omega.{arith}
-use lib.Dec.{eqb}
+use borrow.Author.Needs.{needs}
 use Rattle.closed_meshes.specs.Renumbering.{sumTo}
 use Rattle.tables.specs.Mesh.{valence}
 use Rattle.walks.specs.Steps.{pointTables}
 use Rattle.audit.proofs.Laws.{sumTo-none, sumTo-more, sumTo-stop, sumTo-all}
-use borrow.Author.Needs.{needs}
 use Rattle.audit.proofs.points.valences_fit.Statement.{statement}
 use Rattle.audit.proofs.points.valences_fit.Tie as tie
 

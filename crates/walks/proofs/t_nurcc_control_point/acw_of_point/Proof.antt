@@ -1,6 +1,6 @@
 -- acw_of_point meets its contract: its test is the definition's.
-use borrow.Author.Tests.{eq-eqb, ne-eqb}
 use mathlib.Core.Path.{_∙_, sym}
+use borrow.Author.Tests.{eq-eqb, ne-eqb}
 use borrow.Author.Needs.{needs}
 use Rattle.walks.proofs.t_nurcc_control_point.acw_of_point.Statement.{statement}
 use Rattle.walks.proofs.t_nurcc_control_point.acw_of_point.Tie as tie

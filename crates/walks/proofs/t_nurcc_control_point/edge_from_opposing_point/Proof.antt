@@ -1,21 +1,18 @@
-use Rattle.walks.proofs.Steps.{step-below}
-use native.Mathlib.Omega.{arith}
-use borrow.Author.Needs.{needs}
 -- edge_from_opposing_point meets its contract. The invariant: the search has passed n edges, none of which touches q; the measure
 -- is what is left of the bound.
-use Prim.Native.Nat.{_-_}
-use Rattle.tables.specs.Mesh.{Mesh, start}
-use Rattle.audited_meshes.specs.Walks.{acwOfPoint, touches, pointWalk}
-use Rattle.walks.specs.Steps.{pointTables, pointStep}
+use Prim.Native.Nat.{_-_, ℕ}
 use mathlib.Core.Bool.{Bool, _&&_}
 use mathlib.Core.Path.{refl, sym, _∙_, ap}
+use native.Mathlib.Omega.{arith}
+use borrow.Author.Needs.{needs}
 use lib.Dec.{ltb}
-use Prim.Native.Nat.{ℕ}
+use Rattle.walks.proofs.Steps.{step-below}
+use Rattle.tables.specs.Mesh.{Mesh, start}
+use Rattle.audited_meshes.specs.Walks.{acwOfPoint, touches}
+use Rattle.walks.specs.Steps.{pointTables, pointStep}
 use Rattle.walks.specs.Neighbour.{edgeTo}
 use Rattle.walks.proofs.Seeking.{Sought, sought-start, sought-at, sought-more, sought-last, sought-lost, sought-out}
-use Rattle.walks.proofs.t_nurcc_control_point.edge_from_opposing_point.Statement.{
-  statement,
-}
+use Rattle.walks.proofs.t_nurcc_control_point.edge_from_opposing_point.Statement.{statement}
 use Rattle.walks.proofs.t_nurcc_control_point.edge_from_opposing_point.Tie as tie
 
 abbrev on : Mesh → ℕ → ℕ → ℕ → Bool
@@ -35,32 +32,37 @@ unfolding edgeTo
 loop-holds c = sought-start _ _ _ _ (c .before .before .before .args .k) _ refl
 
 returns : tie.Need-returns Inv-loop μ-loop
-returns c = 
-    let lost = sym (c .enum-told .given .1) ∙ c .before .before .point-step .ensures ∙ ap (pointStep (c .before .before .before .before .before .before .before .before .before .args .edges .now) (c .before .before .before .before .before .before .before .before .before .args .ne) (c .before .before .before .before .before .before .before .before .before .args .p)) (c .before .before .before .index .ensures) in
+returns c =
+    let a = c .before .before .before .before .before .before .before .before .before .args in
+    let lost = sym (c .enum-told .given .1) ∙ c .before .before .point-step .ensures ∙ ap (pointStep (a .edges .now) (a .ne) (a .p)) (c .before .before .before .index .ensures) in
     sought-lost _ _ _ _ _ _ _ _ (c .before .before .before .before .before .loop .inv) _ lost (c .before .before .before .before .loop-test .taken)
 
 touches-requires : tie.Need-touches-requires Inv-loop μ-loop
-touches-requires c κs = 
-    let to = sym (c .before .before .next .given .1) ∙ c .before .before .before .before .point-step .ensures ∙ ap (pointStep (c .before .before .before .before .before .before .before .before .before .before .before .args .edges .now) (c .before .before .before .before .before .before .before .before .before .before .before .args .ne) (c .before .before .before .before .before .before .before .before .before .before .before .args .p)) (c .before .before .before .before .before .index .ensures) in
-    let below = step-below (c .before .before .before .before .before .before .before .before .before .before .before .args .ne) _ _ _ _ _ _ to in
+touches-requires c κs =
+    let a = c .before .before .before .before .before .before .before .before .before .before .before .args in
+    let to = sym (c .before .before .next .given .1) ∙ c .before .before .before .before .point-step .ensures ∙ ap (pointStep (a .edges .now) (a .ne) (a .p)) (c .before .before .before .before .before .index .ensures) in
+    let below = step-below (a .ne) _ _ _ _ _ _ to in
     omega (arith, c .index2 .ensures)
 
 returns-2 : tie.Need-returns-2 Inv-loop μ-loop
-returns-2 c = 
-    let to = sym (c .before .before .before .before .next .given .1) ∙ c .before .before .before .before .before .before .point-step .ensures ∙ ap (pointStep (c .before .before .before .before .before .before .before .before .before .before .before .before .before .args .edges .now) (c .before .before .before .before .before .before .before .before .before .before .before .before .before .args .ne) (c .before .before .before .before .before .before .before .before .before .before .before .before .before .args .p)) (c .before .before .before .before .before .before .before .index .ensures) in
-    let at = ap (touches (pointTables (c .before .before .before .before .before .before .before .before .before .before .before .before .before .args .points .now) (c .before .before .before .before .before .before .before .before .before .before .before .before .before .args .edges .now)) (c .before .before .before .before .before .before .before .before .before .before .before .before .before .args .q)) (sym (c .before .before .index2 .ensures)) ∙ sym (c .before .touches .ensures) ∙ c .if1 .taken in
+returns-2 c =
+    let a = c .before .before .before .before .before .before .before .before .before .before .before .before .before .args in
+    let to = sym (c .before .before .before .before .next .given .1) ∙ c .before .before .before .before .before .before .point-step .ensures ∙ ap (pointStep (a .edges .now) (a .ne) (a .p)) (c .before .before .before .before .before .before .before .index .ensures) in
+    let at = ap (touches (pointTables (a .points .now) (a .edges .now)) (a .q)) (sym (c .before .before .index2 .ensures)) ∙ sym (c .before .touches .ensures) ∙ c .if1 .taken in
     sought-at _ _ _ _ _ _ _ _ (c .before .before .before .before .before .before .before .before .before .loop .inv) _ _ _ to (c .before .before .before .before .before .before .before .before .loop-test .taken) at
 
 returns-3 : tie.Need-returns-3 Inv-loop μ-loop
-returns-3 c = 
-    let to = sym (c .before .before .before .before .before .next .given .1) ∙ c .before .before .before .before .before .before .before .point-step .ensures ∙ ap (pointStep (c .before .before .before .before .before .before .before .before .before .before .before .before .before .before .args .edges .now) (c .before .before .before .before .before .before .before .before .before .before .before .before .before .before .args .ne) (c .before .before .before .before .before .before .before .before .before .before .before .before .before .before .args .p)) (c .before .before .before .before .before .before .before .before .index .ensures) in
-    let at = ap (touches (pointTables (c .before .before .before .before .before .before .before .before .before .before .before .before .before .before .args .points .now) (c .before .before .before .before .before .before .before .before .before .before .before .before .before .before .args .edges .now)) (c .before .before .before .before .before .before .before .before .before .before .before .before .before .before .args .q)) (sym (c .before .before .before .index2 .ensures)) ∙ sym (c .before .before .touches .ensures) ∙ c .before .if1 .left in
+returns-3 c =
+    let a = c .before .before .before .before .before .before .before .before .before .before .before .before .before .before .args in
+    let to = sym (c .before .before .before .before .before .next .given .1) ∙ c .before .before .before .before .before .before .before .point-step .ensures ∙ ap (pointStep (a .edges .now) (a .ne) (a .p)) (c .before .before .before .before .before .before .before .before .index .ensures) in
+    let at = ap (touches (pointTables (a .points .now) (a .edges .now)) (a .q)) (sym (c .before .before .before .index2 .ensures)) ∙ sym (c .before .before .touches .ensures) ∙ c .before .if1 .left in
     sought-last _ _ _ _ _ _ _ _ (c .before .before .before .before .before .before .before .before .before .before .loop .inv) _ _ _ to (c .before .before .before .before .before .before .before .before .before .loop-test .taken) at (c .if2 .taken)
 
 loop-again : tie.Need-loop-again Inv-loop μ-loop
-loop-again c = 
-    let to = sym (c .before .before .before .before .before .next .given .1) ∙ c .before .before .before .before .before .before .before .point-step .ensures ∙ ap (pointStep (c .before .before .before .before .before .before .before .before .before .before .before .before .before .before .args .edges .now) (c .before .before .before .before .before .before .before .before .before .before .before .before .before .before .args .ne) (c .before .before .before .before .before .before .before .before .before .before .before .before .before .before .args .p)) (c .before .before .before .before .before .before .before .before .index .ensures) in
-    let at = ap (touches (pointTables (c .before .before .before .before .before .before .before .before .before .before .before .before .before .before .args .points .now) (c .before .before .before .before .before .before .before .before .before .before .before .before .before .before .args .edges .now)) (c .before .before .before .before .before .before .before .before .before .before .before .before .before .before .args .q)) (sym (c .before .before .before .index2 .ensures)) ∙ sym (c .before .before .touches .ensures) ∙ c .before .if1 .left in
+loop-again c =
+    let a = c .before .before .before .before .before .before .before .before .before .before .before .before .before .before .args in
+    let to = sym (c .before .before .before .before .before .next .given .1) ∙ c .before .before .before .before .before .before .before .point-step .ensures ∙ ap (pointStep (a .edges .now) (a .ne) (a .p)) (c .before .before .before .before .before .before .before .before .index .ensures) in
+    let at = ap (touches (pointTables (a .points .now) (a .edges .now)) (a .q)) (sym (c .before .before .before .index2 .ensures)) ∙ sym (c .before .before .touches .ensures) ∙ c .before .if1 .left in
     sought-more _ _ _ _ _ _ _ _ (c .before .before .before .before .before .before .before .before .before .before .loop .inv) _ _ _ to (c .before .before .before .before .before .before .before .before .before .loop-test .taken) at (c .if2 .left)
 
 returns-4 : tie.Need-returns-4 Inv-loop μ-loop

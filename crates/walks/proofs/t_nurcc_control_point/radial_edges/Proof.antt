@@ -1,13 +1,13 @@
 -- radial_edges meets its contract. The invariant: the first i edges of the walk stand in the words, and e is the next; the
 -- measure is what is left of n.
-use Prim.Native.Nat.{_-_, _<_}
-use mathlib.Core.Path.{_≡_, refl, sym, _∙_, ap}
+use Prim.Native.Nat.{_-_}
+use mathlib.Core.Path.{sym, _∙_, ap}
 use native.Mathlib.Omega.{arith}
 use lib.ListN.{length}
+use borrow.Author.Needs.{needs}
 use Rattle.audited_meshes.specs.Walks.{acwOfPoint, pointWalk}
 use Rattle.walks.specs.Steps.{pointTables}
 use Rattle.walks.proofs.Radial.{Radial, radial-lost, radial-start, radial-edge, radial-place, radial-more, radial-end}
-use borrow.Author.Needs.{needs}
 use Rattle.walks.proofs.t_nurcc_control_point.radial_edges.Statement.{statement}
 use Rattle.walks.proofs.t_nurcc_control_point.radial_edges.Tie as tie
 
@@ -18,9 +18,10 @@ abbrev μ-loop : tie.MeasureT-loop
 μ-loop edges points ne p radial₀ k n i₀ e₀ radial i e = n - i
 
 returns : tie.Need-returns Inv-loop μ-loop
-returns c = 
+returns c =
+    let a = c .before .before .before .before .before .before .args in
     let w = sym (c .enum-told .given .1) ∙ c .before .before .point-walk .ensures in
-    (w, radial-lost (pointWalk (pointTables (c .before .before .before .before .before .before .args .points .now) (c .before .before .before .before .before .before .args .edges .now)) (c .before .before .before .before .before .before .args .ne) (length (c .before .before .before .before .before .before .args .radial .now)) (c .before .before .before .before .before .before .args .p)) _ w)
+    (w, radial-lost (pointWalk (pointTables (a .points .now) (a .edges .now)) (a .ne) (length (a .radial .now)) (a .p)) _ w)
 
 loop-holds : tie.Need-loop-holds Inv-loop μ-loop
 loop-holds c = radial-start _ _ _ _ _ (sym (c .before .before .n .given .1) ∙ c .before .before .before .before .point-walk .ensures)
@@ -35,7 +36,9 @@ acw-of-point-requires : tie.Need-acw-of-point-requires Inv-loop μ-loop
 acw-of-point-requires c κs = let l = radial-edge _ _ _ _ _ _ _ _ (c .before .before .loop .inv) (c .before .loop-test .taken) in omega (arith, c .index .ensures)
 
 loop-again : tie.Need-loop-again Inv-loop μ-loop
-loop-again c = radial-more _ _ _ _ _ _ _ _ (c .before .before .before .loop .inv) (c .before .before .loop-test .taken) _ (c .acw-of-point .ensures ∙ ap (acwOfPoint (pointTables (c .before .before .before .before .before .before .before .before .before .before .before .before .args .points .now) (c .before .before .before .before .before .before .before .before .before .before .before .before .args .edges .now)) (c .before .before .before .before .before .before .before .before .before .before .before .before .args .p)) (c .before .index .ensures))
+loop-again c =
+    let a = c .before .before .before .before .before .before .before .before .before .before .before .before .args in
+    radial-more _ _ _ _ _ _ _ _ (c .before .before .before .loop .inv) (c .before .before .loop-test .taken) _ (c .acw-of-point .ensures ∙ ap (acwOfPoint (pointTables (a .points .now) (a .edges .now)) (a .p)) (c .before .index .ensures))
 
 returns-2 : tie.Need-returns-2 Inv-loop μ-loop
 returns-2 c = (sym (c .before .before .before .before .n .given .1) ∙ c .before .before .before .before .before .before .point-walk .ensures, radial-end _ _ _ _ _ _ _ _ (c .before .loop .inv) (search needs))

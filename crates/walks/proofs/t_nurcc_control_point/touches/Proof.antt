@@ -1,9 +1,8 @@
-use Prim.Native.Nat.{ℕ}
-use lib.Dec.{eqb}
-use mathlib.Core.Path.{ap}
 -- touches meets its contract: its tests are the definition's.
+use Prim.Native.Nat.{ℕ}
+use mathlib.Core.Path.{ap, _∙_, sym}
+use lib.Dec.{eqb}
 use borrow.Author.Tests.{eq-eqb, ne-eqb}
-use mathlib.Core.Path.{_∙_, sym}
 use borrow.Author.Needs.{needs}
 use Rattle.walks.proofs.t_nurcc_control_point.touches.Statement.{statement}
 use Rattle.walks.proofs.t_nurcc_control_point.touches.Tie as tie

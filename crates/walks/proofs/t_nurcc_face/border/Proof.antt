@@ -1,10 +1,10 @@
 -- border meets its contract. The invariant: the walk has passed the edges and points that stand in the arrays; the measure is
 -- what is left of 64.
 use mathlib.Core.Path.{refl, sym, _∙_, ap}
-use borrow.Author.Needs.{needs}
 use Prim.Native.Nat.{_-_}
+use borrow.Author.Needs.{needs}
 use Rattle.walks.specs.Steps.{faceTables, faceStep}
-use Rattle.walks.specs.Border.{border, padded}
+use Rattle.walks.specs.Border.{padded}
 use Rattle.walks.proofs.Border.{Bordering, border-start, border-more, border-last, border-lost, border-out}
 use Rattle.walks.proofs.t_nurcc_face.border.Statement.{statement}
 use Rattle.walks.proofs.t_nurcc_face.border.Tie as tie
@@ -17,27 +17,34 @@ abbrev μ-loop : tie.MeasureT-loop
 
 loop-holds : tie.Need-loop-holds Inv-loop μ-loop
 unfolding padded
-loop-holds c = border-start (faceTables (c .before .before .before .args .edges .now) (c .before .before .before .args .faces .now)) (c .before .before .before .args .ne) (c .before .before .before .args .f) _ _ refl refl
+loop-holds c =
+    let a = c .before .before .before .args in
+    border-start (faceTables (a .edges .now) (a .faces .now)) (a .ne) (a .f) _ _ refl refl
 
 returns : tie.Need-returns Inv-loop μ-loop
 unfolding padded
 returns c =
-    let lost = sym (c .enum-told .given .1) ∙ c .before .before .face-step .ensures ∙ ap (faceStep (c .before .before .before .before .before .before .before .before .before .args .edges .now) (c .before .before .before .before .before .before .before .before .before .args .ne) (c .before .before .before .before .before .before .before .before .before .args .f)) (c .before .before .before .index .ensures) in
-    sym (border-lost (faceTables (c .before .before .before .before .before .before .before .before .before .args .edges .now) (c .before .before .before .before .before .before .before .before .before .args .faces .now)) (c .before .before .before .before .before .before .before .before .before .args .ne) (c .before .before .before .before .before .before .before .before .before .args .f) _ _ _ _ (c .before .before .before .before .before .loop .inv) lost (search needs))
+    let a = c .before .before .before .before .before .before .before .before .before .args in
+    let lost = sym (c .enum-told .given .1) ∙ c .before .before .face-step .ensures ∙ ap (faceStep (a .edges .now) (a .ne) (a .f)) (c .before .before .before .index .ensures) in
+    sym (border-lost (faceTables (a .edges .now) (a .faces .now)) (a .ne) (a .f) _ _ _ _ (c .before .before .before .before .before .loop .inv) lost (search needs))
 
 returns-2 : tie.Need-returns-2 Inv-loop μ-loop
 returns-2 c =
-    let to = sym (c .before .before .before .point .given .1) ∙ c .before .before .before .before .before .face-step .ensures ∙ ap (faceStep (c .before .before .before .before .before .before .before .before .before .before .before .before .args .edges .now) (c .before .before .before .before .before .before .before .before .before .before .before .before .args .ne) (c .before .before .before .before .before .before .before .before .before .before .before .before .args .f)) (c .before .before .before .before .before .before .index .ensures) in
-    border-last (faceTables (c .before .before .before .before .before .before .before .before .before .before .before .before .args .edges .now) (c .before .before .before .before .before .before .before .before .before .before .before .before .args .faces .now)) (c .before .before .before .before .before .before .before .before .before .before .before .before .args .ne) (c .before .before .before .before .before .before .before .before .before .before .before .before .args .f) _ _ _ _ (c .before .before .before .before .before .before .before .before .loop .inv) _ _ to (c .before .before .before .before .before .before .before .loop-test .taken) _ (c .before .if1 .taken) (c .first-four-again .ensures)
+    let a = c .before .before .before .before .before .before .before .before .before .before .before .before .args in
+    let to = sym (c .before .before .before .point .given .1) ∙ c .before .before .before .before .before .face-step .ensures ∙ ap (faceStep (a .edges .now) (a .ne) (a .f)) (c .before .before .before .before .before .before .index .ensures) in
+    border-last (faceTables (a .edges .now) (a .faces .now)) (a .ne) (a .f) _ _ _ _ (c .before .before .before .before .before .before .before .before .loop .inv) _ _ to (c .before .before .before .before .before .before .before .loop-test .taken) _ (c .before .if1 .taken) (c .first-four-again .ensures)
 
 loop-again : tie.Need-loop-again Inv-loop μ-loop
 loop-again c =
-    let to = sym (c .before .before .point .given .1) ∙ c .before .before .before .before .face-step .ensures ∙ ap (faceStep (c .before .before .before .before .before .before .before .before .before .before .before .args .edges .now) (c .before .before .before .before .before .before .before .before .before .before .before .args .ne) (c .before .before .before .before .before .before .before .before .before .before .before .args .f)) (c .before .before .before .before .before .index .ensures) in
-    border-more (faceTables (c .before .before .before .before .before .before .before .before .before .before .before .args .edges .now) (c .before .before .before .before .before .before .before .before .before .before .before .args .faces .now)) (c .before .before .before .before .before .before .before .before .before .before .before .args .ne) (c .before .before .before .before .before .before .before .before .before .before .before .args .f) _ _ _ _ (c .before .before .before .before .before .before .before .loop .inv) _ _ to (c .before .before .before .before .before .before .loop-test .taken) (c .if1 .left)
+    let a = c .before .before .before .before .before .before .before .before .before .before .before .args in
+    let to = sym (c .before .before .point .given .1) ∙ c .before .before .before .before .face-step .ensures ∙ ap (faceStep (a .edges .now) (a .ne) (a .f)) (c .before .before .before .before .before .index .ensures) in
+    border-more (faceTables (a .edges .now) (a .faces .now)) (a .ne) (a .f) _ _ _ _ (c .before .before .before .before .before .before .before .loop .inv) _ _ to (c .before .before .before .before .before .before .loop-test .taken) (c .if1 .left)
 
 returns-3 : tie.Need-returns-3 Inv-loop μ-loop
 unfolding padded
-returns-3 c = sym (border-out (faceTables (c .before .before .before .before .before .args .edges .now) (c .before .before .before .before .before .args .faces .now)) (c .before .before .before .before .before .args .ne) (c .before .before .before .before .before .args .f) _ _ _ _ (c .before .loop .inv) (search needs))
+returns-3 c =
+    let a = c .before .before .before .before .before .args in
+    sym (border-out (faceTables (a .edges .now) (a .faces .now)) (a .ne) (a .f) _ _ _ _ (c .before .loop .inv) (search needs))
 
 pub border-spec : {M : Type 1} → statement M
 border-spec =

@@ -1,7 +1,7 @@
 -- first_four_again meets its contract: each store is one point more.
-use Rattle.walks.proofs.Laws.{four-again}
 use mathlib.Core.Path.{refl}
 use borrow.Author.Needs.{needs}
+use Rattle.walks.proofs.Laws.{four-again}
 use Rattle.walks.proofs.t_nurcc_face.first_four_again.Statement.{statement}
 use Rattle.walks.proofs.t_nurcc_face.first_four_again.Tie as tie
 

@@ -1,6 +1,6 @@
 -- face_step meets its contract: each test decides one of the definition's.
-use borrow.Author.Tests.{lt-ltb, le-ltb, eq-eqb, ne-eqb}
 use mathlib.Core.Path.{_∙_, sym}
+use borrow.Author.Tests.{lt-ltb, le-ltb, eq-eqb, ne-eqb}
 use borrow.Author.Needs.{needs}
 use Rattle.walks.proofs.t_nurcc_iter.face_step.Statement.{statement}
 use Rattle.walks.proofs.t_nurcc_iter.face_step.Tie as tie

@@ -1,13 +1,12 @@
-use borrow.Author.Needs.{needs}
 -- point_walk meets its contract. The invariant: the walk has passed n edges; the measure is what is left of the bound.
-use Prim.Native.Nat.{_-_}
+use Prim.Native.Nat.{_-_, ℕ}
+use mathlib.Core.Bool.{Bool, _&&_}
+use mathlib.Core.Path.{refl, sym, _∙_, ap}
+use borrow.Author.Needs.{needs}
+use lib.Dec.{ltb}
 use Rattle.tables.specs.Mesh.{Mesh, start}
 use Rattle.audited_meshes.specs.Walks.{acwOfPoint, touches, pointWalk}
 use Rattle.walks.specs.Steps.{pointTables, pointStep}
-use mathlib.Core.Bool.{Bool, _&&_}
-use mathlib.Core.Path.{refl, sym, _∙_, ap}
-use lib.Dec.{ltb}
-use Prim.Native.Nat.{ℕ}
 use Rattle.walks.proofs.Counting.{Counted, counted-start, counted-more, counted-last, counted-lost, counted-out}
 use Rattle.walks.proofs.t_nurcc_iter.point_walk.Statement.{statement}
 use Rattle.walks.proofs.t_nurcc_iter.point_walk.Tie as tie
@@ -29,18 +28,21 @@ unfolding pointWalk
 loop-holds c = counted-start _ _ _ (c .before .before .before .args .k) _ refl
 
 returns : tie.Need-returns Inv-loop μ-loop
-returns c = 
-    let lost = sym (c .enum-told .given .1) ∙ c .before .before .point-step .ensures ∙ ap (pointStep (c .before .before .before .before .before .before .before .before .before .args .edges .now) (c .before .before .before .before .before .before .before .before .before .args .ne) (c .before .before .before .before .before .before .before .before .before .args .p)) (c .before .before .before .index .ensures) in
+returns c =
+    let a = c .before .before .before .before .before .before .before .before .before .args in
+    let lost = sym (c .enum-told .given .1) ∙ c .before .before .point-step .ensures ∙ ap (pointStep (a .edges .now) (a .ne) (a .p)) (c .before .before .before .index .ensures) in
     counted-lost _ _ _ _ _ _ _ (c .before .before .before .before .before .loop .inv) _ lost (c .before .before .before .before .loop-test .taken)
 
 returns-2 : tie.Need-returns-2 Inv-loop μ-loop
-returns-2 c = 
-    let to = sym (c .before .before .next .given .1) ∙ c .before .before .before .before .point-step .ensures ∙ ap (pointStep (c .before .before .before .before .before .before .before .before .before .before .before .args .edges .now) (c .before .before .before .before .before .before .before .before .before .before .before .args .ne) (c .before .before .before .before .before .before .before .before .before .before .before .args .p)) (c .before .before .before .before .before .index .ensures) in
+returns-2 c =
+    let a = c .before .before .before .before .before .before .before .before .before .before .before .args in
+    let to = sym (c .before .before .next .given .1) ∙ c .before .before .before .before .point-step .ensures ∙ ap (pointStep (a .edges .now) (a .ne) (a .p)) (c .before .before .before .before .before .index .ensures) in
     counted-last _ _ _ _ _ _ _ (c .before .before .before .before .before .before .before .loop .inv) _ _ _ to (c .before .before .before .before .before .before .loop-test .taken) (c .if1 .taken)
 
 loop-again : tie.Need-loop-again Inv-loop μ-loop
-loop-again c = 
-    let to = sym (c .before .before .next .given .1) ∙ c .before .before .before .before .point-step .ensures ∙ ap (pointStep (c .before .before .before .before .before .before .before .before .before .before .before .args .edges .now) (c .before .before .before .before .before .before .before .before .before .before .before .args .ne) (c .before .before .before .before .before .before .before .before .before .before .before .args .p)) (c .before .before .before .before .before .index .ensures) in
+loop-again c =
+    let a = c .before .before .before .before .before .before .before .before .before .before .before .args in
+    let to = sym (c .before .before .next .given .1) ∙ c .before .before .before .before .point-step .ensures ∙ ap (pointStep (a .edges .now) (a .ne) (a .p)) (c .before .before .before .before .before .index .ensures) in
     counted-more _ _ _ _ _ _ _ (c .before .before .before .before .before .before .before .loop .inv) _ _ _ to (c .before .before .before .before .before .before .loop-test .taken) (c .if1 .left)
 
 returns-3 : tie.Need-returns-3 Inv-loop μ-loop
