@@ -185,7 +185,7 @@ sumTo-fours (suc n) g = ap (λ k. sumTo k g) (four n) ∙ sums (sumTo-fours n g)
 
 -- ---- zeroed tables
 
-getD-zeroed : {A : Type 0} (n i : ℕ) (z d : A) (xs : List A) → i < n → getD (zeroed n z xs) i d ≡ z
+pub getD-zeroed : {A : Type 0} (n i : ℕ) (z d : A) (xs : List A) → i < n → getD (zeroed n z xs) i d ≡ z
 unfolding zeroed
 getD-zeroed n i z d xs h =
     List·getD-append (replicate n z) (drop n xs) d i (subst (λ k. i < k) (sym (length-replicate n z)) h) ∙ getD-replicate n i z d h

@@ -61,7 +61,7 @@ pub offset-suc : (l : Lists) (f : ℕ) → offset l (suc f) ≡ offset l f + siz
 unfolding offset sumTo
 offset-suc l f = refl
 
-offset-up : (l : Lists) (f n : ℕ) → f ≤ n → offset l f ≤ offset l n
+pub offset-up : (l : Lists) (f n : ℕ) → f ≤ n → offset l f ≤ offset l n
 offset-up l f zero h = let same : f ≡ 0 = omega arith in rw same (omega arith)
 offset-up l f (suc n) h =
     below-suc f (suc n) (omega arith) (λ lt. omega (arith, offset-up l f n (omega arith), offset-suc l n)) (λ same. rw same (omega arith))
