@@ -72,3 +72,32 @@ pub every-cong : (n : ℕ) (t u : ℕ → Bool) → ((k : ℕ) → k < n → t k
 unfolding every
 every-cong zero t u h = refl
 every-cong (suc n) t u h = ap₂ (λ (a b : Bool). a && b) (every-cong n t u (λ k l. h k (omega arith))) (h n (omega arith))
+
+pub and-four : (x a b c d : Bool) → (x && a && b && c && d) ≡ (x && (a && b && c && d))
+and-four true a b c d = refl
+and-four false a b c d = refl
+
+-- ---- tests in turn: one fails, or all but the last pass
+
+module _ (a b c : Bool) where
+  pub first-of-three : a ≡ false → false ≡ (a && b && c)
+  first-of-three h = sym (rw h)
+
+  pub second-of-three : b ≡ false → false ≡ (a && b && c)
+  second-of-three h = sym (rw (h, and-false a))
+
+  pub third-of-three : a ≡ true → b ≡ true → c ≡ (a && b && c)
+  third-of-three h k = sym (rw (h, k))
+
+  module _ (d : Bool) where
+    pub first-of-four : a ≡ false → false ≡ (a && b && c && d)
+    first-of-four h = sym (rw h)
+
+    pub second-of-four : b ≡ false → false ≡ (a && b && c && d)
+    second-of-four h = sym (rw (h, and-false a))
+
+    pub third-of-four : c ≡ false → false ≡ (a && b && c && d)
+    third-of-four h = sym (rw (h, and-false (a && b)))
+
+    pub fourth-of-four : a ≡ true → b ≡ true → c ≡ true → d ≡ (a && b && c && d)
+    fourth-of-four h k l = sym (rw (h, k, l))

@@ -1,4 +1,5 @@
 -- The parts of the quick test, each over the tables that it looks at.
+--     meshOf xs ps es is fs   the mesh of the five tables
 --     pointRows xs ps         a mesh of which the tables of positions and points alone are looked at
 --     edgeRows es is          a mesh of which the tables of edges and intervals alone are looked at
 --     linksBack es k f a e    edge a borders face f and has the link back to edge e there: the link at place k of its words if f is
@@ -8,6 +9,8 @@
 --     faceSize m ne f         how many edges the walk about face f passes, if it comes back after at least 3 and passes no point
 --                             twice; else 0
 --     facesWalked m ne nf t   the walks about the first nf faces come back so, and their lengths add up to t
+--     rowsFit ..              the tests of single rows
+--     walksFit ..             the sums and the walks
 use mathlib.Core.Bool.{Bool, not, _&&_, cond}
 use mathlib.Core.List.{List, []}
 use Prim.Native.Nat.{ℕ, _+_, _*_}
@@ -18,7 +21,11 @@ use Rattle.closed_meshes.specs.Renumbering.{sumTo}
 use Rattle.tables.specs.Mesh.{Mesh, valence, leftFace}
 use Rattle.audited_meshes.specs.Folds.{every}
 use Rattle.audited_meshes.specs.Walks.{passed, borders, faceWalk, pointWalk}
-use Rattle.audited_meshes.specs.Quick.{faceBack, pointBack}
+use Rattle.walks.specs.Steps.{faceTables, pointTables}
+use Rattle.audited_meshes.specs.Quick.{pointFit, edgeFit, faceFit, faceBack, pointBack, oneEdge}
+
+abbrev pub meshOf : List Float → List ℕ → List ℕ → List Float → List ℕ → Mesh
+meshOf xs ps es is fs = record { positions = xs; points = ps; edges = es; intervals = is; faces = fs }
 
 abbrev pub pointRows : List Float → List ℕ → Mesh
 pointRows xs ps = record { positions = xs; points = ps; edges = []; intervals = []; faces = [] }
@@ -42,3 +49,15 @@ faceSize m ne f = cond (faceBack m f (faceWalk m ne f)) (passed (faceWalk m ne f
 
 abbrev pub facesWalked : Mesh → ℕ → ℕ → ℕ → Bool
 facesWalked m ne nf t = every nf (λ f. faceBack m f (faceWalk m ne f)) && eqb (sumTo nf (λ f. passed (faceWalk m ne f))) t
+
+unfoldable pub rowsFit : List Float → List ℕ → List ℕ → List Float → List ℕ → ℕ → ℕ → ℕ → Bool
+unfolding every pointFit edgeFit faceFit
+rowsFit xs ps es is fs np ne nf =
+    every np (λ p. pointFit (pointRows xs ps) ne p) && every ne (λ e. edgeFit (edgeRows es is) np ne nf e)
+    && every nf (λ f. faceFit (faceTables [] fs) np ne f)
+
+unfoldable pub walksFit : List ℕ → List ℕ → List ℕ → ℕ → ℕ → ℕ → Bool
+unfolding every sumTo faceBack faceWalk pointBack pointWalk oneEdge
+walksFit ps es fs np ne nf =
+    eqb (sumTo np (λ p. valence (pointTables ps []) p)) (2 * ne) && facesWalked (faceTables es fs) ne nf (2 * ne)
+    && every np (λ p. walkFits (pointTables ps es) ne p) && every ne (λ e. oneEdge (pointTables ps es) ne e)

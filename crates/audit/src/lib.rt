@@ -3,6 +3,97 @@
 // about edges, `faces` those about faces; each file has the test of one row and the loops over the rows.
 // Not here: what is asked (`audited_meshes`: `audit`, and its quick form, which this code follows), the walks (`walks`).
 // Contract: `audit`. Definitions: `specs/Parts.antt`. Laws: `proofs/Laws.antt`.
+ghost use mathlib.Core.Path.{_≡_};
+ghost use mathlib.Core.List.{[]};
+ghost use Prim.Native.Nat.{ℕ, _*_, _≤_, _<_};
+ghost use lib.ListN.{length};
+ghost use Rattle.tables.specs.Mesh.{origin, dest};
+ghost use Rattle.audited_meshes.specs.Audit.{countsFit, audit};
+ghost use Rattle.walks.specs.Steps.{faceTables};
+ghost use Rattle.audit.specs.Parts.{meshOf, rowsFit, walksFit};
+use edges::are_one_edges;
+use edges::edges_fit;
+use faces::face_walks_fit;
+use faces::faces_fit;
+use points::point_walks_fit;
+use points::points_fit;
+use points::valences_fit;
+use tables::Counts;
+use tables::edge_rows;
+use tables::face_rows;
+use tables::point_rows;
+
 mod edges;
 mod faces;
 mod points;
+
+// Whether the counts fit the lent rows.
+pub fn counts_fit(positions: &[f64], points: &[u32], edges: &[u32], intervals: &[f64], faces: &[u32], counts: Counts) -> bool
+    ensures { λ r. ⌜ r ≡ countsFit (meshOf (now (positions .entry)) (now (points .entry)) (now (edges .entry)) (now (intervals .entry)) (now (faces .entry))) (counts .points) (counts .edges) (counts .faces) ⌝ }
+{
+    if point_rows(positions, points) < counts.points {
+        return false;
+    }
+    if edge_rows(edges, intervals) < counts.edges {
+        return false;
+    }
+    counts.faces <= face_rows(faces)
+}
+
+// The tests of single rows.
+pub fn rows_fit(positions: &[f64], points: &[u32], edges: &[u32], intervals: &[f64], faces: &[u32], counts: Counts) -> bool
+    requires { ⌜ counts .points * 3 ≤ length (now positions) ⌝ }
+    requires { ⌜ counts .points * 3 ≤ length (now points) ⌝ }
+    requires { ⌜ counts .edges * 8 ≤ length (now edges) ⌝ }
+    requires { ⌜ counts .edges ≤ length (now intervals) ⌝ }
+    requires { ⌜ counts .faces * 5 ≤ length (now faces) ⌝ }
+    ensures { λ r. ⌜ r ≡ rowsFit (now (positions .entry)) (now (points .entry)) (now (edges .entry)) (now (intervals .entry)) (now (faces .entry)) (counts .points) (counts .edges) (counts .faces) ⌝ }
+{
+    let np = counts.points;
+    let ne = counts.edges;
+    let nf = counts.faces;
+    if !points_fit(positions, points, ne, np) {
+        return false;
+    }
+    if !edges_fit(edges, intervals, np, ne, nf) {
+        return false;
+    }
+    faces_fit(faces, np, ne, nf)
+}
+
+// The sums and the walks.
+pub fn walks_fit(points: &[u32], edges: &[u32], faces: &[u32], counts: Counts) -> bool
+    requires { ⌜ counts .points * 3 ≤ length (now points) ⌝ }
+    requires { ⌜ counts .edges * 8 ≤ length (now edges) ⌝ }
+    requires { ⌜ counts .faces * 5 ≤ length (now faces) ⌝ }
+    requires { ⌜ ((e : ℕ) → e < counts .edges → (origin (faceTables (now edges) []) e < counts .points) × (dest (faceTables (now edges) []) e < counts .points)) ⌝ }
+    ensures { λ r. ⌜ r ≡ walksFit (now (points .entry)) (now (edges .entry)) (now (faces .entry)) (counts .points) (counts .edges) (counts .faces) ⌝ }
+{
+    let np = counts.points;
+    let ne = counts.edges;
+    let nf = counts.faces;
+    let total = 2 * ne;
+    if !valences_fit(points, np, total) {
+        return false;
+    }
+    if !face_walks_fit(edges, faces, ne, nf, total) {
+        return false;
+    }
+    if !point_walks_fit(points, edges, ne, np) {
+        return false;
+    }
+    are_one_edges(points, edges, np, ne)
+}
+
+// Whether the tables are a closed mesh.
+pub fn audit(positions: &[f64], points: &[u32], edges: &[u32], intervals: &[f64], faces: &[u32], counts: Counts) -> bool
+    ensures { λ r. ⌜ r ≡ audit (meshOf (now (positions .entry)) (now (points .entry)) (now (edges .entry)) (now (intervals .entry)) (now (faces .entry))) (counts .points) (counts .edges) (counts .faces) ⌝ }
+{
+    if !counts_fit(positions, points, edges, intervals, faces, counts) {
+        return false;
+    }
+    if !rows_fit(positions, points, edges, intervals, faces, counts) {
+        return false;
+    }
+    walks_fit(points, edges, faces, counts)
+}

@@ -2,10 +2,10 @@
 --     counts-is, numbers-is, rows-is     the three tests, and what holds where one fails
 --     ready                              the zeroed tables are ready
 --     faces-none                         no face is in
-use mathlib.Core.Path.{_≡_, refl, sym, _∙_, ap, ap₂, subst}
-use mathlib.Core.Bool.{Bool, true, false, _&&_}
-use mathlib.Core.Logic.{_⊎_, inl, inr, ⊎-elim, _≢_}
-use mathlib.Core.List.{List, _++_}
+use mathlib.Core.Path.{_≡_, refl, sym, _∙_, ap, subst}
+use mathlib.Core.Bool.{true, false, _&&_}
+use mathlib.Core.Logic.{_⊎_, inl, inr}
+use mathlib.Core.List.{List}
 use Prim.Native.Nat.{ℕ, zero, suc, _+_, _*_, _%_, _<_, _≤_}
 use native.Mathlib.Omega.{arith}
 use lib.Dec.{eqb, leb}
@@ -19,9 +19,8 @@ use Rattle.tables.specs.Rows.{zeroed}
 use Rattle.closed_meshes.specs.Renumbering.{sumTo}
 use Rattle.audited_meshes.specs.Folds.{every}
 use Rattle.audited_meshes.specs.Audit.{pointRows, edgeRows, faceRows, intervalFit}
-use Rattle.audited_meshes.proofs.Tests.{Is, and-is, eqb-is, leb-is, self-is, every-is}
-use Rattle.built_meshes.specs.Lists.{Lists, Limits, pointsOf, facesOf, side, size, offset, countsFit, numbersFit, rowsFit}
-use Rattle.built_meshes.specs.Perimeters.{State}
+use Rattle.audited_meshes.proofs.Tests.{and-is, eqb-is, leb-is, self-is, every-is}
+use Rattle.built_meshes.specs.Lists.{Lists, Limits, pointsOf, facesOf, offset, countsFit, numbersFit, rowsFit}
 use Rattle.built_meshes.specs.Building.{zeroedRows}
 use Rattle.built_meshes.specs.Beyond.{Within}
 use Rattle.built_meshes.specs.Claims.{zeroEdge}
@@ -47,18 +46,24 @@ pub counts-is : (c : Limits) (l : Lists) → countsFit c l ≡ true → Counted 
 unfolding countsFit
 counts-is c l h =
     let z =
-          and-is
-            (and-is
-              (and-is
-                (and-is
-                  (and-is (and-is (leb-is (pointsOf l) (c .points)) (leb-is (facesOf l) (c .faces))) (leb-is (length (l .listed)) (c .listed)))
-                  (eqb-is (length (l .coordinates) % 3) 0))
-                (eqb-is (length (l .sides) % 4) 0))
-              (eqb-is (length (l .listed)) (length (l .intervals))))
-            (eqb-is (sumTo (length (l .sides)) (λ k. getD (l .sides) k 0)) (length (l .listed))) .0 h in
+    and-is
+    (and-is
+    (and-is
+    (and-is
+    (and-is (and-is (leb-is (pointsOf l) (c .points)) (leb-is (facesOf l) (c .faces))) (leb-is (length (l .listed)) (c .listed)))
+    (eqb-is (length (l .coordinates) % 3) 0))
+    (eqb-is (length (l .sides) % 4) 0))
+    (eqb-is (length (l .listed)) (length (l .intervals))))
+    (eqb-is (sumTo (length (l .sides)) (λ k. getD (l .sides) k 0)) (length (l .listed))) .0 h in
     record {
-      points-few = z .0 .0 .0 .0 .0 .0; faces-few = z .0 .0 .0 .0 .0 .1; listed-few = z .0 .0 .0 .0 .1; points-whole = z .0 .0 .0 .1;
-      faces-whole = z .0 .0 .1; alike = z .0 .1; sum-alike = z .1 }
+      points-few = z .0 .0 .0 .0 .0 .0;
+      faces-few = z .0 .0 .0 .0 .0 .1;
+      listed-few = z .0 .0 .0 .0 .1;
+      points-whole = z .0 .0 .0 .1;
+      faces-whole = z .0 .0 .1;
+      alike = z .0 .1;
+      sum-alike = z .1;
+    }
 
 pub counts-fail : (c : Limits) (l : Lists) → countsFit c l ≡ false → Over-counts c l
 unfolding countsFit
@@ -67,22 +72,27 @@ counts-fail c l h = go7 (and-false _ _ h)
     go2 : (leb (pointsOf l) (c .points) ≡ false) ⊎ (leb (facesOf l) (c .faces) ≡ false) → Over-counts c l
     go2 (inl z) = many-points (leb-false _ _ z)
     go2 (inr z) = many-faces (leb-false _ _ z)
+
     go3 : (leb (pointsOf l) (c .points) && leb (facesOf l) (c .faces) ≡ false) ⊎ (leb (length (l .listed)) (c .listed) ≡ false) → Over-counts c l
     go3 (inl z) = go2 (and-false _ _ z)
     go3 (inr z) = many-listed (leb-false _ _ z)
+
     go4 : (leb (pointsOf l) (c .points) && leb (facesOf l) (c .faces) && leb (length (l .listed)) (c .listed) ≡ false) ⊎ (eqb (length (l .coordinates) % 3) 0 ≡ false) → Over-counts c l
     go4 (inl z) = go3 (and-false _ _ z)
     go4 (inr z) = point-cut (eqb-false _ _ z)
+
     go5 : (leb (pointsOf l) (c .points) && leb (facesOf l) (c .faces) && leb (length (l .listed)) (c .listed) && eqb (length (l .coordinates) % 3) 0 ≡ false)
-      ⊎ (eqb (length (l .sides) % 4) 0 ≡ false) → Over-counts c l
+        ⊎ (eqb (length (l .sides) % 4) 0 ≡ false) → Over-counts c l
     go5 (inl z) = go4 (and-false _ _ z)
     go5 (inr z) = face-cut (eqb-false _ _ z)
+
     go6 : (leb (pointsOf l) (c .points) && leb (facesOf l) (c .faces) && leb (length (l .listed)) (c .listed) && eqb (length (l .coordinates) % 3) 0 && eqb (length (l .sides) % 4) 0 ≡ false)
-      ⊎ (eqb (length (l .listed)) (length (l .intervals)) ≡ false) → Over-counts c l
+        ⊎ (eqb (length (l .listed)) (length (l .intervals)) ≡ false) → Over-counts c l
     go6 (inl z) = go5 (and-false _ _ z)
     go6 (inr z) = unlike (eqb-false _ _ z)
+
     go7 : (leb (pointsOf l) (c .points) && leb (facesOf l) (c .faces) && leb (length (l .listed)) (c .listed) && eqb (length (l .coordinates) % 3) 0 && eqb (length (l .sides) % 4) 0
-      && eqb (length (l .listed)) (length (l .intervals)) ≡ false) ⊎ (eqb (sumTo (length (l .sides)) (λ k. getD (l .sides) k 0)) (length (l .listed)) ≡ false) → Over-counts c l
+        && eqb (length (l .listed)) (length (l .intervals)) ≡ false) ⊎ (eqb (sumTo (length (l .sides)) (λ k. getD (l .sides) k 0)) (length (l .listed)) ≡ false) → Over-counts c l
     go7 (inl z) = go6 (and-false _ _ z)
     go7 (inr z) = sum-unlike (eqb-false _ _ z)
 
@@ -105,8 +115,8 @@ pub numbers-is : (l : Lists) → numbersFit l ≡ true → Numbered l
 unfolding numbersFit
 numbers-is l h =
     let z =
-          and-is (every-is (length (l .coordinates)) (λ k. self-is (finite (getD (l .coordinates) k nan))))
-            (every-is (length (l .intervals)) (λ k. self-is (intervalFit (getD (l .intervals) k nan)))) .0 h in
+    and-is (every-is (length (l .coordinates)) (λ k. self-is (finite (getD (l .coordinates) k nan))))
+    (every-is (length (l .intervals)) (λ k. self-is (intervalFit (getD (l .intervals) k nan)))) .0 h in
     record { coordinates-finite = z .0; intervals-fit = z .1 }
 
 pub numbers-fail : (l : Lists) → numbersFit l ≡ false → Unfit-number l
@@ -141,6 +151,7 @@ rows-fail l m h = go (and-false _ _ h)
     go2 : (leb (pointsOf l) (pointRows m) ≡ false) ⊎ (leb (facesOf l) (faceRows m) ≡ false) → Few-rows l m
     go2 (inl z) = few-points (leb-false _ _ z)
     go2 (inr z) = few-faces (leb-false _ _ z)
+
     go : (leb (pointsOf l) (pointRows m) && leb (facesOf l) (faceRows m) ≡ false) ⊎ (leb (length (l .listed)) (edgeRows m) ≡ false) → Few-rows l m
     go (inl z) = go2 (and-false _ _ z)
     go (inr z) = few-edges (leb-false _ _ z)
@@ -154,16 +165,17 @@ roomy-fits l m h (few-edges z) = omega (arith, h .edges-enough)
 
 -- a sum of four at a time
 sumTo-fours :
-  (n : ℕ) (g : ℕ → ℕ) → sumTo (n * 4) g ≡ sumTo n (λ f. g (f * 4 + 0) + g (f * 4 + 1) + g (f * 4 + 2) + g (f * 4 + 3))
+    (n : ℕ) (g : ℕ → ℕ) → sumTo (n * 4) g ≡ sumTo n (λ f. g (f * 4 + 0) + g (f * 4 + 1) + g (f * 4 + 2) + g (f * 4 + 3))
 unfolding sumTo
 sumTo-fours zero g = refl
 sumTo-fours (suc n) g = ap (λ k. sumTo k g) (four n) ∙ sums (sumTo-fours n g)
   where
     four : (n : ℕ) → suc n * 4 ≡ suc (suc (suc (suc (n * 4))))
     four n = omega arith
+
     sums : sumTo (n * 4) g ≡ sumTo n (λ f. g (f * 4 + 0) + g (f * 4 + 1) + g (f * 4 + 2) + g (f * 4 + 3)) →
-      sumTo (n * 4) g + g (n * 4) + g (suc (n * 4)) + g (suc (suc (n * 4))) + g (suc (suc (suc (n * 4))))
-      ≡ sumTo n (λ f. g (f * 4 + 0) + g (f * 4 + 1) + g (f * 4 + 2) + g (f * 4 + 3)) + (g (n * 4 + 0) + g (n * 4 + 1) + g (n * 4 + 2) + g (n * 4 + 3))
+        sumTo (n * 4) g + g (n * 4) + g (suc (n * 4)) + g (suc (suc (n * 4))) + g (suc (suc (suc (n * 4))))
+        ≡ sumTo n (λ f. g (f * 4 + 0) + g (f * 4 + 1) + g (f * 4 + 2) + g (f * 4 + 3)) + (g (n * 4 + 0) + g (n * 4 + 1) + g (n * 4 + 2) + g (n * 4 + 3))
     sums ih =
         let e0 : g (n * 4 + 0) ≡ g (n * 4) = ap g (omega arith) in
         let e1 : g (n * 4 + 1) ≡ g (suc (n * 4)) = ap g (omega arith) in
@@ -208,15 +220,16 @@ module _ (c : Limits) (l : Lists) (m : Mesh) (counted' : Counted c l) (numbered 
         points = behind-zeroed (pointsOf l * 3) 0 (m .points) points-fit;
         edges = behind-zeroed (length (l .listed) * 8) 0 (m .edges) edges-fit;
         intervals = behind-zeroed (length (l .listed)) (ofBits binary64 0) (m .intervals) intervals-fit';
-        faces = behind-zeroed (facesOf l * 5) 0 (m .faces) faces-fit }
+        faces = behind-zeroed (facesOf l * 5) 0 (m .faces) faces-fit;
+      }
 
   pub row-zeroed : (e : ℕ) → e < length (l .listed) → row (zeroedRows l m) e ≡ zeroEdge
   unfolding zeroedRows
   row-zeroed e b =
       edgeAt-words (zeroedRows l m .edges) (zeroedRows l m .intervals) e
       ∙ ofWords-cong (λ j. 0) (λ j. getD (zeroedRows l m .edges) (e * 8 + j) 0) (ofBits binary64 0) (getD (zeroedRows l m .intervals) e nan)
-          (λ j h. getD-zeroed (length (l .listed) * 8) (e * 8 + j) 0 0 (m .edges) (omega arith))
-          (getD-zeroed (length (l .listed)) e (ofBits binary64 0) nan (m .intervals) b)
+      (λ j h. getD-zeroed (length (l .listed) * 8) (e * 8 + j) 0 0 (m .edges) (omega arith))
+      (getD-zeroed (length (l .listed)) e (ofBits binary64 0) nan (m .intervals) b)
 
   pub ready : Ready l (zeroedRows l m)
   ready =
@@ -227,7 +240,8 @@ module _ (c : Limits) (l : Lists) (m : Mesh) (counted' : Counted c l) (numbered 
         faces-room = rw (within-zeroed .faces .0) faces-fit;
         intervals-fit = λ k b. numbered .intervals-fit k (omega (arith, counted' .alike));
         all-listed = listed-all;
-        faces-few = omega (arith, counted' .faces-few) }
+        faces-few = omega (arith, counted' .faces-few);
+      }
 
   no-place : (f i : ℕ) {A : Type 0} → Done l 0 0 f i → A
   no-place f i (inl h) = absurd (omega (arith, h .0))
@@ -242,24 +256,26 @@ module _ (c : Limits) (l : Lists) (m : Mesh) (counted' : Counted c l) (numbered 
   faces-none =
       record {
         invariant =
-          record {
-            good = λ f i d. no-place f i d;
-            chained = λ f i d. no-chain f i d;
-            entered = λ f i d. no-place f i d;
-            placed = λ s e b. absurd (omega arith);
-            one-way = λ f i g j d. no-place f i d;
-            left-face = λ e b. absurd (omega arith);
-            origin-in = λ e b. absurd (omega arith);
-            dest-in = λ e b. absurd (omega arith);
-            ends-differ = λ e b. absurd (omega arith);
-            one-side = λ s e t o b. absurd (omega arith);
-            valence-is = λ p b. blank p b;
-            start-is = λ p b h. absurd (omega (arith, blank p b));
-            interval-fit = λ e b. absurd (omega arith);
-            linked = λ f i d. no-chain f i d };
+            record {
+              good = λ f i d. no-place f i d;
+              chained = λ f i d. no-chain f i d;
+              entered = λ f i d. no-place f i d;
+              placed = λ s e b. absurd (omega arith);
+              one-way = λ f i g j d. no-place f i d;
+              left-face = λ e b. absurd (omega arith);
+              origin-in = λ e b. absurd (omega arith);
+              dest-in = λ e b. absurd (omega arith);
+              ends-differ = λ e b. absurd (omega arith);
+              one-side = λ s e t o b. absurd (omega arith);
+              valence-is = λ p b. blank p b;
+              start-is = λ p b h. absurd (omega (arith, blank p b));
+              interval-fit = λ e b. absurd (omega arith);
+              linked = λ f i d. no-chain f i d;
+            };
         counts = refl;
         starts = λ f b. absurd (omega arith);
-        corners = λ f c b. absurd (omega arith) }
+        corners = λ f c b. absurd (omega arith);
+      }
     where
       blank : (p : ℕ) → p < pointsOf l → valence (zeroedRows l m) p ≡ 0
       blank p b = getD-zeroed (pointsOf l * 3) (p * 3) 0 0 (m .points) (omega arith)

@@ -7,14 +7,13 @@
 --     connected-wrote               so it is of two edges and the pair that connecting makes of them
 --     connected-links               sides of which one follows the other are linked
 use mathlib.Core.Path.{_≡_, refl, sym, _∙_, ap, subst}
-use mathlib.Core.Bool.{Bool, true, false, _&&_, cond, false≢true}
+use mathlib.Core.Bool.{Bool, true, false, cond, false≢true}
 use mathlib.Core.Logic.{_⊎_, inl, inr, ⊎-elim, _≢_}
-use mathlib.Core.List.{List, [], _∷_}
 use Prim.Native.Nat.{ℕ, _<_}
 use native.Mathlib.Omega.{arith}
 use native.Mathlib.Decide.{ℕ-discrete}
 use lib.Dec.{eqb}
-use lib.ListN.{length, getD, set, length-set}
+use lib.ListN.{length, length-set}
 use lib.Seq.{getD-set-same, getD-set-other}
 use borrow.Author.Tests.{eqb-true, eqb-false, eq-eqb, ne-eqb}
 use Rattle.t_spline.specs.Connection.{indexOf, connectionAt}
@@ -22,7 +21,6 @@ use Rattle.t_spline.specs.Edge.{none, connectionOf, withConnection, acwOnSide, 
 use Rattle.t_spline.specs.Connect.{linksOf, vertexState, linked, served, connected}
 use Rattle.t_spline.specs.declared.TnurccEdge.{TnurccEdge}
 use Rattle.t_spline.specs.declared.TnurccConnection.{TnurccConnection}
-use Rattle.t_spline.specs.declared.TnurccConnection.the-variants.{LeftCw, LeftAcw, RightCw, RightAcw}
 use Rattle.t_spline.specs.declared.TnurccFaceSide.{TnurccFaceSide}
 use Rattle.t_spline.specs.declared.TnurccFaceSide.the-variants.{Left, Right}
 use Rattle.t_spline.specs.declared.Links.{Links}
@@ -61,8 +59,13 @@ pub record Keeps (e e' : TnurccEdge) : Type 0 where
 keeps-trans : {e e' e'' : TnurccEdge} → Keeps e e' → Keeps e' e'' → Keeps e e''
 keeps-trans h k =
     record {
-      origin = k .origin ∙ h .origin; dest = k .dest ∙ h .dest; left = k .left ∙ h .left; right = k .right ∙ h .right;
-      interval = k .interval ∙ h .interval; links = k .links ∙ h .links }
+      origin = k .origin ∙ h .origin;
+      dest = k .dest ∙ h .dest;
+      left = k .left ∙ h .left;
+      right = k .right ∙ h .right;
+      interval = k .interval ∙ h .interval;
+      links = k .links ∙ h .links;
+    }
 
 pub first-kept : (s : TnurccFaceSide) {e e' : TnurccEdge} → Keeps e e' → firstOf s e' ≡ firstOf s e
 first-kept Left h = h .origin
@@ -90,8 +93,8 @@ link-set e n c four = getD-set-same (e .connections) (indexOf c) n 0 (subst (λ 
 
 -- a link afterwards is the one before, or the one that was set
 link-after :
-  (e : TnurccEdge) (n : ℕ) (c d : TnurccConnection) → length (e .connections) ≡ 4 →
-  (connectionOf (withConnection e n c) d ≡ connectionOf e d) ⊎ ((connectionOf (withConnection e n c) d ≡ n) × (c ≡ d))
+    (e : TnurccEdge) (n : ℕ) (c d : TnurccConnection) → length (e .connections) ≡ 4 →
+    (connectionOf (withConnection e n c) d ≡ connectionOf e d) ⊎ ((connectionOf (withConnection e n c) d ≡ n) × (c ≡ d))
 link-after e n c d four = go (ℕ-discrete (indexOf d) (indexOf c))
   where
     go : Dec (indexOf d ≡ indexOf c) → (connectionOf (withConnection e n c) d ≡ connectionOf e d) ⊎ ((connectionOf (withConnection e n c) d ≡ n) × (c ≡ d))
@@ -125,13 +128,13 @@ module _ (i j : ℕ) (e o : TnurccEdge) where
     pub kept-first : Keeps (p .first) (p' .first)
     pub kept-other : Keeps (p .other) (p' .other)
     pub acw-first :
-      (s : TnurccFaceSide) → (acwOf s (p' .first) ≡ acwOf s (p .first)) ⊎ ((acwOf s (p' .first) ≡ j) × ((t : TnurccFaceSide) × Follows s e t o))
+        (s : TnurccFaceSide) → (acwOf s (p' .first) ≡ acwOf s (p .first)) ⊎ ((acwOf s (p' .first) ≡ j) × ((t : TnurccFaceSide) × Follows s e t o))
     pub cw-first :
-      (s : TnurccFaceSide) → (cwOf s (p' .first) ≡ cwOf s (p .first)) ⊎ ((cwOf s (p' .first) ≡ j) × ((t : TnurccFaceSide) × Follows t o s e))
+        (s : TnurccFaceSide) → (cwOf s (p' .first) ≡ cwOf s (p .first)) ⊎ ((cwOf s (p' .first) ≡ j) × ((t : TnurccFaceSide) × Follows t o s e))
     pub acw-other :
-      (t : TnurccFaceSide) → (acwOf t (p' .other) ≡ acwOf t (p .other)) ⊎ ((acwOf t (p' .other) ≡ i) × ((s : TnurccFaceSide) × Follows t o s e))
+        (t : TnurccFaceSide) → (acwOf t (p' .other) ≡ acwOf t (p .other)) ⊎ ((acwOf t (p' .other) ≡ i) × ((s : TnurccFaceSide) × Follows t o s e))
     pub cw-other :
-      (t : TnurccFaceSide) → (cwOf t (p' .other) ≡ cwOf t (p .other)) ⊎ ((cwOf t (p' .other) ≡ i) × ((s : TnurccFaceSide) × Follows s e t o))
+        (t : TnurccFaceSide) → (cwOf t (p' .other) ≡ cwOf t (p .other)) ⊎ ((cwOf t (p' .other) ≡ i) × ((s : TnurccFaceSide) × Follows s e t o))
 
   -- of two changes of one link, a later one counts
   after-both : {A : Type 0} {x y z n : ℕ} → (y ≡ x) ⊎ ((y ≡ n) × A) → (z ≡ y) ⊎ ((z ≡ n) × A) → (z ≡ x) ⊎ ((z ≡ n) × A)
@@ -144,7 +147,11 @@ module _ (i j : ℕ) (e o : TnurccEdge) where
       record {
         kept-first = record { origin = refl; dest = refl; left = refl; right = refl; interval = refl; links = refl };
         kept-other = record { origin = refl; dest = refl; left = refl; right = refl; interval = refl; links = refl };
-        acw-first = λ s. inl refl; cw-first = λ s. inl refl; acw-other = λ t. inl refl; cw-other = λ t. inl refl }
+        acw-first = λ s. inl refl;
+        cw-first = λ s. inl refl;
+        acw-other = λ t. inl refl;
+        cw-other = λ t. inl refl;
+      }
 
   wrote-both : {p p' p'' : Pair} → Wrote p p' → Wrote p' p'' → Wrote p p''
   wrote-both h k =
@@ -154,7 +161,8 @@ module _ (i j : ℕ) (e o : TnurccEdge) where
         acw-first = λ s. after-both (h .acw-first s) (k .acw-first s);
         cw-first = λ s. after-both (h .cw-first s) (k .cw-first s);
         acw-other = λ t. after-both (h .acw-other t) (k .acw-other t);
-        cw-other = λ t. after-both (h .cw-other t) (k .cw-other t) }
+        cw-other = λ t. after-both (h .cw-other t) (k .cw-other t);
+      }
 
   -- The links c and d are the right ones for the sides s of e and t of o.
   pub data Right-links (s t : TnurccFaceSide) (c d : TnurccConnection) : Type 0 where
@@ -162,8 +170,8 @@ module _ (i j : ℕ) (e o : TnurccEdge) where
     o-follows : c ≡ acwOnSide s → d ≡ cwOnSide t → Follows s e t o → Right-links s t c d
 
   linked-wrote :
-    (s t : TnurccFaceSide) (c d : TnurccConnection) (p : Pair) → length (p .first .connections) ≡ 4 → length (p .other .connections) ≡ 4 →
-    Right-links s t c d → Wrote p (linked i j (Both c d) p)
+      (s t : TnurccFaceSide) (c d : TnurccConnection) (p : Pair) → length (p .first .connections) ≡ 4 → length (p .other .connections) ≡ 4 →
+      Right-links s t c d → Wrote p (linked i j (Both c d) p)
   linked-wrote s t c d p four four' r =
       record {
         kept-first = keeps-set (p .first) j c;
@@ -171,20 +179,24 @@ module _ (i j : ℕ) (e o : TnurccEdge) where
         acw-first = λ x. acw1 x r (link-after (p .first) j c (acwOnSide x) four);
         cw-first = λ x. cw1 x r (link-after (p .first) j c (cwOnSide x) four);
         acw-other = λ x. acw2 x r (link-after (p .other) i d (acwOnSide x) four');
-        cw-other = λ x. cw2 x r (link-after (p .other) i d (cwOnSide x) four') }
+        cw-other = λ x. cw2 x r (link-after (p .other) i d (cwOnSide x) four');
+      }
     where
       acw1 : {A B : Type 0} (x : TnurccFaceSide) → Right-links s t c d → A ⊎ (B × (c ≡ acwOnSide x)) → A ⊎ (B × ((u : TnurccFaceSide) × Follows x e u o))
       acw1 x r (inl h) = inl h
       acw1 x (e-follows a b w) (inr h) = absurd (acw-or-cw x s (sym (h .1) ∙ a))
       acw1 x (o-follows a b w) (inr h) = inr (h .0, (t, subst (λ x. Follows x e t o) (acw-side s x (sym a ∙ h .1)) w))
+
       cw1 : {A B : Type 0} (x : TnurccFaceSide) → Right-links s t c d → A ⊎ (B × (c ≡ cwOnSide x)) → A ⊎ (B × ((u : TnurccFaceSide) × Follows u o x e))
       cw1 x r (inl h) = inl h
       cw1 x (e-follows a b w) (inr h) = inr (h .0, (t, subst (λ x. Follows t o x e) (cw-side s x (sym a ∙ h .1)) w))
       cw1 x (o-follows a b w) (inr h) = absurd (acw-or-cw s x (sym a ∙ h .1))
+
       acw2 : {A B : Type 0} (x : TnurccFaceSide) → Right-links s t c d → A ⊎ (B × (d ≡ acwOnSide x)) → A ⊎ (B × ((u : TnurccFaceSide) × Follows x o u e))
       acw2 x r (inl h) = inl h
       acw2 x (e-follows a b w) (inr h) = inr (h .0, (s, subst (λ x. Follows x o s e) (acw-side t x (sym b ∙ h .1)) w))
       acw2 x (o-follows a b w) (inr h) = absurd (acw-or-cw x t (sym (h .1) ∙ b))
+
       cw2 : {A B : Type 0} (x : TnurccFaceSide) → Right-links s t c d → A ⊎ (B × (d ≡ cwOnSide x)) → A ⊎ (B × ((u : TnurccFaceSide) × Follows u e x o))
       cw2 x r (inl h) = inl h
       cw2 x (e-follows a b w) (inr h) = absurd (acw-or-cw t x (sym b ∙ h .1))
@@ -206,12 +218,15 @@ module _ (i j : ℕ) (e o : TnurccEdge) where
       go3 : (b : Bool) → eqb (e .dest) (o .dest) ≡ b → Vertex (cond b 3 4)
       go3 true h = v3 (eqb-true _ _ h)
       go3 false h = v4
+
       go2 : (b : Bool) → eqb (e .origin) (o .origin) ≡ b → Vertex (cond b 2 (cond (eqb (e .dest) (o .dest)) 3 4))
       go2 true h = v2 (eqb-true _ _ h)
       go2 false h = go3 (eqb (e .dest) (o .dest)) refl
+
       go1 : (b : Bool) → eqb (e .dest) (o .origin) ≡ b → Vertex (cond b 1 (cond (eqb (e .origin) (o .origin)) 2 (cond (eqb (e .dest) (o .dest)) 3 4)))
       go1 true h = v1 (eqb-true _ _ h)
       go1 false h = go2 (eqb (e .origin) (o .origin)) refl
+
       go : (b : Bool) → eqb (e .origin) (o .dest) ≡ b → Vertex (cond b 0 (cond (eqb (e .dest) (o .origin)) 1 (cond (eqb (e .origin) (o .origin)) 2 (cond (eqb (e .dest) (o .dest)) 3 4))))
       go true h = v0 (eqb-true _ _ h)
       go false h = go1 (eqb (e .dest) (o .origin)) refl
@@ -264,13 +279,14 @@ module _ (i j : ℕ) (e o : TnurccEdge) where
   true-sameFace f g a h = rw (ne-eqb f none a) (eq-eqb f g h)
 
   served-wrote :
-    (s t : TnurccFaceSide) (p : Pair) → length (p .first .connections) ≡ 4 → length (p .other .connections) ≡ 4 →
-    Wrote p (served (sameFace (faceFromSide e s) (faceFromSide o t)) (stateOf s t) (vertexState e o) i j p)
+      (s t : TnurccFaceSide) (p : Pair) → length (p .first .connections) ≡ 4 → length (p .other .connections) ≡ 4 →
+      Wrote p (served (sameFace (faceFromSide e s) (faceFromSide o t)) (stateOf s t) (vertexState e o) i j p)
   served-wrote s t p four four' = go (sameFace (faceFromSide e s) (faceFromSide o t)) refl
     where
       by : (ls : Links) → Sets s t ls → Wrote p (linked i j ls p)
       by ls (sets {c = c} {d = d} r) = linked-wrote s t c d p four four' r
       by ls nothing = wrote-none p
+
       go : (b : Bool) → sameFace (faceFromSide e s) (faceFromSide o t) ≡ b → Wrote p (served b (stateOf s t) (vertexState e o) i j p)
       go true h =
           let f = sameFace-true (faceFromSide e s) (faceFromSide o t) h in
@@ -307,11 +323,11 @@ module _ (i j : ℕ) (e o : TnurccEdge) where
     stays s t w h = (⊎-elim (λ k. k ∙ h .0) (λ k. k .0) (w .cw-first s), ⊎-elim (λ k. k ∙ h .1) (λ k. k .0) (w .acw-other t))
 
     step-links :
-      (s t : TnurccFaceSide) (p : Pair) → Wrote pairs p → Follows t o s e →
-      linksOf (stateOf s t) (vertexState e o) ≡ Both (cwOnSide s) (acwOnSide t) → Linked-in s t (step s t p)
+        (s t : TnurccFaceSide) (p : Pair) → Wrote pairs p → Follows t o s e →
+        linksOf (stateOf s t) (vertexState e o) ≡ Both (cwOnSide s) (acwOnSide t) → Linked-in s t (step s t p)
     step-links s t p w f h =
         rw (true-sameFace (faceFromSide e s) (faceFromSide o t) (λ z. f .a-face (f .same-face ∙ z)) (sym (f .same-face)), h)
-          (link-set (p .first) j (cwOnSide s) (w .kept-first .links ∙ four), link-set (p .other) i (acwOnSide t) (w .kept-other .links ∙ four'))
+        (link-set (p .first) j (cwOnSide s) (w .kept-first .links ∙ four), link-set (p .other) i (acwOnSide t) (w .kept-other .links ∙ four'))
 
     -- Two edges of two ends each that do not join the same two points share one point at most, so the state is the right one.
     module _ (ends : e .origin ≢ e .dest) (ends' : o .origin ≢ o .dest)
@@ -323,13 +339,17 @@ module _ (i j : ℕ) (e o : TnurccEdge) where
       links-right Left Right h =
           rw (ne-eqb (e .origin) (o .dest) (λ z. ends' (h ∙ z)), ne-eqb (e .dest) (o .origin) (λ z. ends (sym h ∙ sym z)), eq-eqb (e .origin) (o .origin) (sym h))
       links-right Right Left h =
-          rw (ne-eqb (e .origin) (o .dest) (λ z. ends (z ∙ h)), ne-eqb (e .dest) (o .origin) (λ z. ends' (sym z ∙ sym h)),
-            ne-eqb (e .origin) (o .origin) (λ z. along z (sym h)), eq-eqb (e .dest) (o .dest) (sym h))
+          rw (
+            ne-eqb (e .origin) (o .dest) (λ z. ends (z ∙ h)),
+            ne-eqb (e .dest) (o .origin) (λ z. ends' (sym z ∙ sym h)),
+            ne-eqb (e .origin) (o .origin) (λ z. along z (sym h)),
+            eq-eqb (e .dest) (o .dest) (sym h),
+          )
 
       pub connected-links : (s t : TnurccFaceSide) → Follows t o s e → Linked-in s t (connected i e j o)
       connected-links Left Left f =
           stays Left Left (step-wrote Right Right _ w3) (stays Left Left (step-wrote Right Left _ w2) (stays Left Left (step-wrote Left Right _ w1)
-            (step-links Left Left pairs (wrote-none pairs) f (links-right Left Left (f .meets)))))
+          (step-links Left Left pairs (wrote-none pairs) f (links-right Left Left (f .meets)))))
       connected-links Left Right f =
           stays Left Right (step-wrote Right Right _ w3) (stays Left Right (step-wrote Right Left _ w2) (step-links Left Right _ w1 f (links-right Left Right (f .meets))))
       connected-links Right Left f =

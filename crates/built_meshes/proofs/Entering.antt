@@ -5,7 +5,7 @@
 --     Came                    what comes of entering a place
 --     came                    of every place
 use mathlib.Core.Path.{_≡_, refl, sym, _∙_, ap, ap₂, subst}
-use mathlib.Core.Bool.{Bool, true, false, not, _&&_, _||_, false≢true, true≢false}
+use mathlib.Core.Bool.{Bool, true, false, not, _||_, false≢true}
 use mathlib.Core.Logic.{_⊎_, inl, inr, ⊎-elim, _≢_}
 use Prim.Native.Nat.{ℕ, zero, suc, _+_, _*_, _<_, _≤_}
 use native.Mathlib.Omega.{arith}
@@ -28,7 +28,8 @@ use Rattle.audited_meshes.specs.Audited.{Touches}
 use Rattle.audited_meshes.proofs.Folds.{below-suc, sumTo-cong}
 use Rattle.audited_meshes.proofs.Tests.{Is, and-is, or-is, eqb-is}
 use Rattle.built_meshes.specs.Lists.{Lists, pointsOf, size}
-use Rattle.built_meshes.specs.Perimeters.{nextPlace, joins, orLast, edgeBetween, edgeOf, touched, newEdge, filled, Entered, at, refused, enteredAt, enteredIf, entered}
+use Rattle.built_meshes.specs.Edges.{joins, orLast, edgeBetween, edgeOf, touched, newEdge, filled, Entered, at, refused, enteredAt, enteredIf, entered}
+use Rattle.built_meshes.specs.Perimeters.{nextPlace}
 use Rattle.built_meshes.specs.Places.{pointOf, nextOf}
 use Rattle.built_meshes.specs.Beyond.{Within}
 use Rattle.built_meshes.specs.declared.Ground.{Ground}
@@ -39,7 +40,7 @@ use Rattle.built_meshes.proofs.Connecting.{firstOf, secondOf, acwOf, cw
 use Rattle.built_meshes.proofs.Rows.{row, withRight, row-newEdge, row-newEdge-other, valence-newEdge-first, valence-newEdge-second, valence-newEdge-other, start-newEdge-first, start-newEdge-second, start-newEdge-other, row-filled, row-filled-other}
 use Rattle.built_meshes.proofs.Places.{next-below, next-differs}
 use Rattle.built_meshes.proofs.Beyond.{behind-trans, behind-set, behind-putRow, behind-touched}
-use Rattle.built_meshes.proofs.Invariant.{Sits, Good, Invariant, Same-side, Adds, Or-this, sits-added, sits-new, Rest, invariant-added}
+use Rattle.built_meshes.proofs.Invariant.{Sits, Good, Invariant, Adds, Or-this, sits-added, sits-new, invariant-added}
 
 -- ---- the search
 
@@ -81,9 +82,9 @@ unfolding sumTo
 sumTo-more zero e a b l h other = absurd (omega arith)
 sumTo-more (suc n) e a b l h other =
     below-suc e n l
-      (λ lt. omega (arith, sumTo-more n e a b lt h (λ x k. other x (omega arith)), other n (omega arith) (λ z. omega arith)))
-      (λ same.
-        omega (arith, sumTo-cong n b a (λ x k. other x (omega arith) (λ z. omega arith)), subst (λ e. b e ≡ suc (a e)) same h))
+    (λ lt. omega (arith, sumTo-more n e a b lt h (λ x k. other x (omega arith)), other n (omega arith) (λ z. omega arith)))
+    (λ same.
+    omega (arith, sumTo-cong n b a (λ x k. other x (omega arith) (λ z. omega arith)), subst (λ e. b e ≡ suc (a e)) same h))
 
 sided-none : sided none ≡ 1
 sided-none = refl
@@ -97,7 +98,7 @@ module _ (l : Lists) (D : ℕ → ℕ → Type 0) (p q : ℕ) where
   pub data Why : Ground → Type 0 where
     -- places entered run both ways between the points
     both-ways :
-      (f i g j : ℕ) → D f i → pointOf l f i ≡ p → nextOf l f i ≡ q → D g j → pointOf l g j ≡ q → nextOf l g j ≡ p → Why EdgeTripleFace
+        (f i g j : ℕ) → D f i → pointOf l f i ≡ p → nextOf l f i ≡ q → D g j → pointOf l g j ≡ q → nextOf l g j ≡ p → Why EdgeTripleFace
     -- a place entered runs this way
     this-way : (f i : ℕ) → D f i → pointOf l f i ≡ p → nextOf l f i ≡ q → Why SameWay
 
@@ -134,7 +135,7 @@ module _ (l : Lists) (D C : ℕ → ℕ → Type 0) (m : Mesh) (ne : ℕ) (f₀ 
     differ : p ≢ q
     differ h =
         next-differs (size l f₀) i₀ (omega (arith, g₀ .sound .at-least-3)) (g₀ .is-below)
-          (sym (g₀ .sound .distinct i₀ (nextPlace (size l f₀) i₀) (g₀ .is-below) (next-below (size l f₀) i₀ (g₀ .is-below)) h))
+        (sym (g₀ .sound .distinct i₀ (nextPlace (size l f₀) i₀) (g₀ .is-below) (next-below (size l f₀) i₀ (g₀ .is-below)) h))
 
     -- ---- the edge is there: its other side
 
@@ -156,16 +157,22 @@ module _ (l : Lists) (D C : ℕ → ℕ → Type 0) (m : Mesh) (ne : ℕ) (f₀ 
           go : Dec (x ≡ e) → Left-alone x
           go (yes h) =
               subst Left-alone (sym h)
-                (record {
-                  origin-same = ap (λ (r : TnurccEdge). r .origin) here; dest-same = ap (λ (r : TnurccEdge). r .dest) here;
-                  left-same = ap (λ (r : TnurccEdge). r .«face_left») here; interval-same = ap (λ (r : TnurccEdge). r .«knot_interval») here;
-                  links-same = ap (λ (r : TnurccEdge). r .connections) here })
+              (record {
+                origin-same = ap (λ (r : TnurccEdge). r .origin) here;
+                dest-same = ap (λ (r : TnurccEdge). r .dest) here;
+                left-same = ap (λ (r : TnurccEdge). r .«face_left») here;
+                interval-same = ap (λ (r : TnurccEdge). r .«knot_interval») here;
+                links-same = ap (λ (r : TnurccEdge). r .connections) here;
+              })
           go (no h) =
               let same = row-filled-other m e f₀ x h in
               record {
-                origin-same = ap (λ (r : TnurccEdge). r .origin) same; dest-same = ap (λ (r : TnurccEdge). r .dest) same;
-                left-same = ap (λ (r : TnurccEdge). r .«face_left») same; interval-same = ap (λ (r : TnurccEdge). r .«knot_interval») same;
-                links-same = ap (λ (r : TnurccEdge). r .connections) same }
+                origin-same = ap (λ (r : TnurccEdge). r .origin) same;
+                dest-same = ap (λ (r : TnurccEdge). r .dest) same;
+                left-same = ap (λ (r : TnurccEdge). r .«face_left») same;
+                interval-same = ap (λ (r : TnurccEdge). r .«knot_interval») same;
+                links-same = ap (λ (r : TnurccEdge). r .connections) same;
+              }
 
       first-alone : (s : TnurccFaceSide) (x : ℕ) → firstOf s (row (filled m e f₀) x) ≡ firstOf s (row m x)
       first-alone Left x = left-alone x .origin-same
@@ -192,16 +199,22 @@ module _ (l : Lists) (D C : ℕ → ℕ → Type 0) (m : Mesh) (ne : ℕ) (f₀ 
             new-second = left-alone e .origin-same ∙ from;
             was-free = λ l. free;
             others = λ s x k h.
-              record {
-                face-same = face-alone s x h; first-same = first-alone s x; second-same = second-alone s x;
-                acw-same = links-alone s x .0; cw-same = links-alone s x .1 };
-            cases = λ s x k h. which s x k }
+                record {
+                  face-same = face-alone s x h;
+                  first-same = first-alone s x;
+                  second-same = second-alone s x;
+                  acw-same = links-alone s x .0;
+                  cw-same = links-alone s x .1;
+                };
+            cases = λ s x k h. which s x k;
+          }
         where
           which : (s : TnurccFaceSide) (x : ℕ) → x < ne → ((s ≡ Right) × (x ≡ e)) ⊎ ((x < ne) × (¬ ((s ≡ Right) × (x ≡ e))))
           which s x k = go s (ℕ-discrete x e)
             where
               apart : Left ≡ Right → ⊥
               apart h = let z : _≡_ {A = ℕ} 0 1 = cc in omega arith
+
               go : (s : TnurccFaceSide) → Dec (x ≡ e) → ((s ≡ Right) × (x ≡ e)) ⊎ ((x < ne) × (¬ ((s ≡ Right) × (x ≡ e))))
               go Left d = inr (k, λ z. apart (z .0))
               go Right (yes h) = inl (refl, h)
@@ -217,34 +230,39 @@ module _ (l : Lists) (D C : ℕ → ℕ → Type 0) (m : Mesh) (ne : ℕ) (f₀ 
       goes-filled =
           record {
             invariant =
-              invariant-added l D C m ne v (filled m e f₀) ne f₀ i₀ Right e adds-filled g₀ none-runs-filled
+                invariant-added l D C m ne v (filled m e f₀) ne f₀ i₀ Right e adds-filled g₀ none-runs-filled
                 (record {
                   left-face = λ x k z. v .left-face x k (sym (left-alone x .left-same) ∙ z);
                   origin-in = λ x k. subst (λ y. y < pointsOf l) (sym (left-alone x .origin-same)) (v .origin-in x k);
                   dest-in = λ x k. subst (λ y. y < pointsOf l) (sym (left-alone x .dest-same)) (v .dest-in x k);
                   ends-differ = λ x k z. v .ends-differ x k (sym (left-alone x .origin-same) ∙ z ∙ left-alone x .dest-same);
                   one-side = λ s x t y k k' h h'.
-                    v .one-side s x t y k k' (sym (first-alone s x) ∙ h ∙ first-alone t y) (sym (second-alone s x) ∙ h' ∙ second-alone t y);
+                      v .one-side s x t y k k' (sym (first-alone s x) ∙ h ∙ first-alone t y) (sym (second-alone s x) ∙ h' ∙ second-alone t y);
                   valence-is = λ x k.
-                    v .valence-is x k
-                    ∙ sumTo-cong ne (λ y. one (touches m x y)) (λ y. one (touches (filled m e f₀) x y))
-                        (λ y j. ap₂ (λ (i k : ℕ). one (eqb i x || eqb k x)) (sym (left-alone y .origin-same)) (sym (left-alone y .dest-same)));
+                      v .valence-is x k
+                      ∙ sumTo-cong ne (λ y. one (touches m x y)) (λ y. one (touches (filled m e f₀) x y))
+                      (λ y j. ap₂ (λ (i k : ℕ). one (eqb i x || eqb k x)) (sym (left-alone y .origin-same)) (sym (left-alone y .dest-same)));
                   start-is = λ x k h. (v .start-is x k h .0, touches-alone x (start m x) (v .start-is x k h .1));
-                  interval-fit = λ x k. rw (left-alone x .interval-same) (v .interval-fit x k) });
+                  interval-fit = λ x k. rw (left-alone x .interval-same) (v .interval-fit x k);
+                });
             sits = sits-new l D C m ne v (filled m e f₀) ne f₀ i₀ Right e adds-filled g₀;
             sits-still = sits-added l D C m ne v (filled m e f₀) ne f₀ i₀ Right e adds-filled g₀;
             counts =
-              sumTo-more ne e (λ x. sided (row m x .«face_right»)) (λ x. sided (row (filled m e f₀) x .«face_right»)) b
+                sumTo-more ne e (λ x. sided (row m x .«face_right»)) (λ x. sided (row (filled m e f₀) x .«face_right»)) b
                 (ap sided (ap (λ (r : TnurccEdge). r .«face_right») here) ∙ sided-face f₀ (g₀ .a-face) ∙ ap suc (sym (ap sided free ∙ sided-none)))
                 (λ x k h. ap sided (ap (λ (r : TnurccEdge). r .«face_right») (row-filled-other m e f₀ x h)));
             within =
-              record {
-                positions = (refl, refl); points = (refl, refl);
-                edges = behind-set (length (l .listed) * 8) (m .edges) (e * 8 + 3) f₀ (omega arith);
-                intervals = (refl, refl); faces = (refl, refl) };
+                record {
+                  positions = (refl, refl);
+                  points = (refl, refl);
+                  edges = behind-set (length (l .listed) * 8) (m .edges) (e * 8 + 3) f₀ (omega arith);
+                  intervals = (refl, refl);
+                  faces = (refl, refl);
+                };
             faces-still = refl;
             grows = omega arith;
-            later = λ x h. row-filled-other m e f₀ x (λ z. omega arith) }
+            later = λ x h. row-filled-other m e f₀ x (λ z. omega arith);
+          }
         where
           touches-alone : (x y : ℕ) → Touches m x y → Touches (filled m e f₀) x y
           touches-alone x y (inl h) = inl (left-alone y .origin-same ∙ h)
@@ -282,14 +300,20 @@ module _ (l : Lists) (D C : ℕ → ℕ → Type 0) (m : Mesh) (ne : ℕ) (f₀ 
             new-second = ap (λ (r : TnurccEdge). r .dest) here-new;
             was-free = λ k. absurd (omega arith);
             others = λ s x k h.
-              let same = there x k in
-              record {
-                face-same = ap (λ (r : TnurccEdge). faceFromSide r s) same; first-same = ap (firstOf s) same; second-same = ap (secondOf s) same;
-                acw-same = ap (acwOf s) same; cw-same = ap (cwOf s) same };
-            cases = λ s x k h. below-suc x ne k (λ lt. inr (lt, λ z. never x lt (z .1))) (λ same. inl (left s x same h, same)) }
+                let same = there x k in
+                record {
+                  face-same = ap (λ (r : TnurccEdge). faceFromSide r s) same;
+                  first-same = ap (firstOf s) same;
+                  second-same = ap (secondOf s) same;
+                  acw-same = ap (acwOf s) same;
+                  cw-same = ap (cwOf s) same;
+                };
+            cases = λ s x k h. below-suc x ne k (λ lt. inr (lt, λ z. never x lt (z .1))) (λ same. inl (left s x same h, same));
+          }
         where
           never : (x : ℕ) → x < ne → x ≡ ne → ⊥
           never x k h = omega arith
+
           left : (s : TnurccFaceSide) (x : ℕ) → x ≡ ne → faceFromSide (row new x) s ≢ none → s ≡ Left
           left Left x same h = refl
           left Right x same h = absurd (h (ap (λ x. row new x .«face_right») same ∙ ap (λ (r : TnurccEdge). r .«face_right») here-new))
@@ -328,23 +352,23 @@ module _ (l : Lists) (D C : ℕ → ℕ → Type 0) (m : Mesh) (ne : ℕ) (f₀ 
       unfolding One-side
       one-side-new s x t y k k' h h' =
           below-suc x ne k
-            (λ lt. below-suc y ne k'
-              (λ lt'.
-                v .one-side s x t y lt lt' (sym (ap (firstOf s) (there x lt)) ∙ h ∙ ap (firstOf t) (there y lt'))
-                  (sym (ap (secondOf s) (there x lt)) ∙ h' ∙ ap (secondOf t) (there y lt')))
-              (λ same'. absurd (new-old t x s lt (sym (h ∙ ap (λ y. firstOf t (row new y)) same')) (sym (h' ∙ ap (λ y. secondOf t (row new y)) same')))))
-            (λ same. below-suc y ne k'
-              (λ lt'. absurd (new-old s y t lt' (sym (ap (λ x. firstOf s (row new x)) same) ∙ h) (sym (ap (λ x. secondOf s (row new x)) same) ∙ h')))
-              (λ same'.
-                let both = new-new s t (sym (ap (λ x. firstOf s (row new x)) same) ∙ h ∙ ap (λ y. firstOf t (row new y)) same')
-                      (sym (ap (λ x. secondOf s (row new x)) same) ∙ h' ∙ ap (λ y. secondOf t (row new y)) same') in
-                (both .0, same ∙ sym same')))
+          (λ lt. below-suc y ne k'
+          (λ lt'.
+          v .one-side s x t y lt lt' (sym (ap (firstOf s) (there x lt)) ∙ h ∙ ap (firstOf t) (there y lt'))
+          (sym (ap (secondOf s) (there x lt)) ∙ h' ∙ ap (secondOf t) (there y lt')))
+          (λ same'. absurd (new-old t x s lt (sym (h ∙ ap (λ y. firstOf t (row new y)) same')) (sym (h' ∙ ap (λ y. secondOf t (row new y)) same')))))
+          (λ same. below-suc y ne k'
+          (λ lt'. absurd (new-old s y t lt' (sym (ap (λ x. firstOf s (row new x)) same) ∙ h) (sym (ap (λ x. secondOf s (row new x)) same) ∙ h')))
+          (λ same'.
+          let both = new-new s t (sym (ap (λ x. firstOf s (row new x)) same) ∙ h ∙ ap (λ y. firstOf t (row new y)) same')
+          (sym (ap (λ x. secondOf s (row new x)) same) ∙ h' ∙ ap (λ y. secondOf t (row new y)) same') in
+          (both .0, same ∙ sym same')))
 
       -- the valences
       old-touches : (x : ℕ) → sumTo ne (λ y. one (touches new x y)) ≡ sumTo ne (λ y. one (touches m x y))
       old-touches x =
           sumTo-cong ne (λ y. one (touches new x y)) (λ y. one (touches m x y))
-            (λ y k. ap (λ (r : TnurccEdge). one (eqb (r .origin) x || eqb (r .dest) x)) (there y k))
+          (λ y k. ap (λ (r : TnurccEdge). one (eqb (r .origin) x || eqb (r .dest) x)) (there y k))
 
       new-touches : (x : ℕ) → one (touches new x ne) ≡ one (eqb p x || eqb q x)
       new-touches x = ap (λ (r : TnurccEdge). one (eqb (r .origin) x || eqb (r .dest) x)) here-new
@@ -359,6 +383,7 @@ module _ (l : Lists) (D C : ℕ → ℕ → Type 0) (m : Mesh) (ne : ℕ) (f₀ 
         where
           old : valence m x ≡ sumTo ne (λ y. one (touches m x y))
           old = v .valence-is x k
+
           go : Dec (x ≡ p) → Dec (x ≡ q) → valence new x ≡ sumTo ne (λ y. one (touches new x y)) + one (touches new x ne)
           go (yes h) d =
               let up : valence new x ≡ suc (valence m x) = subst (λ x. valence new x ≡ suc (valence m x)) (sym h) (valence-newEdge-first m ne f₀ p q value differ p-fits q-fits) in
@@ -378,10 +403,12 @@ module _ (l : Lists) (D C : ℕ → ℕ → Type 0) (m : Mesh) (ne : ℕ) (f₀ 
         where
           At-new : ℕ → Type 0
           At-new e = (e < suc ne) × Touches new x e
+
           old : valence new x ≡ valence m x → At-new (start m x)
           old same =
               let s = v .start-is x k (subst (λ n. 0 < n) same h) in
               (omega (arith, s .0), ⊎-elim (λ z. inl (ap (λ (r : TnurccEdge). r .origin) (there (start m x) (s .0)) ∙ z)) (λ z. inr (ap (λ (r : TnurccEdge). r .dest) (there (start m x) (s .0)) ∙ z)) (s .1))
+
           go : Dec (x ≡ p) → Dec (x ≡ q) → At-new (start new x)
           go (yes i) d =
               let s : start new x ≡ ne = ap (λ x. start new x) i ∙ start-newEdge-first m ne f₀ p q value differ p-fits q-fits in
@@ -391,14 +418,14 @@ module _ (l : Lists) (D C : ℕ → ℕ → Type 0) (m : Mesh) (ne : ℕ) (f₀ 
               subst At-new (sym s) (omega arith, inr (ap (λ (r : TnurccEdge). r .dest) here-new ∙ sym j))
           go (no i) (no j) =
               subst At-new (sym (start-newEdge-other m ne f₀ p q value differ p-fits q-fits x i j))
-                (old (valence-newEdge-other m ne f₀ p q value differ p-fits q-fits x i j))
+              (old (valence-newEdge-other m ne f₀ p q value differ p-fits q-fits x i j))
 
       goes-new : Goes new (suc ne) ne
       unfolding newEdge counted sumTo One-side
       goes-new =
           record {
             invariant =
-              invariant-added l D C m ne v new (suc ne) f₀ i₀ Left ne adds-new g₀ none-runs-new
+                invariant-added l D C m ne v new (suc ne) f₀ i₀ Left ne adds-new g₀ none-runs-new
                 (record {
                   left-face = each (λ r. r .«face_left» ≢ none) (v .left-face) (g₀ .a-face);
                   origin-in = each (λ r. r .origin < pointsOf l) (v .origin-in) p-in;
@@ -407,31 +434,38 @@ module _ (l : Lists) (D C : ℕ → ℕ → Type 0) (m : Mesh) (ne : ℕ) (f₀ 
                   one-side = one-side-new;
                   valence-is = valence-new;
                   start-is = start-new;
-                  interval-fit = each (λ r. intervalFit (r .«knot_interval») ≡ true) (v .interval-fit) fit });
+                  interval-fit = each (λ r. intervalFit (r .«knot_interval») ≡ true) (v .interval-fit) fit;
+                });
             sits = sits-new l D C m ne v new (suc ne) f₀ i₀ Left ne adds-new g₀;
             sits-still = sits-added l D C m ne v new (suc ne) f₀ i₀ Left ne adds-new g₀;
             counts =
-              omega (arith, sumTo-cong ne (λ x. sided (row new x .«face_right»)) (λ x. sided (row m x .«face_right»)) (λ x k. ap (λ (r : TnurccEdge). sided (r .«face_right»)) (there x k)),
-                ap (λ (r : TnurccEdge). sided (r .«face_right»)) here-new, sided-none);
+                omega (
+                  arith,
+                  sumTo-cong ne (λ x. sided (row new x .«face_right»)) (λ x. sided (row m x .«face_right»)) (λ x k. ap (λ (r : TnurccEdge). sided (r .«face_right»)) (there x k)),
+                  ap (λ (r : TnurccEdge). sided (r .«face_right»)) here-new,
+                  sided-none,
+                );
             within =
-              record {
-                positions = (refl, refl);
-                points =
-                  behind-trans (pointsOf l * 3) (m .points) (touched (m .points) p ne) (touched (touched (m .points) p ne) q ne)
-                    (behind-touched (pointsOf l) (m .points) p ne p-in) (behind-touched (pointsOf l) (touched (m .points) p ne) q ne q-in);
-                edges = behind-putRow (length (l .listed) * 8) (edgeWords (edgeOf ne f₀ p q value)) (m .edges) (ne * 8) (omega arith);
-                intervals = behind-set (length (l .listed)) (m .intervals) ne value listed-room;
-                faces = (refl, refl) };
+                record {
+                  positions = (refl, refl);
+                  points =
+                      behind-trans (pointsOf l * 3) (m .points) (touched (m .points) p ne) (touched (touched (m .points) p ne) q ne)
+                      (behind-touched (pointsOf l) (m .points) p ne p-in) (behind-touched (pointsOf l) (touched (m .points) p ne) q ne q-in);
+                  edges = behind-putRow (length (l .listed) * 8) (edgeWords (edgeOf ne f₀ p q value)) (m .edges) (ne * 8) (omega arith);
+                  intervals = behind-set (length (l .listed)) (m .intervals) ne value listed-room;
+                  faces = (refl, refl);
+                };
             faces-still = refl;
             grows = omega arith;
-            later = λ x h. row-newEdge-other m ne f₀ p q value x (λ z. omega arith) }
+            later = λ x h. row-newEdge-other m ne f₀ p q value x (λ z. omega arith);
+          }
 
     -- ---- the search decides
 
     -- the places of an edge whose sides both have a face, seen from the side that runs from p to q
     both-sides :
-      (s t : TnurccFaceSide) (e : ℕ) → e < ne → firstOf s (row m e) ≡ p → secondOf s (row m e) ≡ q → firstOf t (row m e) ≡ q → secondOf t (row m e) ≡ p →
-      faceFromSide (row m e) s ≢ none → faceFromSide (row m e) t ≢ none → Why l D p q EdgeTripleFace
+        (s t : TnurccFaceSide) (e : ℕ) → e < ne → firstOf s (row m e) ≡ p → secondOf s (row m e) ≡ q → firstOf t (row m e) ≡ q → secondOf t (row m e) ≡ p →
+        faceFromSide (row m e) s ≢ none → faceFromSide (row m e) t ≢ none → Why l D p q EdgeTripleFace
     both-sides s t e b first second first' second' a a' =
         let x = v .placed s e b a in
         let y = v .placed t e b a' in
@@ -459,6 +493,7 @@ module _ (l : Lists) (D C : ℕ → ℕ → Type 0) (m : Mesh) (ne : ℕ) (f₀ 
         at-edge e k j true false h h' =
             let turn = turns-back e j (eqb-false (origin m e) p h') in
             goes (goes-filled e k (eqb-true (rightFace m e) none h) (turn .0) (turn .1))
+
         go : (r : Found) → Finds m ne p q r → Came (enteredIf m ne f₀ p q value r)
         go r (finds {e = e} k j) = at-edge e k j (eqb (rightFace m e) none) (eqb (origin m e) p) refl refl
         go r (finds-none h) = goes (goes-new h)

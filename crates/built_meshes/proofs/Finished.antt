@@ -2,37 +2,37 @@
 --     valence-marked, start-marked, mark-marked     the words of a point after the marks
 --     faces-finished                                all places are in still
 --     audited-finished                              the audit's clauses
-use mathlib.Core.Path.{_≡_, refl, sym, _∙_, ap, ap₂, subst}
+use mathlib.Core.Path.{_≡_, refl, sym, _∙_, ap, subst}
 use mathlib.Core.Bool.{Bool, true, false, cond}
-use mathlib.Core.Logic.{_⊎_, inl, inr, ⊎-elim, _≢_}
-use mathlib.Core.List.{List, _++_}
-use Prim.Native.Nat.{ℕ, zero, suc, _+_, _*_, _/_, min, _<_, _≤_}
+use mathlib.Core.Logic.{_⊎_, inl, inr, _≢_}
+use mathlib.Core.List.{List}
+use Prim.Native.Nat.{ℕ, zero, suc, _+_, _*_, _<_, _≤_}
 use native.Mathlib.Omega.{arith}
 use lib.Dec.{eqb}
-use lib.Ieee.{Float, nan}
+use lib.Ieee.{nan}
 use lib.Ieee.Scale.{finite}
 use lib.ListN.{length, getD, set, take, drop, length-set, List·getD-append}
 use lib.Seq.{getD-set-same, getD-set-other, getD-take, length-take-le}
 use Rattle.t_spline.specs.Edge.{none, faceFromSide}
 use Rattle.t_spline.specs.declared.TnurccFaceSide.{TnurccFaceSide}
 use Rattle.t_spline.specs.declared.TnurccFaceSide.the-variants.{Left, Right}
-use Rattle.tables.specs.Mesh.{Mesh, x, y, z, valence, start, mark}
+use Rattle.tables.specs.Mesh.{Mesh, z, valence, start, mark}
 use Rattle.tables.specs.Rows.{over}
 use Rattle.audited_meshes.specs.Walks.{passed, pointWalk}
 use Rattle.audited_meshes.specs.Audit.{pointRows, edgeRows, faceRows}
 use Rattle.audited_meshes.specs.Audited.{Audited}
 use Rattle.audited_meshes.proofs.Folds.{below-suc}
-use Rattle.built_meshes.specs.Lists.{Lists, Limits, pointsOf, facesOf, size, offset}
+use Rattle.built_meshes.specs.Lists.{Lists, Limits, pointsOf, facesOf}
 use Rattle.built_meshes.specs.Perimeters.{State}
-use Rattle.built_meshes.specs.Building.{markOf, marked, finished}
+use Rattle.built_meshes.specs.Whole.{markOf, marked, finished}
 use Rattle.built_meshes.specs.Beyond.{Behind, Within}
 use Rattle.built_meshes.proofs.Connecting.{Keeps}
 use Rattle.built_meshes.proofs.Rows.{row}
 use Rattle.built_meshes.proofs.Beyond.{behind-trans, behind-set, behind-over, within-trans}
-use Rattle.built_meshes.proofs.Invariant.{FaceSound, Sits, Invariant, sits-kept, invariant-kept}
+use Rattle.built_meshes.proofs.Invariant.{Invariant, sits-kept, invariant-kept}
 use Rattle.built_meshes.proofs.Joining.{keeps-refl}
 use Rattle.built_meshes.proofs.Entering.{counted}
-use Rattle.built_meshes.proofs.Perimeter.{Ready, ready-same, Done, Chained, Faces, counted-above}
+use Rattle.built_meshes.proofs.Perimeter.{Done, Chained, Faces, counted-above}
 use Rattle.built_meshes.proofs.Faces.{Fit-faces}
 use Rattle.built_meshes.proofs.Begin.{Counted, Numbered, Roomy, listed-all}
 use Rattle.built_meshes.proofs.Whole.{place-of, sides-differ, acw-links, cw-links, acw-below, cw-below, one-edge, face-walk, point-walk}
@@ -62,13 +62,13 @@ unfolding marked
 mark-marked zero p ws b fits = absurd (omega arith)
 mark-marked (suc k) p ws b fits =
     below-suc p k b
-      (λ lt.
-        getD-set-other (marked k ws) (k * 3 + 2) (p * 3 + 2) (markOf (getD (marked k ws) (k * 3) 0)) 0 (λ h. omega arith)
-        ∙ mark-marked k p ws lt (omega arith))
-      (λ same.
-        subst (λ p. getD (set (marked k ws) (k * 3 + 2) (markOf (getD (marked k ws) (k * 3) 0))) (p * 3 + 2) 0 ≡ markOf (getD ws (p * 3) 0)) (sym same)
-          (getD-set-same (marked k ws) (k * 3 + 2) (markOf (getD (marked k ws) (k * 3) 0)) 0 (rw (length-marked k ws) (omega arith))
-            ∙ ap markOf (valence-marked k k ws)))
+    (λ lt.
+    getD-set-other (marked k ws) (k * 3 + 2) (p * 3 + 2) (markOf (getD (marked k ws) (k * 3) 0)) 0 (λ h. omega arith)
+    ∙ mark-marked k p ws lt (omega arith))
+    (λ same.
+    subst (λ p. getD (set (marked k ws) (k * 3 + 2) (markOf (getD (marked k ws) (k * 3) 0))) (p * 3 + 2) 0 ≡ markOf (getD ws (p * 3) 0)) (sym same)
+    (getD-set-same (marked k ws) (k * 3 + 2) (markOf (getD (marked k ws) (k * 3) 0)) 0 (rw (length-marked k ws) (omega arith))
+    ∙ ap markOf (valence-marked k k ws)))
 
 markOf-fit : (v : ℕ) → (markOf v ≡ 0) ⊎ (markOf v ≡ 1)
 markOf-fit v = go (eqb v 4)
@@ -82,7 +82,7 @@ unfolding marked
 behind-marked zero ws n h = (refl, refl)
 behind-marked (suc k) ws n h =
     behind-trans (n * 3) ws (marked k ws) (marked (suc k) ws) (behind-marked k ws n (omega arith))
-      (behind-set (n * 3) (marked k ws) (k * 3 + 2) (markOf (getD (marked k ws) (k * 3) 0)) (omega arith))
+    (behind-set (n * 3) (marked k ws) (k * 3 + 2) (markOf (getD (marked k ws) (k * 3) 0)) (omega arith))
 
 -- ---- positions
 
@@ -117,13 +117,14 @@ module _ (l : Lists) (k : ℕ) (s : State) (all : Faces l k s) where
   faces-finished =
       record {
         invariant =
-          invariant-kept l (Done l k 0) (Chained l k 0) (s .mesh) (s .edges) (all .invariant) (finished l (s .mesh)) (λ e b. same-rows l (s .mesh) e)
+            invariant-kept l (Done l k 0) (Chained l k 0) (s .mesh) (s .edges) (all .invariant) (finished l (s .mesh)) (λ e b. same-rows l (s .mesh) e)
             (valence-finished l (s .mesh)) (start-finished l (s .mesh)) (Chained l k 0) (all .invariant .chained) (all .invariant .linked);
         counts = all .counts;
         starts = λ f b.
-          sits-kept l (Done l k 0) (Chained l k 0) (s .mesh) (s .edges) (all .invariant) (finished l (s .mesh)) (λ e b. same-rows l (s .mesh) e)
+            sits-kept l (Done l k 0) (Chained l k 0) (s .mesh) (s .edges) (all .invariant) (finished l (s .mesh)) (λ e b. same-rows l (s .mesh) e)
             (valence-finished l (s .mesh)) (start-finished l (s .mesh)) f 0 _ (all .starts f b);
-        corners = all .corners }
+        corners = all .corners;
+      }
 
 -- ---- the audit's clauses
 
@@ -154,10 +155,13 @@ module _ (c : Limits) (l : Lists) (m₀ : Mesh) (counted' : Counted c l) (number
   unfolding finished
   within-finished =
       within-trans l within
-        (record {
-          positions = behind-over (pointsOf l * 3) (l .coordinates) (s .mesh .positions) (omega arith) (rw (within .positions .0) (omega (arith, roomy .points-enough)));
-          points = behind-marked (pointsOf l) (s .mesh .points) (pointsOf l) (omega arith);
-          edges = (refl, refl); intervals = (refl, refl); faces = (refl, refl) })
+      (record {
+        positions = behind-over (pointsOf l * 3) (l .coordinates) (s .mesh .positions) (omega arith) (rw (within .positions .0) (omega (arith, roomy .points-enough)));
+        points = behind-marked (pointsOf l) (s .mesh .points) (pointsOf l) (omega arith);
+        edges = (refl, refl);
+        intervals = (refl, refl);
+        faces = (refl, refl);
+      })
 
   points-fit : pointsOf l ≤ pointRows after
   points-fit = rw (within-finished .positions .0, within-finished .points .0) (roomy .points-enough)
@@ -172,14 +176,14 @@ module _ (c : Limits) (l : Lists) (m₀ : Mesh) (counted' : Counted c l) (number
   unfolding finished
   coordinate-finite p j b h =
       rw (getD-over (pointsOf l * 3) (p * 3 + j) (l .coordinates) (s .mesh .positions) nan (omega arith) (omega arith))
-        (numbered .coordinates-finite (p * 3 + j) (omega arith))
+      (numbered .coordinates-finite (p * 3 + j) (omega arith))
 
   mark-fits : (p : ℕ) → p < pointsOf l → (mark after p ≡ 0) ⊎ (mark after p ≡ 1)
   unfolding finished
   mark-fits p b =
       subst (λ k. (k ≡ 0) ⊎ (k ≡ 1))
-        (sym (mark-marked (pointsOf l) p (s .mesh .points) b (rw (within .points .0) (omega (arith, roomy .points-enough)))))
-        (markOf-fit (getD (s .mesh .points) (p * 3) 0))
+      (sym (mark-marked (pointsOf l) p (s .mesh .points) b (rw (within .points .0) (omega (arith, roomy .points-enough)))))
+      (markOf-fit (getD (s .mesh .points) (p * 3) 0))
 
   few' : (f : ℕ) → f < facesOf l → f ≢ none
   few' f b h = omega (arith, counted' .faces-few)
@@ -195,15 +199,16 @@ module _ (c : Limits) (l : Lists) (m₀ : Mesh) (counted' : Counted c l) (number
         faces-fit = faces-fit;
         start-in-range = λ p b. v .start-is p b (let h = edged' p b in omega arith) .0;
         edge-in-range = λ e b.
-          record {
-            origin-in-range = v .origin-in e b;
-            dest-in-range = v .dest-in e b;
-            leftFace-in-range = face-in Left e b;
-            rightFace-in-range = face-in Right e b;
-            leftCw-in-range = cw-below l after (s .edges) v right' Left e b;
-            leftAcw-in-range = acw-below l after (s .edges) v right' Left e b;
-            rightCw-in-range = cw-below l after (s .edges) v right' Right e b;
-            rightAcw-in-range = acw-below l after (s .edges) v right' Right e b };
+            record {
+              origin-in-range = v .origin-in e b;
+              dest-in-range = v .dest-in e b;
+              leftFace-in-range = face-in Left e b;
+              rightFace-in-range = face-in Right e b;
+              leftCw-in-range = cw-below l after (s .edges) v right' Left e b;
+              leftAcw-in-range = acw-below l after (s .edges) v right' Left e b;
+              rightCw-in-range = cw-below l after (s .edges) v right' Right e b;
+              rightAcw-in-range = acw-below l after (s .edges) v right' Right e b;
+            };
         faceStart-in-range = λ f b. faces' .starts f b .below;
         x-finite = λ p b. subst (λ k. finite (getD (after .positions) k nan) ≡ true) (let z : p * 3 + 0 ≡ p * 3 = omega arith in z) (coordinate-finite p 0 b (omega arith));
         y-finite = λ p b. coordinate-finite p 1 b (omega arith);
@@ -218,7 +223,8 @@ module _ (c : Limits) (l : Lists) (m₀ : Mesh) (counted' : Counted c l) (number
         right-cw = cw-links l after (s .edges) v right' Right;
         face-walked = λ f b. face-walk l after (s .edges) v right' f b (fit .sound f b) (faces' .starts f b) (few' f b);
         point-walked = λ p b.
-          point-walk l after (s .edges) v right' p b (edged' p b)
+            point-walk l after (s .edges) v right' p b (edged' p b)
             (subst (λ w. valence after p ≤ passed w) (sym (walk-finished l (s .mesh) (s .edges) p)) (subst (λ n. n ≤ passed (pointWalk (s .mesh) (s .edges) (valence (s .mesh) p) p)) (sym (valence-finished l (s .mesh) p)) (walked p b)));
         corner-fit = λ f k b h. inr (faces' .corners f k b h);
-        mark-fit = mark-fits }
+        mark-fit = mark-fits;
+      }

@@ -5,25 +5,24 @@
 --     Faces l k s             the state s, with all places of the faces below k in
 --     Around l s k i r        the ring r, with i places of face k in, which began at the state s
 --     perimeter-came          what comes of a face
-use mathlib.Core.Path.{_≡_, refl, sym, _∙_, ap, ap₂, subst}
+use mathlib.Core.Path.{_≡_, refl, sym, _∙_, ap, subst}
 use mathlib.Core.Bool.{true, not}
 use lib.Dec.{eqb}
-use mathlib.Core.Logic.{_⊎_, inl, inr, ⊎-elim, _≢_}
-use mathlib.Core.List.{List}
+use mathlib.Core.Logic.{_⊎_, inl, inr, _≢_}
 use Prim.Native.Nat.{ℕ, zero, suc, _+_, _*_, _<_, _≤_}
 use native.Mathlib.Omega.{arith}
-use lib.Ieee.{Float, nan}
+use lib.Ieee.{nan}
 use lib.ListN.{length, getD}
 use Rattle.t_spline.specs.Edge.{none}
 use Rattle.tables.specs.Mesh.{Mesh, faceStart, corner}
-use Rattle.tables.specs.Rows.{putRow}
 use Rattle.tables.specs.Records.{faceWords}
 use Rattle.closed_meshes.specs.Renumbering.{sumTo}
 use Rattle.audited_meshes.specs.Audit.{intervalFit}
 use Rattle.audited_meshes.specs.Folds.{one}
 use Rattle.audited_meshes.proofs.Folds.{below-suc, sumTo-cong}
 use Rattle.built_meshes.specs.Lists.{Lists, pointsOf, facesOf, size, offset}
-use Rattle.built_meshes.specs.Perimeters.{State, Ring, Step, on, stopped, Entered, at, refused, entered, nextPlace, joined, chained, firstOf, turned, turn, places, faceOf, withFace, closedUp, perimeter}
+use Rattle.built_meshes.specs.Edges.{Entered, at, entered, joined}
+use Rattle.built_meshes.specs.Perimeters.{State, Ring, Step, on, stopped, nextPlace, chained, turned, turn, places, faceOf, withFace, closedUp, perimeter}
 use Rattle.built_meshes.specs.Places.{pointOf, nextOf}
 use Rattle.built_meshes.specs.Beyond.{Within}
 use Rattle.built_meshes.specs.declared.Ground.{Ground}
@@ -47,9 +46,14 @@ pub record Ready (l : Lists) (m : Mesh) : Type 0 where
 pub ready-same : (l : Lists) {m m' : Mesh} → Within l m m' → Ready l m → Ready l m'
 ready-same l h r =
     record {
-      points-room = rw (h .points .0) (r .points-room); edges-room = rw (h .edges .0) (r .edges-room);
-      intervals-room = rw (h .intervals .0) (r .intervals-room); faces-room = rw (h .faces .0) (r .faces-room);
-      intervals-fit = r .intervals-fit; all-listed = r .all-listed; faces-few = r .faces-few }
+      points-room = rw (h .points .0) (r .points-room);
+      edges-room = rw (h .edges .0) (r .edges-room);
+      intervals-room = rw (h .intervals .0) (r .intervals-room);
+      faces-room = rw (h .faces .0) (r .faces-room);
+      intervals-fit = r .intervals-fit;
+      all-listed = r .all-listed;
+      faces-few = r .faces-few;
+    }
 
 -- ---- counting places
 
@@ -150,8 +154,8 @@ module _ (l : Lists) (s : State) (k : ℕ) (kf : k < facesOf l) (sound : FaceSou
     entering : Came l (Done l k i) (Chained l k i) (r .mesh) (r .edges) k i (entered (r .mesh) (r .edges) k (pointOf l k i) (nextOf l k i) (getD (l .intervals) (offset l k + i) nan))
     entering =
         came l (Done l k i) (Chained l k i) (r .mesh) (r .edges) k i (a .invariant) (good i below) (getD (l .intervals) (offset l k + i) nan)
-          (ready .intervals-fit (offset l k + i) (omega (arith, place-listed l k i kf below, ready .all-listed)))
-          (ready' .points-room) (omega (arith, room, ready' .edges-room)) (omega (arith, room, ready' .intervals-room)) room
+        (ready .intervals-fit (offset l k + i) (omega (arith, place-listed l k i kf below, ready .all-listed)))
+        (ready' .points-room) (omega (arith, room, ready' .edges-room)) (omega (arith, room, ready' .intervals-room)) room
 
     -- as many edges as places, at most
     few-edges : {m' : Mesh} {ne' e : ℕ} → Goes l (Done l k i) (Chained l k i) (r .mesh) (r .edges) k i m' ne' e → ne' ≤ length (l .listed)
@@ -161,10 +165,6 @@ module _ (l : Lists) (s : State) (k : ℕ) (kf : k < facesOf l) (sound : FaceSou
     enough {m'} {ne'} {e} t =
         let few = few-edges t in
         rw (t .within .edges .0) (omega (arith, ready' .edges-room))
-
-    -- the place's edge before it is connected
-    abbrev entry : ℕ → Mesh → ℕ → ℕ → Ring
-    entry first m' ne' e = record { mesh = m'; edges = ne'; first = first; before = e }
 
     module _ {m' : Mesh} {ne' e : ℕ} (t : Goes l (Done l k i) (Chained l k i) (r .mesh) (r .edges) k i m' ne' e) where
       counts-entry : counted m' ne' ≡ offset l k + suc i
@@ -180,11 +180,11 @@ module _ (l : Lists) (s : State) (k : ℕ) (kf : k < facesOf l) (sound : FaceSou
       at-place j h = subst (λ j. Sits l m' ne' k j e) (sym h) (t .sits)
 
   turn-first : (r : Ring) (a : Around 0 r) (below : 0 < size l k) {m' : Mesh} {ne' e : ℕ} → Goes l (Done l k 0) (Chained l k 0) (r .mesh) (r .edges) k 0 m' ne' e →
-    Around 1 (record { mesh = m'; edges = ne'; first = e; before = e })
+      Around 1 (record { mesh = m'; edges = ne'; first = e; before = e })
   turn-first r a below {m'} {ne'} {e} t =
       record {
         invariant =
-          invariant-as l (Or-this (Done l k 0) k 0) (Chained l k 0) (Done l k 1) (Chained l k 1) m' ne' (done-suc l k 0) (suc-done l k 0) chain (t .invariant);
+            invariant-as l (Or-this (Done l k 0) k 0) (Chained l k 0) (Done l k 1) (Chained l k 1) m' ne' (done-suc l k 0) (suc-done l k 0) chain (t .invariant);
         counts = counts-entry 0 below r a t;
         within = within-trans l (a .within) (t .within);
         grows = omega (arith, a .grows, t .grows);
@@ -192,53 +192,66 @@ module _ (l : Lists) (s : State) (k : ℕ) (kf : k < facesOf l) (sound : FaceSou
         faces-still = t .faces-still ∙ a .faces-still;
         first-sits = λ h. t .sits;
         before-sits = λ j h. at-place 0 below r a t j (omega arith);
-        sits-still = still-entry 0 below r a t }
+        sits-still = still-entry 0 below r a t;
+      }
     where
       chain : (f j : ℕ) → Chained l k 1 f j → Chained l k 0 f j
       chain f j (inl h) = inl h
       chain f j (inr h) = absurd (omega (arith, h .1))
 
   turn-next : (i : ℕ) (r : Ring) (a : Around (suc i) r) (below : suc i < size l k) {m' : Mesh} {ne' e : ℕ} →
-    Goes l (Done l k (suc i)) (Chained l k (suc i)) (r .mesh) (r .edges) k (suc i) m' ne' e →
-    Around (suc (suc i)) (record { mesh = joined m' e (r .before); edges = ne'; first = r .first; before = e })
+      Goes l (Done l k (suc i)) (Chained l k (suc i)) (r .mesh) (r .edges) k (suc i) m' ne' e →
+      Around (suc (suc i)) (record { mesh = joined m' e (r .before); edges = ne'; first = r .first; before = e })
   unfolding joined
   turn-next i r a below {m'} {ne'} {e} t =
       record {
         invariant =
-          invariant-as l D (Or-this (Chained l k (suc i)) k i) (Done l k (suc (suc i))) (Chained l k (suc (suc i))) (joined m' e (r .before)) ne'
+            invariant-as l D (Or-this (Chained l k (suc i)) k i) (Done l k (suc (suc i))) (Chained l k (suc (suc i))) (joined m' e (r .before)) ne'
             (done-suc l k (suc i)) (suc-done l k (suc i)) chain
             (invariant-joined l D (Chained l k (suc i)) m' ne' (t .invariant) (enough (suc i) below r a t) k i e (r .before) g sits-o sits-e done done');
         counts = counted-same m' (joined m' e (r .before)) ne' (right-joined l D (Chained l k (suc i)) m' ne' (t .invariant) (enough (suc i) below r a t) k i e (r .before) g sits-o sits-e done done') ∙ counts-entry (suc i) below r a t;
         within =
-          within-trans l (within-trans l (a .within) (t .within))
+            within-trans l (within-trans l (a .within) (t .within))
             (record {
-              positions = (refl, refl); points = (refl, refl);
+              positions = (refl, refl);
+              points = (refl, refl);
               edges = behind-connected (length (l .listed)) (m' .edges) (m' .intervals) e (r .before) (omega (arith, sits-e .below, few)) (omega (arith, sits-o .below, few));
-              intervals = (refl, refl); faces = (refl, refl) });
+              intervals = (refl, refl);
+              faces = (refl, refl);
+            });
         grows = omega (arith, a .grows, t .grows);
         later = λ x h.
-          row-joined-rest m' e (r .before) x (λ z. omega (arith, sits-e .below)) (λ z. omega (arith, sits-o .below)) ∙ later-entry (suc i) below r a t x h;
+            row-joined-rest m' e (r .before) x (λ z. omega (arith, sits-e .below)) (λ z. omega (arith, sits-o .below)) ∙ later-entry (suc i) below r a t x h;
         faces-still = t .faces-still ∙ a .faces-still;
         first-sits = λ h. again k 0 (r .first) (t .sits-still k 0 (r .first) a-face (a .first-sits (omega arith)));
         before-sits = λ j h. again k j e (at-place (suc i) below r a t j (omega arith));
-        sits-still = λ f j x h z. again f j x (still-entry (suc i) below r a t f j x h z) }
+        sits-still = λ f j x h z. again f j x (still-entry (suc i) below r a t f j x h z);
+      }
     where
       few : ne' ≤ length (l .listed)
       few = few-edges (suc i) below r a t
+
       D : ℕ → ℕ → Type 0
       D = Or-this (Done l k (suc i)) k (suc i)
+
       g : Good l k i
       g = good i (omega arith)
+
       sits-o : Sits l m' ne' k i (r .before)
       sits-o = t .sits-still k i (r .before) a-face (a .before-sits i refl)
+
       sits-e : Sits l m' ne' k (nextPlace (size l k) i) e
       sits-e = at-place (suc i) below r a t (nextPlace (size l k) i) (next-suc i below)
+
       done : Or-this (Done l k (suc i)) k (suc i) k i
       done = inl (inr (refl, omega arith))
+
       done' : Or-this (Done l k (suc i)) k (suc i) k (nextPlace (size l k) i)
       done' = inr (refl, next-suc i below)
+
       again : (f j x : ℕ) → Sits l m' ne' f j x → Sits l (joined m' e (r .before)) ne' f j x
       again = sits-joined l D (Chained l k (suc i)) m' ne' (t .invariant) (enough (suc i) below r a t) k i e (r .before) g sits-o sits-e done done'
+
       chain : (f j : ℕ) → Chained l k (suc (suc i)) f j → Or-this (Chained l k (suc i)) k i f j
       chain f j (inl h) = inl (inl h)
       chain f j (inr h) = below-suc j i (omega (arith, h .1)) (λ lt. inl (inr (h .0, omega arith))) (λ same. inr (h .0, same))
@@ -262,11 +275,11 @@ module _ (l : Lists) (s : State) (k : ℕ) (kf : k < facesOf l) (sound : FaceSou
   -- the face is in, or it stopped at a place
   pub data Perimeter-came : Step State → Type 0 where
     whole :
-      {t : State} → Faces l (suc k) t → Within l (s .mesh) (t .mesh) → s .edges ≤ t .edges →
-      ((x : ℕ) → t .edges ≤ x → row (t .mesh) x ≡ row (s .mesh) x) → Perimeter-came (on t)
+        {t : State} → Faces l (suc k) t → Within l (s .mesh) (t .mesh) → s .edges ≤ t .edges →
+        ((x : ℕ) → t .edges ≤ x → row (t .mesh) x ≡ row (s .mesh) x) → Perimeter-came (on t)
     halted :
-      {g : Ground} {m : Mesh} (j : ℕ) → j < size l k → Why l (Done l k j) (pointOf l k j) (nextOf l k j) g → Within l (s .mesh) m →
-      Perimeter-came (stopped g m)
+        {g : Ground} {m : Mesh} (j : ℕ) → j < size l k → Why l (Done l k j) (pointOf l k j) (nextOf l k j) g → Within l (s .mesh) m →
+        Perimeter-came (stopped g m)
 
   module _ (all : Faces l k s) (r : Ring) (a : Around (size l k) r) (j : ℕ) (last : suc j ≡ size l k) where
     ready-r : Ready l (r .mesh)
@@ -306,7 +319,7 @@ module _ (l : Lists) (s : State) (k : ℕ) (kf : k < facesOf l) (sound : FaceSou
     joined-up : Invariant l (Done l k (size l k)) (Or-this (Chained l k (size l k)) k j) ring (r .edges)
     joined-up =
         invariant-joined l (Done l k (size l k)) (Chained l k (size l k)) (r .mesh) (r .edges) (a .invariant) room-r k j (r .first) (r .before)
-          (good j (omega arith)) sits-last sits-first last-done first-done
+        (good j (omega arith)) sits-last sits-first last-done first-done
 
     same-rows : (x : ℕ) → Keeps (row ring x) (row closed x)
     same-rows x = keeps-refl (row ring x) (row closed x) refl
@@ -314,24 +327,24 @@ module _ (l : Lists) (s : State) (k : ℕ) (kf : k < facesOf l) (sound : FaceSou
     chain : (f x : ℕ) → Chained l (suc k) 0 f x → Or-this (Chained l k (size l k)) k j f x
     chain f x (inl h) =
         below-suc f k (h .0) (λ lt. inl (inl (lt, h .1))) (λ same.
-          let b : x < size l k = subst (λ f. x < size l f) same (h .1) in
-          below-suc x j (omega arith) (λ lt. inl (inr (same, omega arith))) (λ z. inr (same, z)))
+        let b : x < size l k = subst (λ f. x < size l f) same (h .1) in
+        below-suc x j (omega arith) (λ lt. inl (inr (same, omega arith))) (λ z. inr (same, z)))
     chain f x (inr h) = absurd (omega (arith, h .1))
 
     invariant-closed : Invariant l (Done l (suc k) 0) (Chained l (suc k) 0) closed (r .edges)
     unfolding joined
     invariant-closed =
         invariant-as l (Done l k (size l k)) (Or-this (Chained l k (size l k)) k j) (Done l (suc k) 0) (Chained l (suc k) 0) closed (r .edges)
-          (whole-done l k) (done-whole l k) chain
-          (invariant-kept l (Done l k (size l k)) (Or-this (Chained l k (size l k)) k j) ring (r .edges) joined-up closed (λ x b. same-rows x) (λ p. refl) (λ p. refl)
-            (Or-this (Chained l k (size l k)) k j) (joined-up .chained) (joined-up .linked))
+        (whole-done l k) (done-whole l k) chain
+        (invariant-kept l (Done l k (size l k)) (Or-this (Chained l k (size l k)) k j) ring (r .edges) joined-up closed (λ x b. same-rows x) (λ p. refl) (λ p. refl)
+        (Or-this (Chained l k (size l k)) k j) (joined-up .chained) (joined-up .linked))
 
     closed-sits : (f i x : ℕ) → Sits l (r .mesh) (r .edges) f i x → Sits l closed (r .edges) f i x
     unfolding joined
     closed-sits f i x t =
         sits-kept l (Done l k (size l k)) (Or-this (Chained l k (size l k)) k j) ring (r .edges) joined-up closed (λ x b. same-rows x) (λ p. refl) (λ p. refl) f i x
-          (sits-joined l (Done l k (size l k)) (Chained l k (size l k)) (r .mesh) (r .edges) (a .invariant) room-r k j (r .first) (r .before)
-            (good j (omega arith)) sits-last sits-first last-done first-done f i x t)
+        (sits-joined l (Done l k (size l k)) (Chained l k (size l k)) (r .mesh) (r .edges) (a .invariant) room-r k j (r .first) (r .before)
+        (good j (omega arith)) sits-last sits-first last-done first-done f i x t)
 
     fits : k * 5 + 5 ≤ length (ring .faces)
     unfolding joined
@@ -343,36 +356,39 @@ module _ (l : Lists) (s : State) (k : ℕ) (kf : k < facesOf l) (sound : FaceSou
         record {
           invariant = invariant-closed;
           counts =
-            counted-same (r .mesh) closed (r .edges)
+              counted-same (r .mesh) closed (r .edges)
               (right-joined l (Done l k (size l k)) (Chained l k (size l k)) (r .mesh) (r .edges) (a .invariant) room-r k j (r .first) (r .before)
-                (good j (omega arith)) sits-last sits-first last-done first-done)
-            ∙ a .counts ∙ sym (offset-suc l k);
+              (good j (omega arith)) sits-last sits-first last-done first-done)
+              ∙ a .counts ∙ sym (offset-suc l k);
           starts = λ f h.
-            below-suc f k h
+              below-suc f k h
               (λ lt.
-                subst (λ x. Sits l closed (r .edges) f 0 x)
-                  (sym (faceStart-withFace-other ring k (r .first) f (λ z. omega arith) ∙ ap (λ fs. getD fs (f * 5) 0) (a .faces-still)))
-                  (closed-sits f 0 (faceStart (s .mesh) f) (a .sits-still f 0 (faceStart (s .mesh) f) (λ z. omega (arith, ready .faces-few)) (all .starts f lt))))
+              subst (λ x. Sits l closed (r .edges) f 0 x)
+              (sym (faceStart-withFace-other ring k (r .first) f (λ z. omega arith) ∙ ap (λ fs. getD fs (f * 5) 0) (a .faces-still)))
+              (closed-sits f 0 (faceStart (s .mesh) f) (a .sits-still f 0 (faceStart (s .mesh) f) (λ z. omega (arith, ready .faces-few)) (all .starts f lt))))
               (λ same.
-                subst (λ f. Sits l closed (r .edges) f 0 (faceStart closed f)) (sym same)
-                  (subst (λ x. Sits l closed (r .edges) k 0 x) (sym (faceStart-withFace ring k (r .first) fits))
-                    (closed-sits k 0 (r .first) (a .first-sits (omega arith)))));
+              subst (λ f. Sits l closed (r .edges) f 0 (faceStart closed f)) (sym same)
+              (subst (λ x. Sits l closed (r .edges) k 0 x) (sym (faceStart-withFace ring k (r .first) fits))
+              (closed-sits k 0 (r .first) (a .first-sits (omega arith)))));
           corners = λ f c h b.
-            below-suc f k h
+              below-suc f k h
               (λ lt. corner-withFace-other ring k (r .first) f c (λ z. omega arith) b ∙ ap (λ fs. getD fs (f * 5 + (c + 1)) 0) (a .faces-still) ∙ all .corners f c lt b)
-              (λ same. subst (λ f. corner closed f c ≡ none) (sym same) (corner-withFace ring k (r .first) c b fits)) }
+              (λ same. subst (λ f. corner closed f c ≡ none) (sym same) (corner-withFace ring k (r .first) c b fits));
+        }
 
     within-closed : Within l (s .mesh) closed
     unfolding joined
     within-closed =
         within-trans l (a .within)
-          (record {
-            positions = (refl, refl); points = (refl, refl);
-            edges =
+        (record {
+          positions = (refl, refl);
+          points = (refl, refl);
+          edges =
               behind-connected (length (l .listed)) (r .mesh .edges) (r .mesh .intervals) (r .first) (r .before)
-                (omega (arith, sits-first .below, few-r)) (omega (arith, sits-last .below, few-r));
-            intervals = (refl, refl);
-            faces = behind-putRow (facesOf l * 5) (faceWords (faceOf (r .first))) (r .mesh .faces) (k * 5) (omega arith) })
+              (omega (arith, sits-first .below, few-r)) (omega (arith, sits-last .below, few-r));
+          intervals = (refl, refl);
+          faces = behind-putRow (facesOf l * 5) (faceWords (faceOf (r .first))) (r .mesh .faces) (k * 5) (omega arith);
+        })
 
     later-closed : (x : ℕ) → r .edges ≤ x → row closed x ≡ row (s .mesh) x
     later-closed x h =
@@ -384,6 +400,7 @@ module _ (l : Lists) (s : State) (k : ℕ) (kf : k < facesOf l) (sound : FaceSou
     where
       begin : Ring
       begin = record { mesh = s .mesh; edges = s .edges; first = 0; before = 0 }
+
       around : Around 0 begin
       around =
           record {
@@ -395,13 +412,16 @@ module _ (l : Lists) (s : State) (k : ℕ) (kf : k < facesOf l) (sound : FaceSou
             faces-still = refl;
             first-sits = λ h. absurd (omega arith);
             before-sits = λ j h. absurd (omega arith);
-            sits-still = λ f j x h t. t }
+            sits-still = λ f j x h t. t;
+          }
+
       last : (j : ℕ) × (suc j ≡ size l k)
       last = go (size l k) (sound .at-least-3)
         where
           go : (n : ℕ) → 3 ≤ n → (j : ℕ) × (suc j ≡ n)
           go zero h = absurd (omega arith)
           go (suc j) h = (j, refl)
+
       go : (x : Step Ring) → Round (size l k) x → Perimeter-came (closedUp k x)
       go x (round {r = r} a) =
           whole (faces-closed all r a (last .0) (last .1)) (within-closed all r a (last .0) (last .1)) (a .grows) (later-closed all r a (last .0) (last .1))

@@ -1,5 +1,5 @@
 -- The laws of places round a perimeter. Assumes nothing.
-use mathlib.Core.Path.{_≡_, refl, sym, _∙_, ap}
+use mathlib.Core.Path.{_≡_, refl}
 use mathlib.Core.Bool.{Bool, true, false, cond}
 use mathlib.Core.Logic.{_⊎_, inl, inr, _≢_}
 use Prim.Native.Nat.{ℕ, zero, suc, _<_, _≤_}
@@ -27,7 +27,7 @@ pub next-injective : (n i j : ℕ) → i < n → j < n → nextPlace n i ≡ nex
 next-injective n i j l k e = go (next-is n i) (next-is n j)
   where
     go : ((suc i ≡ n) × (nextPlace n i ≡ 0)) ⊎ ((suc i ≢ n) × (nextPlace n i ≡ suc i)) →
-      ((suc j ≡ n) × (nextPlace n j ≡ 0)) ⊎ ((suc j ≢ n) × (nextPlace n j ≡ suc j)) → i ≡ j
+        ((suc j ≡ n) × (nextPlace n j ≡ 0)) ⊎ ((suc j ≢ n) × (nextPlace n j ≡ suc j)) → i ≡ j
     go (inl a) (inl b) = omega arith
     go (inl a) (inr b) = omega arith
     go (inr a) (inl b) = omega arith
@@ -44,7 +44,7 @@ pub next-next-differs : (n i : ℕ) → 3 ≤ n → i < n → nextPlace n (nextP
 next-next-differs n i three l e = go (next-is n i) (next-is n (nextPlace n i))
   where
     go : ((suc i ≡ n) × (nextPlace n i ≡ 0)) ⊎ ((suc i ≢ n) × (nextPlace n i ≡ suc i)) →
-      ((suc (nextPlace n i) ≡ n) × (nextPlace n (nextPlace n i) ≡ 0)) ⊎ ((suc (nextPlace n i) ≢ n) × (nextPlace n (nextPlace n i) ≡ suc (nextPlace n i))) → ⊥
+        ((suc (nextPlace n i) ≡ n) × (nextPlace n (nextPlace n i) ≡ 0)) ⊎ ((suc (nextPlace n i) ≢ n) × (nextPlace n (nextPlace n i) ≡ suc (nextPlace n i))) → ⊥
     go (inl a) (inl b) = omega arith
     go (inl a) (inr b) = omega arith
     go (inr a) (inl b) = omega arith

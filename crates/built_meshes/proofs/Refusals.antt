@@ -2,31 +2,32 @@
 --     whole-verdict-is        what the verdict on the whole says
 --     nothing-holds           no ground of the faces, the edges or the whole holds where the verdict is fit
 use mathlib.Core.Path.{_≡_, refl, sym, _∙_, ap, ap₂, subst}
-use mathlib.Core.Bool.{Bool, true, false, not, _||_, cond, false≢true, true≢false}
-use mathlib.Core.Logic.{_⊎_, inl, inr, ⊎-elim, _≢_}
-use mathlib.Core.List.{List, []}
-use Prim.Native.Nat.{ℕ, zero, suc, _+_, _*_, _<_, _≤_}
+use mathlib.Core.Bool.{Bool, true, false, not, cond, true≢false}
+use mathlib.Core.Logic.{_⊎_, inl, inr, _≢_}
+use Prim.Native.Nat.{ℕ, zero, suc, _+_, _<_, _≤_}
 use native.Mathlib.Omega.{arith}
 use native.Mathlib.Decide.{decLt}
 use lib.Dec.{eqb, ltb}
 use lib.ListN.{length}
-use borrow.Author.Tests.{eqb-true, eqb-false, ltb-true, ltb-false, not-true, not-false}
+use borrow.Author.Tests.{eqb-true, ltb-true, not-false}
 use Rattle.t_spline.specs.Edge.{none, faceFromSide}
 use Rattle.t_spline.specs.declared.TnurccFaceSide.{TnurccFaceSide}
 use Rattle.t_spline.specs.declared.TnurccFaceSide.the-variants.{Left, Right}
 use Rattle.tables.specs.Mesh.{Mesh, valence, start, origin, dest, rightFace}
 use Rattle.closed_meshes.specs.Renumbering.{sumTo}
-use Rattle.audited_meshes.specs.Folds.{every, one, occurrences}
+use Rattle.audited_meshes.specs.Folds.{one, occurrences}
 use Rattle.audited_meshes.specs.Walks.{Walk, back, lost, passed, edgesOf, touches, acwOfPoint, pointWalk}
-use Rattle.audited_meshes.specs.Audited.{Touches, Passes, PointWalked}
+use Rattle.audited_meshes.specs.Audited.{Touches, PointWalked}
 use Rattle.audited_meshes.proofs.Folds.{below-suc, length-sumTo}
-use Rattle.audited_meshes.proofs.Tests.{Is, not-is, eqb-is, ltb-is, every-is}
-use Rattle.audited_meshes.proofs.Walks.{passes-on, passes-once}
+use Rattle.audited_meshes.proofs.Tests.{not-is, eqb-is, ltb-is, every-is}
+use Rattle.audited_meshes.proofs.Walks.{passes-on}
 use Rattle.audited_meshes.proofs.Audited.{touches-is, pointWalk-is}
 use Rattle.built_meshes.specs.Lists.{Lists, Limits, pointsOf, facesOf, size}
-use Rattle.built_meshes.specs.Perimeters.{State, Step, on, nextPlace}
-use Rattle.built_meshes.specs.Places.{pointOf, nextOf, IsPlace, Runs, Differ}
-use Rattle.built_meshes.specs.Building.{numberOf, noMissingFace, everyEdged, noMissedEdge, wholeVerdict, allFaces}
+use Rattle.built_meshes.specs.Perimeters.{State, on}
+use Rattle.built_meshes.specs.Places.{IsPlace, Runs, Differ}
+use Rattle.built_meshes.specs.Answers.{numberOf}
+use Rattle.built_meshes.specs.Whole.{noMissingFace, everyEdged, noMissedEdge, wholeVerdict}
+use Rattle.built_meshes.specs.Building.{allFaces}
 use Rattle.built_meshes.specs.Grounds.{Holds, Between, Face-size, Out-of-range, Point-twice, Non-rectangular, Triple-face, Same-way, Missing-face, No-edge, Missed-edge}
 use Rattle.built_meshes.specs.declared.Ground.{Ground}
 use Rattle.built_meshes.specs.declared.Ground.the-variants.{MissingFace, NoEdge, MissedEdge}
@@ -34,7 +35,7 @@ use Rattle.built_meshes.specs.declared.Verdict.{Verdict}
 use Rattle.built_meshes.specs.declared.Verdict.the-variants.{Fit, Unfit}
 use Rattle.built_meshes.proofs.Connecting.{firstOf, secondOf}
 use Rattle.built_meshes.proofs.Rows.{row}
-use Rattle.built_meshes.proofs.Invariant.{Sits, Invariant}
+use Rattle.built_meshes.proofs.Invariant.{Invariant}
 use Rattle.built_meshes.proofs.Perimeter.{Done, Chained, Faces}
 use Rattle.built_meshes.proofs.Faces.{every-false, Fit-faces}
 use Rattle.built_meshes.proofs.Whole.{a-side, point-walk}
@@ -94,12 +95,17 @@ module _ (c : Limits) (l : Lists) (m₀ : Mesh) (s : State) (all : Faces l (face
       let free : rightFace m (w .0) ≡ none = eqb-true (rightFace m (w .0)) none (not-false (eqb (rightFace m (w .0)) none) (w .2)) in
       let x = side-runs Left (w .0) (w .1) (v .left-face (w .0) (w .1)) in
       record {
-        p = origin m (w .0); q = dest m (w .0); f = x .0; i = x .1; runs = x .2;
+        p = origin m (w .0);
+        q = dest m (w .0);
+        f = x .0;
+        i = x .1;
+        runs = x .2;
         none-back = λ g j r.
-          let d = place-done g j (r .is-place) in
-          let t = v .entered g j d in
-          let same = v .one-side (t .1 .on-side) (t .0) Right (w .0) (t .1 .below) (w .1) (t .1 .first-is ∙ r .begins) (t .1 .second-is ∙ r .ends) in
-          v .good g j d .a-face (sym (t .1 .face-is) ∙ ap₂ (λ u e. faceFromSide (row m e) u) (same .0) (same .1) ∙ free) }
+            let d = place-done g j (r .is-place) in
+            let t = v .entered g j d in
+            let same = v .one-side (t .1 .on-side) (t .0) Right (w .0) (t .1 .below) (w .1) (t .1 .first-is ∙ r .begins) (t .1 .second-is ∙ r .ends) in
+            v .good g j d .a-face (sym (t .1 .face-is) ∙ ap₂ (λ u e. faceFromSide (row m e) u) (same .0) (same .1) ∙ free);
+      }
 
   right-faces : noMissingFace m ne ≡ true → (e : ℕ) → e < ne → row m e .«face_right» ≢ none
   unfolding noMissingFace
@@ -113,18 +119,21 @@ module _ (c : Limits) (l : Lists) (m₀ : Mesh) (s : State) (all : Faces l (face
       let w = every-false (pointsOf l) (λ p. not (eqb (valence m p) 0)) h in
       let bare : valence m (w .0) ≡ 0 = eqb-true (valence m (w .0)) 0 (not-false (eqb (valence m (w .0)) 0) (w .2)) in
       record {
-        point = w .0; is-point = w .1;
+        point = w .0;
+        is-point = w .1;
         none-begins = λ f i is begins.
-          let t = v .entered f i (place-done f i is) in
-          let touch : one (touches m (w .0) (t .0)) ≡ 1 =
-                ap one (touches-is m (w .0) (t .0) .1 (touches-first (t .1 .on-side) (t .0) (w .0) (t .1 .first-is ∙ begins))) in
-          let least : one (touches m (w .0) (t .0)) ≤ sumTo ne (λ e. one (touches m (w .0) e)) =
-                sumTo-above ne (t .0) (λ e. one (touches m (w .0) e)) (t .1 .below) in
-          let sum : valence m (w .0) ≡ sumTo ne (λ e. one (touches m (w .0) e)) = v .valence-is (w .0) (w .1) in
-          absurd (never _ _ touch least (sym sum ∙ bare)) }
+            let t = v .entered f i (place-done f i is) in
+            let touch : one (touches m (w .0) (t .0)) ≡ 1 =
+            ap one (touches-is m (w .0) (t .0) .1 (touches-first (t .1 .on-side) (t .0) (w .0) (t .1 .first-is ∙ begins))) in
+            let least : one (touches m (w .0) (t .0)) ≤ sumTo ne (λ e. one (touches m (w .0) e)) =
+            sumTo-above ne (t .0) (λ e. one (touches m (w .0) e)) (t .1 .below) in
+            let sum : valence m (w .0) ≡ sumTo ne (λ e. one (touches m (w .0) e)) = v .valence-is (w .0) (w .1) in
+            absurd (never _ _ touch least (sym sum ∙ bare));
+      }
     where
       never : (a b : ℕ) → a ≡ 1 → a ≤ b → b ≡ 0 → ⊥
       never a b h k z = omega arith
+
       touches-first : (t : TnurccFaceSide) (o p : ℕ) → firstOf t (row m o) ≡ p → Touches m p o
       touches-first Left o p h = inl h
       touches-first Right o p h = inr h
@@ -153,8 +162,15 @@ module _ (c : Limits) (l : Lists) (m₀ : Mesh) (s : State) (all : Faces l (face
       let u = sumTo-less ne (λ e. occurrences e es) (λ e. one (touches m p e)) (omega arith) in
       let hit = one-above (touches m p (u .0)) (occurrences (u .0) es) (u .2) in
       record {
-        state = s; stands = stands; point = p; is-point = w .1; edge = u .0; is-edge = u .1;
-        touches = touches-is m p (u .0) .0 (hit .0); misses = hit .1 }
+        state = s;
+        stands = stands;
+        point = p;
+        is-point = w .1;
+        edge = u .0;
+        is-edge = u .1;
+        touches = touches-is m p (u .0) .0 (hit .0);
+        misses = hit .1;
+      }
     where
       one-above : (b : Bool) (n : ℕ) → n < one b → (b ≡ true) × (n ≡ 0)
       one-above true n h = (refl, omega arith)
@@ -184,12 +200,14 @@ module _ (c : Limits) (l : Lists) (m₀ : Mesh) (s : State) (all : Faces l (face
       walks : noMissingFace m ne ≡ true → everyEdged m (pointsOf l) ≡ true → (b : Bool) → noMissedEdge m (pointsOf l) ne ≡ b → Whole-verdict (cond (not b) (Unfit MissedEdge) Fit)
       walks f e true h = whole-fit (record { right = right-faces f; edged = edged-is e; walked = walked-is h })
       walks f e false h = whole-unfit {g = MissedEdge} (missed-holds stands h) (omega arith)
+
       edges : noMissingFace m ne ≡ true → (b : Bool) → everyEdged m (pointsOf l) ≡ b →
-        Whole-verdict (cond (not b) (Unfit NoEdge) (cond (not (noMissedEdge m (pointsOf l) ne)) (Unfit MissedEdge) Fit))
+          Whole-verdict (cond (not b) (Unfit NoEdge) (cond (not (noMissedEdge m (pointsOf l) ne)) (Unfit MissedEdge) Fit))
       edges f true h = walks f h (noMissedEdge m (pointsOf l) ne) refl
       edges f false h = whole-unfit {g = NoEdge} (no-edge-holds h) (omega arith)
+
       faces : (b : Bool) → noMissingFace m ne ≡ b →
-        Whole-verdict (cond (not b) (Unfit MissingFace) (cond (not (everyEdged m (pointsOf l))) (Unfit NoEdge) (cond (not (noMissedEdge m (pointsOf l) ne)) (Unfit MissedEdge) Fit)))
+          Whole-verdict (cond (not b) (Unfit MissingFace) (cond (not (everyEdged m (pointsOf l))) (Unfit NoEdge) (cond (not (noMissedEdge m (pointsOf l) ne)) (Unfit MissedEdge) Fit)))
       faces true h = edges h (everyEdged m (pointsOf l)) refl
       faces false h = whole-unfit {g = MissingFace} (missing-holds h) (omega arith)
 
@@ -242,6 +260,7 @@ module _ (c : Limits) (l : Lists) (m₀ : Mesh) (s : State) (all : Faces l (face
         runs-back u e b first second =
             let x = side-runs u e b (a-side l m ne v (w .right) u e b) in
             h .none-back (x .0) (x .1) (record { is-place = x .2 .is-place; begins = x .2 .begins ∙ first; ends = x .2 .ends ∙ second })
+
         go : (e : ℕ) (u : TnurccFaceSide) → e < ne → firstOf u (row m e) ≡ h .p → secondOf u (row m e) ≡ h .q → ⊥
         go e Left b first second = runs-back Right e b second first
         go e Right b first second = runs-back Left e b second first
@@ -256,6 +275,7 @@ module _ (c : Limits) (l : Lists) (m₀ : Mesh) (s : State) (all : Faces l (face
         begins-here u e b first =
             let x = side-runs u e b (a-side l m ne v (w .right) u e b) in
             h .none-begins (x .0) (x .1) (x .2 .is-place) (x .2 .begins ∙ first)
+
         go : (e : ℕ) → e < ne → Touches m (h .point) e → ⊥
         go e b (inl z) = begins-here Left e b z
         go e b (inr z) = begins-here Right e b z
@@ -265,11 +285,12 @@ module _ (c : Limits) (l : Lists) (m₀ : Mesh) (s : State) (all : Faces l (face
       where
         same : h .state ≡ s
         same = let z : on (h .state) ≡ on s = sym (h .stands) ∙ stands in cc
+
         go : Hit (h .point) (h .edge) s → ⊥
         go z =
             let x : PointWalked m ne (h .point) = point-walk l m ne v (w .right) (h .point) (h .is-point) (w .edged (h .point) (h .is-point)) (w .walked (h .point) (h .is-point)) in
             let came : pointWalk m ne (valence m (h .point)) (h .point) ≡ back (x .edges) =
-                  pointWalk-is m ne (h .point) (valence m (h .point)) (x .edges) .1 (x .passes, omega (arith, x .is-valence)) in
+            pointWalk-is m ne (h .point) (valence m (h .point)) (x .edges) .1 (x .passes, omega (arith, x .is-valence)) in
             let once : occurrences (h .edge) (x .edges) ≡ 1 = x .each-once (h .edge) (z .is-edge) (z .hits) in
             let none' : occurrences (h .edge) (x .edges) ≡ 0 = sym (ap (λ w. occurrences (h .edge) (edgesOf w)) came) ∙ z .misses in
             omega arith

@@ -1,7 +1,7 @@
 -- What stands in the rows after each of the steps of building. Assumes nothing.
 --     row m e                 the edge e of the tables
 --     row-newEdge ..          after a new edge, after a face was filled in, after two edges were connected, after a face's row
-use mathlib.Core.Path.{_≡_, refl, sym, _∙_, ap, subst}
+use mathlib.Core.Path.{_≡_, refl, sym, _∙_, ap}
 use mathlib.Core.Logic.{_≢_}
 use mathlib.Core.List.{List, [], _∷_}
 use Prim.Native.Nat.{ℕ, zero, suc, _+_, _*_, _<_, _≤_}
@@ -17,7 +17,8 @@ use Rattle.tables.specs.Rows.{putRow}
 use Rattle.tables.specs.Records.{edgeAt, edgeWords, faceWords}
 use Rattle.tables.proofs.Laws.{length-putRow, getD-putRow, getD-putRow-other}
 use Rattle.t_nurcc_edge.specs.Connected.{pairOf, connectedRows}
-use Rattle.built_meshes.specs.Perimeters.{edgeOf, touched, newEdge, filled, withEdges, joined, faceOf, withFace}
+use Rattle.built_meshes.specs.Edges.{edgeOf, touched, newEdge, filled, joined}
+use Rattle.built_meshes.specs.Perimeters.{faceOf, withFace}
 
 abbrev pub row : Mesh → ℕ → TnurccEdge
 row m e = edgeAt (m .edges) (m .intervals) e
@@ -26,7 +27,13 @@ row m e = edgeAt (m .edges) (m .intervals) e
 abbrev pub ofWords : (ℕ → ℕ) → Float → TnurccEdge
 ofWords w v =
     record {
-      connections = w 4 ∷ w 5 ∷ w 6 ∷ w 7 ∷ []; «face_left» = w 2; «face_right» = w 3; origin = w 0; dest = w 1; «knot_interval» = v }
+      connections = w 4 ∷ w 5 ∷ w 6 ∷ w 7 ∷ [];
+      «face_left» = w 2;
+      «face_right» = w 3;
+      origin = w 0;
+      dest = w 1;
+      «knot_interval» = v;
+    }
 
 pub ofWords-cong : (w w' : ℕ → ℕ) (v v' : Float) → ((j : ℕ) → j < 8 → w' j ≡ w j) → v' ≡ v → ofWords w' v' ≡ ofWords w v
 ofWords-cong w w' v v' h k =
@@ -37,8 +44,8 @@ edgeAt-words es is e = rw (add-zero (e * 8))
 
 -- the same words, the same edge
 row-cong :
-  (es es' : List ℕ) (is is' : List Float) (e : ℕ) → ((j : ℕ) → j < 8 → getD es' (e * 8 + j) 0 ≡ getD es (e * 8 + j) 0) →
-  getD is' e nan ≡ getD is e nan → edgeAt es' is' e ≡ edgeAt es is e
+    (es es' : List ℕ) (is is' : List Float) (e : ℕ) → ((j : ℕ) → j < 8 → getD es' (e * 8 + j) 0 ≡ getD es (e * 8 + j) 0) →
+    getD is' e nan ≡ getD is e nan → edgeAt es' is' e ≡ edgeAt es is e
 row-cong es es' is is' e h k =
     edgeAt-words es' is' e ∙ ofWords-cong (λ j. getD es (e * 8 + j) 0) (λ j. getD es' (e * 8 + j) 0) (getD is e nan) (getD is' e nan) h k
     ∙ sym (edgeAt-words es is e)
@@ -54,16 +61,16 @@ four-elements (a ∷ b ∷ c ∷ d ∷ e ∷ xs) h = absurd (omega arith)
 
 -- an edge put into its row stands there
 row-put :
-  (es : List ℕ) (is : List Float) (e : ℕ) (o : TnurccEdge) → length (o .connections) ≡ 4 → e * 8 + 8 ≤ length es → getD is e nan ≡ o .«knot_interval» →
-  edgeAt (putRow es (e * 8) (edgeWords o)) is e ≡ o
+    (es : List ℕ) (is : List Float) (e : ℕ) (o : TnurccEdge) → length (o .connections) ≡ 4 → e * 8 + 8 ≤ length es → getD is e nan ≡ o .«knot_interval» →
+    edgeAt (putRow es (e * 8) (edgeWords o)) is e ≡ o
 row-put es is e o four fits v =
     edgeAt-words (putRow es (e * 8) (edgeWords o)) is e
     ∙ ofWords-cong (λ j. getD (edgeWords o) j 0) (λ j. getD (putRow es (e * 8) (edgeWords o)) (e * 8 + j) 0) (o .«knot_interval») (getD is e nan)
-        (λ j l. getD-putRow (edgeWords o) es (e * 8) j 0 l fits) v
+    (λ j l. getD-putRow (edgeWords o) es (e * 8) j 0 l fits) v
     ∙ rw (four-elements (o .connections) four)
 
 row-put-other :
-  (es : List ℕ) (is : List Float) (e x : ℕ) (o : TnurccEdge) → x ≢ e → edgeAt (putRow es (e * 8) (edgeWords o)) is x ≡ edgeAt es is x
+    (es : List ℕ) (is : List Float) (e x : ℕ) (o : TnurccEdge) → x ≢ e → edgeAt (putRow es (e * 8) (edgeWords o)) is x ≡ edgeAt es is x
 row-put-other es is e x o h =
     row-cong es (putRow es (e * 8) (edgeWords o)) is is x (λ j l. getD-putRow-other (edgeWords o) es 8 e x j 0 refl h l) refl
 
@@ -139,27 +146,34 @@ module _ (m : Mesh) (k f p q : ℕ) (v : Float) (differ : p ≢ q) (fits : p * 3
 abbrev pub withRight : TnurccEdge → ℕ → TnurccEdge
 withRight e f =
     record {
-      connections = e .connections; «face_left» = e .«face_left»; «face_right» = f; origin = e .origin; dest = e .dest;
-      «knot_interval» = e .«knot_interval» }
+      connections = e .connections;
+      «face_left» = e .«face_left»;
+      «face_right» = f;
+      origin = e .origin;
+      dest = e .dest;
+      «knot_interval» = e .«knot_interval»;
+    }
 
 module _ (m : Mesh) (e f : ℕ) where
   pub row-filled : e * 8 + 8 ≤ length (m .edges) → row (filled m e f) e ≡ withRight (row m e) f
   unfolding filled
   row-filled fits =
-      rw (getD-set-same (m .edges) (e * 8 + 3) f 0 (omega arith),
+      rw (
+        getD-set-same (m .edges) (e * 8 + 3) f 0 (omega arith),
         getD-set-other (m .edges) (e * 8 + 3) (e * 8) f 0 (λ z. omega arith),
         getD-set-other (m .edges) (e * 8 + 3) (e * 8 + 1) f 0 (λ z. omega arith),
         getD-set-other (m .edges) (e * 8 + 3) (e * 8 + 2) f 0 (λ z. omega arith),
         getD-set-other (m .edges) (e * 8 + 3) (e * 8 + 4) f 0 (λ z. omega arith),
         getD-set-other (m .edges) (e * 8 + 3) (e * 8 + 5) f 0 (λ z. omega arith),
         getD-set-other (m .edges) (e * 8 + 3) (e * 8 + 6) f 0 (λ z. omega arith),
-        getD-set-other (m .edges) (e * 8 + 3) (e * 8 + 7) f 0 (λ z. omega arith))
+        getD-set-other (m .edges) (e * 8 + 3) (e * 8 + 7) f 0 (λ z. omega arith),
+      )
 
   pub row-filled-other : (x : ℕ) → x ≢ e → row (filled m e f) x ≡ row m x
   unfolding filled
   row-filled-other x h =
       row-cong (m .edges) (set (m .edges) (e * 8 + 3) f) (m .intervals) (m .intervals) x
-        (λ j l. getD-set-other (m .edges) (e * 8 + 3) (x * 8 + j) f 0 (λ z. h (omega arith))) refl
+      (λ j l. getD-set-other (m .edges) (e * 8 + 3) (x * 8 + j) f 0 (λ z. h (omega arith))) refl
 
 -- ---- two edges connected
 
@@ -168,16 +182,16 @@ module _ (m : Mesh) (e o : ℕ) where
   pair = pairOf (m .edges) (m .intervals) e o
 
   pub row-joined-other :
-    length (pair .other .connections) ≡ 4 → pair .other .«knot_interval» ≡ row m o .«knot_interval» → o * 8 + 8 ≤ length (m .edges) →
-    row (joined m e o) o ≡ pair .other
+      length (pair .other .connections) ≡ 4 → pair .other .«knot_interval» ≡ row m o .«knot_interval» → o * 8 + 8 ≤ length (m .edges) →
+      row (joined m e o) o ≡ pair .other
   unfolding joined connectedRows
   row-joined-other four v fits =
       row-put (putRow (m .edges) (e * 8) (edgeWords (pair .first))) (m .intervals) o (pair .other) four
-        (rw (length-putRow (edgeWords (pair .first)) (m .edges) (e * 8)) fits) (sym v)
+      (rw (length-putRow (edgeWords (pair .first)) (m .edges) (e * 8)) fits) (sym v)
 
   pub row-joined-first :
-    e ≢ o → length (pair .first .connections) ≡ 4 → pair .first .«knot_interval» ≡ row m e .«knot_interval» → e * 8 + 8 ≤ length (m .edges) →
-    row (joined m e o) e ≡ pair .first
+      e ≢ o → length (pair .first .connections) ≡ 4 → pair .first .«knot_interval» ≡ row m e .«knot_interval» → e * 8 + 8 ≤ length (m .edges) →
+      row (joined m e o) e ≡ pair .first
   unfolding joined connectedRows
   row-joined-first differ four v fits =
       row-put-other (putRow (m .edges) (e * 8) (edgeWords (pair .first))) (m .intervals) o e (pair .other) differ

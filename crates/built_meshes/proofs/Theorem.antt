@@ -4,29 +4,28 @@
 --     zeroed-after           zeroing what stands after the faces leaves the same as zeroing the lent tables
 use mathlib.Core.Path.{_≡_, refl, sym, _∙_, ap, subst}
 use mathlib.Core.Bool.{Bool, true, false, not}
-use mathlib.Core.Logic.{_↔_, _≢_}
+use mathlib.Core.Logic.{_≢_}
 use Prim.Native.Nat.{ℕ, suc, _*_, _<_, _≤_}
 use native.Mathlib.Omega.{arith}
 use lib.Dec.{eqb}
-use lib.ListN.{length}
 use borrow.Author.Tests.{ne-eqb}
 use Rattle.t_spline.specs.Edge.{none}
 use Rattle.tables.specs.Mesh.{Mesh}
 use Rattle.tables.specs.declared.Counts.{Counts}
-use Rattle.closed_meshes.specs.Renumbering.{sumTo}
 use Rattle.audited_meshes.specs.Folds.{one}
 use Rattle.audited_meshes.proofs.Folds.{sumTo-cong, sumTo-const}
-use Rattle.audited_meshes.proofs.Audited.{audit-is}
-use Rattle.built_meshes.specs.Lists.{Lists, Limits, pointsOf, facesOf, offset, countsFit, numbersFit, rowsFit}
+use Rattle.audited_meshes.proofs.Audited.{audit-is-audited}
+use Rattle.built_meshes.specs.Lists.{Lists, Limits, pointsOf, facesOf, countsFit, numbersFit, rowsFit}
 use Rattle.built_meshes.specs.Perimeters.{State, Step, on, stopped}
-use Rattle.built_meshes.specs.Building.{numberOf, zeroedRows, wholeVerdict, finished, Outcome, refusal, wholeIf, answered, facesFrom, allFaces, buildIf, build}
+use Rattle.built_meshes.specs.Answers.{numberOf}
+use Rattle.built_meshes.specs.Whole.{wholeVerdict, finished}
+use Rattle.built_meshes.specs.Building.{zeroedRows, Outcome, refusal, wholeIf, answered, allFaces, buildIf, build}
 use Rattle.built_meshes.specs.Beyond.{Within}
 use Rattle.built_meshes.specs.Grounds.{Holds}
 use Rattle.built_meshes.specs.Claims.{Refused-by, Refusals-hold, Accepts-exactly, Audited-counts, Accepted-audited, Untouched-beyond}
 use Rattle.built_meshes.specs.declared.Ground.{Ground}
 use Rattle.built_meshes.specs.declared.Ground.the-variants.{OverCounts, UnfitNumber, FewRows, FaceSize, OutOfRange, PointTwice, NonRectangularFace, EdgeTripleFace, SameWay, MissingFace, NoEdge, MissedEdge}
 use Rattle.built_meshes.specs.declared.Verdict.{Verdict}
-use Rattle.built_meshes.specs.declared.Built.{Built}
 use Rattle.built_meshes.specs.declared.Built.the-variants.{Accepted, Refused}
 use Rattle.built_meshes.proofs.Rows.{row}
 use Rattle.built_meshes.proofs.Beyond.{within-refl, within-trans, zeroedRows-within}
@@ -42,7 +41,7 @@ counted-all : (m : Mesh) (ne : ℕ) → ((e : ℕ) → e < ne → row m e .«fac
 unfolding counted
 counted-all m ne right =
     sumTo-cong ne (λ e. suc (one (not (eqb (row m e .«face_right») none)))) (λ e. 2)
-      (λ e b. ap (λ t. suc (one (not t))) (ne-eqb (row m e .«face_right») none (right e b)))
+    (λ e b. ap (λ t. suc (one (not t))) (ne-eqb (row m e .«face_right») none (right e b)))
     ∙ sumTo-const ne 2
 
 module _ (c : Limits) (l : Lists) (m : Mesh) (few : c .faces ≤ none) where
@@ -73,12 +72,13 @@ module _ (c : Limits) (l : Lists) (m : Mesh) (few : c .faces ≤ none) where
       audited-counts =
           record {
             passes =
-              audit-is (finished l (s .mesh)) (pointsOf l) (s .edges) (facesOf l) .1
+                audit-is-audited (finished l (s .mesh)) (pointsOf l) (s .edges) (facesOf l) .1
                 (audited-finished c l m counted' numbered roomy few s all fit within (w .right) (w .edged) (w .walked));
             all-points = refl;
             all-faces = refl;
             half-listed = sym (counted-all (s .mesh) (s .edges) (w .right)) ∙ all .counts ∙ listed-all c l m counted' numbered roomy few;
-            zero-beyond = λ e h b. later e h ∙ row-zeroed c l m counted' numbered roomy few e b }
+            zero-beyond = λ e h b. later e h ∙ row-zeroed c l m counted' numbered roomy few e b;
+          }
 
       within-after : Within l m (finished l (s .mesh))
       within-after = within-finished c l m counted' numbered roomy few s all fit within (w .right) (w .edged) (w .walked)
@@ -87,16 +87,18 @@ module _ (c : Limits) (l : Lists) (m : Mesh) (few : c .faces ≤ none) where
     unfolding answered wholeIf allFaces
     answered-came =
         go (allFaces l m) refl
-          (faces-came c l m (record { mesh = zeroedRows l m; edges = 0 }) (ready c l m counted' numbered roomy few) (faces-none c l m counted' numbered roomy few))
+        (faces-came c l m (record { mesh = zeroedRows l m; edges = 0 }) (ready c l m counted' numbered roomy few) (faces-none c l m counted' numbered roomy few))
       where
         zeros : Within l m (zeroedRows l m)
         zeros = within-zeroed c l m counted' numbered roomy few
+
         whole : (s : State) → allFaces l m ≡ on s → (all : Faces l (facesOf l) s) → Fit-faces c l m (facesOf l) → Within l m (s .mesh) →
-          ((x : ℕ) → s .edges ≤ x → row (s .mesh) x ≡ row (zeroedRows l m) x) →
-          (x : Verdict) → Whole-verdict c l m s all x → Came-out (wholeIf l m s x)
+            ((x : ℕ) → s .edges ≤ x → row (s .mesh) x ≡ row (zeroedRows l m) x) →
+            (x : Verdict) → Whole-verdict c l m s all x → Came-out (wholeIf l m s x)
         whole s stands all fit within later x (whole-fit w) =
             accepts (audited-counts s stands all fit within later w) (within-after s stands all fit within later w) (nothing-holds s stands all fit within later w)
         whole s stands all fit within later x (whole-unfit {g = g} h n) = refuses {g = g} h (omega arith) zeros
+
         go : (x : Step State) → allFaces l m ≡ x → Faces-came c l m (record { mesh = zeroedRows l m; edges = 0 }) x → Came-out (answered l m x)
         go x e (stand {t = s} all fit within later) =
             whole s e all fit (within-trans l (within-zeroed c l m counted' numbered roomy few) within) later (wholeVerdict (s .mesh) (pointsOf l) (s .edges)) (whole-verdict-is c l m s all e)
@@ -109,9 +111,11 @@ module _ (c : Limits) (l : Lists) (m : Mesh) (few : c .faces ≤ none) where
       rows : Counted c l → Numbered l → (b : Bool) → rowsFit l m ≡ b → Came-out (buildIf true true b l m)
       rows h k true e = answered-came h k (rows-is l m e)
       rows h k false e = refuses-early {g = FewRows} (rows-fail l m e) (omega arith)
+
       numbers : Counted c l → (b : Bool) → numbersFit l ≡ b → Came-out (buildIf true b (rowsFit l m) l m)
       numbers h true e = rows h (numbers-is l e) (rowsFit l m) refl
       numbers h false e = refuses-early {g = UnfitNumber} (numbers-fail l e) (omega arith)
+
       counts : (b : Bool) → countsFit c l ≡ b → Came-out (buildIf b (numbersFit l) (rowsFit l m) l m)
       counts true e = numbers (counts-is c l e) (numbersFit l) refl
       counts false e = refuses-early {g = OverCounts} (counts-fail c l e) (omega arith)
@@ -135,6 +139,7 @@ accepts-exactly c l m few = (λ a. to (build c l m) (build-came c l m few) (a .0
     to o (refuses-early h n) k a = let z : _≡_ {A = ℕ} 0 1 = cc in absurd (omega arith)
     to o (refuses h n w) k a = let z : _≡_ {A = ℕ} 0 1 = cc in absurd (omega arith)
     to o (accepts h w n) k a = n
+
     from : (o : Outcome) → Came-out c l m few o → ((g : Ground) → ¬ Holds c l m g) → (k : Counts) × (o .answer ≡ Accepted k)
     from o (refuses-early {g = g} h n) none' = absurd (none' g h)
     from o (refuses {g = g} h n w) none' = absurd (none' g h)
@@ -164,15 +169,15 @@ tablesOf (on s) = s .mesh
 tablesOf (stopped g t) = t
 
 pub zeroed-after :
-  (c : Limits) (l : Lists) (m : Mesh) → c .faces ≤ none → countsFit c l ≡ true → numbersFit l ≡ true → rowsFit l m ≡ true →
-  zeroedRows l (tablesOf (allFaces l m)) ≡ zeroedRows l m
+    (c : Limits) (l : Lists) (m : Mesh) → c .faces ≤ none → countsFit c l ≡ true → numbersFit l ≡ true → rowsFit l m ≡ true →
+    zeroedRows l (tablesOf (allFaces l m)) ≡ zeroedRows l m
 unfolding allFaces
 zeroed-after c l m few counts numbers rows =
     zeroedRows-within l m (tablesOf (allFaces l m))
-      (within-trans l (within-zeroed c l m (counts-is c l counts) (numbers-is l numbers) (rows-is l m rows) few)
-        (go (allFaces l m)
-          (faces-came c l m (record { mesh = zeroedRows l m; edges = 0 }) (ready c l m (counts-is c l counts) (numbers-is l numbers) (rows-is l m rows) few)
-            (faces-none c l m (counts-is c l counts) (numbers-is l numbers) (rows-is l m rows) few))))
+    (within-trans l (within-zeroed c l m (counts-is c l counts) (numbers-is l numbers) (rows-is l m rows) few)
+    (go (allFaces l m)
+    (faces-came c l m (record { mesh = zeroedRows l m; edges = 0 }) (ready c l m (counts-is c l counts) (numbers-is l numbers) (rows-is l m rows) few)
+    (faces-none c l m (counts-is c l counts) (numbers-is l numbers) (rows-is l m rows) few))))
   where
     go : (x : Step State) → Faces-came c l m (record { mesh = zeroedRows l m; edges = 0 }) x → Within l (zeroedRows l m) (tablesOf x)
     go x (stand all fit within later) = within

@@ -3,26 +3,24 @@
 --     sides-differ                the two faces of an edge differ
 --     face-walk                   the walk about a face passes its places in turn
 --     point-walk                  the walk about a point that passes as many edges as its valence passes each of its edges once
-use mathlib.Core.Path.{_≡_, refl, sym, _∙_, ap, ap₂, subst}
-use mathlib.Core.Bool.{Bool, true, false, not, _&&_, _||_, cond, false≢true, true≢false}
-use mathlib.Core.Logic.{_⊎_, inl, inr, ⊎-elim, _≢_}
+use mathlib.Core.Path.{_≡_, refl, sym, _∙_, ap, subst}
+use mathlib.Core.Bool.{Bool, true, false, false≢true}
+use mathlib.Core.Logic.{_⊎_, inl, inr, _≢_}
 use mathlib.Core.List.{List, [], _∷_, map}
-use Prim.Native.Nat.{ℕ, zero, suc, _+_, _*_, _<_, _≤_}
+use Prim.Native.Nat.{ℕ, zero, suc, _+_, _<_, _≤_}
 use native.Mathlib.Omega.{arith}
 use native.Mathlib.Decide.{ℕ-discrete, decLt}
-use lib.Dec.{eqb}
 use lib.ListN.{length, getD, length-map}
-use borrow.Author.Tests.{eqb-true, eqb-false, eq-eqb, ne-eqb}
+use borrow.Author.Tests.{eq-eqb, ne-eqb}
 use Rattle.t_spline.specs.Edge.{none, faceFromSide}
 use Rattle.t_spline.specs.declared.TnurccFaceSide.{TnurccFaceSide}
 use Rattle.t_spline.specs.declared.TnurccFaceSide.the-variants.{Left, Right}
-use Rattle.tables.specs.Mesh.{Mesh, valence, start, origin, dest, leftFace, rightFace, leftCw, leftAcw, rightCw, rightAcw, faceStart}
-use Rattle.closed_meshes.specs.Renumbering.{sumTo}
+use Rattle.tables.specs.Mesh.{Mesh, valence, start, origin, dest, leftFace, rightFace, faceStart}
 use Rattle.audited_meshes.specs.Folds.{one, occurrences}
-use Rattle.audited_meshes.specs.Walks.{Walk, back, lost, passed, edgesOf, touches, acwOfFace, cwOfFace, acwOfPoint, firstPoint, pointWalk}
-use Rattle.audited_meshes.specs.Audited.{Borders, Touches, SameEnds, Distinct, Passes, last, more, AcwLinks, CwLinks, FaceWalked, PointWalked}
+use Rattle.audited_meshes.specs.Walks.{Walk, back, lost, passed, touches, acwOfFace, cwOfFace, acwOfPoint, firstPoint, pointWalk}
+use Rattle.audited_meshes.specs.Audited.{Borders, Touches, SameEnds, Passes, last, more, AcwLinks, CwLinks, FaceWalked, PointWalked}
 use Rattle.audited_meshes.proofs.Folds.{below-suc, sumTo-tight, length-sumTo}
-use Rattle.audited_meshes.proofs.Walks.{occurrences-here, in-longer, passes-on, passes-once}
+use Rattle.audited_meshes.proofs.Walks.{occurrences-here, passes-on, passes-once}
 use Rattle.audited_meshes.proofs.Audited.{touches-is, pointWalk-is}
 use Rattle.built_meshes.specs.Lists.{Lists, pointsOf, facesOf, size}
 use Rattle.built_meshes.specs.Perimeters.{nextPlace}
@@ -30,14 +28,11 @@ use Rattle.built_meshes.specs.Places.{pointOf, nextOf}
 use Rattle.built_meshes.proofs.Connecting.{firstOf, secondOf, acwOf, cwOf}
 use Rattle.built_meshes.proofs.Rows.{row}
 use Rattle.built_meshes.proofs.Places.{next-is, next-below, next-next-differs, prev-exists}
-use Rattle.built_meshes.proofs.Invariant.{FaceSound, Sits, Good, Invariant, same-side, sits-unique}
+use Rattle.built_meshes.proofs.Invariant.{FaceSound, Sits, Good, Invariant, sits-unique}
 use Rattle.built_meshes.proofs.Perimeter.{Done, Chained}
 
 module _ (l : Lists) (m : Mesh) (ne : ℕ) (v : Invariant l (Done l (facesOf l) 0) (Chained l (facesOf l) 0) m ne)
     (right : (e : ℕ) → e < ne → row m e .«face_right» ≢ none) where
-  abbrev nf : ℕ
-  nf = facesOf l
-
   pub a-side : (s : TnurccFaceSide) (e : ℕ) → e < ne → faceFromSide (row m e) s ≢ none
   a-side Left e b = v .left-face e b
   a-side Right e b = right e b
@@ -57,7 +52,7 @@ module _ (l : Lists) (m : Mesh) (ne : ℕ) (v : Invariant l (Done l (facesOf l) 
       go (at .0) (at .1) (at .2) (at .3)
     where
       go : (i : ℕ) → Done l (facesOf l) 0 (faceFromSide (row m e) s) i → pointOf l (faceFromSide (row m e) s) i ≡ firstOf s (row m e) →
-        nextOf l (faceFromSide (row m e) s) i ≡ secondOf s (row m e) → Place-of s e
+          nextOf l (faceFromSide (row m e) s) i ≡ secondOf s (row m e) → Place-of s e
       go i (inl h) x y = record { place = i; face-below = h .0; place-below = h .1; begins = x; ends = y; is-good = v .good _ i (inl h) }
       go i (inr h) x y = absurd (omega (arith, h .1))
 
@@ -73,9 +68,9 @@ module _ (l : Lists) (m : Mesh) (ne : ℕ) (v : Invariant l (Done l (facesOf l) 
       let ybegins : pointOf l f (y .place) ≡ dest m e = subst (λ f. pointOf l f (y .place) ≡ dest m e) (sym same) (y .begins) in
       let yends : nextOf l f (y .place) ≡ origin m e = subst (λ f. nextOf l f (y .place) ≡ origin m e) (sym same) (y .ends) in
       let on : nextPlace (size l f) (x .place) ≡ y .place =
-            g .sound .distinct _ _ (next-below (size l f) (x .place) (x .place-below)) yb (x .ends ∙ sym ybegins) in
+      g .sound .distinct _ _ (next-below (size l f) (x .place) (x .place-below)) yb (x .ends ∙ sym ybegins) in
       let back' : nextPlace (size l f) (y .place) ≡ x .place =
-            g .sound .distinct _ _ (next-below (size l f) (y .place) yb) (x .place-below) (yends ∙ sym (x .begins)) in
+      g .sound .distinct _ _ (next-below (size l f) (y .place) yb) (x .place-below) (yends ∙ sym (x .begins)) in
       next-next-differs (size l f) (x .place) (g .sound .at-least-3) (x .place-below) (ap (nextPlace (size l f)) on ∙ back')
 
   -- ---- the sides next to a side
@@ -107,7 +102,14 @@ module _ (l : Lists) (m : Mesh) (ne : ℕ) (v : Invariant l (Done l (facesOf l) 
       let t = o .1 in
       let links = v .linked f (x .place) (inl (x .face-below, x .place-below)) s e (t .on-side) (o .0) b (t .below) refl (t .face-is) (sym (x .begins)) (t .first-is) in
       record {
-        other = o .0; side = t .on-side; below = t .below; same-face = t .face-is; meets = t .first-is ∙ x .ends; acw-is = links .0; links-back = links .1 }
+        other = o .0;
+        side = t .on-side;
+        below = t .below;
+        same-face = t .face-is;
+        meets = t .first-is ∙ x .ends;
+        acw-is = links .0;
+        links-back = links .1;
+      }
 
   pub prev-side : (s : TnurccFaceSide) (e : ℕ) → e < ne → Prev-side s e
   prev-side s e b =
@@ -119,7 +121,14 @@ module _ (l : Lists) (m : Mesh) (ne : ℕ) (v : Invariant l (Done l (facesOf l) 
       let first : firstOf s (row m e) ≡ nextOf l f (j .0) = sym (x .begins) ∙ ap (λ i. pointOf l f i) (sym (j .2)) in
       let links = v .linked f (j .0) (inl (x .face-below, j .1)) (t .on-side) (o .0) s e (t .below) b (t .face-is) refl (t .first-is) first in
       record {
-        other = o .0; side = t .on-side; below = t .below; same-face = t .face-is; meets = t .second-is ∙ sym first; cw-is = links .1; links-back = links .0 }
+        other = o .0;
+        side = t .on-side;
+        below = t .below;
+        same-face = t .face-is;
+        meets = t .second-is ∙ sym first;
+        cw-is = links .1;
+        links-back = links .0;
+      }
 
   -- ---- the steps of the walks, seen from a side
 
@@ -149,18 +158,20 @@ module _ (l : Lists) (m : Mesh) (ne : ℕ) (v : Invariant l (Done l (facesOf l) 
   acw-links s e b =
       let n = next-side s e b in
       subst (λ a. AcwLinks m e (secondOf s (row m e)) (faceFromSide (row m e) s) a) (sym (n .acw-is))
-        (record {
-          touches-end = touches-first (n .side) (n .other) (secondOf s (row m e)) (n .meets);
-          borders-face = borders-on (n .side) (n .other) (faceFromSide (row m e) s) (n .same-face);
-          links-back = cw-on (n .side) (n .other) (faceFromSide (row m e) s) (n .below) (n .same-face) ∙ n .links-back })
+      (record {
+        touches-end = touches-first (n .side) (n .other) (secondOf s (row m e)) (n .meets);
+        borders-face = borders-on (n .side) (n .other) (faceFromSide (row m e) s) (n .same-face);
+        links-back = cw-on (n .side) (n .other) (faceFromSide (row m e) s) (n .below) (n .same-face) ∙ n .links-back;
+      })
 
   pub cw-links : (s : TnurccFaceSide) (e : ℕ) → e < ne → CwLinks m e (faceFromSide (row m e) s) (cwOf s (row m e))
   cw-links s e b =
       let n = prev-side s e b in
       subst (λ a. CwLinks m e (faceFromSide (row m e) s) a) (sym (n .cw-is))
-        (record {
-          borders-face = borders-on (n .side) (n .other) (faceFromSide (row m e) s) (n .same-face);
-          links-back = acw-on (n .side) (n .other) (faceFromSide (row m e) s) (n .below) (n .same-face) ∙ n .links-back })
+      (record {
+        borders-face = borders-on (n .side) (n .other) (faceFromSide (row m e) s) (n .same-face);
+        links-back = acw-on (n .side) (n .other) (faceFromSide (row m e) s) (n .below) (n .same-face) ∙ n .links-back;
+      })
 
   pub acw-below : (s : TnurccFaceSide) (e : ℕ) → e < ne → acwOf s (row m e) < ne
   acw-below s e b = let n = next-side s e b in subst (λ a. a < ne) (sym (n .acw-is)) (n .below)
@@ -224,7 +235,7 @@ module _ (l : Lists) (m : Mesh) (ne : ℕ) (v : Invariant l (Done l (facesOf l) 
     unfolding occurrences
     here-or i e j x es b t le u rest =
         below-suc i j (omega arith) (λ lt. omega (arith, rest lt)) (λ same.
-          subst (λ x. 0 < occurrences x (e ∷ es)) (unique i b t (subst (λ j. Sits l m ne f j x) (sym same) u)) (omega (arith, occurrences-here e es)))
+        subst (λ x. 0 < occurrences x (e ∷ es)) (unique i b t (subst (λ j. Sits l m ne f j x) (sym same) u)) (omega (arith, occurrences-here e es)))
 
     rest-of : (c i e : ℕ) → i + suc c ≡ size l f → Sits l m ne f i e → Rest-of i e c
     rest-of zero i e h x =
@@ -233,7 +244,8 @@ module _ (l : Lists) (m : Mesh) (ne : ℕ) (v : Invariant l (Done l (facesOf l) 
           passes = last (on-face i e x) (unique 0 (omega arith) (subst (λ i. Sits l m ne f i (acwOfFace m f e)) wraps (step-sits i e (omega arith) x)) starts);
           many = refl;
           points = points';
-          all = λ j y le b u. here-or i e j y [] (omega arith) x le u (λ lt. absurd (omega arith)) }
+          all = λ j y le b u. here-or i e j y [] (omega arith) x le u (λ lt. absurd (omega arith));
+        }
       where
         wraps : nextPlace (size l f) i ≡ 0
         wraps = go (next-is (size l f) i)
@@ -241,6 +253,7 @@ module _ (l : Lists) (m : Mesh) (ne : ℕ) (v : Invariant l (Done l (facesOf l) 
             go : ((suc i ≡ size l f) × (nextPlace (size l f) i ≡ 0)) ⊎ ((suc i ≢ size l f) × (nextPlace (size l f) i ≡ suc i)) → nextPlace (size l f) i ≡ 0
             go (inl z) = z .1
             go (inr z) = absurd (z .0 (omega arith))
+
         points' : (j : ℕ) → j < 1 → getD (firstPoint m f e ∷ []) j 0 ≡ pointOf l f (i + j)
         points' zero b = first-place i e x
         points' (suc j) b = absurd (omega arith)
@@ -252,12 +265,15 @@ module _ (l : Lists) (m : Mesh) (ne : ℕ) (v : Invariant l (Done l (facesOf l) 
             pick : ((suc i ≡ size l f) × (nextPlace (size l f) i ≡ 0)) ⊎ ((suc i ≢ size l f) × (nextPlace (size l f) i ≡ suc i)) → nextPlace (size l f) i ≡ suc i
             pick (inl z) = absurd (omega arith)
             pick (inr z) = z .1
+
         step : Sits l m ne f (suc i) (acwOfFace m f e)
         step = subst (λ i. Sits l m ne f i (acwOfFace m f e)) moves (step-sits i e (omega arith) x)
+
         away : acwOfFace m f e ≢ faceStart m f
         away same =
             let z : suc i ≡ 0 = one-place (suc i) 0 (faceStart m f) (omega arith) (omega arith) (subst (λ y. Sits l m ne f (suc i) y) same step) starts in
             omega arith
+
         go : Rest-of (suc i) (acwOfFace m f e) c → Rest-of i e (suc c)
         go r =
             record {
@@ -265,7 +281,8 @@ module _ (l : Lists) (m : Mesh) (ne : ℕ) (v : Invariant l (Done l (facesOf l) 
               passes = more (on-face i e x) away (r .passes);
               many = ap suc (r .many);
               points = points';
-              all = λ j y le b u. here-or i e j y (r .edges) (omega arith) x le u (λ lt. r .all j y lt b u) }
+              all = λ j y le b u. here-or i e j y (r .edges) (omega arith) x le u (λ lt. r .all j y lt b u);
+            }
           where
             points' : (j : ℕ) → j < suc (length (r .edges)) → getD (firstPoint m f e ∷ map (firstPoint m f) (r .edges)) j 0 ≡ pointOf l f (i + j)
             points' zero b = first-place i e x
@@ -281,21 +298,23 @@ module _ (l : Lists) (m : Mesh) (ne : ℕ) (v : Invariant l (Done l (facesOf l) 
               passes = r .passes;
               each-once = each-once';
               no-point-twice = λ i j b lt same.
-                let many' : length (map (firstPoint m f) (r .edges)) ≡ size l f = length-map (r .edges) (firstPoint m f) ∙ r .many ∙ h in
-                let ends : length (r .edges) ≡ size l f = r .many ∙ h in
-                let z : i ≡ j =
-                      sound .distinct i j (omega arith) (omega arith)
-                        (ap (λ i. pointOf l f i) (let z : i ≡ 0 + i = omega arith in z) ∙ sym (r .points i (omega arith)) ∙ same ∙ r .points j (omega arith)
-                          ∙ ap (λ j. pointOf l f j) (let z : 0 + j ≡ j = omega arith in z)) in
-                omega arith;
+                  let many' : length (map (firstPoint m f) (r .edges)) ≡ size l f = length-map (r .edges) (firstPoint m f) ∙ r .many ∙ h in
+                  let ends : length (r .edges) ≡ size l f = r .many ∙ h in
+                  let z : i ≡ j =
+                  sound .distinct i j (omega arith) (omega arith)
+                  (ap (λ i. pointOf l f i) (let z : i ≡ 0 + i = omega arith in z) ∙ sym (r .points i (omega arith)) ∙ same ∙ r .points j (omega arith)
+                  ∙ ap (λ j. pointOf l f j) (let z : 0 + j ≡ j = omega arith in z)) in
+                  omega arith;
               at-least-3 = omega (arith, r .many, sound .at-least-3);
-              at-most-64 = omega (arith, r .many, sound .at-most-64) }
+              at-most-64 = omega (arith, r .many, sound .at-most-64);
+            }
           where
             found : (s : TnurccFaceSide) (e : ℕ) → (b : e < ne) → faceFromSide (row m e) s ≡ f → 0 < occurrences e (r .edges)
             found s e b face =
                 let x = place-of s e b in
                 r .all (x .place) e (omega arith) (subst (λ f. x .place < size l f) face (x .place-below))
-                  (subst (λ f. Sits l m ne f (x .place) e) face (sits-side s e b))
+                (subst (λ f. Sits l m ne f (x .place) e) face (sits-side s e b))
+
             each-once' : (e : ℕ) → e < ne → Borders m f e → occurrences e (r .edges) ≡ 1
             each-once' e b (inl h) = let z = found Left e b h in omega (arith, passes-once _ _ _ _ (r .edges) (r .passes) e)
             each-once' e b (inr h) = let z = found Right e b h in omega (arith, passes-once _ _ _ _ (r .edges) (r .passes) e)
@@ -308,9 +327,6 @@ module _ (l : Lists) (m : Mesh) (ne : ℕ) (v : Invariant l (Done l (facesOf l) 
         go (suc n) h = whole-walk n (sym h)
 
   -- ---- the walk about a point
-
-  touches-sum : (p : ℕ) → p < pointsOf l → sumTo ne (λ e. one (touches m p e)) ≡ valence m p
-  touches-sum p b = sym (v .valence-is p b)
 
   one-at-most : (b : Bool) (n : ℕ) → n ≤ 1 → (0 < n → b ≡ true) → n ≤ one b
   one-at-most true n h k = h
@@ -335,14 +351,12 @@ module _ (l : Lists) (m : Mesh) (ne : ℕ) (v : Invariant l (Done l (facesOf l) 
           turned : (s : TnurccFaceSide) → secondOf s (row m e) ≡ firstOf s (row m e) → ⊥
           turned Left z = v .ends-differ e b (sym z)
           turned Right z = v .ends-differ e b z
+
       go : Dec (origin m e ≡ p) → Touches m p e → acwOfPoint m p e ≡ e → ⊥
       go (yes h) t z = stays Left (rw (eq-eqb (origin m e) p h) at z)
       go (no h) t z = stays Right (rw (ne-eqb (origin m e) p h) at z)
 
   module _ (p : ℕ) (pb : p < pointsOf l) (edged : valence m p ≢ 0) (walked : valence m p ≤ passed (pointWalk m ne (valence m p) p)) where
-    On-point : ℕ → Type 0
-    On-point e = (e < ne) × Touches m p e
-
     two : (es : List ℕ) → Passes (acwOfPoint m p) (λ e. (e < ne) × Touches m p e) (start m p) (start m p) es → 2 ≤ length es
     two es w = go (start m p) es refl w
       where
@@ -365,16 +379,20 @@ module _ (l : Lists) (m : Mesh) (ne : ℕ) (v : Invariant l (Done l (facesOf l) 
               passes = walk;
               each-once = λ e b t. once e b ∙ ap one (touches-is m p e .1 t);
               at-least-2 = two es walk;
-              is-valence = many }
+              is-valence = many;
+            }
           where
             both : Passes (acwOfPoint m p) (λ e. (e < ne) × Touches m p e) (start m p) (start m p) es × (length es ≤ valence m p)
             both = pointWalk-is m ne p (valence m p) es .0 h
+
             walk : Passes (acwOfPoint m p) (λ e. (e < ne) × Touches m p e) (start m p) (start m p) es
             walk = both .0
+
             many : length es ≡ valence m p
             many = omega (arith, both .1)
+
             once : (e : ℕ) → e < ne → occurrences e es ≡ one (touches m p e)
             once e b =
                 sumTo-tight ne (λ e. occurrences e es) (λ e. one (touches m p e))
-                  (λ e b. one-at-most (touches m p e) (occurrences e es) (passes-once _ _ _ _ es walk e) (λ z. touches-is m p e .1 (passes-on _ _ _ _ es walk e z .1)))
-                  (sym (length-sumTo ne es (λ e z. passes-on _ _ _ _ es walk e z .0)) ∙ many ∙ v .valence-is p pb) e b
+                (λ e b. one-at-most (touches m p e) (occurrences e es) (passes-once _ _ _ _ es walk e) (λ z. touches-is m p e .1 (passes-on _ _ _ _ es walk e z .1)))
+                (sym (length-sumTo ne es (λ e z. passes-on _ _ _ _ es walk e z .0)) ∙ many ∙ v .valence-is p pb) e b

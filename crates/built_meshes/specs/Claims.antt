@@ -17,7 +17,8 @@ use Rattle.tables.specs.Records.{edgeAt}
 use Rattle.tables.specs.declared.Counts.{Counts}
 use Rattle.audited_meshes.specs.Audit.{audit}
 use Rattle.built_meshes.specs.Lists.{Lists, Limits, pointsOf, facesOf}
-use Rattle.built_meshes.specs.Building.{numberOf, zeroedRows, build}
+use Rattle.built_meshes.specs.Answers.{numberOf}
+use Rattle.built_meshes.specs.Building.{zeroedRows, build}
 use Rattle.built_meshes.specs.Beyond.{Within}
 use Rattle.built_meshes.specs.Grounds.{Holds}
 use Rattle.built_meshes.specs.declared.Ground.{Ground}
@@ -39,7 +40,13 @@ Accepts-exactly =
 abbrev pub zeroEdge : TnurccEdge
 zeroEdge =
     record {
-      connections = 0 ∷ 0 ∷ 0 ∷ 0 ∷ []; «face_left» = 0; «face_right» = 0; origin = 0; dest = 0; «knot_interval» = ofBits binary64 0 }
+      connections = 0 ∷ 0 ∷ 0 ∷ 0 ∷ [];
+      «face_left» = 0;
+      «face_right» = 0;
+      origin = 0;
+      dest = 0;
+      «knot_interval» = ofBits binary64 0;
+    }
 
 pub record Audited-counts (l : Lists) (t : Mesh) (k : Counts) : Type 0 where
   pub passes : audit t (k .points) (k .edges) (k .faces) ≡ true

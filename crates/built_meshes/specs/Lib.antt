@@ -1,6 +1,9 @@
+pub mod Answers
 pub mod Lists
 pub mod Faces
+pub mod Edges
 pub mod Perimeters
+pub mod Whole
 pub mod Building
 pub mod Places
 pub mod Beyond

@@ -1,34 +1,24 @@
 -- One face entered into the tables, place by place: place i of a perimeter of n points is the edge from its point i to its point
--- i + 1, round to the start. Grounds 14 and 15.
+-- i + 1, round to the start, and takes the interval written beside point i.
 --     State                   the tables, and how many edges they hold
 --     Ring                    the state within a face, with the face's edges at place 0 and at the place before
---     edgeBetween m k p q     the first edge below k that joins the points p and q, in either direction
---     newEdge m k f p q v     the tables with a new edge k from p to q, with face f on its left and the interval v
---     filled m e f            the tables with face f on the right of edge e
---     Entered, entered        a place entered: the tables, how many edges they hold and the place's edge; or a ground
---     joined m e o            the tables with the edges e and o connected
---     turned, places          one place, and the rest of a perimeter
+--     Step                    going on, or stopped by a ground with the tables as they stand then
+--     turn, places            one place, and k places
 --     perimeter               a whole face: its places, the first edge connected to the last, its row
--- An edge that exists keeps its interval. Under building the none mark on the right of an edge says that there is no face yet. The
--- Rust looks for all edges of a face before it makes one; that is the same, since no point is listed twice in a face.
-use mathlib.Core.Bool.{Bool, true, false, _&&_, _||_, cond}
-use mathlib.Core.List.{List, [], _∷_}
+use mathlib.Core.Bool.{cond}
+use mathlib.Core.List.{[], _∷_}
 use Prim.Native.Nat.{ℕ, zero, suc, _+_, _*_}
 use lib.Dec.{eqb}
-use lib.ListN.{getD, set}
-use lib.Ieee.{Float, nan}
-use Rattle.t_spline.specs.declared.TnurccEdge.{TnurccEdge}
+use lib.ListN.{getD}
+use lib.Ieee.{nan}
 use Rattle.t_spline.specs.declared.TnurccFace.{TnurccFace}
-use Rattle.tables.specs.Mesh.{Mesh, none, origin, dest, rightFace}
+use Rattle.tables.specs.Mesh.{Mesh, none}
 use Rattle.tables.specs.Rows.{putRow}
-use Rattle.tables.specs.Records.{edgeWords, faceWords}
-use Rattle.t_nurcc_edge.specs.Connected.{connectedRows}
+use Rattle.tables.specs.Records.{faceWords}
 use Rattle.built_meshes.specs.Lists.{Lists, size}
 use Rattle.built_meshes.specs.Faces.{listedAt}
+use Rattle.built_meshes.specs.Edges.{Entered, at, refused, entered, joined}
 use Rattle.built_meshes.specs.declared.Ground.{Ground}
-use Rattle.built_meshes.specs.declared.Ground.the-variants.{EdgeTripleFace, SameWay}
-use Rattle.built_meshes.specs.declared.Found.{Found}
-use Rattle.built_meshes.specs.declared.Found.the-variants.{At, Nothing}
 
 pub record State : Type 0 where
   pub mesh : Mesh
@@ -40,81 +30,9 @@ pub record Ring : Type 0 where
   pub first : ℕ
   pub before : ℕ
 
--- going on, or stopped by a ground with the tables as they stand then
 pub data Step (A : Type 0) : Type 0 where
   on : A → Step A
   stopped : Ground → Mesh → Step A
-
--- ---- an edge
-
-abbrev pub joins : Mesh → ℕ → ℕ → ℕ → Bool
-joins m p q e = eqb (origin m e) p && eqb (dest m e) q || eqb (origin m e) q && eqb (dest m e) p
-
--- what is found among one edge more
-abbrev pub orLast : Found → Bool → ℕ → Found
-orLast (At e) here k = At e
-orLast Nothing true k = At k
-orLast Nothing false k = Nothing
-
-unfoldable pub edgeBetween : Mesh → ℕ → ℕ → ℕ → Found
-edgeBetween m zero p q = Nothing
-edgeBetween m (suc k) p q = orLast (edgeBetween m k p q) (joins m p q k) k
-
--- a new edge: its neighbours are all itself, and there is no face on its right
-abbrev pub edgeOf : ℕ → ℕ → ℕ → ℕ → Float → TnurccEdge
-edgeOf k f p q v =
-    record {
-      connections = k ∷ k ∷ k ∷ k ∷ []; «face_left» = f; «face_right» = none; origin = p; dest = q; «knot_interval» = v }
-
--- point p with one edge more, which becomes its start edge
-abbrev pub touched : List ℕ → ℕ → ℕ → List ℕ
-touched ws p e = set (set ws (p * 3) (getD ws (p * 3) 0 + 1)) (p * 3 + 1) e
-
-unfoldable pub newEdge : Mesh → ℕ → ℕ → ℕ → ℕ → Float → Mesh
-newEdge m k f p q v =
-    record {
-      positions = m .positions;
-      points = touched (touched (m .points) p k) q k;
-      edges = putRow (m .edges) (k * 8) (edgeWords (edgeOf k f p q v));
-      intervals = set (m .intervals) k v;
-      faces = m .faces
-    }
-
-abbrev pub withEdges : Mesh → List ℕ → Mesh
-withEdges m es = record { positions = m .positions; points = m .points; edges = es; intervals = m .intervals; faces = m .faces }
-
-unfoldable pub filled : Mesh → ℕ → ℕ → Mesh
-filled m e f = withEdges m (set (m .edges) (e * 8 + 3) f)
-
--- ---- a place
-
-pub data Entered : Type 0 where
-  at : Mesh → ℕ → ℕ → Entered
-  refused : Ground → Entered
-
--- face f at the edge e that joins the points: `alone` says that there is no face on its right, `same` that it runs from the
--- place's first point too
-unfoldable pub enteredAt : Mesh → ℕ → ℕ → ℕ → Bool → Bool → Entered
-unfolding filled
-enteredAt m k f e false same = refused EdgeTripleFace
-enteredAt m k f e true true = refused SameWay
-enteredAt m k f e true false = at (filled m e f) k e
-
-unfoldable pub enteredIf : Mesh → ℕ → ℕ → ℕ → ℕ → Float → Found → Entered
-unfolding enteredAt newEdge
-enteredIf m k f p q v (At e) = enteredAt m k f e (eqb (rightFace m e) none) (eqb (origin m e) p)
-enteredIf m k f p q v Nothing = at (newEdge m k f p q v) (suc k) k
-
--- face f has a place from p to q with the interval v; the tables hold k edges
-unfoldable pub entered : Mesh → ℕ → ℕ → ℕ → ℕ → Float → Entered
-unfolding edgeBetween enteredIf
-entered m k f p q v = enteredIf m k f p q v (edgeBetween m k p q)
-
-unfoldable pub joined : Mesh → ℕ → ℕ → Mesh
-unfolding connectedRows
-joined m e o = withEdges m (connectedRows (m .edges) (m .intervals) e o)
-
--- ---- a perimeter
 
 -- the place after place i of a perimeter of n places
 abbrev pub nextPlace : ℕ → ℕ → ℕ
@@ -155,8 +73,12 @@ faceOf e = record { edge = e; corners = none ∷ none ∷ none ∷ none ∷ [] }
 abbrev pub withFace : Mesh → ℕ → ℕ → Mesh
 withFace m f e =
     record {
-      positions = m .positions; points = m .points; edges = m .edges; intervals = m .intervals;
-      faces = putRow (m .faces) (f * 5) (faceWords (faceOf e)) }
+      positions = m .positions;
+      points = m .points;
+      edges = m .edges;
+      intervals = m .intervals;
+      faces = putRow (m .faces) (f * 5) (faceWords (faceOf e));
+    }
 
 -- the first edge connected to the last
 unfoldable pub closedUp : ℕ → Step Ring → Step State

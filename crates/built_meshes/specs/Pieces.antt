@@ -1,4 +1,4 @@
--- The starred pieces of document 01 that speak of building: lists, tables to build in, and the numbers that must be answered.
+-- The starred pieces of document 01 that speak of building: limits, lists, tables to build in, and the numbers that must be answered.
 --     Piece                  one of them
 --     asExpected x           building answers the piece with its numbers
 --     pieces                 their list, in document 01's order
@@ -7,13 +7,14 @@
 use mathlib.Core.Path.{_≡_}
 use mathlib.Core.Bool.{Bool, true, false, _&&_, cond}
 use mathlib.Core.List.{List, [], _∷_, _++_}
-use Prim.Native.Nat.{ℕ, zero, suc, _+_, _*_, _-_, _/_, _%_}
+use Prim.Native.Nat.{ℕ, zero, suc, _+_, _*_, _/_, _%_}
 use lib.ListN.{length, replicate}
 use lib.Dec.{eqb}
 use lib.Ieee.{Float, ofBits, binary64}
 use Rattle.tables.specs.Mesh.{Mesh}
-use Rattle.built_meshes.specs.Lists.{Lists, general, pointsOf, facesOf}
-use Rattle.built_meshes.specs.Building.{numbersOf, build}
+use Rattle.built_meshes.specs.Lists.{Lists, Limits, general, pointsOf, facesOf}
+use Rattle.built_meshes.specs.Answers.{numbersOf}
+use Rattle.built_meshes.specs.Building.{build}
 
 abbrev pub unit : Float
 unit = ofBits binary64 0x3ff0000000000000
@@ -48,7 +49,7 @@ cube =
       coordinates = cubePoints 8;
       sides = replicate 24 1;
       listed = 2 ∷ 3 ∷ 1 ∷ 0 ∷ 5 ∷ 7 ∷ 6 ∷ 4 ∷ 1 ∷ 5 ∷ 4 ∷ 0 ∷ 6 ∷ 7 ∷ 3 ∷ 2 ∷ 4 ∷ 6 ∷ 2 ∷ 0 ∷ 3 ∷ 7 ∷ 5 ∷ 1 ∷ [];
-      intervals = replicate 24 unit
+      intervals = replicate 24 unit;
     }
 
 -- k, k + 1, .. of n numbers, and n numbers down to k
@@ -75,16 +76,21 @@ even n = backToBack (n + n) (n ∷ 0 ∷ n ∷ 0 ∷ []) (replicate (n + n) unit
 abbrev pub justEnough : Lists → Mesh
 justEnough l =
     record {
-      positions = replicate (pointsOf l * 3) two; points = replicate (pointsOf l * 3) 7; edges = replicate (length (l .listed) * 8) 7;
-      intervals = replicate (length (l .listed)) two; faces = replicate (facesOf l * 5) 7
+      positions = replicate (pointsOf l * 3) two;
+      points = replicate (pointsOf l * 3) 7;
+      edges = replicate (length (l .listed) * 8) 7;
+      intervals = replicate (length (l .listed)) two;
+      faces = replicate (facesOf l * 5) 7;
     }
 
 pub record Piece : Type 0 where
+  pub limits : Limits
   pub lists : Lists
+  pub tables : Mesh
   pub answer : List ℕ
 
 abbrev pub piece : Lists → List ℕ → Piece
-piece l ns = record { lists = l; answer = ns }
+piece l ns = record { limits = general; lists = l; tables = justEnough l; answer = ns }
 
 abbrev pub sameNumbers : List ℕ → List ℕ → Bool
 sameNumbers [] [] = true
@@ -94,7 +100,7 @@ sameNumbers (k ∷ ks) (n ∷ ns) = eqb k n && sameNumbers ks ns
 
 unfoldable pub asExpected : Piece → Bool
 unfolding build
-asExpected x = sameNumbers (numbersOf (build general (x .lists) (justEnough (x .lists)) .answer)) (x .answer)
+asExpected x = sameNumbers (numbersOf (build (x .limits) (x .lists) (x .tables) .answer)) (x .answer)
 
 abbrev pub pieces : List Piece
 pieces =

@@ -10,7 +10,8 @@ use lib.Seq.{sets}
 use lib.Dec.{ltb}
 use borrow.Author.Tests.{lt-ltb, le-ltb}
 use Rattle.text_numbers.proofs.Stores.{sets-append}
-use Rattle.mesh_answers.specs.Lines.{decimalDigits, hexByte, hexBytes, numberField, bitsField, Written}
+use Rattle.mesh_answers.specs.Lines.{decimalDigits, hexByte, hexBytes, numberField, bitsField, threeFields, atLine, refusedLine, Written}
+use Rattle.text_numbers.specs.Form.{bytes}
 
 pub length-hex : (k n : ℕ) → length (hexBytes k n) ≡ k
 unfolding hexBytes
@@ -83,3 +84,35 @@ length-number n = let h = length-decimal 20 n in omega arith
 
 pub length-bits : (b : ℕ) → length (bitsField b) ≡ 17
 length-bits b = ap suc (length-hex 16 b)
+
+-- how long a line can be, for who lends the room
+length-three : (t a b c : List ℕ) → length (threeFields t a b c) ≡ length t + length a + length b + length c + 2
+length-three t a b c =
+    let e1 = length-append t a in
+    let e2 = length-append (t ++ a) b in
+    let e3 = length-append ((t ++ a) ++ b) c in
+    let e4 = length-append (((t ++ a) ++ b) ++ c) (bytes "]\n") in
+    omega arith
+
+pub length-counts : (t : List ℕ) (p e f : ℕ) → length t ≡ 5 → length (threeFields t (numberField p) (numberField e) (numberField f)) ≤ 70
+length-counts t p e f h =
+    let l = length-three t (numberField p) (numberField e) (numberField f) in
+    let lp = length-number p in
+    let le = length-number e in
+    let lf = length-number f in
+    omega arith
+
+pub length-at : (x y z : ℕ) → length (atLine x y z) ≡ 58
+length-at x y z =
+    let l = length-three (bytes "[at 0") (bitsField x) (bitsField y) (bitsField z) in
+    let lx = length-bits x in
+    let ly = length-bits y in
+    let lz = length-bits z in
+    omega arith
+
+pub length-refused : (n : ℕ) → length (refusedLine n) ≤ 31
+length-refused n =
+    let e1 = length-append (bytes "[refused") (numberField n) in
+    let e2 = length-append (bytes "[refused" ++ numberField n) (bytes "]\n") in
+    let l = length-number n in
+    omega arith

@@ -2,15 +2,14 @@
 --     decimal-of-decimalBytes, bits-of-hexBytes
 use mathlib.Core.List.{List, [], _∷_, _++_, map}
 use mathlib.Core.Path.{_≡_, refl, sym, ap, _∙_}
-use mathlib.Core.Bool.{Bool, true, false, _&&_, cond}
+use mathlib.Core.Bool.{Bool, true, false, cond}
 use Prim.Native.Nat.{ℕ, zero, suc, _+_, _-_, _*_, _/_, _%_, _^_, _≤_, _<_}
-use native.Mathlib.Nat.{add-zero, pow-suc, mod-lt}
-use native.Mathlib.Numerals.{add-one}
+use native.Mathlib.Nat.{add-zero, pow-suc}
 use native.Mathlib.Omega.{arith}
-use lib.ListN.{length, getD, length-append}
+use lib.ListN.{length, getD}
 use lib.Dec.{ltb, eqb}
 use borrow.Author.Tests.{lt-ltb, le-ltb, eqb-true, ltb-true, ltb-false, ne-eqb}
-use Rattle.text_numbers.specs.Form.{Found, found, none, onward, pure, times, stands}
+use Rattle.text_numbers.specs.Form.{found, times, stands}
 use Rattle.text_numbers.specs.Numbers.{digitValue, value, digit, bits, digits, decimalFrom, decimal}
 use Rattle.text_numbers.proofs.Laws.{and-both, digit-inside}
 use Rattle.text_numbers.proofs.Turns.{times-found, digit-found, digits-turn, digits-stop}

@@ -1,16 +1,16 @@
 -- What the answers of the reader's parts say of the forms. Assumes nothing.
-use mathlib.Core.List.{List, [], _∷_, _++_}
+use mathlib.Core.List.{List, _∷_, _++_}
 use mathlib.Core.Path.{_≡_, refl, sym, ap, _∙_}
-use Prim.Native.Nat.{ℕ, zero, suc, _+_}
+use Prim.Native.Nat.{ℕ, _+_}
 use native.Mathlib.Nat.{zero-add, add-assoc}
 use native.Mathlib.Omega.{arith}
 use lib.ListN.{length}
 use lib.Seq.{sets}
 use Rattle.text_numbers.proofs.Stores.{sets-append}
-use Rattle.text_numbers.specs.Form.{Found, found, none, Form, onward, pure, given}
+use Rattle.text_numbers.specs.Form.{Found, found, none, onward, pure, given}
 use Rattle.mesh_text.specs.Text.{Listed}
-use Rattle.mesh_text.specs.Reading.{flat, sidePoints, place, run, listing, linesOf, stored}
-use Rattle.text_numbers.specs.Numbers.{number}
+use Rattle.mesh_text.specs.Reading.{flat, sidePoints}
+use Rattle.mesh_text.specs.Parts.{place, run, listing, linesOf, stored}
 use Rattle.text_numbers.specs.declared.Number.the-variants as Number
 use Rattle.mesh_text.specs.declared.Place.the-variants as Place
 use Rattle.mesh_text.specs.declared.Run.{Run}

@@ -1,13 +1,14 @@
 -- The grammar computed on texts: the cube of document 01 and small texts that are of the form, and bad ones.
-use mathlib.Core.List.{List, [], _∷_, map}
+use mathlib.Core.List.{List, [], _∷_, _++_, map}
 use mathlib.Core.Path.{_≡_, refl}
 use Prim.Native.Nat.{ℕ}
 use Prim.Native.String.{String}
 use lib.ListN.{length, replicate}
-use Rattle.text_numbers.specs.Form.{bytes, given, times, stands, literal, many}
+use Rattle.text_numbers.specs.Form.{bytes, found, given, times, stands, literal, many}
 use Rattle.text_numbers.specs.Numbers.{digitValue, value, digit, bits, digits, decimalFrom, decimal}
 use Rattle.mesh_text.specs.Text.{coordinate, point, listed, side, face, ends, mesh, text}
-use Rattle.mesh_text.specs.Reading.{flat, listedPoints}
+use Rattle.mesh_text.specs.Reading.{flat, listedPoints, Lists, within, readInto}
+use Rattle.mesh_text.specs.declared.Reading.the-variants as Reading
 
 -- how many points, faces and listed points a text has; nothing for a text that is not of the form
 sizes : String → List ℕ
@@ -63,3 +64,29 @@ bad : map sizes (
     ≡ replicate 25 []
 unfolding sizes digitValue value stands literal digit bits digits decimalFrom decimal many coordinate point listed side face ends mesh text times flat
 bad = refl
+
+-- the numbers of a text, each in its place
+numbers : text (bytes "[mesh 1]\n[point 3ff0000000000000 bff0000000000000 0000000000000000]\n[face [0 [2 3ff0000000000000] [1 4000000000000000]] [0] [5] [3 [0 0000000000000001]]]\n[end]\n")
+    ≡ found (record {
+      points = (0x3ff0000000000000 ∷ 0xbff0000000000000 ∷ 0 ∷ []) ∷ [];
+      faces = ((record { point = 2; interval = 0x3ff0000000000000 } ∷ record { point = 1; interval = 0x4000000000000000 } ∷ []) ∷ [] ∷ [] ∷ (record { point = 0; interval = 1 } ∷ []) ∷ []) ∷ [];
+    }) 154
+unfolding digitValue value stands literal digit bits digits decimalFrom decimal many coordinate point listed side face ends mesh text times flat
+numbers = refl
+
+-- no room anywhere
+abbrev nowhere : Lists
+nowhere = record { coordinates = []; lengths = []; listed = []; intervals = [] }
+
+-- a text with a face, where no face is allowed
+abbrev one : List ℕ
+one = bytes "[mesh 1]\n[face [0] [0] [0] [0]]\n[end]\n"
+
+too-many : readInto one (record { points = 1; faces = 0; listed = 1 }) nowhere .reading ≡ Reading.OverLimits
+unfolding within readInto digitValue value stands literal digit bits digits decimalFrom decimal many coordinate point listed side face ends mesh text times flat
+too-many = refl
+
+-- the same with a byte after its end: the form comes first
+form-first : readInto (one ++ (10 ∷ [])) (record { points = 1; faces = 0; listed = 1 }) nowhere .reading ≡ Reading.NotText
+unfolding within readInto digitValue value stands literal digit bits digits decimalFrom decimal many coordinate point listed side face ends mesh text times flat
+form-first = refl

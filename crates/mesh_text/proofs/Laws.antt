@@ -1,15 +1,15 @@
 -- How far the lines of a text go. Assumes nothing.
 use mathlib.Core.List.{List, [], _∷_}
 use mathlib.Core.Path.{_≡_, refl, sym, ap, _∙_}
-use mathlib.Core.Bool.{true}
-use Prim.Native.Nat.{ℕ, _+_, _≤_}
+use Prim.Native.Nat.{ℕ, _+_}
 use native.Mathlib.Omega.{arith}
 use lib.ListN.{length, length-append, length-map}
 use Rattle.text_numbers.specs.Form.{bytes, found, pure, times, literal, many}
 use Rattle.text_numbers.specs.Numbers.{bits, decimal}
-use Rattle.text_numbers.proofs.Laws.{Takes, total, length-total, takes-pure, takes-bind, takes-times, takes-literal, takes-many, takes-bits, takes-decimal}
+use Rattle.text_numbers.proofs.Laws.{onward-found, length-times, Takes, total, length-total, takes-pure, takes-bind, takes-times, takes-literal, takes-many, takes-bits, takes-decimal}
 use Rattle.mesh_text.specs.Text.{Listed, coordinate, point, listed, side, face}
-use Rattle.mesh_text.specs.Reading.{flat, sidePoints, sideIntervals, listedIn}
+use Rattle.mesh_text.specs.Reading.{flat, sidePoints, sideIntervals}
+use Rattle.mesh_text.specs.Parts.{listedIn}
 
 listed-total : (sides : List (List Listed)) → listedIn sides ≡ total (λ (ps : List Listed). length ps) sides
 unfolding total flat
@@ -28,6 +28,23 @@ same-count (ps ∷ sides) =
     ∙ ap (λ (v : ℕ). v + length (flat sidePoints sides)) (length-map ps _ ∙ sym (length-map ps _))
     ∙ ap (λ (v : ℕ). length (sideIntervals ps) + v) (same-count sides)
     ∙ sym (length-append (sideIntervals ps) (flat sideIntervals sides))
+
+-- three coordinates, four sides
+pub length-point : (s : List ℕ) (at : ℕ) (a : List ℕ) (n : ℕ) → point s at ≡ found a n → length a ≡ 3
+unfolding point
+length-point s at a n e =
+    let (l, m, et, el) = onward-found _ (times 3 (coordinate s) at) e in
+    let (z, m′, ez, ea) = onward-found (λ z. pure l) (literal s (bytes "]\n") m) el in
+    let la : l ≡ a = cc in
+    rw la at (length-times (coordinate s) 3 at l m et)
+
+pub length-face : (s : List ℕ) (at : ℕ) (a : List (List Listed)) (n : ℕ) → face s at ≡ found a n → length a ≡ 4
+unfolding face
+length-face s at a n e =
+    let (l, m, et, el) = onward-found _ (times 4 (side s) at) e in
+    let (z, m′, ez, ea) = onward-found (λ z. pure l) (literal s (bytes "]\n") m) el in
+    let la : l ≡ a = cc in
+    rw la at (length-times (side s) 4 at l m et)
 
 module _ (s : List ℕ) where
   pub takes-coordinate : Takes s 0 (λ v. 1) (coordinate s)

@@ -7,7 +7,7 @@ use mathlib.Core.Bool.{Bool, _&&_}
 use Prim.Native.Nat.{ℕ, _+_}
 use lib.ListN.{length}
 use lib.Dec.{eqb}
-use Rattle.text_numbers.specs.Form.{bytes, Found, found, none, Form, onward, _>>=_, _>>_, pure, choose, times, stands, literal, many}
+use Rattle.text_numbers.specs.Form.{bytes, Found, none, Form, onward, _>>=_, _>>_, pure, choose, times, stands, literal, many}
 use Rattle.text_numbers.specs.Numbers.{bits, decimal}
 
 -- a point number and the bits of its interval

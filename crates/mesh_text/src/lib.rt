@@ -1,21 +1,16 @@
 // Mesh text 1 (document 01, "Mesh text"): its grammar, and a reader of it.
 // Not here: grounds 3 and later (building), the answers' lines (`mesh_answers`).
 // Contract: `read_text`. Definitions: `specs/Text.antt` (the grammar), `specs/Reading.antt` (the answer and the lists).
-// Laws for callers: `proofs/Laws.antt`.
+// Laws for callers: `proofs/Read.antt`.
 ghost use mathlib.Core.Path.{_≡_};
-ghost use Prim.Native.Nat.{_+_, _*_, _≤_, _<_};
+ghost use Prim.Native.Nat.{_≤_};
 ghost use mathlib.Core.List.{map};
-ghost use lib.ListN.{length, getD, set};
-ghost use Rattle.text_numbers.specs.Form.{bytes, times};
-ghost use Rattle.text_numbers.specs.Form.{stands, many};
-ghost use Rattle.text_numbers.specs.Numbers.{digitValue, bits, decimalFrom, decimal};
+ghost use lib.ListN.{length, set};
+ghost use Rattle.text_numbers.specs.Form.{bytes, times, many};
+ghost use Rattle.text_numbers.specs.Numbers.{float, number};
 ghost use Rattle.mesh_text.specs.Text.{coordinate, point, listed, side, face, ends, text};
-ghost use Rattle.text_numbers.specs.Numbers.{float};
-ghost use Rattle.mesh_text.specs.Reading.{flat, sidePoints, sideIntervals, lengthWord, listedIn};
-ghost use Rattle.text_numbers.specs.Numbers.{number};
-ghost use Rattle.mesh_text.specs.Reading.{place, run, listing, linesOf, stored, AtPlace, AtRun, AtLines};
-ghost use Rattle.mesh_text.specs.Reading.{totalOf, coordinates, lengthWords, listedPoints, intervals, AtTotal};
-ghost use Rattle.mesh_text.specs.Reading.{within, Answer, readInto};
+ghost use Rattle.mesh_text.specs.Reading.{flat, sidePoints, sideIntervals, coordinates, listedPoints, intervals, within, Answer, readInto};
+ghost use Rattle.mesh_text.specs.Parts.{lengthWord, listedIn, place, run, listing, linesOf, stored, AtPlace, AtRun, AtLines, totalOf, lengthWords, AtTotal};
 use text_numbers::Number;
 use text_numbers::bits;
 use text_numbers::decimal;

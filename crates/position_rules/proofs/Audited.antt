@@ -2,7 +2,8 @@
 --     edges-fit                          the edges and their neighbours
 --     common-below                       two consecutive edges about a point have a face in common
 --     face-point-fits, edge-point-fits, old-point-fits      what the three rules ask
-use mathlib.Core.Path.{_≡_, sym}
+--     border-of                          the edges that the walk about a face passes
+use mathlib.Core.Path.{_≡_, sym, _∙_, subst}
 use mathlib.Core.Bool.{Bool, true, false, _&&_, cond}
 use mathlib.Core.List.{List}
 use mathlib.Core.Logic.{_⊎_, inl, inr}
@@ -129,3 +130,16 @@ module _ (m : Mesh) (np ne nf : ℕ) (a : Audited m np ne nf) where
             below = a .start-in-range p l;
           };
         }
+
+-- the border of a face of an audited mesh
+pub record Border (ne : ℕ) (es : List ℕ) : Type 0 where
+  pub at-least-3 : 3 ≤ length es
+  pub edges-below : (j : ℕ) → j < length es → getD es j 0 < ne
+
+pub border-of : (m : Mesh) (np ne nf f : ℕ) (es : List ℕ) → Audited m np ne nf → f < nf → faceWalk m ne f ≡ back es → Border ne es
+unfolding faceWalk
+border-of m np ne nf f es a l came =
+    let h : FacePointFits (m .positions) (m .edges) (m .intervals) (m .faces) ne f = face-point-fits m np ne nf a f l in
+    let one : back (h .border) ≡ back es = sym (h .walked) ∙ came in
+    let same : h .border ≡ es = cc in
+    subst (λ bs. Border ne bs) same (record { at-least-3 = h .at-least-3; edges-below = h .edges-below })

@@ -11,12 +11,12 @@ use native.Mathlib.Decide.{decLt}
 use lib.Dec.{eqb}
 use lib.ListN.{getD, length}
 use lib.Ieee.{Float}
-use Rattle.tables.specs.Mesh.{leftFace}
+use Rattle.tables.specs.Mesh.{Mesh, leftFace}
 use Rattle.audited_meshes.specs.Walks.{back, edgesOf, faceWalk, firstPoint}
 use Rattle.walks.specs.Steps.{faceTables}
 use Rattle.walks.specs.Border.{padded, again, borderOf, border}
 use Rattle.walks.specs.declared.FaceBorder.{FaceBorder}
-use Rattle.walks.proofs.Laws.{getD-padded, border-back, border-point, border-point-again}
+use Rattle.walks.proofs.Laws.{getD-padded, border-walk, border-point, border-point-again}
 use Rattle.position_rules.specs.declared.WeightedSum.{WeightedSum}
 use Rattle.position_rules.specs.FacePoint.{windowSum, overWeight, around, facePoint, facePointAbout, facePointOf, faceMesh}
 use Rattle.position_rules.specs.Fits.{BorderFits, PointsFit, FacePointFits}
@@ -24,6 +24,9 @@ use Rattle.position_rules.specs.Fits.{BorderFits, PointsFit, FacePointFi
 cond-there : (b : Bool) (i j n : ℕ) → i * 3 + 3 ≤ n → j * 3 + 3 ≤ n → cond b i j * 3 + 3 ≤ n
 cond-there true i j n h k = h
 cond-there false i j n h k = k
+
+border-back : (m : Mesh) (ne f : ℕ) (es : List ℕ) → faceWalk m ne f ≡ back es → border m ne f ≡ borderOf m f (back es)
+border-back m ne f es w = border-walk m ne f ∙ ap (borderOf m f) w
 
 module _ (ps : List Float) (es : List ℕ) (is : List Float) (fs : List ℕ) (ne f : ℕ) (h : FacePointFits ps es is fs ne f) where
   pub border-edges-fit : (b : FaceBorder) → b ≡ border (faceTables es fs) ne f → BorderFits es is (b .edges) (b .n)

@@ -4,7 +4,7 @@ use mathlib.Core.Path.{_≡_, refl, sym, _∙_, ap, subst}
 use mathlib.Core.Bool.{Bool, true, false}
 use mathlib.Core.List.{List, map}
 use mathlib.Core.Logic.{inl, inr}
-use Prim.Native.Nat.{ℕ, zero, suc, _+_, _-_, _*_, _≤_, _<_}
+use Prim.Native.Nat.{ℕ, zero, suc, _+_, _-_, _*_, _<_}
 use native.Mathlib.Nat.{le-refl}
 use native.Mathlib.Omega.{arith}
 use lib.Dec.{T}
@@ -14,16 +14,15 @@ use lib.Ieee.{Float, nan, add, fits, binary64}
 use lib.Ieee.Scale.{finite}
 use lib.Ieee.Positive.{num, den}
 use Rattle.positions.specs.Position.{finitePosition}
-use Rattle.tables.specs.Mesh.{Mesh, interval}
-use Rattle.audited_meshes.specs.Walks.{back, edgesOf, faceWalk, firstPoint}
+use Rattle.tables.specs.Mesh.{interval}
+use Rattle.audited_meshes.specs.Walks.{edgesOf, firstPoint}
 use Rattle.audited_meshes.specs.Audit.{intervalFit}
-use Rattle.audited_meshes.specs.Audited.{Audited}
 use Rattle.walks.specs.Border.{again}
 use Rattle.position_rules.specs.Intervals.{A2, C2, threeTerms}
 use Rattle.position_rules.specs.FacePoint.{sixTerms, windowWeight, windowSum, overWeight, around, facePoint, facePointAbout, facePointOf}
-use Rattle.position_rules.specs.Fits.{EdgesFit, FacePointFits}
+use Rattle.position_rules.specs.Fits.{EdgesFit}
 use Rattle.position_rules.specs.Claims.{Found, JoiningFits}
-use Rattle.position_rules.proofs.Audited.{edges-fit, face-point-fits}
+use Rattle.position_rules.proofs.Audited.{edges-fit, border-of}
 use Rattle.position_rules.proofs.Fits.{acw-below, cw-below, around-below}
 use Rattle.position_rules.proofs.Floats.{AtMost, add-fit, add-lost, add-lost-right, mul-lost, mul-lost-right, div-lost, sum-lost, half-fit}
 use Rattle.position_rules.proofs.Sums.{windowSum-more}
@@ -74,19 +73,6 @@ module _ (ps : List Float) (es : List ℕ) (is : List Float) (pt ed : ℕ → �
       let all : w + k + 1 ≡ n = omega arith in
       subst (λ i. finitePosition (overWeight (windowSum ps es is pt ed i)) ≡ false) all
       (rw (div-lost _ _ (sum-x-lost k) (weight-lost k)))
-
--- the border of a face of an audited mesh
-record Border (ne : ℕ) (es : List ℕ) : Type 0 where
-  at-least-3 : 3 ≤ length es
-  edges-below : (j : ℕ) → j < length es → getD es j 0 < ne
-
-border-of : (m : Mesh) (np ne nf f : ℕ) (es : List ℕ) → Audited m np ne nf → f < nf → faceWalk m ne f ≡ back es → Border ne es
-unfolding faceWalk
-border-of m np ne nf f es a l came =
-    let h : FacePointFits (m .positions) (m .edges) (m .intervals) (m .faces) ne f = face-point-fits m np ne nf a f l in
-    let one : back (h .border) ≡ back es = sym (h .walked) ∙ came in
-    let same : h .border ≡ es = cc in
-    subst (λ bs. Border ne bs) same (record { at-least-3 = h .at-least-3; edges-below = h .edges-below })
 
 around-same : (n j : ℕ) → j < n → around n j ≡ j
 around-same n j l = rw (lt-ltb j n l)

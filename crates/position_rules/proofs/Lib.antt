@@ -6,3 +6,4 @@ pub mod Fits
 pub mod Floats
 pub mod Joins
 pub mod Sums
+pub mod Windows

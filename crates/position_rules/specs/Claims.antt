@@ -1,5 +1,7 @@
 -- What is proved of the position rules, as types.
 --     FacePointTables      the face point looks at the tables of positions, edges, intervals and faces alone
+--     WindowEdges          the edges of a face point's windows are the ones between their points: of all edges, the border's own edge
+--                          alone touches two consecutive points
 --     EdgePointStands      where the face points stand in their places, the rule for edges gives the edge points
 --     OldPointStands       where face points and edge points stand in their places, the rule for old points gives the old points
 --     JoiningFits          where the face point is finite, every joining interval of the face is finite with the sign bit clear: it is
@@ -7,17 +9,18 @@
 --     RadialRound          the edges of the rule for old points are those that the walk about the point passes, once round
 use mathlib.Core.Path.{_≡_}
 use mathlib.Core.Bool.{true}
-use mathlib.Core.List.{List}
-use mathlib.Core.Logic.{_⊎_}
+use mathlib.Core.List.{List, map}
+use mathlib.Core.Logic.{_⊎_, _↔_}
 use Prim.Native.Nat.{ℕ, _+_, _≤_, _<_}
 use lib.Dec.{T}
 use lib.ListN.{getD, length}
 use lib.Ieee.{Float, add, mul, fits, ofBits, binary64}
 use Rattle.positions.specs.Position.{finitePosition}
 use Rattle.tables.specs.Mesh.{Mesh, none, start, interval}
-use Rattle.audited_meshes.specs.Walks.{back, faceWalk, pointWalk}
+use Rattle.audited_meshes.specs.Walks.{back, faceWalk, pointWalk, firstPoint}
 use Rattle.audited_meshes.specs.Audit.{intervalFit}
-use Rattle.audited_meshes.specs.Audited.{Audited}
+use Rattle.audited_meshes.specs.Audited.{Touches, Audited}
+use Rattle.walks.specs.Border.{again}
 use Rattle.position_rules.specs.FacePoint.{around, faceMesh, facePointOf}
 use Rattle.position_rules.specs.EdgePoint.{edgePoint}
 use Rattle.position_rules.specs.OldPoint.{radialEdge, oldPoint}
@@ -27,6 +30,16 @@ use Rattle.position_rules.specs.Places.{edgePointAt, facePointAt}
 abbrev pub FacePointTables : Type 0
 FacePointTables =
     (m : Mesh) (ne f : ℕ) → facePointOf (faceMesh (m .positions) (m .edges) (m .intervals) (m .faces)) ne f ≡ facePointOf m ne f
+
+abbrev pub borderPoint : Mesh → ℕ → List ℕ → ℕ → ℕ
+borderPoint m f es j = getD (again 4 (map (firstPoint m f) es)) j 0
+
+-- the edges ed 0 .. ed (n + 2) of a border of n edges
+abbrev pub WindowEdges : Type 0
+WindowEdges =
+    (m : Mesh) (np ne nf f : ℕ) (es : List ℕ) → Audited m np ne nf → f < nf → faceWalk m ne f ≡ back es
+    → (j e : ℕ) → j < length es + 3 → e < ne
+    → (Touches m (borderPoint m f es j) e × Touches m (borderPoint m f es (j + 1)) e) ↔ (e ≡ getD es (around (length es) j) 0)
 
 -- the points of all faces and of all edges stand in the tables of the refined mesh
 abbrev pub FacePointsStand : Mesh → ℕ → ℕ → List Float → List ℕ → Type 0

@@ -1,7 +1,10 @@
 // The position rules of one refinement (document 01, "One refinement"): face point, edge point, old point.
 // Carries over the first three loops of `global_subdivide` in t_nurcc/mod.rs, one point at a time, each operation rounded in
 // the Rust's order. Each rule answers three finite coordinates or the word that one is not finite.
-// Not here: the rows of the new points and the step (`refining`).
+// Not here: the rows of the new points, the loops over all faces, edges and points, and the step.
+// Contracts: `face_point::face_point`, `edge_point::edge_point`, `old_point::old_point`. Definitions: `specs/FacePoint.antt`,
+// `specs/EdgePoint.antt`, `specs/OldPoint.antt`, and `specs/Rules.antt` for all three over a mesh. What is proved of them:
+// `specs/Claims.antt`. What the contracts require (`specs/Fits.antt`) holds on an audited mesh: `proofs/Audited.antt`.
 ghost use mathlib.Core.Path.{_≡_};
 ghost use Rattle.position_rules.specs.Sums.{withTerm};
 use positions::Position;

@@ -2,15 +2,13 @@
 use mathlib.Core.List.{List, [], _∷_}
 use mathlib.Core.Path.{_≡_, refl, ap, _∙_}
 use mathlib.Core.Bool.{Bool, true, false, _&&_}
-use Prim.Native.Nat.{ℕ, zero, suc, _+_, _-_, _*_, _≤_, _<_}
+use Prim.Native.Nat.{ℕ, zero, suc, _+_, _*_, _≤_, _<_}
 use native.Mathlib.Omega.{arith}
-use native.Mathlib.Numerals.{add-one}
-use lib.ListN.{length, getD, List·getD-eq-default, length-append, length-map}
-use lib.Dec.{T, eqb, ltb}
+use lib.ListN.{length, getD, List·getD-eq-default}
+use lib.Dec.{eqb, ltb}
 use borrow.Author.Tests.{ltb-true, ltb-false, eqb-true}
-use Rattle.text_numbers.specs.Form.{bytes, Found, found, none, Form, onward, _>>=_, _>>_, pure, choose, times}
+use Rattle.text_numbers.specs.Form.{Found, found, none, Form, onward, _>>=_, pure, choose, times, stands, literal, many}
 use Rattle.text_numbers.specs.Numbers.{digitValue, value, digit, bits, digits, decimalFrom, decimal}
-use Rattle.text_numbers.specs.Form.{stands, literal, many}
 
 -- a byte other than 0 stands inside the text
 pub inside : (s : List ℕ) (i : ℕ) → 0 < getD s i 0 → i < length s

@@ -1,15 +1,13 @@
 -- One turn of a repeated form, and what an answer says of a form. Assumes nothing.
 use mathlib.Core.List.{List, [], _∷_}
-use mathlib.Core.Path.{_≡_, refl, sym, ap, _∙_}
-use mathlib.Core.Bool.{Bool, true, false}
+use mathlib.Core.Path.{_≡_, refl}
+use mathlib.Core.Bool.{true, false}
 use Prim.Native.Nat.{ℕ, zero, suc, _+_, _*_, _≤_, _<_}
 use lib.ListN.{length, getD}
 use borrow.Author.Tests.{lt-ltb, le-ltb}
-use Rattle.text_numbers.specs.Form.{Found, found, none, Form, onward, _>>=_, pure, choose, times, given}
-use Rattle.text_numbers.specs.Numbers.{number}
+use Rattle.text_numbers.specs.Form.{Found, found, none, Form, onward, pure, times, given, stands, literal, many}
+use Rattle.text_numbers.specs.Numbers.{number, digitValue, digit, digits}
 use Rattle.text_numbers.specs.declared.Number.the-variants as Number
-use Rattle.text_numbers.specs.Numbers.{digitValue, digit, digits}
-use Rattle.text_numbers.specs.Form.{stands, literal, many}
 
 pub given-pure : {A B R : Type 0} (g : B → ℕ → R) (d : R) (f : A → B) (x : Found A) → given g d (onward (λ a. pure (f a)) x) ≡ given (λ a n. g (f a) n) d x
 given-pure g d f (found a n) = refl

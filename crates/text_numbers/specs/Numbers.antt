@@ -7,7 +7,7 @@
 --     float b              the binary64 of a bit pattern
 --     number x             the answer to a number
 use mathlib.Core.List.{List, [], _∷_}
-use mathlib.Core.Bool.{Bool, cond}
+use mathlib.Core.Bool.{cond}
 use Prim.Native.Nat.{ℕ, zero, suc, _+_, _-_, _*_}
 use lib.ListN.{getD, length}
 use lib.Dec.{eqb, ltb}

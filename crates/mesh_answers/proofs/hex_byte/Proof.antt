@@ -1,5 +1,4 @@
 -- `hex_byte` meets its contract.
-use mathlib.Core.Path.{_∙_, sym}
 use borrow.Author.Tests.{lt-ltb, le-ltb}
 use Rattle.mesh_answers.specs.Lines.{hexByte}
 use borrow.Author.Needs.{needs}

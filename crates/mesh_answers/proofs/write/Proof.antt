@@ -1,7 +1,6 @@
 -- `write` meets its contract. The loop leaves what is still to be written; the measure is how many bytes that are.
 mod Turn
 use borrow.Author.Needs.{needs}
-use native.Mathlib.Omega.{arith}
 use mathlib.Core.Path.{_≡_, _∙_}
 use Prim.Native.Nat.{_≤_, _+_, _-_}
 use lib.ListN.{length, drop, length-set}

@@ -1,8 +1,6 @@
 -- `coordinate` meets its contract.
 use mathlib.Core.Path.{sym, _∙_, refl}
-use native.Mathlib.Omega.{arith}
 use borrow.Author.Tests.{not-true, not-false}
-use mathlib.Core.Bool.{true, false}
 use Rattle.mesh_text.specs.Text.{coordinate}
 use Rattle.text_numbers.specs.Form.{bytes}
 use Rattle.text_numbers.proofs.Laws.{stands-inside}

@@ -1,8 +1,7 @@
 -- `coordinates` meets its contract. The invariant is `Coordinates`; the measure is how many are to come.
 mod Turn
 use borrow.Author.Needs.{needs}
-use native.Mathlib.Omega.{arith}
-use mathlib.Core.Path.{_≡_, sym, _∙_}
+use mathlib.Core.Path.{sym, _∙_}
 use Prim.Native.Nat.{_-_}
 use Rattle.text_numbers.proofs.Turns.{number-is, number-none}
 use Rattle.mesh_text.proofs.coordinates.Proof.Turn.{Coordinates, start, turn, stop, end}

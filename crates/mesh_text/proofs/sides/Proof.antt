@@ -2,7 +2,7 @@
 mod Turn
 use borrow.Author.Needs.{needs}
 use native.Mathlib.Omega.{arith}
-use mathlib.Core.Path.{_≡_, sym, _∙_, refl}
+use mathlib.Core.Path.{_∙_}
 use Prim.Native.Nat.{_-_}
 use Rattle.mesh_text.proofs.sides.Proof.Turn.{SidesSoFar, start, turn, stop, end, side-longer}
 use Rattle.mesh_text.proofs.sides.Statement.{statement}

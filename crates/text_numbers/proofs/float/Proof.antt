@@ -1,8 +1,7 @@
 -- `float` meets its contract: above the pattern of infinity, the sign left out, stand the patterns of NaNs.
 mod Pattern
-use mathlib.Core.Path.{sym}
+use mathlib.Core.Path.{sym, _∙_}
 use Rattle.text_numbers.proofs.float.Proof.Pattern.{nan-above, no-nan-below, zero-by-zero}
-use mathlib.Core.Path.{_∙_}
 use borrow.Author.Needs.{needs}
 use Rattle.text_numbers.proofs.float.Statement.{statement}
 use Rattle.text_numbers.proofs.float.Tie as tie

@@ -1,9 +1,7 @@
 -- `stands` meets its contract. Its loop leaves what is still to be compared; the measure is how many bytes that are.
 mod Turn
 use borrow.Author.Needs.{needs}
-use native.Mathlib.Omega.{arith}
-use mathlib.Core.Path.{_≡_, sym, _∙_, refl}
-use mathlib.Core.Bool.{false}
+use mathlib.Core.Path.{_≡_}
 use Prim.Native.Nat.{_≤_, _+_, _-_}
 use lib.ListN.{length, drop}
 use Rattle.text_numbers.specs.Form.{stands}

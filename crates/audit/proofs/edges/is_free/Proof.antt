@@ -1,25 +1,19 @@
+-- is_free meets its contract: each test decides one of the definition's.
+use borrow.Author.Tests.{lt-ltb, le-ltb, eq-eqb, ne-eqb}
+use mathlib.Core.Bool.{not}
+use mathlib.Core.Path.{sym, _∙_, ap}
 use borrow.Author.Needs.{needs}
 use Rattle.audit.proofs.edges.is_free.Statement.{statement}
 use Rattle.audit.proofs.edges.is_free.Tie as tie
-use Rattle.audit.proofs.edges.is_free.Reads as reads
-use Rattle.audit.proofs.edges.is_free.Lts as lts
-use Rattle.walks.proofs.t_nurcc_control_point.touches.Reads as touches-reads
 
--- src/edges.rt:175:9
 returns : tie.Need-returns
-returns c = ?
+returns c = rw (le-ltb (c .before .before .args .i) (c .before .before .args .ne) (c .if1 .taken))
 
--- src/edges.rt:178:9
 returns-2 : tie.Need-returns-2
-returns-2 c = ?
+returns-2 c = rw (lt-ltb (c .before .before .before .args .i) (c .before .before .before .args .ne) (c .before .if1 .left), eq-eqb (c .before .before .before .args .i) (c .before .before .before .args .e) (c .if2 .taken))
 
--- src/edges.rt:180:6
-touches-requires : tie.Need-touches-requires
-touches-requires c κs = search needs
-
--- src/edges.rt:170:1
 returns-3 : tie.Need-returns-3
-returns-3 c = ?
+returns-3 c = rw (lt-ltb (c .before .before .before .before .args .i) (c .before .before .before .before .args .ne) (c .before .before .if1 .left), ne-eqb (c .before .before .before .before .args .i) (c .before .before .before .before .args .e) (c .before .if2 .left)) (ap not (c .touches .ensures))
 
 pub is-free-spec : {M : Type 1} → statement M
-is-free-spec = tie.close (tie.spec returns returns-2 touches-requires returns-3)
+is-free-spec = tie.close (tie.spec returns returns-2 (λ c κs. search needs) returns-3)

@@ -10,9 +10,6 @@ use Rattle.audit.specs.Parts.{apart}
 use borrow.Author.Needs.{needs}
 use Rattle.audit.proofs.faces.are_distinct.Statement.{statement}
 use Rattle.audit.proofs.faces.are_distinct.Tie as tie
-use Rattle.audit.proofs.faces.are_distinct.Reads as reads
-use Rattle.audit.proofs.faces.are_distinct.Lts as lts
-use Rattle.audit.proofs.faces.is_new.Reads as is-new-reads
 
 abbrev Inv-loop : tie.InvT-loop
 Inv-loop points n i₀ i = (i ≤ n) × (every i (λ k. every k (λ j. apart points k j)) ≡ true)
@@ -20,31 +17,15 @@ Inv-loop points n i₀ i = (i ≤ n) × (every i (λ k. every k (λ j. apart poi
 abbrev μ-loop : tie.MeasureT-loop
 μ-loop points n i₀ i = n - i
 
--- src/faces.rt:86:5
 loop-holds : tie.Need-loop-holds Inv-loop μ-loop
 loop-holds c = (omega arith, every-none _)
 
--- src/faces.rt:87:13
-is-new-requires : tie.Need-is-new-requires Inv-loop μ-loop
-is-new-requires c κs = search needs
-
--- src/faces.rt:88:13
 returns : tie.Need-returns Inv-loop μ-loop
 returns c = sym (every-stop _ _ _ (c .before .before .loop-test .taken) (sym (c .before .is-new .ensures) ∙ not-true _ (c .if1 .taken)))
 
--- src/faces.rt:90:9
-add-i : tie.Need-add-i Inv-loop μ-loop
-add-i c = search needs
-
--- src/faces.rt:86:5
-loop-less : tie.Need-loop-less Inv-loop μ-loop
-loop-less c = search needs
-
--- src/faces.rt:86:5
 loop-again : tie.Need-loop-again Inv-loop μ-loop
 loop-again c = (omega arith, every-more _ _ (c .before .before .before .loop .inv .1) (sym (c .before .is-new .ensures) ∙ not-false _ (c .if1 .left)))
 
--- src/faces.rt:81:1
 returns-2 : tie.Need-returns-2 Inv-loop μ-loop
 returns-2 c = sym (every-all _ _ _ (c .before .loop .inv .1) (omega arith))
 
@@ -55,9 +36,9 @@ are-distinct-spec =
     Inv-loop
     μ-loop
     loop-holds
-    is-new-requires
+    (λ c κs. search needs)
     returns
-    add-i
-    loop-less
+    (λ c. search needs)
+    (λ c. search needs)
     loop-again
     returns-2)

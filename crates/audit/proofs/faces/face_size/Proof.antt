@@ -7,31 +7,19 @@ use mathlib.Core.Path.{sym, _∙_}
 use borrow.Author.Needs.{needs}
 use Rattle.audit.proofs.faces.face_size.Statement.{statement}
 use Rattle.audit.proofs.faces.face_size.Tie as tie
-use Rattle.audit.proofs.faces.face_size.Reads as reads
-use Rattle.audit.proofs.faces.face_size.Lts as lts
-use Rattle.audit.proofs.faces.are_distinct.Reads as are-distinct-reads
-use Rattle.walks.proofs.t_nurcc_face.border.Reads as border-reads
 
--- src/faces.rt:101:9
-border-requires : tie.Need-border-requires
-border-requires c κs = search needs
-
--- src/faces.rt:104:9
 returns : tie.Need-returns
 returns c = size-short (faceTables (c .before .before .before .before .args .edges .now) (c .before .before .before .before .args .faces .now)) (c .before .before .before .before .args .ne) (c .before .before .before .before .args .f) _ (c .before .border .ensures) (c .if1 .taken)
 
--- src/faces.rt:107:8
 are-distinct-requires : tie.Need-are-distinct-requires
 are-distinct-requires c κs = size-within (faceTables (c .before .before .before .before .before .before .args .edges .now) (c .before .before .before .before .before .before .args .faces .now)) (c .before .before .before .before .before .before .args .ne) (c .before .before .before .before .before .before .args .f) _ (c .before .before .before .border .ensures)
 
--- src/faces.rt:96:1
 returns-2 : tie.Need-returns-2
 returns-2 c = size-is (faceTables (c .before .before .before .before .before .before .before .before .args .edges .now) (c .before .before .before .before .before .before .before .before .args .faces .now)) (c .before .before .before .before .before .before .before .before .args .ne) (c .before .before .before .before .before .before .before .before .args .f) _ (c .before .before .before .before .before .border .ensures) (c .before .before .before .before .if1 .left) true (sym (c .if2 .taken) ∙ c .before .are-distinct .ensures)
 
--- src/faces.rt:96:1
 returns-3 : tie.Need-returns-3
 returns-3 c = size-is (faceTables (c .before .before .before .before .before .before .before .before .args .edges .now) (c .before .before .before .before .before .before .before .before .args .faces .now)) (c .before .before .before .before .before .before .before .before .args .ne) (c .before .before .before .before .before .before .before .before .args .f) _ (c .before .before .before .before .before .border .ensures) (c .before .before .before .before .if1 .left) false (sym (c .if2 .left) ∙ c .before .are-distinct .ensures)
 
 pub face-size-spec : {M : Type 1} → statement M
 face-size-spec =
-    tie.close (tie.spec border-requires returns are-distinct-requires returns-2 returns-3)
+    tie.close (tie.spec (λ c κs. search needs) returns are-distinct-requires returns-2 returns-3)

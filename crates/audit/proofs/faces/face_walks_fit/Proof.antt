@@ -8,9 +8,6 @@ use Rattle.audit.proofs.FaceTests.{Added, added-start, added-zero, adde
 use borrow.Author.Needs.{needs}
 use Rattle.audit.proofs.faces.face_walks_fit.Statement.{statement}
 use Rattle.audit.proofs.faces.face_walks_fit.Tie as tie
-use Rattle.audit.proofs.faces.face_walks_fit.Reads as reads
-use Rattle.audit.proofs.faces.face_walks_fit.Lts as lts
-use Rattle.audit.proofs.faces.face_size.Reads as face-size-reads
 
 abbrev Inv-loop : tie.InvT-loop
 Inv-loop edges faces ne nf total sum₀ f₀ sum f = (f ≤ nf) × Added (faceTables edges faces) ne total f sum
@@ -18,39 +15,21 @@ Inv-loop edges faces ne nf total sum₀ f₀ sum f = (f ≤ nf) × Added (faceTa
 abbrev μ-loop : tie.MeasureT-loop
 μ-loop edges faces ne nf total sum₀ f₀ sum f = nf - f
 
--- src/faces.rt:120:5
 loop-holds : tie.Need-loop-holds Inv-loop μ-loop
 loop-holds c = (omega arith, added-start _ _ _)
 
--- src/faces.rt:121:13
-face-size-requires : tie.Need-face-size-requires Inv-loop μ-loop
-face-size-requires c κs = search needs
-
--- src/faces.rt:123:13
 returns : tie.Need-returns Inv-loop μ-loop
 returns c = added-zero _ _ _ _ _ _ (c .before .before .before .loop .inv .1) _ (c .before .face-size .ensures) (c .before .before .loop-test .taken) (c .if1 .taken)
 
--- src/faces.rt:125:9
 add-sum : tie.Need-add-sum Inv-loop μ-loop
 add-sum c = omega (arith, size-small _ _ _ _ (c .before .face-size .ensures), c .before .before .before .loop .inv .1 .not-past)
 
--- src/faces.rt:127:13
 returns-2 : tie.Need-returns-2 Inv-loop μ-loop
 returns-2 c = added-past _ _ _ _ _ _ (c .before .before .before .before .loop .inv .1) _ (c .before .before .face-size .ensures) (c .before .if1 .left) (c .before .before .before .loop-test .taken) (c .if2 .taken)
 
--- src/faces.rt:129:9
-add-f : tie.Need-add-f Inv-loop μ-loop
-add-f c = search needs
-
--- src/faces.rt:120:5
-loop-less : tie.Need-loop-less Inv-loop μ-loop
-loop-less c = search needs
-
--- src/faces.rt:120:5
 loop-again : tie.Need-loop-again Inv-loop μ-loop
 loop-again c = (omega arith, added-more _ _ (c .before .before .before .before .before .before .before .args .nf) _ _ _ (c .before .before .before .before .loop .inv .1) _ (c .before .before .face-size .ensures) (c .before .if1 .left) (c .if2 .left))
 
--- src/faces.rt:112:1
 returns-3 : tie.Need-returns-3 Inv-loop μ-loop
 returns-3 c = added-all _ _ _ _ _ _ (c .before .loop .inv .1) (omega arith)
 
@@ -61,11 +40,11 @@ face-walks-fit-spec =
     Inv-loop
     μ-loop
     loop-holds
-    face-size-requires
+    (λ c κs. search needs)
     returns
     add-sum
     returns-2
-    add-f
-    loop-less
+    (λ c. search needs)
+    (λ c. search needs)
     loop-again
     returns-3)

@@ -12,9 +12,6 @@ use Rattle.walks.specs.Steps.{faceTables}
 use borrow.Author.Needs.{needs}
 use Rattle.audit.proofs.faces.faces_fit.Statement.{statement}
 use Rattle.audit.proofs.faces.faces_fit.Tie as tie
-use Rattle.audit.proofs.faces.faces_fit.Reads as reads
-use Rattle.audit.proofs.faces.faces_fit.Lts as lts
-use Rattle.audit.proofs.faces.face_fit.Reads as face-fit-reads
 
 abbrev Inv-loop : tie.InvT-loop
 Inv-loop faces np ne nf f₀ f = (f ≤ nf) × (every f (λ k. faceFit (faceTables [] faces) np ne k) ≡ true)
@@ -22,31 +19,15 @@ Inv-loop faces np ne nf f₀ f = (f ≤ nf) × (every f (λ k. faceFit (faceTabl
 abbrev μ-loop : tie.MeasureT-loop
 μ-loop faces np ne nf f₀ f = nf - f
 
--- src/faces.rt:55:5
 loop-holds : tie.Need-loop-holds Inv-loop μ-loop
 loop-holds c = (omega arith, every-none _)
 
--- src/faces.rt:56:13
-face-fit-requires : tie.Need-face-fit-requires Inv-loop μ-loop
-face-fit-requires c κs = search needs
-
--- src/faces.rt:57:13
 returns : tie.Need-returns Inv-loop μ-loop
 returns c = sym (every-stop _ _ _ (c .before .before .loop-test .taken) (sym (c .before .face-fit .ensures) ∙ not-true _ (c .if1 .taken)))
 
--- src/faces.rt:59:9
-add-f : tie.Need-add-f Inv-loop μ-loop
-add-f c = search needs
-
--- src/faces.rt:55:5
-loop-less : tie.Need-loop-less Inv-loop μ-loop
-loop-less c = search needs
-
--- src/faces.rt:55:5
 loop-again : tie.Need-loop-again Inv-loop μ-loop
 loop-again c = (omega arith, every-more _ _ (c .before .before .before .loop .inv .1) (sym (c .before .face-fit .ensures) ∙ not-false _ (c .if1 .left)))
 
--- src/faces.rt:50:1
 returns-2 : tie.Need-returns-2 Inv-loop μ-loop
 returns-2 c = sym (every-all _ _ _ (c .before .loop .inv .1) (omega arith))
 
@@ -57,9 +38,9 @@ faces-fit-spec =
     Inv-loop
     μ-loop
     loop-holds
-    face-fit-requires
+    (λ c κs. search needs)
     returns
-    add-f
-    loop-less
+    (λ c. search needs)
+    (λ c. search needs)
     loop-again
     returns-2)

@@ -13,8 +13,6 @@ use Rattle.audit.specs.Parts.{apart}
 use borrow.Author.Needs.{needs}
 use Rattle.audit.proofs.faces.is_new.Statement.{statement}
 use Rattle.audit.proofs.faces.is_new.Tie as tie
-use Rattle.audit.proofs.faces.is_new.Reads as reads
-use Rattle.audit.proofs.faces.is_new.Lts as lts
 
 abbrev Inv-loop : tie.InvT-loop
 Inv-loop points i p j₀ j = (j ≤ i) × (every j (λ k. apart points i k) ≡ true)
@@ -22,43 +20,15 @@ Inv-loop points i p j₀ j = (j ≤ i) × (every j (λ k. apart points i k) ≡ 
 abbrev μ-loop : tie.MeasureT-loop
 μ-loop points i p j₀ j = i - j
 
--- src/faces.rt:69:13
-mul-p : tie.Need-mul-p Inv-loop μ-loop
-mul-p c = search needs
-
--- src/faces.rt:69:13
-element-copy-out-p : tie.Need-element-copy-out-p Inv-loop μ-loop
-element-copy-out-p c = search needs
-
--- src/faces.rt:71:5
 loop-holds : tie.Need-loop-holds Inv-loop μ-loop
 loop-holds c = (omega arith, every-none _)
 
--- src/faces.rt:72:12
-mul-if1 : tie.Need-mul-if1 Inv-loop μ-loop
-mul-if1 c = search needs
-
--- src/faces.rt:72:12
-element-copy-out-if1 : tie.Need-element-copy-out-if1 Inv-loop μ-loop
-element-copy-out-if1 c = search needs
-
--- src/faces.rt:73:13
 returns : tie.Need-returns Inv-loop μ-loop
 returns c = sym (every-stop _ _ _ (c .before .before .loop-test .taken) (ap not (eq-eqb _ _ (sym (c .if1 .taken)))))
 
--- src/faces.rt:75:9
-add-j : tie.Need-add-j Inv-loop μ-loop
-add-j c = search needs
-
--- src/faces.rt:71:5
-loop-less : tie.Need-loop-less Inv-loop μ-loop
-loop-less c = search needs
-
--- src/faces.rt:71:5
 loop-again : tie.Need-loop-again Inv-loop μ-loop
 loop-again c = (omega arith, every-more _ _ (c .before .before .before .loop .inv .1) (ap not (ne-eqb _ _ (λ q. c .if1 .left (sym q)))))
 
--- src/faces.rt:65:1
 returns-2 : tie.Need-returns-2 Inv-loop μ-loop
 returns-2 c = sym (every-all _ _ _ (c .before .loop .inv .1) (omega arith))
 
@@ -68,13 +38,13 @@ is-new-spec =
     (tie.spec
     Inv-loop
     μ-loop
-    mul-p
-    element-copy-out-p
+    (λ c. search needs)
+    (λ c. search needs)
     loop-holds
-    mul-if1
-    element-copy-out-if1
+    (λ c. search needs)
+    (λ c. search needs)
     returns
-    add-j
-    loop-less
+    (λ c. search needs)
+    (λ c. search needs)
     loop-again
     returns-2)

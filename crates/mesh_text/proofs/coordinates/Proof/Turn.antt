@@ -1,15 +1,15 @@
 -- One turn of the reading of three coordinates: k are read and stored from n on, the next one is to stand at i.
 use mathlib.Core.List.{List, [], _∷_, map}
 use mathlib.Core.Path.{_≡_, refl, sym, ap, _∙_}
-use Prim.Native.Nat.{ℕ, zero, suc, _+_, _-_, _≤_, _<_}
+use Prim.Native.Nat.{ℕ, suc, _+_, _-_, _≤_, _<_}
 use native.Mathlib.Nat.{add-zero}
 use native.Mathlib.Omega.{arith}
 use lib.ListN.{length, set, length-set}
 use lib.Ieee.{Float}
-use Rattle.text_numbers.specs.Form.{Found, found, none, Form, onward, pure, times}
+use Rattle.text_numbers.specs.Form.{Found, found, none, times}
 use Rattle.mesh_text.specs.Text.{coordinate}
 use Rattle.text_numbers.specs.Numbers.{float}
-use Rattle.mesh_text.specs.Reading.{place, stored}
+use Rattle.mesh_text.specs.Parts.{place, stored}
 use Rattle.mesh_text.specs.declared.Place.the-variants as Place
 use Rattle.mesh_text.proofs.Laws.{takes-coordinate}
 use Rattle.text_numbers.proofs.Turns.{times-found, times-none}

@@ -1,14 +1,14 @@
 -- A face line after `[face`: r is the answer for its sides, which list c points and end at i; ls′, ps′ and ds′ are the lists that they leave.
 use mathlib.Core.List.{List, map}
-use mathlib.Core.Path.{_≡_, refl, sym, _∙_}
+use mathlib.Core.Path.{_≡_, sym, _∙_}
 use mathlib.Core.Bool.{true, false}
 use Prim.Native.Nat.{ℕ, _+_, _≤_}
 use lib.ListN.{length}
 use lib.Ieee.{Float}
-use Rattle.text_numbers.specs.Form.{bytes, times}
+use Rattle.text_numbers.specs.Form.{bytes, times, stands}
 use Rattle.mesh_text.specs.Text.{side, face}
-use Rattle.text_numbers.specs.Form.{stands}
-use Rattle.mesh_text.specs.Reading.{flat, run, stored, lengthWord, listedIn, sidePoints, sideIntervals, AtRun}
+use Rattle.mesh_text.specs.Reading.{flat, sidePoints, sideIntervals}
+use Rattle.mesh_text.specs.Parts.{run, stored, lengthWord, listedIn, AtRun}
 use Rattle.mesh_text.specs.declared.Run.{Run}
 use Rattle.mesh_text.specs.declared.Run.the-variants as Run
 use Rattle.mesh_text.proofs.Laws.{takes-sides}

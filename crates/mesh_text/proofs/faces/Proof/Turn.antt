@@ -1,23 +1,23 @@
 -- One turn of the reading of the face lines: k are read, with c listed points; the next one is to stand at i.
-use mathlib.Core.List.{List, [], _∷_, _++_, map}
+use mathlib.Core.List.{List, _∷_, _++_, map}
 use mathlib.Core.Path.{_≡_, refl, sym, ap, _∙_}
 use mathlib.Core.Bool.{true, false}
-use Prim.Native.Nat.{ℕ, zero, suc, _+_, _-_, _*_, _≤_, _<_}
-use native.Mathlib.Nat.{add-zero, zero-add, add-assoc}
+use Prim.Native.Nat.{ℕ, suc, _+_, _-_, _*_, _≤_}
+use native.Mathlib.Nat.{add-zero, zero-add}
 use native.Mathlib.Omega.{arith}
 use lib.ListN.{length, length-map, length-append}
 use lib.Seq.{sets, length-sets}
 use lib.Ieee.{Float}
-use Rattle.text_numbers.specs.Form.{bytes, Found, found, none, given, Form, onward, pure, times}
-use Rattle.mesh_text.specs.Text.{Listed, side, face}
-use Rattle.text_numbers.specs.Form.{literal, many, stands}
-use Rattle.mesh_text.specs.Reading.{flat, run, linesOf, stored, lengthWord, listedIn, sidePoints, sideIntervals, AtRun}
+use Rattle.text_numbers.specs.Form.{bytes, Found, found, none, given, Form, onward, pure, many, stands}
+use Rattle.mesh_text.specs.Text.{Listed, face}
+use Rattle.mesh_text.specs.Reading.{flat, sidePoints, sideIntervals}
+use Rattle.mesh_text.specs.Parts.{run, linesOf, stored, lengthWord, listedIn, AtRun}
 use Rattle.mesh_text.specs.declared.Run.{Run}
 use Rattle.mesh_text.specs.declared.Run.the-variants as Run
 use Rattle.mesh_text.specs.declared.Lines.{Lines}
 use Rattle.mesh_text.specs.declared.Lines.the-variants as Lines
-use Rattle.mesh_text.proofs.Laws.{takes-face, same-count}
-use Rattle.text_numbers.proofs.Laws.{stands-inside, onward-found, length-times}
+use Rattle.mesh_text.proofs.Laws.{takes-face, length-face, same-count}
+use Rattle.text_numbers.proofs.Laws.{stands-inside}
 use Rattle.text_numbers.proofs.Turns.{many-found, many-none, many-stop}
 use Rattle.mesh_text.proofs.Answers.{run-of, run-none, stored-next}
 
@@ -41,14 +41,6 @@ lines-next k c a (found fs n) =
     let g : c + length (flat sidePoints a ++ flat (flat sidePoints) fs) ≡ c + listedIn a + length (flat (flat sidePoints) fs) = omega arith in
     rw (e, g)
 lines-next k c a none = refl
-
-four : (s : List ℕ) (at : ℕ) (a : List (List Listed)) (n : ℕ) → face s at ≡ found a n → length a ≡ 4
-unfolding face
-four s at a n e =
-    let (l, m, et, el) = onward-found _ (times 4 (side s) at) e in
-    let (z, m′, ez, ea) = onward-found (λ z. pure l) (literal s (bytes "]\n") m) el in
-    let la : l ≡ a = cc in
-    rw la at (length-times (side s) 4 at l m et)
 
 pub record FacesSoFar (s : List ℕ) (at : ℕ) (ls₀ ps₀ : List ℕ) (ds₀ : List Float) (ls ps : List ℕ) (ds : List Float) (i k c : ℕ) : Type 0 where
   pub inside : i ≤ length s
@@ -128,7 +120,7 @@ module _ (s : List ℕ) (at : ℕ) (ls₀ ps₀ : List ℕ) (ds₀ : List Float)
           let el′ : ls′ ≡ sets ls (4 * k) (map lengthWord a) = rw (em, ea) at el in
           let ep′ : ps′ ≡ sets ps c (flat sidePoints a) = rw (em, ea) at ep in
           let ed′ : ds′ ≡ sets ds c (flat sideIntervals a) = rw (em, ea) at ed in
-          let l4 : length (map lengthWord a) ≡ 4 = length-map a lengthWord ∙ four s (i + 5) a j ea in
+          let l4 : length (map lengthWord a) ≡ 4 = length-map a lengthWord ∙ length-face s (i + 5) a j ea in
           let nl : 4 * (k + 1) ≡ 4 * k + length (map lengthWord a) = omega arith in
           let np : c + m ≡ c + length (flat sidePoints a) = ap (λ (v : ℕ). c + v) (sym la) in
           let nd : c + m ≡ c + length (flat sideIntervals a) = ap (λ (v : ℕ). c + v) (sym la ∙ same-count a) in

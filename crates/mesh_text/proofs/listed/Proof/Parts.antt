@@ -4,11 +4,10 @@ use mathlib.Core.Path.{_≡_, refl}
 use mathlib.Core.Bool.{true, false}
 use Prim.Native.Nat.{ℕ, _+_, _≤_}
 use lib.ListN.{length}
-use Rattle.text_numbers.specs.Form.{bytes, found, none}
+use Rattle.text_numbers.specs.Form.{bytes, found, none, stands}
 use Rattle.text_numbers.specs.Numbers.{decimal, bits}
 use Rattle.mesh_text.specs.Text.{listed}
-use Rattle.text_numbers.specs.Form.{stands}
-use Rattle.mesh_text.specs.Reading.{listing}
+use Rattle.mesh_text.specs.Parts.{listing}
 use Rattle.mesh_text.specs.declared.ListedPoint.the-variants as ListedPoint
 use Rattle.text_numbers.proofs.Laws.{takes-decimal, takes-bits, stands-inside}
 use Rattle.text_numbers.proofs.Turns.{literal-found, literal-none}

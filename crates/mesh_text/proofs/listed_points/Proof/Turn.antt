@@ -1,17 +1,17 @@
 -- One turn of the reading of a side's listed points: k are read and stored from n on, the next one is to stand at i.
-use mathlib.Core.List.{List, [], _∷_, map}
+use mathlib.Core.List.{List, [], _∷_}
 use mathlib.Core.Path.{_≡_, refl, sym, ap, _∙_}
 use mathlib.Core.Bool.{true, false}
-use Prim.Native.Nat.{ℕ, zero, suc, _+_, _-_, _*_, _≤_, _<_}
+use Prim.Native.Nat.{ℕ, suc, _+_, _-_, _≤_}
 use native.Mathlib.Nat.{add-zero}
 use native.Mathlib.Omega.{arith}
 use lib.ListN.{length, set, length-set}
 use lib.Ieee.{Float}
-use Rattle.text_numbers.specs.Form.{bytes, Found, found, none, Form, onward, pure}
+use Rattle.text_numbers.specs.Form.{bytes, found, none, Form, many, stands}
 use Rattle.mesh_text.specs.Text.{Listed, listed}
-use Rattle.text_numbers.specs.Form.{many, stands}
 use Rattle.text_numbers.specs.Numbers.{float}
-use Rattle.mesh_text.specs.Reading.{run, stored, sidePoints, sideIntervals}
+use Rattle.mesh_text.specs.Reading.{sidePoints, sideIntervals}
+use Rattle.mesh_text.specs.Parts.{run, stored}
 use Rattle.mesh_text.specs.declared.Run.the-variants as Run
 use Rattle.mesh_text.proofs.Laws.{takes-listed}
 use Rattle.text_numbers.proofs.Laws.{stands-inside}

@@ -1,15 +1,14 @@
 -- A point line after `[point`: r is the answer for its coordinates, i the place after them, ys the list that they leave.
 use mathlib.Core.List.{List, map}
-use mathlib.Core.Path.{_≡_, refl, sym, _∙_}
+use mathlib.Core.Path.{_≡_, sym, _∙_}
 use mathlib.Core.Bool.{true, false}
 use Prim.Native.Nat.{ℕ, _+_, _≤_}
 use lib.ListN.{length}
 use lib.Ieee.{Float}
-use Rattle.text_numbers.specs.Form.{bytes, times}
+use Rattle.text_numbers.specs.Form.{bytes, times, stands}
 use Rattle.mesh_text.specs.Text.{coordinate, point}
-use Rattle.text_numbers.specs.Form.{stands}
 use Rattle.text_numbers.specs.Numbers.{float}
-use Rattle.mesh_text.specs.Reading.{place, stored, AtPlace}
+use Rattle.mesh_text.specs.Parts.{place, stored, AtPlace}
 use Rattle.mesh_text.specs.declared.Place.{Place}
 use Rattle.mesh_text.specs.declared.Place.the-variants as Place
 use Rattle.text_numbers.proofs.Laws.{takes-times}

@@ -1,23 +1,23 @@
 -- One turn of the reading of the point lines: k are read and stored, the next one is to stand at i.
-use mathlib.Core.List.{List, [], _∷_, map}
+use mathlib.Core.List.{List, map}
 use mathlib.Core.Path.{_≡_, refl, sym, ap, _∙_}
 use mathlib.Core.Bool.{true, false}
-use Prim.Native.Nat.{ℕ, zero, suc, _+_, _-_, _*_, _≤_, _<_}
+use Prim.Native.Nat.{ℕ, suc, _+_, _-_, _*_, _≤_}
 use native.Mathlib.Nat.{add-zero}
 use native.Mathlib.Omega.{arith}
 use lib.ListN.{length, length-map}
 use lib.Seq.{sets, length-sets}
 use lib.Ieee.{Float}
-use Rattle.text_numbers.specs.Form.{bytes, Found, found, none, Form, onward, pure, times}
-use Rattle.text_numbers.specs.Form.{literal, many, stands}
-use Rattle.mesh_text.specs.Text.{coordinate, point}
+use Rattle.text_numbers.specs.Form.{bytes, found, Form, many, stands}
+use Rattle.mesh_text.specs.Text.{point}
 use Rattle.text_numbers.specs.Numbers.{float}
-use Rattle.mesh_text.specs.Reading.{flat, place, run, stored, AtPlace}
+use Rattle.mesh_text.specs.Reading.{flat}
+use Rattle.mesh_text.specs.Parts.{place, run, stored, AtPlace}
 use Rattle.mesh_text.specs.declared.Place.{Place}
 use Rattle.mesh_text.specs.declared.Place.the-variants as Place
 use Rattle.mesh_text.specs.declared.Run.the-variants as Run
-use Rattle.mesh_text.proofs.Laws.{takes-point}
-use Rattle.text_numbers.proofs.Laws.{stands-inside, onward-found, length-times}
+use Rattle.mesh_text.proofs.Laws.{takes-point, length-point}
+use Rattle.text_numbers.proofs.Laws.{stands-inside}
 use Rattle.text_numbers.proofs.Turns.{many-found, many-none, many-stop}
 use Rattle.mesh_text.proofs.Answers.{place-at, place-none, runFrom, run-next, run-start, stored-next}
 
@@ -37,14 +37,6 @@ pub start : (s : List ℕ) (at : ℕ) (xs₀ : List Float) → at ≤ length s �
 start s at xs₀ h =
     let e : length s - 0 ≡ length s = omega arith in
     record { inside = h; counted = omega arith; same = refl; run = rw e (run-start length (lines s (length s) at)); list = rw e refl }
-
-three : (s : List ℕ) (at : ℕ) (a : List ℕ) (n : ℕ) → point s at ≡ found a n → length a ≡ 3
-unfolding point
-three s at a n e =
-    let (l, m, et, el) = onward-found _ (times 3 (coordinate s) at) e in
-    let (z, m′, ez, ea) = onward-found (λ z. pure l) (literal s (bytes "]\n") m) el in
-    let la : l ≡ a = cc in
-    rw la at (length-times (coordinate s) 3 at l m et)
 
 module _ (s : List ℕ) (at : ℕ) (xs₀ : List Float) (xs : List Float) (i k : ℕ) (inv : Points s at xs₀ xs i k) where
   pub end : stands s i (bytes "[point") ≡ false
@@ -79,7 +71,7 @@ module _ (s : List ℕ) (at : ℕ) (xs₀ : List Float) (xs : List Float) (i k :
           let rest = lines s (length s - (k + 1)) j in
           let t = many-found s (bytes "[point") (point s) i (length s - (k + 1)) e (line .1) in
           let ey : ys ≡ sets xs (3 * k) (map float a) = rw (ej, line .1) at el in
-          let l3 : length (map float a) ≡ 3 = length-map a float ∙ three s (i + 6) a j (line .1) in
+          let l3 : length (map float a) ≡ 3 = length-map a float ∙ length-point s (i + 6) a j (line .1) in
           let en : 3 * (k + 1) ≡ 3 * k + length (map float a) = omega arith in
           let lo = line-longer in
           let c = inv .counted in

@@ -1,8 +1,8 @@
 -- Reading a text into lists l: r is the answer for its sizes p, f and c; q and the lists xs′, ls′, ps′ and ds′ are what the second scan leaves.
 use mathlib.Core.List.{List, [], _∷_, _++_, map}
 use mathlib.Core.Path.{_≡_, refl, sym, ap, _∙_}
-use mathlib.Core.Bool.{Bool, true, false, _&&_}
-use Prim.Native.Nat.{ℕ, _+_, _%_, _≤_, _<_}
+use mathlib.Core.Bool.{true, false}
+use Prim.Native.Nat.{ℕ, _≤_}
 use native.Mathlib.Nat.{mod-eq-of-lt}
 use native.Mathlib.Omega.{arith}
 use lib.ListN.{length, length-append, length-map}
@@ -12,7 +12,8 @@ use lib.Ieee.{Float}
 use borrow.Author.Tests.{leb-true}
 use Rattle.text_numbers.specs.Form.{Found, found, none}
 use Rattle.mesh_text.specs.Text.{Mesh, Listed, text}
-use Rattle.mesh_text.specs.Reading.{flat, sidePoints, lengthWord, coordinates, lengths, lengthWords, listedPoints, intervals, counts, Lists, filled, within, Answer, readInto, totalOf, stored, AtTotal}
+use Rattle.mesh_text.specs.Reading.{flat, sidePoints, coordinates, lengths, listedPoints, intervals, counts, Lists, within, readInto}
+use Rattle.mesh_text.specs.Parts.{lengthWord, lengthWords, totalOf, stored, AtTotal}
 use Rattle.text_numbers.proofs.Laws.{and-both}
 use Rattle.mesh_text.specs.declared.Total.{Total}
 use Rattle.mesh_text.specs.declared.Total.the-variants as Total

@@ -1,24 +1,23 @@
 -- The whole text: r is the answer for the point lines, p of them, which end at i; q that for the face lines, f of them with c listed points, which
 -- end at j; xs′, ls′, ps′ and ds′ are the lists that they leave.
 use mathlib.Core.List.{List, map}
-use mathlib.Core.Path.{_≡_, refl, sym, ap, _∙_}
+use mathlib.Core.Path.{_≡_, refl, sym, _∙_}
 use mathlib.Core.Bool.{true, false}
-use Prim.Native.Nat.{ℕ, _+_, _≤_}
+use Prim.Native.Nat.{ℕ, _≤_}
 use native.Mathlib.Omega.{arith}
 use lib.ListN.{length}
 use lib.Ieee.{Float}
-use Rattle.text_numbers.specs.Form.{bytes, Found, found, none, Form}
+use Rattle.text_numbers.specs.Form.{bytes, found, Form, many, stands}
 use Rattle.mesh_text.specs.Text.{Listed, point, face, ends, mesh, text}
-use Rattle.text_numbers.specs.Form.{many, stands}
 use Rattle.text_numbers.specs.Numbers.{float}
-use Rattle.mesh_text.specs.Reading.{flat, sidePoints, sideIntervals, lengthWord, coordinates, lengthWords, listedPoints, intervals}
-use Rattle.mesh_text.specs.Reading.{run, linesOf, totalOf, stored, AtRun, AtLines}
+use Rattle.mesh_text.specs.Reading.{flat, sidePoints, sideIntervals, coordinates, listedPoints, intervals}
+use Rattle.mesh_text.specs.Parts.{lengthWord, lengthWords, run, linesOf, totalOf, stored, AtRun, AtLines}
 use Rattle.mesh_text.specs.declared.Run.{Run}
 use Rattle.mesh_text.specs.declared.Run.the-variants as Run
 use Rattle.mesh_text.specs.declared.Lines.{Lines}
 use Rattle.mesh_text.specs.declared.Lines.the-variants as Lines
 use Rattle.mesh_text.specs.declared.Total.the-variants as Total
-use Rattle.text_numbers.proofs.Laws.{Takes, takes-many, stands-inside}
+use Rattle.text_numbers.proofs.Laws.{takes-many, stands-inside}
 use Rattle.mesh_text.proofs.Laws.{takes-point, takes-face}
 use Rattle.text_numbers.proofs.Turns.{literal-found, literal-none}
 use Rattle.mesh_text.proofs.Answers.{run-of, run-none, lines-are, lines-none}

@@ -6,11 +6,11 @@ use Prim.Native.Nat.{ℕ, _+_, _≤_}
 use native.Mathlib.Omega.{arith}
 use lib.ListN.{length}
 use lib.Ieee.{Float}
-use Rattle.text_numbers.specs.Form.{bytes, Form, found, none}
+use Rattle.text_numbers.specs.Form.{bytes, Form, found, none, many, stands}
 use Rattle.mesh_text.specs.Text.{Listed, listed, side}
 use Rattle.text_numbers.specs.Numbers.{decimal}
-use Rattle.text_numbers.specs.Form.{many, stands}
-use Rattle.mesh_text.specs.Reading.{run, stored, sidePoints, sideIntervals, AtRun}
+use Rattle.mesh_text.specs.Reading.{sidePoints, sideIntervals}
+use Rattle.mesh_text.specs.Parts.{run, stored, AtRun}
 use Rattle.mesh_text.specs.declared.Run.{Run}
 use Rattle.mesh_text.specs.declared.Run.the-variants as Run
 use Rattle.text_numbers.proofs.Laws.{takes-decimal, takes-many, stands-inside}

@@ -1,17 +1,17 @@
 -- One turn of the reading of four sides: k are read, with c listed points, their lengths stored from f on, their points and intervals from n on;
 -- the next one is to stand at i.
-use mathlib.Core.List.{List, [], _∷_, _++_, map}
+use mathlib.Core.List.{List, [], _∷_, map}
 use mathlib.Core.Path.{_≡_, refl, sym, ap, _∙_}
-use Prim.Native.Nat.{ℕ, zero, suc, _+_, _-_, _%_, _≤_, _<_}
+use Prim.Native.Nat.{ℕ, suc, _+_, _-_, _%_, _≤_, _<_}
 use native.Mathlib.Nat.{add-zero}
 use native.Mathlib.Omega.{arith}
 use lib.ListN.{length, set, length-set, length-map, length-append}
 use lib.Seq.{sets, length-sets}
 use lib.Ieee.{Float}
-use Rattle.text_numbers.specs.Form.{Found, found, none, Form, onward, pure, times}
+use Rattle.text_numbers.specs.Form.{found, times}
 use Rattle.mesh_text.specs.Text.{Listed, side}
-use Rattle.text_numbers.specs.Numbers.{float}
-use Rattle.mesh_text.specs.Reading.{flat, run, stored, lengthWord, listedIn, sidePoints, sideIntervals, AtRun}
+use Rattle.mesh_text.specs.Reading.{flat, sidePoints, sideIntervals}
+use Rattle.mesh_text.specs.Parts.{run, stored, lengthWord, listedIn, AtRun}
 use Rattle.mesh_text.specs.declared.Run.{Run}
 use Rattle.mesh_text.specs.declared.Run.the-variants as Run
 use Rattle.mesh_text.proofs.Laws.{takes-side}

@@ -1,3 +1,4 @@
+-- with_term meets its contract: the operations are those of the definition.
 use borrow.Author.Needs.{needs}
 use Rattle.position_rules.proofs.WeightedSum.with_term.Statement.{statement}
 use Rattle.position_rules.proofs.WeightedSum.with_term.Tie as tie

@@ -1,3 +1,4 @@
+-- edge_middle meets its contract: both ends with their weights.
 use Rattle.position_rules.specs.EdgePoint.{edgeMiddle}
 use borrow.Author.Needs.{needs}
 use Rattle.position_rules.proofs.edge_point.edge_middle.Statement.{statement}

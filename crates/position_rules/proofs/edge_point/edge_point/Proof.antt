@@ -1,3 +1,4 @@
+-- edge_point meets its contract: the middle, the shares and the two face points are those of the definition.
 use Rattle.position_rules.proofs.Fits.{neighbours-fit}
 use Rattle.position_rules.specs.EdgePoint.{edgePoint}
 use borrow.Author.Needs.{needs}

@@ -1,3 +1,4 @@
+-- six_terms meets its contract: the sums are those of the definition.
 use Rattle.position_rules.specs.FacePoint.{sixTerms}
 use borrow.Author.Needs.{needs}
 use Rattle.position_rules.proofs.face_point.six_terms.Statement.{statement}

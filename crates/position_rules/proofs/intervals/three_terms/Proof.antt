@@ -1,3 +1,4 @@
+-- three_terms meets its contract: the sums are those of the definition.
 use Rattle.position_rules.specs.Intervals.{threeTerms}
 use borrow.Author.Needs.{needs}
 use Rattle.position_rules.proofs.intervals.three_terms.Statement.{statement}

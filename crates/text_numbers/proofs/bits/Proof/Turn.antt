@@ -1,14 +1,13 @@
 -- One turn of the reading of 16 digits: k are read, with the value v; the next byte b stands at i, and d is its value as a digit.
-use mathlib.Core.List.{List, [], _∷_}
-use mathlib.Core.Path.{_≡_, refl, sym, ap, _∙_}
-use Prim.Native.Nat.{ℕ, zero, suc, _+_, _-_, _*_, _^_, _≤_, _<_}
+use mathlib.Core.List.{List, _∷_}
+use mathlib.Core.Path.{_≡_, sym, ap, _∙_}
+use Prim.Native.Nat.{ℕ, suc, _+_, _-_, _*_, _^_, _≤_, _<_}
 use native.Mathlib.Nat.{pow-suc, pow-le-pow-right, zero-lt-suc}
 use native.Mathlib.Numerals.{add-one}
 use native.Mathlib.Omega.{arith}
 use lib.ListN.{length, getD}
-use Rattle.text_numbers.specs.Form.{Found, found, none, given, pure, times}
-use Rattle.text_numbers.specs.Numbers.{bits, digit, digitValue, value}
-use Rattle.text_numbers.specs.Numbers.{number}
+use Rattle.text_numbers.specs.Form.{Found, given, times}
+use Rattle.text_numbers.specs.Numbers.{bits, digit, digitValue, value, number}
 use Rattle.text_numbers.specs.declared.Number.{Number}
 use Rattle.text_numbers.specs.declared.Number.the-variants as Number
 use Rattle.text_numbers.proofs.Laws.{digit-inside}

@@ -1,9 +1,9 @@
 -- Which bit patterns of a binary64 are NaNs.
 use mathlib.Core.Path.{_≡_, refl, sym, _∙_}
-use mathlib.Core.Bool.{Bool, true, false, not}
+use mathlib.Core.Bool.{true, not}
 use Prim.Native.Nat.{ℕ, _%_, _≤_, _<_}
 use lib.Dec.{T}
-use lib.Ieee.{Float, nan, inf, fin, binary64, ofBits, ofFields, odd, div, round, units, isNan, nanBits}
+use lib.Ieee.{Float, nan, inf, fin, binary64, ofBits, div, isNan, nanBits}
 use lib.Ieee.Bits.{nanBits-above, nanBits-is}
 use borrow.Author.Tests.{lt-ltb, le-ltb}
 

@@ -1,0 +1,33 @@
+use Rattle.audit.proofs.Whole.{counts-rows, ends-below, audit-counts, audit-rows, audit-walks}
+-- audit meets its contract: its parts make up the quick form, which equals the audit.
+use Rattle.audit.specs.Parts.{meshOf}
+use borrow.Author.Tests.{not-true, not-false}
+use mathlib.Core.Path.{sym, _∙_}
+use borrow.Author.Needs.{needs}
+use Rattle.audit.proofs.audit.Statement.{statement}
+use Rattle.audit.proofs.audit.Tie as tie
+
+returns : tie.Need-returns
+returns c = audit-counts (c .before .before .before .before .before .before .before .args .positions .now) (c .before .before .before .before .before .before .before .args .points .now) (c .before .before .before .before .before .before .before .args .edges .now) (c .before .before .before .before .before .before .before .args .intervals .now) (c .before .before .before .before .before .before .before .args .faces .now) (c .before .before .before .before .before .before .before .args .counts .points) (c .before .before .before .before .before .before .before .args .counts .edges) (c .before .before .before .before .before .before .before .args .counts .faces) (sym (c .before .counts-fit .ensures) ∙ not-true _ (c .if1 .taken))
+
+rows-fit-requires : tie.Need-rows-fit-requires
+rows-fit-requires c κs = 
+    let r = counts-rows (meshOf (c .before .before .before .before .before .before .before .args .positions .now) (c .before .before .before .before .before .before .before .args .points .now) (c .before .before .before .before .before .before .before .args .edges .now) (c .before .before .before .before .before .before .before .args .intervals .now) (c .before .before .before .before .before .before .before .args .faces .now)) (c .before .before .before .before .before .before .before .args .counts .points) (c .before .before .before .before .before .before .before .args .counts .edges) (c .before .before .before .before .before .before .before .args .counts .faces) (sym (c .before .counts-fit .ensures) ∙ not-false _ (c .if1 .left)) in
+    (r .positions-fit, (r .points-fit, (r .edges-fit, (r .intervals-fit, r .faces-fit))))
+
+returns-2 : tie.Need-returns-2
+returns-2 c = audit-rows (c .before .before .before .before .before .before .before .before .before .args .positions .now) (c .before .before .before .before .before .before .before .before .before .args .points .now) (c .before .before .before .before .before .before .before .before .before .args .edges .now) (c .before .before .before .before .before .before .before .before .before .args .intervals .now) (c .before .before .before .before .before .before .before .before .before .args .faces .now) (c .before .before .before .before .before .before .before .before .before .args .counts .points) (c .before .before .before .before .before .before .before .before .before .args .counts .edges) (c .before .before .before .before .before .before .before .before .before .args .counts .faces) (sym (c .before .rows-fit .ensures) ∙ not-true _ (c .if2 .taken))
+
+walks-fit-requires : tie.Need-walks-fit-requires
+walks-fit-requires c κs = 
+    let r = counts-rows (meshOf (c .before .before .before .before .before .before .before .before .before .args .positions .now) (c .before .before .before .before .before .before .before .before .before .args .points .now) (c .before .before .before .before .before .before .before .before .before .args .edges .now) (c .before .before .before .before .before .before .before .before .before .args .intervals .now) (c .before .before .before .before .before .before .before .before .before .args .faces .now)) (c .before .before .before .before .before .before .before .before .before .args .counts .points) (c .before .before .before .before .before .before .before .before .before .args .counts .edges) (c .before .before .before .before .before .before .before .before .before .args .counts .faces) (sym (c .before .before .before .counts-fit .ensures) ∙ not-false _ (c .before .before .if1 .left)) in
+    let ends = ends-below (c .before .before .before .before .before .before .before .before .before .args .positions .now) (c .before .before .before .before .before .before .before .before .before .args .points .now) (c .before .before .before .before .before .before .before .before .before .args .edges .now) (c .before .before .before .before .before .before .before .before .before .args .intervals .now) (c .before .before .before .before .before .before .before .before .before .args .faces .now) (c .before .before .before .before .before .before .before .before .before .args .counts .points) (c .before .before .before .before .before .before .before .before .before .args .counts .edges) (c .before .before .before .before .before .before .before .before .before .args .counts .faces) (sym (c .before .rows-fit .ensures) ∙ not-false _ (c .if2 .left)) in
+    (r .points-fit, (r .edges-fit, (r .faces-fit, ends)))
+
+returns-3 : tie.Need-returns-3
+returns-3 c = c .walks-fit .ensures ∙ audit-walks (c .before .before .before .before .before .before .before .before .before .before .args .positions .now) (c .before .before .before .before .before .before .before .before .before .before .args .points .now) (c .before .before .before .before .before .before .before .before .before .before .args .edges .now) (c .before .before .before .before .before .before .before .before .before .before .args .intervals .now) (c .before .before .before .before .before .before .before .before .before .before .args .faces .now) (c .before .before .before .before .before .before .before .before .before .before .args .counts .points) (c .before .before .before .before .before .before .before .before .before .before .args .counts .edges) (c .before .before .before .before .before .before .before .before .before .before .args .counts .faces) (sym (c .before .before .before .before .counts-fit .ensures) ∙ not-false _ (c .before .before .before .if1 .left)) (sym (c .before .before .rows-fit .ensures) ∙ not-false _ (c .before .if2 .left))
+
+pub audit-spec : {M : Type 1} → statement M
+audit-spec =
+    tie.close
+    (tie.spec (λ c κs. search needs) returns rows-fit-requires returns-2 walks-fit-requires returns-3)

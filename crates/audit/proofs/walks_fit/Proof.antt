@@ -1,0 +1,34 @@
+use Rattle.audit.proofs.Whole.{walks-valences, walks-faces, walks-points, walks-edges}
+use mathlib.Core.List.{[]}
+-- walks_fit meets its contract: its tests in turn.
+use borrow.Author.Tests.{not-true, not-false}
+use mathlib.Core.Path.{sym, _∙_}
+use borrow.Author.Needs.{needs}
+use Rattle.audit.proofs.walks_fit.Statement.{statement}
+use Rattle.audit.proofs.walks_fit.Tie as tie
+
+returns : tie.Need-returns
+returns c = walks-valences [] (c .before .before .before .before .before .args .points .now) (c .before .before .before .before .before .args .edges .now) [] (c .before .before .before .before .before .args .faces .now) (c .before .before .before .before .before .args .counts .points) (c .before .before .before .before .before .args .counts .edges) (c .before .before .before .before .before .args .counts .faces) (sym (c .before .valences-fit .ensures) ∙ not-true _ (c .if1 .taken))
+
+returns-2 : tie.Need-returns-2
+returns-2 c = walks-faces [] (c .before .before .before .before .before .before .before .args .points .now) (c .before .before .before .before .before .before .before .args .edges .now) [] (c .before .before .before .before .before .before .before .args .faces .now) (c .before .before .before .before .before .before .before .args .counts .points) (c .before .before .before .before .before .before .before .args .counts .edges) (c .before .before .before .before .before .before .before .args .counts .faces) (sym (c .before .face-walks-fit .ensures) ∙ not-true _ (c .if2 .taken))
+
+returns-3 : tie.Need-returns-3
+returns-3 c = walks-points [] (c .before .before .before .before .before .before .before .before .before .args .points .now) (c .before .before .before .before .before .before .before .before .before .args .edges .now) [] (c .before .before .before .before .before .before .before .before .before .args .faces .now) (c .before .before .before .before .before .before .before .before .before .args .counts .points) (c .before .before .before .before .before .before .before .before .before .args .counts .edges) (c .before .before .before .before .before .before .before .before .before .args .counts .faces) (sym (c .before .point-walks-fit .ensures) ∙ not-true _ (c .if3 .taken))
+
+returns-4 : tie.Need-returns-4
+returns-4 c = c .are-one-edges .ensures ∙ walks-edges [] (c .before .before .before .before .before .before .before .before .before .before .args .points .now) (c .before .before .before .before .before .before .before .before .before .before .args .edges .now) [] (c .before .before .before .before .before .before .before .before .before .before .args .faces .now) (c .before .before .before .before .before .before .before .before .before .before .args .counts .points) (c .before .before .before .before .before .before .before .before .before .before .args .counts .edges) (c .before .before .before .before .before .before .before .before .before .before .args .counts .faces) (sym (c .before .before .before .before .before .before .valences-fit .ensures) ∙ not-false _ (c .before .before .before .before .before .if1 .left)) (sym (c .before .before .before .before .face-walks-fit .ensures) ∙ not-false _ (c .before .before .before .if2 .left)) (sym (c .before .before .point-walks-fit .ensures) ∙ not-false _ (c .before .if3 .left))
+
+pub walks-fit-spec : {M : Type 1} → statement M
+walks-fit-spec =
+    tie.close
+    (tie.spec
+    (λ c. search needs)
+    (λ c κs. search needs)
+    returns
+    (λ c κs. search needs)
+    returns-2
+    (λ c κs. search needs)
+    returns-3
+    (λ c κs. search needs)
+    returns-4)

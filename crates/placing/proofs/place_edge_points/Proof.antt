@@ -1,0 +1,95 @@
+-- place_edge_points meets its contract. The invariant: the first e edge points are put; the measure is what is left of ne.
+use Prim.Native.Nat.{ℕ, _+_, _*_, _-_, _≤_}
+use mathlib.Core.List.{List}
+use mathlib.Core.Path.{_≡_, refl, sym, _∙_, ap}
+use native.Mathlib.Omega.{arith}
+use borrow.Author.Needs.{needs}
+use lib.Ieee.{Float}
+use lib.ListN.{length, getD}
+use Rattle.position_rules.specs.Places.{facePointAt}
+use Rattle.position_rules.specs.EdgePoint.{edgePoint}
+use Rattle.placing.proofs.Laws.{placed-more, placed-ends}
+use Rattle.steps.specs.Positions.{on, placed}
+use Rattle.tables.proofs.Laws.{length-putRow}
+use Rattle.positions.specs.declared.Position.{Position}
+use Rattle.placing.proofs.place_edge_points.Statement.{statement}
+use Rattle.placing.proofs.place_edge_points.Tie as tie
+
+abbrev Inv-loop : tie.InvT-loop
+Inv-loop positions edges intervals ne halves quads places₀ e₀ places e = 
+    (e ≤ ne) × (length places ≡ length places₀)
+    × (placed e (λ k. getD halves (k * 8 + 1) 0) (λ k ps. edgePoint positions edges intervals (facePointAt ps quads) k) (on places₀) ≡ on places)
+
+abbrev μ-loop : tie.MeasureT-loop
+μ-loop positions edges intervals ne halves quads places₀ e₀ places e = ne - e
+
+loop-holds : tie.Need-loop-holds Inv-loop μ-loop
+loop-holds c = (omega arith, refl, unfold placed in refl)
+
+edge-point-requires : tie.Need-edge-point-requires Inv-loop μ-loop
+edge-point-requires c κs = c .before .before .before .before .before .before .before .before .before .pre .rule-fits (c .before .before .loop .places) (c .before .before .loop .inv .1) (c .before .before .loop .e) (omega arith)
+
+returns : tie.Need-returns Inv-loop μ-loop
+returns c = 
+    let a = c .before .before .before .before .before .before .before .before .before .before .before .before .args in
+    let row : ℕ → ℕ = λ k. getD (a .halves .now) (k * 8 + 1) 0 in
+    let rule : ℕ → List Float → Position = λ k ps. edgePoint (a .positions .now) (a .edges .now) (a .intervals .now) (facePointAt ps (a .quads .now)) k in
+    let start = on (a .places .now) in
+    placed-ends row rule start (a .ne) (c .before .before .before .before .before .loop .e) (c .before .before .before .before .before .loop .places) (omega arith) (c .before .before .before .before .before .loop .inv .2) (sym (c .before .before .edge-point .ensures) ∙ c .enum-told .given .1)
+
+mul-index : tie.Need-mul-index Inv-loop μ-loop
+mul-index c = omega (arith, c .before .before .before .before .before .before .before .before .before .before .before .before .before .before .pre .row-there (c .before .before .before .before .before .before .before .loop .e) (omega arith))
+
+add-index : tie.Need-add-index Inv-loop μ-loop
+add-index c = omega (arith, c .before .before .before .before .before .before .before .before .before .before .before .before .before .before .pre .row-there (c .before .before .before .before .before .before .before .loop .e) (omega arith))
+
+mul-index-2 : tie.Need-mul-index-2 Inv-loop μ-loop
+mul-index-2 c = omega (arith, c .before .before .before .before .before .before .before .before .before .before .before .before .before .before .pre .row-there (c .before .before .before .before .before .before .before .loop .e) (omega arith))
+
+shared-slice-read-index : tie.Need-shared-slice-read-index Inv-loop μ-loop
+shared-slice-read-index c = omega (arith, c .before .before .before .before .before .before .before .before .before .before .before .before .before .before .before .pre .row-there (c .before .before .before .before .before .before .before .before .loop .e) (omega arith))
+
+store-position-requires : tie.Need-store-position-requires Inv-loop μ-loop
+store-position-requires c κs = omega (arith, c .index .ensures, c .before .before .before .before .before .before .before .before .before .before .before .before .before .before .before .before .pre .place-there (c .before .before .before .before .before .before .before .before .before .loop .e) (omega arith))
+
+loop-again : tie.Need-loop-again Inv-loop μ-loop
+loop-again c = 
+    let a = c .before .before .before .before .before .before .before .before .before .before .before .before .before .before .before .before .before .before .before .args in
+    let row : ℕ → ℕ = λ k. getD (a .halves .now) (k * 8 + 1) 0 in
+    let rule : ℕ → List Float → Position = λ k ps. edgePoint (a .positions .now) (a .edges .now) (a .intervals .now) (facePointAt ps (a .quads .now)) k in
+    let start = on (a .places .now) in
+    let put = placed-more row rule start (c .before .before .before .before .before .before .before .before .before .before .before .before .loop .e) (c .before .before .before .before .before .before .before .before .before .before .before .before .loop .places) (c .before .before .before .before .before .before .before .before .before .before .before .before .loop .inv .2) (sym (c .before .before .before .before .before .before .before .before .before .edge-point .ensures) ∙ c .before .before .before .before .before .before .before .x .given .1) in
+    (omega arith, rw (c .before .before .store-position .ensures, length-putRow) (c .before .before .before .before .before .before .before .before .before .before .before .before .loop .inv .1), rw (c .before .before .store-position .ensures, c .before .before .before .index .ensures) put)
+
+returns-2 : tie.Need-returns-2 Inv-loop μ-loop
+returns-2 c = 
+    let a = c .before .before .before .before .before .before .before .before .args in
+    let row : ℕ → ℕ = λ k. getD (a .halves .now) (k * 8 + 1) 0 in
+    let rule : ℕ → List Float → Position = λ k ps. edgePoint (a .positions .now) (a .edges .now) (a .intervals .now) (facePointAt ps (a .quads .now)) k in
+    let start = on (a .places .now) in
+    let all : a .ne ≡ c .before .loop .e = omega arith in
+    ap (λ (k : ℕ). placed k row rule start) all ∙ c .before .loop .inv .2
+
+pub place-edge-points-spec : {M : Type 1} → statement M
+place-edge-points-spec =
+    tie.close
+    (tie.spec
+    Inv-loop
+    μ-loop
+    loop-holds
+    edge-point-requires
+    (λ c. search needs)
+    (λ c. search needs)
+    (λ c. search needs)
+    returns
+    mul-index
+    add-index
+    mul-index-2
+    shared-slice-read-index
+    (λ c κs. search needs)
+    store-position-requires
+    (λ c. search needs)
+    (λ c. search needs)
+    loop-again
+    (λ c. search needs)
+    returns-2)

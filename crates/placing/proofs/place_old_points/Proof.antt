@@ -1,0 +1,78 @@
+-- place_old_points meets its contract. The invariant: the first p old points are put; the measure is what is left of np.
+use Prim.Native.Nat.{ℕ, _-_, _≤_}
+use mathlib.Core.List.{List}
+use mathlib.Core.Path.{_≡_, refl, sym, _∙_, ap}
+use native.Mathlib.Omega.{arith}
+use borrow.Author.Needs.{needs}
+use lib.Ieee.{Float}
+use lib.ListN.{length}
+use Rattle.position_rules.specs.Places.{edgePointAt, facePointAt}
+use Rattle.position_rules.specs.OldPoint.{oldPoint}
+use Rattle.placing.proofs.Laws.{placed-more, placed-ends}
+use Rattle.steps.specs.Positions.{on, placed}
+use Rattle.tables.proofs.Laws.{length-putRow}
+use Rattle.positions.specs.declared.Position.{Position}
+use Rattle.placing.proofs.place_old_points.Statement.{statement}
+use Rattle.placing.proofs.place_old_points.Tie as tie
+
+abbrev Inv-loop : tie.InvT-loop
+Inv-loop positions points edges intervals np halves quads places₀ p₀ places p = 
+    (p ≤ np) × (length places ≡ length places₀)
+    × (placed p (λ k. k) (λ k ps. oldPoint positions points edges intervals (edgePointAt ps halves) (facePointAt ps quads) k) (on places₀) ≡ on places)
+
+abbrev μ-loop : tie.MeasureT-loop
+μ-loop positions points edges intervals np halves quads places₀ p₀ places p = np - p
+
+loop-holds : tie.Need-loop-holds Inv-loop μ-loop
+loop-holds c = (omega arith, refl, unfold placed in refl)
+
+old-point-requires : tie.Need-old-point-requires Inv-loop μ-loop
+old-point-requires c κs = c .before .before .before .before .before .before .before .before .before .before .pre .rule-fits (c .before .before .loop .places) (c .before .before .loop .inv .1) (c .before .before .loop .p) (omega arith)
+
+returns : tie.Need-returns Inv-loop μ-loop
+returns c = 
+    let a = c .before .before .before .before .before .before .before .before .before .before .before .before .before .args in
+    let row : ℕ → ℕ = λ k. k in
+    let rule : ℕ → List Float → Position = λ k ps. oldPoint (a .positions .now) (a .points .now) (a .edges .now) (a .intervals .now) (edgePointAt ps (a .halves .now)) (facePointAt ps (a .quads .now)) k in
+    let start = on (a .places .now) in
+    placed-ends row rule start (a .np) (c .before .before .before .before .before .loop .p) (c .before .before .before .before .before .loop .places) (omega arith) (c .before .before .before .before .before .loop .inv .2) (sym (c .before .before .old-point .ensures) ∙ c .enum-told .given .1)
+
+store-position-requires : tie.Need-store-position-requires Inv-loop μ-loop
+store-position-requires c κs = omega (arith, c .before .before .before .before .before .before .before .before .before .before .before .before .before .before .before .pre .place-there (c .before .before .before .before .before .before .before .loop .p) (omega arith))
+
+loop-again : tie.Need-loop-again Inv-loop μ-loop
+loop-again c = 
+    let a = c .before .before .before .before .before .before .before .before .before .before .before .before .before .before .before .before .before .before .args in
+    let row : ℕ → ℕ = λ k. k in
+    let rule : ℕ → List Float → Position = λ k ps. oldPoint (a .positions .now) (a .points .now) (a .edges .now) (a .intervals .now) (edgePointAt ps (a .halves .now)) (facePointAt ps (a .quads .now)) k in
+    let start = on (a .places .now) in
+    let put = placed-more row rule start (c .before .before .before .before .before .before .before .before .before .before .loop .p) (c .before .before .before .before .before .before .before .before .before .before .loop .places) (c .before .before .before .before .before .before .before .before .before .before .loop .inv .2) (sym (c .before .before .before .before .before .before .before .old-point .ensures) ∙ c .before .before .before .before .before .x .given .1) in
+    (omega arith, rw (c .before .before .store-position .ensures, length-putRow) (c .before .before .before .before .before .before .before .before .before .before .loop .inv .1), rw (c .before .before .store-position .ensures) put)
+
+returns-2 : tie.Need-returns-2 Inv-loop μ-loop
+returns-2 c = 
+    let a = c .before .before .before .before .before .before .before .before .before .args in
+    let row : ℕ → ℕ = λ k. k in
+    let rule : ℕ → List Float → Position = λ k ps. oldPoint (a .positions .now) (a .points .now) (a .edges .now) (a .intervals .now) (edgePointAt ps (a .halves .now)) (facePointAt ps (a .quads .now)) k in
+    let start = on (a .places .now) in
+    let all : a .np ≡ c .before .loop .p = omega arith in
+    ap (λ (k : ℕ). placed k row rule start) all ∙ c .before .loop .inv .2
+
+pub place-old-points-spec : {M : Type 1} → statement M
+place-old-points-spec =
+    tie.close
+    (tie.spec
+    Inv-loop
+    μ-loop
+    loop-holds
+    old-point-requires
+    (λ c. search needs)
+    (λ c. search needs)
+    (λ c. search needs)
+    returns
+    store-position-requires
+    (λ c. search needs)
+    (λ c. search needs)
+    loop-again
+    (λ c. search needs)
+    returns-2)

@@ -1,0 +1,37 @@
+-- The scratch tables as a state, and what must hold so that all stores fit.
+--     tablesOf ps es is fs c     the state with the four tables and the rows c taken
+--     scratch ps es is c         the same with no faces: the tables that a splitting looks at
+--     InRows es is e             the edge e is a row of the tables of edges and intervals
+--     Room ps es is p e          p points and e edges fit the tables and the ceilings
+use mathlib.Core.List.{List, []}
+use Prim.Native.Nat.{ℕ, _+_, _*_, _≤_, _<_}
+use lib.ListN.{length}
+use lib.Ieee.{Float}
+use Rattle.tables.specs.declared.Counts.{Counts}
+use Rattle.refined_meshes.specs.State.{State}
+
+abbrev pub tablesOf : List ℕ → List ℕ → List Float → List ℕ → Counts → State
+tablesOf ps es is fs c =
+    record {
+      points = ps;
+      edges = es;
+      intervals = is;
+      faces = fs;
+      pointsTaken = c .points;
+      edgesTaken = c .edges;
+      facesTaken = c .faces;
+    }
+
+abbrev pub scratch : List ℕ → List ℕ → List Float → Counts → State
+scratch ps es is c = tablesOf ps es is [] c
+
+pub record InRows (es : List ℕ) (is : List Float) (e : ℕ) : Type 0 where
+  pub words : e * 8 + 8 ≤ length es
+  pub number : e < length is
+
+pub record Room (ps es : List ℕ) (is : List Float) (p e : ℕ) : Type 0 where
+  pub points : p * 3 ≤ length ps
+  pub edges : e * 8 ≤ length es
+  pub intervals : e ≤ length is
+  pub few-points : p ≤ 65536
+  pub few-edges : e ≤ 131072

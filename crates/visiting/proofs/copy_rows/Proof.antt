@@ -1,0 +1,31 @@
+-- copy_rows meets its contract: four copies, one for each table.
+use Rattle.visiting.proofs.Laws.{rows-copied}
+use Rattle.visiting.specs.Visiting.{meshOf}
+use mathlib.Core.List.{[]}
+use borrow.Author.Needs.{needs}
+use Rattle.visiting.proofs.copy_rows.Statement.{statement}
+use Rattle.visiting.proofs.copy_rows.Tie as tie
+
+returns : tie.Need-returns
+returns c =
+    let a = c .before .before .before .before .before .before .before .before .before .before .before .before .before .before .before .before .before .before .before .before .before .before .before .before .before .before .before .args in
+    rows-copied (meshOf [] (a .oldpoints .now) (a .oldedges .now) (a .oldintervals .now) (a .oldfaces .now))
+    (meshOf [] (a .points .now) (a .edges .now) (a .intervals .now) (a .faces .now)) (a .old) _ _ _ _
+    (c .before .before .before .before .before .before .before .before .before .before .before .before .before .before .before .before .copy-words .ensures) (c .before .before .before .before .before .before .before .before .before .before .before .copy-words2 .ensures) (c .before .before .before .before .before .before .before .copy-numbers .ensures) (c .before .before .copy-words3 .ensures)
+
+pub copy-rows-spec : {M : Type 1} → statement M
+copy-rows-spec =
+    tie.close
+    (tie.spec
+    (λ c. search needs)
+    (λ c κs. search needs)
+    (λ c. search needs)
+    (λ c κs. search needs)
+    (λ c κs. search needs)
+    (λ c. search needs)
+    (λ c κs. search needs)
+    (λ c. search needs)
+    (λ c. search needs)
+    (λ c. search needs)
+    (λ c. search needs)
+    returns)

@@ -1,0 +1,70 @@
+use Rattle.tables.specs.declared.Counts.{Counts}
+-- put_ring meets its contract: the places are read, then the edges, the faces and the point are written.
+use Rattle.visiting.proofs.Room.{halves-rows}
+use Rattle.visiting.proofs.Along.{ring-written}
+use borrow.Author.Needs.{needs}
+use Rattle.visiting.proofs.put_ring.Statement.{statement}
+use Rattle.visiting.proofs.put_ring.Tie as tie
+
+put-ring-edges-requires : tie.Need-put-ring-edges-requires
+put-ring-edges-requires c κs =
+    let places = c .before .before .before .before .before .before .before .before .places in
+    let p = c .before .before .before .before .before .before .before .before .before .before .before .before .before .before .before .pre in
+    let es = c .before .before .before .before .before .before .before .before .before .before .before .before .before .before .before .args .edges .now in (
+      p .small,
+      (
+        p .joins,
+        (
+          p .intervals,
+          (
+            p .mesh-rows,
+            (
+              halves-rows es _ _ _ (p .small .few-places) (places .ensures .0) (p .firsts),
+              halves-rows es _ _ _ (p .small .few-places) (places .ensures .1 .0) (p .seconds),
+            ),
+          ),
+        ),
+      ),
+    )
+
+put-new-faces-requires : tie.Need-put-new-faces-requires
+put-new-faces-requires c κs =
+    let p = c .before .before .before .before .before .before .before .before .before .before .before .before .before .before .before .before .before .before .before .before .before .before .before .pre in
+    (p .small, (p .mesh-rows, (p .face, p .faces)))
+
+put-face-point-requires : tie.Need-put-face-point-requires
+put-face-point-requires c κs =
+    let p = c .before .before .before .before .before .before .before .before .before .before .before .before .before .before .before .before .before .before .before .before .before .before .before .before .before .before .before .pre in
+    (p .small, p .centre)
+
+returns : tie.Need-returns
+returns c =
+    let places = c .before .before .before .before .before .before .before .before .before .before .before .before .before .before .before .before .before .before .before .before .before .before .before .places in
+    let put-new-faces = c .before .before .before .before .before .before .put-new-faces in
+    let put-ring-edges = c .before .before .before .before .before .before .before .before .before .before .before .before .before .before .put-ring-edges in
+    λ p.
+    let a = c .before .before .before .before .before .before .before .before .before .before .before .before .before .before .before .before .before .before .before .before .before .before .before .before .before .before .before .before .before .before .args in
+    let h = places .result in
+    let es = put-ring-edges .last .1 .0 in
+    let is = put-ring-edges .last .1 .1 .0 in
+    let fs = put-new-faces .last .1 .0 in
+    let k : Counts = record { points = p; edges = a .rows .joins; faces = a .rows .faces } in
+    ring-written (a .oldedges .now) (a .points .now) _ (a .edges .now) es (a .faces .now) fs (a .perimeter .now) (h .firsts) (h .seconds) (h .mids)
+    (a .intervals .now) is (a .found .now) (a .rows) p (places .ensures .0) (places .ensures .1 .0) (places .ensures .1 .1)
+    (put-ring-edges .ensures (a .points .now) (a .faces .now) k)
+    (put-new-faces .ensures (h .seconds) (a .points .now) es (a .found .now) is k)
+    (c .before .before .put-face-point .ensures (a .perimeter .now) (h .firsts) (h .seconds) (h .mids) es fs (a .found .now) is k)
+
+pub put-ring-spec : {M : Type 1} → statement M
+put-ring-spec =
+    tie.close
+    (tie.spec
+    (λ c κs. search needs)
+    put-ring-edges-requires
+    put-new-faces-requires
+    put-face-point-requires
+    (λ c. search needs)
+    (λ c. search needs)
+    (λ c. search needs)
+    (λ c. search needs)
+    returns)

@@ -1,0 +1,53 @@
+-- refined_rows meets its contract: the rows are copied, then the faces are visited.
+use Rattle.visiting.proofs.Laws.{refinedRows-bare}
+use Rattle.visiting.specs.Visiting.{meshOf, Fits}
+use Rattle.walks.specs.Steps.{faceTables}
+use Rattle.refined_meshes.specs.State.{State, copied}
+use mathlib.Core.Path.{sym, _∙_, subst}
+use Rattle.visiting.proofs.refined_rows.Statement.{statement}
+use Rattle.visiting.proofs.refined_rows.Tie as tie
+
+copy-rows-requires : tie.Need-copy-rows-requires
+copy-rows-requires c κs =
+    let p = c .before .before .before .before .before .before .before .before .before .before .before .before .before .pre in
+    (p .0, p .1 .0)
+
+visits-requires : tie.Need-visits-requires
+visits-requires c κs =
+    let a = c .before .before .before .before .before .before .before .before .before .before .before .before .before .before .before .before .before .before .before .before .before .before .before .before .before .before .args in
+    subst (λ (s : State). Fits (faceTables (a .oldedges .now) (a .oldfaces .now)) (a .old .points) (a .old .edges) (a .old .faces) (a .order .now) s)
+    (sym (c .before .before .before .before .before .before .before .before .before .before .before .before .copy-rows .ensures)) (c .before .before .before .before .before .before .before .before .before .before .before .before .before .before .before .before .before .before .before .before .before .before .before .before .before .before .pre .1 .1)
+
+same-length : tie.Need-same-length
+same-length c = c .before .before .before .before .before .before .before .before .visits .kept .1 .1 .0 ∙ c .before .before .before .before .before .before .before .before .before .before .before .before .before .before .before .before .before .before .before .before .before .copy-rows .kept .1 .1 .1 .1 .0
+
+same-length-2 : tie.Need-same-length-2
+same-length-2 c = c .before .before .before .before .before .before .before .before .visits .kept .1 .1 .1 .0 ∙ c .before .before .before .before .before .before .before .before .before .before .before .before .before .before .before .before .before .before .before .before .before .copy-rows .kept .1 .1 .1 .1 .1 .0
+
+same-length-3 : tie.Need-same-length-3
+same-length-3 c = c .before .before .before .before .before .before .before .before .visits .kept .1 .1 .1 .1 .0 ∙ c .before .before .before .before .before .before .before .before .before .before .before .before .before .before .before .before .before .before .before .before .before .copy-rows .kept .1 .1 .1 .1 .1 .1 .0
+
+same-length-4 : tie.Need-same-length-4
+same-length-4 c = c .before .before .before .before .before .before .before .before .visits .kept .1 .1 .1 .1 .1 .0 ∙ c .before .before .before .before .before .before .before .before .before .before .before .before .before .before .before .before .before .before .before .before .before .copy-rows .kept .1 .1 .1 .1 .1 .1 .1 .0
+
+returns : tie.Need-returns
+unfolding copied
+returns c =
+    λ qs ps.
+    let a = c .before .before .before .before .before .before .before .before .before .before .before .before .before .before .before .before .before .before .before .before .before .before .before .before .before .before .before .before .before .before .before .before .before .before .before .args in
+    c .before .before .before .before .before .before .before .before .visits .ensures
+    ∙ refinedRows-bare (meshOf qs (a .oldpoints .now) (a .oldedges .now) (a .oldintervals .now) (a .oldfaces .now))
+    (meshOf ps (a .points .now) (a .edges .now) (a .intervals .now) (a .faces .now)) (a .old .points) (a .old .edges) (a .old .faces) (a .order .now) _
+    (c .before .before .before .before .before .before .before .before .before .before .before .before .before .before .before .before .before .before .before .before .before .copy-rows .ensures)
+
+pub refined-rows-spec : {M : Type 1} → statement M
+refined-rows-spec =
+    tie.close
+    (tie.spec
+    copy-rows-requires
+    visits-requires
+    same-length
+    same-length-2
+    same-length-3
+    same-length-4
+    returns)

@@ -1,0 +1,73 @@
+-- What must hold so that every row that a visit reads or writes is there.
+--     bare m                   the mesh m with its tables of edges and faces alone, which are all that a visit looks at
+--     meshOf qs ps es is fs    the mesh of five tables
+--     Holds m np ne nf         the tables of m hold the rows of np points, ne edges and nf faces, positions aside
+--     Ceilings np ne nf        a mesh with these counts is below the ceilings of document 01 once it is refined
+--     RingFits oe pe rows ..   the ring with these rows, of the split perimeter pe, finds its rows and has room in the scratch tables
+--     AlongFits oe np f pe n s   the visit of the face f in s along the perimeter pe of n edges finds its rows and has room
+--     Fits ..                  every visit in the order finds its rows and has room
+use mathlib.Core.List.{List}
+use Prim.Native.Nat.{ℕ, _+_, _-_, _*_, _≤_, _<_}
+use lib.ListN.{length, getD}
+use lib.Ieee.{Float}
+use Rattle.tables.specs.Mesh.{Mesh}
+use Rattle.walks.specs.Steps.{faceTables}
+use Rattle.refined_meshes.specs.State.{State, take}
+use Rattle.refined_meshes.specs.Visits.{splitAll, visits}
+use Rattle.refined_meshes.specs.Fits.{VisitFits}
+use Rattle.splitting.specs.Scratch.{InRows, Room}
+use Rattle.rings.specs.declared.RingRows.{RingRows}
+use Rattle.rings.specs.Rings.{firstOf, secondOf, Small, Rows}
+
+abbrev pub bare : Mesh → Mesh
+bare m = faceTables (m .edges) (m .faces)
+
+abbrev pub meshOf : List Float → List ℕ → List ℕ → List Float → List ℕ → Mesh
+meshOf qs ps es is fs = record { positions = qs; points = ps; edges = es; intervals = is; faces = fs }
+
+pub record Holds (m : Mesh) (np ne nf : ℕ) : Type 0 where
+  pub points : np * 3 ≤ length (m .points)
+  pub edges : ne * 8 ≤ length (m .edges)
+  pub intervals : ne ≤ length (m .intervals)
+  pub faces : nf * 5 ≤ length (m .faces)
+
+pub record Ceilings (np ne nf : ℕ) : Type 0 where
+  pub points : np + ne + nf ≤ 65536
+  pub edges : 4 * ne ≤ 131072
+  pub faces : 2 * ne ≤ 65536
+
+pub record RingFits (oe pe : List ℕ) (rows : RingRows) (ps es : List ℕ) (is : List Float) (fs : List ℕ) : Type 0 where
+  pub small : Small rows
+  pub centre : rows .centre * 3 + 3 ≤ length ps
+  pub joins : (rows .joins + rows .size) * 8 ≤ length es
+  pub intervals : rows .joins + rows .size ≤ length is
+  pub face : rows .face * 5 + 5 ≤ length fs
+  pub faces : (rows .faces + (rows .size - 1)) * 5 ≤ length fs
+  pub mesh-rows : Rows oe pe (rows .size)
+  pub edge-rows : Rows es pe (rows .size)
+  pub firsts : (i : ℕ) → i < rows .size → firstOf oe es (rows .face) (getD pe i 0) * 8 + 8 ≤ length es
+  pub seconds : (i : ℕ) → i < rows .size → secondOf oe es (rows .face) (getD pe i 0) * 8 + 8 ≤ length es
+
+pub record AlongFits (oe : List ℕ) (np f : ℕ) (pe : List ℕ) (n : ℕ) (s : State) : Type 0 where
+  pub some-places : 0 < n
+  pub few-places : n ≤ 64
+  pub mesh-rows : Rows oe pe n
+  pub rows : (i : ℕ) → i < n → InRows (s .edges) (s .intervals) (getD pe i 0)
+  pub old-points : np * 3 ≤ length (s .points)
+  pub centre : s .pointsTaken * 3 + 3 ≤ length (s .points)
+  pub few-points : s .pointsTaken < 65536
+  pub room :
+      Room (s .points) (s .edges) (s .intervals) (splitAll np pe n (take 1 0 0 s) .pointsTaken) (splitAll np pe n (take 1 0 0 s) .edgesTaken + n)
+  pub face : f * 5 + 5 ≤ length (s .faces)
+  pub face-below : f < 65536
+  pub faces : (s .facesTaken + (n - 1)) * 5 ≤ length (s .faces)
+  pub few-faces : s .facesTaken + n ≤ 65537
+  pub firsts : (i : ℕ) → i < n → firstOf oe (splitAll np pe n (take 1 0 0 s) .edges) f (getD pe i 0) * 8 + 8 ≤ length (s .edges)
+  pub seconds : (i : ℕ) → i < n → secondOf oe (splitAll np pe n (take 1 0 0 s) .edges) f (getD pe i 0) * 8 + 8 ≤ length (s .edges)
+
+pub record Fits (m : Mesh) (np ne nf : ℕ) (order : List ℕ) (s : State) : Type 0 where
+  pub ceilings : Ceilings np ne nf
+  pub edges : ne * 8 ≤ length (m .edges)
+  pub faces : nf * 5 ≤ length (m .faces)
+  pub ordered : nf ≤ length order
+  pub each : (k : ℕ) → k < nf → VisitFits m np ne nf (getD order k 0) (visits m np ne k order s)
