@@ -138,7 +138,7 @@ module _
       destination-half-is e =
           onto (r .numbering .edges)
           (λ e'. origin m' (e' .0) ≡ dest m' (e .0) → dest m' (e' .0) ≡ dest m (e .0) →
-            newEdgeName k (n .holds .mesh) (n .names) (r .numbering .edges .from e') ≡ destinationHalfOf k (n .names .edge e))
+          newEdgeName k (n .holds .mesh) (n .names) (r .numbering .edges .from e') ≡ destinationHalfOf k (n .names .edge e))
           λ x ho hd. ap (newEdgeName k (n .holds .mesh) (n .names)) (r .numbering .edges .from-to x) ∙ go x (sym (origin-there x) ∙ ho ∙ r .mid-row e)
         where
           go :
@@ -158,7 +158,7 @@ module _
       joining-edge-is f e =
           onto (r .numbering .edges)
           (λ e'. origin m' (e' .0) ≡ corner m' (f .0) 0 → dest m' (e' .0) ≡ dest m' (e .0) →
-            newEdgeName k (n .holds .mesh) (n .names) (r .numbering .edges .from e') ≡ joiningEdgeOf k (n .names .face f) (n .names .edge e))
+          newEdgeName k (n .holds .mesh) (n .names) (r .numbering .edges .from e') ≡ joiningEdgeOf k (n .names .face f) (n .names .edge e))
           λ x ho hd.
           ap (newEdgeName k (n .holds .mesh) (n .names)) (r .numbering .edges .from-to x)
           ∙ go x (sym (origin-there x) ∙ ho ∙ r .centre-row f) (sym (dest-there x) ∙ hd ∙ r .mid-row e)
@@ -185,14 +185,14 @@ module _
       new-face-is f p =
           onto (r .numbering .faces)
           (λ f'. corner m' (f' .0) 0 ≡ corner m' (f .0) 0 → corner m' (f' .0) 2 ≡ p .0 →
-            newFaceName k (n .holds .mesh) (n .names) (r .numbering .faces .from f') ≡ newFaceOf k (n .names .face f) (n .names .point p))
+          newFaceName k (n .holds .mesh) (n .names) (r .numbering .faces .from f') ≡ newFaceOf k (n .names .face f) (n .names .point p))
           λ d h0 h2.
           ap (newFaceName k (n .holds .mesh) (n .names)) (r .numbering .faces .from-to d)
           ∙ (let w = same-point (facePoint (face (n .holds .mesh) d)) (facePoint f) (sym (corner-there d place0) ∙ h0 ∙ r .centre-row f) in
-            let w' = same-point (old (first (n .holds .mesh) d)) (old p) (sym (corner-there d place2) ∙ h2 ∙ sym (r .old-row p)) in
-            let v : face (n .holds .mesh) d ≡ f = cc in
-            let v' : first (n .holds .mesh) d ≡ p = cc in
-            ap₂ (λ f p. newFaceOf k (n .names .face f) (n .names .point p)) v v')
+          let w' = same-point (old (first (n .holds .mesh) d)) (old p) (sym (corner-there d place2) ∙ h2 ∙ sym (r .old-row p)) in
+          let v : face (n .holds .mesh) d ≡ f = cc in
+          let v' : first (n .holds .mesh) d ≡ p = cc in
+          ap₂ (λ f p. newFaceOf k (n .names .face f) (n .names .point p)) v v')
 
       pub new-names : NewNames k n named-after
       unfolding named-after point edge-no

@@ -79,10 +79,10 @@ module _
     {first : Counts} (P : ℕ → (l : Lent) → NamedMesh first l → Type 1)
     (same : (k : ℕ) (l : Lent) (n : NamedMesh first l) → P k l n → (n' : NamedMesh first l) → SameNames n n' → P k l n')
     (new :
-        (k : ℕ) (l : Lent) (n : NamedMesh first l) → P k l n → (m' : Mesh) →
-        ((h : HoldsClosed (l .tables) (l .counts .points) (l .counts .edges) (l .counts .faces)) →
-        Refinement (firstRows (l .counts) (l .tables)) (l .counts) (h .mesh) (h .closed) m') →
-        (n' : NamedMesh first (lent m' (refinedCounts (l .counts)))) → NewNames (suc k) n n' → P (suc k) (lent m' (refinedCounts (l .counts))) n')
+    (k : ℕ) (l : Lent) (n : NamedMesh first l) → P k l n → (m' : Mesh) →
+    ((h : HoldsClosed (l .tables) (l .counts .points) (l .counts .edges) (l .counts .faces)) →
+    Refinement (firstRows (l .counts) (l .tables)) (l .counts) (h .mesh) (h .closed) m') →
+    (n' : NamedMesh first (lent m' (refinedCounts (l .counts)))) → NewNames (suc k) n n' → P (suc k) (lent m' (refinedCounts (l .counts))) n')
   where
     along-step :
         (k : ℕ) (l : Lent) (n : NamedMesh first l) → P k l n → Binary64 (l .counts) (l .tables) → (h : Handed) (n' : NamedMesh first (after l h)) →
@@ -145,8 +145,8 @@ module _ {first : Counts} where
       go (inl (c, e)) =
           let r = made-of l h b (n .holds) c e .refinement in
           let w =
-                subst (λ x. (n' : NamedMesh first x) × NewNames (suc k) n n') (sym (after-accepted l h b (n .holds) c e))
-                (named-after (l .tables) (outcome l h .tables) n r (suc k), new-names (l .tables) (outcome l h .tables) n r (suc k)) in
+          subst (λ x. (n' : NamedMesh first x) × NewNames (suc k) n n') (sym (after-accepted l h b (n .holds) c e))
+          (named-after (l .tables) (outcome l h .tables) n r (suc k), new-names (l .tables) (outcome l h .tables) n r (suc k)) in
           (w .0, subst (λ g. Renamed k g n (w .0)) (sym e) (w .1))
       go (inr (x, q)) =
           let w = subst (λ y. (n' : NamedMesh first y) × SameNames n n') (sym (after-refused l h x q)) (n, same-names-refl n) in
@@ -176,17 +176,17 @@ module _ {first c : Counts} (m m' : Mesh) (n : NamedMesh first (lent m c)) (r : 
             λ p p' q.
             ap (o' .names .point) (row-path p' p q)
             ∙ onto (r .numbering .points) (λ p. o' .names .point p ≡ o .names .point p)
-              (λ x. point-name m m' n r k o' b x ∙ sym (point-name m m' n r k o a x)) p;
+            (λ x. point-name m m' n r k o' b x ∙ sym (point-name m m' n r k o a x)) p;
         edges =
             λ e e' q.
             ap (o' .names .edge) (row-path e' e q)
             ∙ onto (r .numbering .edges) (λ e. o' .names .edge e ≡ o .names .edge e)
-              (λ x. edge-name m m' n r k o' b x ∙ sym (edge-name m m' n r k o a x)) e;
+            (λ x. edge-name m m' n r k o' b x ∙ sym (edge-name m m' n r k o a x)) e;
         faces =
             λ f f' q.
             ap (o' .names .face) (row-path f' f q)
             ∙ onto (r .numbering .faces) (λ f. o' .names .face f ≡ o .names .face f)
-              (λ d. face-name m m' n r k o' b d ∙ sym (face-name m m' n r k o a d)) f;
+            (λ d. face-name m m' n r k o' b d ∙ sym (face-name m m' n r k o a d)) f;
       }
 
 module _ {first : Counts} where
@@ -199,7 +199,7 @@ module _ {first : Counts} where
       go (inl (c, e)) =
           pathJ (λ z q. (n' o' : NamedMesh first z) → NewNames (suc k) n n' → NewNames (suc k) o o' → SameNames n' o')
           (λ n' o' x y.
-            new-names-settled (l .tables) (outcome l h .tables) n (made-of l h b (n .holds) c e .refinement) (suc k) n' o' x (new-names-same s y))
+          new-names-settled (l .tables) (outcome l h .tables) n (made-of l h b (n .holds) c e .refinement) (suc k) n' o' x (new-names-same s y))
           (sym (after-accepted l h b (n .holds) c e)) n' o' (subst (λ g. Renamed k g n n') e x) (subst (λ g. Renamed k g o o') e y)
       go (inr (g, q)) =
           pathJ (λ z q. (n' o' : NamedMesh first z) → SameNames n n' → SameNames o o' → SameNames n' o')

@@ -96,5 +96,5 @@ module _
               λ z.
               onto (f .numbering .points) (λ p. positionAt (m' .positions) (p .0) ≡ afterOne (firstRows c a) c (n' .names .point p))
               (λ x.
-                place r (omega arith) m' f x ∙ ap (afterOne (firstRows c a) c) (sym (point-name (l .tables) m' n f (suc k) n' b x)));
+              place r (omega arith) m' f x ∙ ap (afterOne (firstRows c a) c) (sym (point-name (l .tables) m' n f (suc k) n' b x)));
         }

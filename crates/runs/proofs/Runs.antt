@@ -77,11 +77,16 @@ module _ {c : Counts} {m : Mesh} (numbers : Binary64 c m) {hs : List Handed} (n 
       (names-differ _ _ _ (n .begun .holds .mesh) (n .begun .holds .closed) (accepted (lent m c) hs) (stage (reached-end .mesh))
       (subst
       (λ x.
-        Run
-        (record {
-          Point = Row (c .points); Edge = Row (c .edges); Face = Row (c .faces); mesh = n .begun .holds .mesh;
-          closed = n .begun .holds .closed; names = x })
-        (accepted (lent m c) hs) (stage (reached-end .mesh)))
+      Run
+      (record {
+        Point = Row (c .points);
+        Edge = Row (c .edges);
+        Face = Row (c .faces);
+        mesh = n .begun .holds .mesh;
+        closed = n .begun .holds .closed;
+        names = x;
+      })
+      (accepted (lent m c) hs) (stage (reached-end .mesh)))
       (n .given) (reached-end .run)))
 
 -- In the first mesh a row's name is its number, in both runs.
@@ -178,7 +183,7 @@ named-run : (c : Counts) (m : Mesh) (hs : List Handed) → Binary64 c m → Hold
 named-run c m hs numbers h =
     let d = audited-of-closed m (h .mesh) (h .stands) (h .closed) (h .fit) in
     let start : NamedMesh c (lent m c) =
-          record { holds = first-reading m _ _ _ d; corner-is-point = first-points-first m _ _ _ d; names = givenNames } in
+    record { holds = first-reading m _ _ _ d; corner-is-point = first-points-first m _ _ _ d; names = givenNames } in
     let w = named hs 0 (lent m c) start numbers in
     record { begun = start; given = refl; ended = w .0; naming = w .1 }
 

@@ -93,6 +93,7 @@ module _ (l : Lent) (h : Handed) (numbers : Binary64 (l .counts) (l .tables)) wh
       where
         Holds : Lent → Type 0
         Holds x = HoldsClosed (x .tables) (x .counts .points) (x .counts .edges) (x .counts .faces)
+
         go : ((c : Counts) × (outcome l h .answer ≡ Refined c)) ⊎ ((x : ℕ) × (numberOf (outcome l h .answer) ≡ some x)) → Holds (after l h)
         go (inl (c, e)) = subst Holds (sym (after-accepted H c e)) (made-of H c e .refinement .holds)
         go (inr (x, q)) = subst Holds (sym (after-refused l h x q)) H

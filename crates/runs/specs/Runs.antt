@@ -96,7 +96,7 @@ pub record NamedMesh (first : Counts) (l : Lent) : Type 0 where
       (f : Row (l .counts .faces)) (k : Place) → holds .mesh .corner f k ≡ none → l .counts .points ≤ corner (l .tables) (f .0) (place k)
   pub names :
       Names (Row (first .points)) (Row (first .edges)) (Row (first .faces)) (Row (l .counts .points)) (Row (l .counts .edges))
-        (Row (l .counts .faces))
+      (Row (l .counts .faces))
 
 module _ {first : Counts} where
   abbrev pub stage : {l : Lent} → NamedMesh first l → Stage (Row (first .points)) (Row (first .edges)) (Row (first .faces))
@@ -107,7 +107,7 @@ module _ {first : Counts} where
         Face = Row (l .counts .faces);
         mesh = n .holds .mesh;
         closed = n .holds .closed;
-        names = n .names
+        names = n .names;
       }
 
   -- Old points and origin halves keep their names and their rows. The midpoint of the old edge e is the destination of row e, the

@@ -49,15 +49,23 @@ answered p = answer (step (p .mesh) (p .counts) (p .order) (p .scratch) .answer)
 abbrev used : ℕ → ℕ → ℕ → Mesh
 used np ne nf =
     record {
-      positions = replicate (np * 3) nan; points = replicate (np * 3) 7; edges = replicate (ne * 8) 7; intervals = replicate ne nan;
-      faces = replicate (nf * 5) 7 }
+      positions = replicate (np * 3) nan;
+      points = replicate (np * 3) 7;
+      edges = replicate (ne * 8) 7;
+      intervals = replicate ne nan;
+      faces = replicate (nf * 5) 7;
+    }
 
 -- the mesh m with the positions ps and the intervals is, in tables with further rows
 abbrev inTables : List Float → List Float → Mesh → Mesh
 inTables ps is m =
     record {
-      positions = ps ++ replicate 60 nan; points = m .points ++ replicate 60 7; edges = m .edges ++ replicate 300 7;
-      intervals = is ++ replicate 40 nan; faces = m .faces ++ replicate 100 7 }
+      positions = ps ++ replicate 60 nan;
+      points = m .points ++ replicate 60 7;
+      edges = m .edges ++ replicate 300 7;
+      intervals = is ++ replicate 40 nan;
+      faces = m .faces ++ replicate 100 7;
+    }
 
 -- three points
 abbrev corners : List Float
@@ -91,8 +99,12 @@ pieces : List Piece
 pieces =
     -- two triangles back to back
     record {
-      mesh = inTables corners (triangles .intervals) triangles; counts = record { points = 3; edges = 3; faces = 2 };
-      order = 0 ∷ 1 ∷ []; scratch = used 9 12 6; expected = 8 ∷ 12 ∷ 6 ∷ [] }
+      mesh = inTables corners (triangles .intervals) triangles;
+      counts = record { points = 3; edges = 3; faces = 2 };
+      order = 0 ∷ 1 ∷ [];
+      scratch = used 9 12 6;
+      expected = 8 ∷ 12 ∷ 6 ∷ [];
+    }
     -- the cube's counts
     ∷ cubeWith (cubeOf (cube .intervals)) numbered (used 26 48 24) (26 ∷ 48 ∷ 24 ∷ [])
     ∷ cubeWith (cubeOf (cube .intervals)) (3 ∷ 5 ∷ 0 ∷ 1 ∷ 4 ∷ 2 ∷ []) (used 27 48 24) (26 ∷ 48 ∷ 24 ∷ [])

@@ -31,7 +31,7 @@ pub eachFaceOnce-is : (nf : ℕ) (order : List ℕ) → eachFaceOnce nf order �
 unfolding eachFaceOnce distinct
 eachFaceOnce-is nf order e =
     let h = and-is (and-is (eqb-is (length order) nf) (every-is nf (λ i. ltb-is (getD order i 0) nf)))
-          (every-is (length order) (λ i. every-is i (λ j. not-is (eqb-is (getD order i 0) (getD order j 0))))) .0 e in
+    (every-is (length order) (λ i. every-is i (λ j. not-is (eqb-is (getD order i 0) (getD order j 0))))) .0 e in
     record { as-many = h .0 .0; in-range = h .0 .1; no-face-twice = λ i j a b. h .1 i a j b }
 
 pub room-of-test : (c : Counts) (t : Mesh) → rowsFor c t ≡ true → Room c t
@@ -111,6 +111,7 @@ module _ (m : Mesh) (c : Counts) (order : List ℕ) (t : Mesh) where
           let q = step-made ha ho hr notFinite hw in
           let k : NotFinite ≡ Refined c' = ap (λ x. x .answer) (sym q) ∙ e in
           absurd (let z : _≡_ {A = ℕ} 0 1 = cc in omega arith)
+
       go :
           (a : Bool) → audit m (c .points) (c .edges) (c .faces) ≡ a → (o : Bool) → eachFaceOnce (c .faces) order ≡ o → (r : Bool) →
           roomFor (refinedCounts c) m t ≡ r → Taken m c order t c'
@@ -136,6 +137,7 @@ module _ (m : Mesh) (c : Counts) (order : List ℕ) (t : Mesh) where
           let k : none ≡ some g = ap (λ x. numberOf (x .answer)) (sym q) ∙ e in
           absurd (let z : _≡_ {A = ℕ} 0 1 = cc in omega arith)
       mending ha ho hr notFinite hw = ap (λ x. x .tables) (step-made ha ho hr notFinite hw)
+
       go :
           (a : Bool) → audit m (c .points) (c .edges) (c .faces) ≡ a → (o : Bool) → eachFaceOnce (c .faces) order ≡ o → (r : Bool) →
           roomFor (refinedCounts c) m t ≡ r → step m c order t .tables ≡ m
@@ -156,6 +158,7 @@ made-is m c order t n e = go _ refl e
   where
     s : State
     s = refinedRows m (c .points) (c .edges) (c .faces) order t
+
     go : (r : Placing) → placedAll m c s (t .positions) ≡ r → madeOf s r ≡ whole n → Begun m c order t n
     go (on qs) h e = record { positions = qs; put = h; mesh = cc }
     go stopped h e = absurd (let z : _≡_ {A = ℕ} 0 1 = cc in omega arith)

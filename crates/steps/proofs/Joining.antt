@@ -43,6 +43,7 @@ around-next n i h l = first (ℕ-discrete i 0)
         let k : n ≤ i - 1 + 2 = omega arith in rw (ne-eqb i 0 z, eq-eqb (i + 1) n e, le-ltb (i - 1 + 2) n k) (omega arith)
     last z (no e) =
         let k : i - 1 + 2 < n = omega arith in rw (ne-eqb i 0 z, ne-eqb (i + 1) n e, lt-ltb (i - 1 + 2) n k) (omega arith)
+
     first : Dec (i ≡ 0) → around n (prevPlace n i + 2) ≡ nextPlace n i
     first (yes z) =
         let k : n ≤ n - 1 + 2 = omega arith in
@@ -112,5 +113,5 @@ binary64-firstRows c m b e = go (decLt e (c .edges))
     go (yes l) = rw (getD-take (c .edges) (m .intervals) e nan l) (b e l)
     go (no l) =
         rw (List·getD-eq-default (take (c .edges) (m .intervals)) nan {n = e}
-          (omega (arith, length-take (c .edges) (m .intervals), min-le-left (c .edges) (length (m .intervals)))))
+        (omega (arith, length-take (c .edges) (m .intervals), min-le-left (c .edges) (length (m .intervals)))))
         (nan-fits binary64)

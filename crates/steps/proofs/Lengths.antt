@@ -55,7 +55,11 @@ long-face : (f e c0 c1 c2 c3 : ℕ) (s : State) → AsLong s (putFace f e c0 c1 
 unfolding putFace
 long-face f e c0 c1 c2 c3 s =
     record {
-      points = refl; edges = refl; intervals = refl; faces = length-putRow (e ∷ c0 ∷ c1 ∷ c2 ∷ c3 ∷ []) (s .faces) (f * 5) }
+      points = refl;
+      edges = refl;
+      intervals = refl;
+      faces = length-putRow (e ∷ c0 ∷ c1 ∷ c2 ∷ c3 ∷ []) (s .faces) (f * 5);
+    }
 
 long-take : (p e f : ℕ) (s : State) → AsLong s (take p e f s)
 long-take p e f s = record { points = refl; edges = refl; intervals = refl; faces = refl }

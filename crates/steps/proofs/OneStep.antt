@@ -309,7 +309,7 @@ one-step m c order t h numbers c' e =
     let held : (e : ℕ) → T (fits binary64 (interval m1 e)) = binary64-firstRows c m numbers in
     let few : c .faces ≤ none = omega (arith, k .within .points) in
     let q : step m c order t .tables ≡ overRows (refinedCounts c) (meshOf (b .positions) (refinedRows m1 (c .points) (c .edges) (c .faces) order u)) m =
-          k .tables ∙ ap (λ n. overRows (refinedCounts c) n m) (b .mesh) in
+    k .tables ∙ ap (λ n. overRows (refinedCounts c) n m) (b .mesh) in
     record {
       counts = k .counts;
       in-order =
@@ -317,8 +317,8 @@ one-step m c order t h numbers c' e =
           ∙ ap whole
           (b .mesh
           ∙ sym (ap (firstRows (refinedCounts c)) q
-            ∙ firstRows-overRows (refinedCounts c) (meshOf (b .positions) (refinedRows m1 (c .points) (c .edges) (c .faces) order u)) m
-              (lengths m1 c h1 order u (b .positions) v held few x (b .put))));
+          ∙ firstRows-overRows (refinedCounts c) (meshOf (b .positions) (refinedRows m1 (c .points) (c .edges) (c .faces) order u)) m
+          (lengths m1 c h1 order u (b .positions) v held few x (b .put))));
       refinement =
           subst (Refinement m1 c (h .mesh) (h .closed)) (sym q)
           (refinement-there m1 c h1 order u (b .positions) v held few x (b .put) m);

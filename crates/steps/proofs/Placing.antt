@@ -28,7 +28,7 @@ not-stopped ps e = let z : _≡_ {A = ℕ} 0 1 = cc in omega arith
 position-put : (ps : List Float) (r : ℕ) (p : Position) → r * 3 + 3 ≤ length ps → positionAt (putRow ps (r * 3) (placeOf p)) r ≡ p
 position-put ps r p h =
     let x : getD (putRow ps (r * 3) (placeOf p)) (r * 3) nan ≡ p .x =
-          rw (add-zero (r * 3)) at (getD-putRow (placeOf p) ps (r * 3) 0 nan (omega arith) h) in
+    rw (add-zero (r * 3)) at (getD-putRow (placeOf p) ps (r * 3) 0 nan (omega arith) h) in
     let y : getD (putRow ps (r * 3) (placeOf p)) (r * 3 + 1) nan ≡ p .y = getD-putRow (placeOf p) ps (r * 3) 1 nan (omega arith) h in
     let z : getD (putRow ps (r * 3) (placeOf p)) (r * 3 + 2) nan ≡ p .z = getD-putRow (placeOf p) ps (r * 3) 2 nan (omega arith) h in
     rw (x, y, z)
@@ -37,11 +37,11 @@ position-put ps r p h =
 position-other : (ps : List Float) (r s : ℕ) (p : Position) → s ≢ r → positionAt (putRow ps (r * 3) (placeOf p)) s ≡ positionAt ps s
 position-other ps r s p n =
     let x : getD (putRow ps (r * 3) (placeOf p)) (s * 3) nan ≡ getD ps (s * 3) nan =
-          rw (add-zero (s * 3)) at (getD-putRow-other (placeOf p) ps 3 r s 0 nan refl n (omega arith)) in
+    rw (add-zero (s * 3)) at (getD-putRow-other (placeOf p) ps 3 r s 0 nan refl n (omega arith)) in
     let y : getD (putRow ps (r * 3) (placeOf p)) (s * 3 + 1) nan ≡ getD ps (s * 3 + 1) nan =
-          getD-putRow-other (placeOf p) ps 3 r s 1 nan refl n (omega arith) in
+    getD-putRow-other (placeOf p) ps 3 r s 1 nan refl n (omega arith) in
     let z : getD (putRow ps (r * 3) (placeOf p)) (s * 3 + 2) nan ≡ getD ps (s * 3 + 2) nan =
-          getD-putRow-other (placeOf p) ps 3 r s 2 nan refl n (omega arith) in
+    getD-putRow-other (placeOf p) ps 3 r s 2 nan refl n (omega arith) in
     rw (x, y, z)
 
 -- what one position puts

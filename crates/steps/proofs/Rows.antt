@@ -204,9 +204,13 @@ take-over n new xs e =
 pub firstRows-overRows : (c : Counts) (n m : Mesh) → Exact c n → firstRows c (overRows c n m) ≡ n
 unfolding firstRows overRows
 firstRows-overRows c n m x =
-    rw (take-over _ (n .positions) (m .positions) (x .positions), take-over _ (n .points) (m .points) (x .points),
-      take-over _ (n .edges) (m .edges) (x .edges), take-over _ (n .intervals) (m .intervals) (x .intervals),
-      take-over _ (n .faces) (m .faces) (x .faces))
+    rw (
+      take-over _ (n .positions) (m .positions) (x .positions),
+      take-over _ (n .points) (m .points) (x .points),
+      take-over _ (n .edges) (m .edges) (x .edges),
+      take-over _ (n .intervals) (m .intervals) (x .intervals),
+      take-over _ (n .faces) (m .faces) (x .faces),
+    )
 
 take-exact : {A : Type 0} (n : ℕ) (xs : List A) → length xs ≡ n → take n xs ≡ xs
 take-exact n xs e = take-all n xs (omega arith)
@@ -214,8 +218,13 @@ take-exact n xs e = take-all n xs (omega arith)
 firstRows-exact : (c : Counts) (n : Mesh) → Exact c n → firstRows c n ≡ n
 unfolding firstRows
 firstRows-exact c n x =
-    rw (take-exact _ (n .positions) (x .positions), take-exact _ (n .points) (x .points), take-exact _ (n .edges) (x .edges),
-      take-exact _ (n .intervals) (x .intervals), take-exact _ (n .faces) (x .faces))
+    rw (
+      take-exact _ (n .positions) (x .positions),
+      take-exact _ (n .points) (x .points),
+      take-exact _ (n .edges) (x .edges),
+      take-exact _ (n .intervals) (x .intervals),
+      take-exact _ (n .faces) (x .faces),
+    )
 
 -- Rows put over the first rows of tables stand there.
 module _ (c : Counts) (n m : Mesh) (x : Exact c n) where

@@ -28,26 +28,26 @@ use Rattle.steps.specs.Step.{numberOf, refinedCounts, firstRows, whole, 
 pub record Refinement
     (m : Mesh) (c : Counts) (t : MeshOver (Row (c .points)) (Row (c .edges)) (Row (c .faces))) (d : Closed t) (m' : Mesh) : Type 0
   where
-  -- The mesh after the step is closed, and it is the refinement of the mesh before.
-  pub holds : HoldsClosed m' (refinedCounts c .points) (refinedCounts c .edges) (refinedCounts c .faces)
-  pub numbering : Isomorphism (refined t d) (holds .mesh)
-  -- Old points and origin halves keep their rows, and the first new face of a face takes its row. The midpoint of an edge is the
-  -- destination of its row, the face point of a face the first corner of its row.
-  pub old-row : (p : Row (c .points)) → numbering .points .to (old p) .0 ≡ p .0
-  pub origin-row : (e : Row (c .edges)) → numbering .edges .to (org e) .0 ≡ e .0
-  pub first-row : (f : Row (c .faces)) → numbering .faces .to (d .faceDart f) .0 ≡ f .0
-  pub mid-row : (e : Row (c .edges)) → dest m' (e .0) ≡ numbering .points .to (mid e) .0
-  pub centre-row : (f : Row (c .faces)) → corner m' (f .0) 0 ≡ numbering .points .to (facePoint f) .0
-  -- Every position is its rule's answer.
-  pub old-point :
-      (p : Row (c .points)) →
-      positionAt (m' .positions) (numbering .points .to (old p) .0) ≡ oldPointOf m (c .edges) (p .0)
-  pub edge-point :
-      (e : Row (c .edges)) →
-      positionAt (m' .positions) (numbering .points .to (mid e) .0) ≡ edgePointOf m (c .edges) (e .0)
-  pub face-point :
-      (f : Row (c .faces)) →
-      positionAt (m' .positions) (numbering .points .to (facePoint f) .0) ≡ facePointOf m (c .edges) (f .0)
+    -- The mesh after the step is closed, and it is the refinement of the mesh before.
+    pub holds : HoldsClosed m' (refinedCounts c .points) (refinedCounts c .edges) (refinedCounts c .faces)
+    pub numbering : Isomorphism (refined t d) (holds .mesh)
+    -- Old points and origin halves keep their rows, and the first new face of a face takes its row. The midpoint of an edge is the
+    -- destination of its row, the face point of a face the first corner of its row.
+    pub old-row : (p : Row (c .points)) → numbering .points .to (old p) .0 ≡ p .0
+    pub origin-row : (e : Row (c .edges)) → numbering .edges .to (org e) .0 ≡ e .0
+    pub first-row : (f : Row (c .faces)) → numbering .faces .to (d .faceDart f) .0 ≡ f .0
+    pub mid-row : (e : Row (c .edges)) → dest m' (e .0) ≡ numbering .points .to (mid e) .0
+    pub centre-row : (f : Row (c .faces)) → corner m' (f .0) 0 ≡ numbering .points .to (facePoint f) .0
+    -- Every position is its rule's answer.
+    pub old-point :
+        (p : Row (c .points)) →
+        positionAt (m' .positions) (numbering .points .to (old p) .0) ≡ oldPointOf m (c .edges) (p .0)
+    pub edge-point :
+        (e : Row (c .edges)) →
+        positionAt (m' .positions) (numbering .points .to (mid e) .0) ≡ edgePointOf m (c .edges) (e .0)
+    pub face-point :
+        (f : Row (c .faces)) →
+        positionAt (m' .positions) (numbering .points .to (facePoint f) .0) ≡ facePointOf m (c .edges) (f .0)
 
 -- A number of a definition may have more digits than a binary64 number. Those that are stored in the tables are binary64.
 abbrev pub Binary64 : Counts → Mesh → Type 0
@@ -56,13 +56,13 @@ Binary64 c m = (e : ℕ) → e < c .edges → T (fits binary64 (interval m e))
 pub record Accepted
     (m : Mesh) (c : Counts) (order : List ℕ) (t : Mesh) (h : HoldsClosed m (c .points) (c .edges) (c .faces)) (c' : Counts) : Type 0
   where
-  -- V, E, F become V + E + F, 4 E, 2 E.
-  pub counts : c' ≡ refinedCounts c
-  -- What stands in the tables is the mesh that visits in the order handed in and the position rules make.
-  pub in-order :
-      made (firstRows c m) c order (firstRows (refinedCounts c) t) ≡ whole (firstRows (refinedCounts c) (step m c order t .tables))
-  pub refinement : Refinement (firstRows c m) c (h .mesh) (h .closed) (step m c order t .tables)
-  pub numbers : Binary64 (refinedCounts c) (step m c order t .tables)
+    -- V, E, F become V + E + F, 4 E, 2 E.
+    pub counts : c' ≡ refinedCounts c
+    -- What stands in the tables is the mesh that visits in the order handed in and the position rules make.
+    pub in-order :
+        made (firstRows c m) c order (firstRows (refinedCounts c) t) ≡ whole (firstRows (refinedCounts c) (step m c order t .tables))
+    pub refinement : Refinement (firstRows c m) c (h .mesh) (h .closed) (step m c order t .tables)
+    pub numbers : Binary64 (refinedCounts c) (step m c order t .tables)
 
 abbrev pub OneStep : Type 0
 OneStep =
