@@ -1,0 +1,135 @@
+-- The laws of borders. Assumes nothing.
+--     padded-set, getD-padded, length-padded     one more element is stored, one is read, the length
+--     length-again, getD-again, getD-again-more  the points followed by the first k again: how many, the points, the first again
+--     four-again                                 what stands after the first four were stored behind the last
+--     border-tables                              the border of a face in the tables of edges and faces alone
+--     border-back, border-point, border-point-again                  the border where the walk comes back, and its points by their places
+use mathlib.Core.Path.{_≡_, refl, sym, _∙_, ap, subst}
+use mathlib.Core.List.{List, [], _∷_, _++_, append-assoc, map}
+use Prim.Native.Nat.{ℕ, zero, suc, _+_, _-_, _<_, _≤_}
+use native.Mathlib.Nat.{le-of-suc-le-suc}
+use native.Mathlib.Omega.{arith}
+use native.Mathlib.Decide.{decLt}
+use lib.ListN.{length, getD, set, replicate, length-append, length-replicate, List·getD-append, length-map}
+use lib.Seq.{set-append-seam, getD-at}
+use Rattle.tables.specs.Mesh.{Mesh}
+use Rattle.audited_meshes.specs.Walks.{Walk, back, lost, firstPoint, faceWalk}
+use Rattle.walks.specs.Steps.{faceTables}
+use Rattle.walks.specs.Border.{padded, again, borderOf, border}
+
+less-one : (k n : ℕ) → n < k → k - n ≡ suc (k - suc n)
+less-one k n l = omega arith
+
+fewer : (k n : ℕ) → k - suc n ≡ k - (n + 1)
+fewer k n = omega arith
+
+pub padded-set : (k : ℕ) (xs : List ℕ) (v : ℕ) → length xs < k → set (padded k xs) (length xs) v ≡ padded k (xs ++ v ∷ [])
+unfolding padded
+padded-set k xs v l =
+    rw (less-one k (length xs) l, set-append-seam, length-append, append-assoc) (ap (λ (j : ℕ). xs ++ v ∷ replicate j 0) (fewer k (length xs)))
+
+getD-replicate : (j i : ℕ) → _≡_ {A = ℕ} (getD (replicate j 0) i 0) 0
+getD-replicate zero i = refl
+getD-replicate (suc j) zero = refl
+getD-replicate (suc j) (suc i) = getD-replicate j i
+
+getD-zeros : (j : ℕ) (xs : List ℕ) (i : ℕ) → getD (xs ++ replicate j 0) i 0 ≡ getD xs i 0
+getD-zeros j [] i = getD-replicate j i
+getD-zeros j (x ∷ xs) zero = refl
+getD-zeros j (x ∷ xs) (suc i) = getD-zeros j xs i
+
+pub getD-padded : (k : ℕ) (xs : List ℕ) (i : ℕ) → getD (padded k xs) i 0 ≡ getD xs i 0
+unfolding padded
+getD-padded k xs i = getD-zeros (k - length xs) xs i
+
+pub length-padded : (k : ℕ) (xs : List ℕ) → length xs ≤ k → length (padded k xs) ≡ k
+unfolding padded
+length-padded k xs l = length-append xs (replicate (k - length xs) 0) ∙ rw length-replicate (omega arith)
+
+pub length-again : (k : ℕ) (ps : List ℕ) → length (again k ps) ≡ length ps + k
+unfolding again
+length-again zero ps = omega arith
+length-again (suc k) ps = length-append (again k ps) (getD (again k ps) k 0 ∷ []) ∙ omega (arith, length-again k ps)
+
+-- one point more is stored behind the last
+pub padded-again : (k : ℕ) (ps : List ℕ) → length ps + k < 68
+    → set (padded 68 (again k ps)) (length ps + k) (getD (padded 68 (again k ps)) k 0) ≡ padded 68 (again (suc k) ps)
+unfolding again
+padded-again k ps l =
+    rw (getD-padded 68 (again k ps) k, sym (length-again k ps)) (padded-set 68 (again k ps) (getD (again k ps) k 0) (omega (arith, length-again k ps)))
+
+pub getD-again : (k : ℕ) (ps : List ℕ) (i : ℕ) → i < length ps → getD (again k ps) i 0 ≡ getD ps i 0
+unfolding again
+getD-again zero ps i l = refl
+getD-again (suc k) ps i l =
+    List·getD-append (again k ps) (getD (again k ps) k 0 ∷ []) 0 i (omega (arith, length-again k ps)) ∙ getD-again k ps i l
+
+-- the place j behind the last point has what stands at the place j
+pub getD-again-more : (k : ℕ) (ps : List ℕ) (j : ℕ) → 0 < length ps → j < k → getD (again k ps) (length ps + j) 0 ≡ getD (again k ps) j 0
+unfolding again
+getD-again-more zero ps j h l = absurd (omega arith)
+getD-again-more (suc k) ps j h l = go (decLt j k) (getD-again-more k ps j h)
+  where
+    longer : (i : ℕ) → i < length ps + k → getD (again (suc k) ps) i 0 ≡ getD (again k ps) i 0
+    longer i b = List·getD-append (again k ps) (getD (again k ps) k 0 ∷ []) 0 i (omega (arith, length-again k ps))
+
+    last : getD (again (suc k) ps) (length ps + k) 0 ≡ getD (again k ps) k 0
+    last = getD-at (again k ps) (getD (again k ps) k 0) [] 0 (length ps + k) (length-again k ps)
+
+    go : Dec (j < k) → (j < k → getD (again k ps) (length ps + j) 0 ≡ getD (again k ps) j 0)
+        → getD (again (suc k) ps) (length ps + j) 0 ≡ getD (again (suc k) ps) j 0
+    go (yes b) ih = longer (length ps + j) (omega arith) ∙ ih b ∙ sym (longer j (omega arith))
+    go (no b) ih =
+        let same : j ≡ k = omega arith in
+        subst (λ i. getD (again (suc k) ps) (length ps + i) 0 ≡ getD (again (suc k) ps) i 0) (sym same) (last ∙ sym (longer k (omega arith)))
+
+-- the first four are stored behind the last, one after the other
+module _ (ps : List ℕ) (n : ℕ) (h : n ≤ 64) (q : length ps ≡ n) where
+  once-more : (k i : ℕ) → k < 4 → n + k ≡ i → set (padded 68 (again k ps)) i (getD (padded 68 (again k ps)) k 0) ≡ padded 68 (again (suc k) ps)
+  once-more k i l e =
+      subst (λ j. set (padded 68 (again k ps)) j (getD (padded 68 (again k ps)) k 0) ≡ padded 68 (again (suc k) ps))
+      (ap (λ (j : ℕ). j + k) q ∙ e) (padded-again k ps (omega arith))
+
+  pub four-again : (a b c d e : List ℕ) → a ≡ padded 68 ps
+      → b ≡ set a n (getD a 0 0) → c ≡ set b (n + 1) (getD b 1 0) → d ≡ set c (n + 2) (getD c 2 0) → e ≡ set d (n + 3) (getD d 3 0)
+      → e ≡ padded 68 (again 4 ps)
+  unfolding again
+  four-again a b c d e ha hb hc hd he =
+      let pb : b ≡ padded 68 (again 1 ps) = hb ∙ rw ha (once-more 0 n (omega arith) (omega arith)) in
+      let pc : c ≡ padded 68 (again 2 ps) = hc ∙ rw pb (once-more 1 (n + 1) (omega arith) (omega arith)) in
+      let pd : d ≡ padded 68 (again 3 ps) = hd ∙ rw pc (once-more 2 (n + 2) (omega arith) (omega arith)) in
+      he ∙ rw pd (once-more 3 (n + 3) (omega arith) (omega arith))
+
+pub border-tables : (m : Mesh) (ne f : ℕ) → border (faceTables (m .edges) (m .faces)) ne f ≡ border m ne f
+unfolding border faceWalk
+border-tables m ne f = go (faceWalk m ne f)
+  where
+    go : (w : Walk) → borderOf (faceTables (m .edges) (m .faces)) f w ≡ borderOf m f w
+    go (back es) = refl
+    go lost = refl
+
+pub border-back : (m : Mesh) (ne f : ℕ) (es : List ℕ) → faceWalk m ne f ≡ back es → border m ne f ≡ borderOf m f (back es)
+unfolding border
+border-back m ne f es w = ap (borderOf m f) w
+
+getD-map : (g : ℕ → ℕ) (xs : List ℕ) (i : ℕ) → i < length xs → getD (map g xs) i 0 ≡ g (getD xs i 0)
+getD-map g [] i l = absurd (omega arith)
+getD-map g (x ∷ xs) zero l = refl
+getD-map g (x ∷ xs) (suc i) l = getD-map g xs i (le-of-suc-le-suc l)
+
+-- the point i is the first point of the edge i
+pub border-point : (m : Mesh) (f : ℕ) (es : List ℕ) (i : ℕ) → i < length es
+    → getD (borderOf m f (back es) .points) i 0 ≡ firstPoint m f (getD es i 0)
+border-point m f es i l =
+    getD-padded 68 (again 4 (map (firstPoint m f) es)) i
+    ∙ getD-again 4 (map (firstPoint m f) es) i (rw length-map l)
+    ∙ getD-map (firstPoint m f) es i l
+
+-- the four points behind the last are the first four
+pub border-point-again : (m : Mesh) (f : ℕ) (es : List ℕ) (j : ℕ) → 0 < length es → j < 4
+    → getD (borderOf m f (back es) .points) (length es + j) 0 ≡ getD (borderOf m f (back es) .points) j 0
+border-point-again m f es j h l =
+    let ps : List ℕ = map (firstPoint m f) es in
+    getD-padded 68 (again 4 ps) (length es + j)
+    ∙ subst (λ i. getD (again 4 ps) (i + j) 0 ≡ getD (again 4 ps) j 0) (length-map es (firstPoint m f)) (getD-again-more 4 ps j (rw length-map h) l)
+    ∙ sym (getD-padded 68 (again 4 ps) j)

@@ -1,0 +1,22 @@
+// Walks about the faces and points of a mesh in tables of any content, with the number of edges passed; the border of a face.
+// Carries over t_nurcc_iter.rs, t_nurcc_control_point.rs and t_nurcc_face.rs. A walk that leaves the rows, loses its face or
+// point, or does not meet its start within its bound is lost, and says so.
+// Not here: whether the mesh is closed (`audit`).
+// Definitions: `specs/Steps.antt`, `specs/Border.antt`. Laws for callers: `proofs/Laws.antt`.
+mod t_nurcc_face;
+mod t_nurcc_iter;
+
+// One step of a walk about a face: the point at which the walk comes to the edge, and the next edge; or the walk is lost.
+pub enum FaceStep {
+    To { point: u32, next: u32 },
+    Lost,
+}
+
+// The border of a face: whether the walk met its start; then the number of edges, the edges, and the points at which the walk
+// comes to each of them, followed by the first four again. The rest of the arrays is 0.
+pub struct FaceBorder {
+    pub back: bool,
+    pub n: usize,
+    pub edges: [u32; 64],
+    pub points: [u32; 68],
+}
