@@ -10,22 +10,13 @@ use lib.Dec.{eqb, ltb}
 use lib.ListN.{length, getD, set, replicate, length-append, length-map}
 use Rattle.tables.specs.Mesh.{Mesh, faceStart}
 use Rattle.audited_meshes.specs.Walks.{Walk, back, lost, borders, acwOfFace, firstPoint, faceWalk, walk}
-use Rattle.walks.specs.declared.FaceStep.{FaceStep}
-use Rattle.walks.specs.declared.FaceStep.the-variants.{To, Lost}
+use Rattle.walks.specs.declared.Step.the-variants.{To, Lost}
 use Rattle.walks.specs.declared.FaceBorder.{FaceBorder}
 use Rattle.walks.specs.Steps.{toIf}
 use Rattle.walks.specs.Border.{padded, again, borderOf, border}
+use Rattle.walks.proofs.Steps.{to-is, lost-is}
 use Rattle.walks.proofs.Walking.{Walking, walking-start, walking-more, walking-lost, walking-last, walking-out}
 use Rattle.walks.proofs.Laws.{padded-set}
-
--- what an answer of a step says of its test
-to-is : (b : Bool) (p e q i : ℕ) → To q i ≡ toIf b p e → (b ≡ true) × (p ≡ q) × (e ≡ i)
-to-is true p e q i h = (refl, (cc), (cc))
-to-is false p e q i h = let z : _≡_ {A = ℕ} 0 1 = cc in absurd (omega arith)
-
-lost-is : (b : Bool) (p e : ℕ) → Lost ≡ toIf b p e → b ≡ false
-lost-is true p e h = let z : _≡_ {A = ℕ} 0 1 = cc in absurd (omega arith)
-lost-is false p e h = refl
 
 map-snoc : (g : ℕ → ℕ) (xs : List ℕ) (v : ℕ) → map g (xs ++ v ∷ []) ≡ map g xs ++ g v ∷ []
 map-snoc g [] v = refl

@@ -1,3 +1,9 @@
+pub mod Steps
 pub mod Walking
+pub mod Counting
+pub mod Seeking
+pub mod Back
+pub mod Radial
 pub mod Laws
 pub mod Border
+pub mod Claims

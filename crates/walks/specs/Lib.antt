@@ -1,2 +1,4 @@
 pub mod Steps
 pub mod Border
+pub mod Neighbour
+pub mod Claims

@@ -3,13 +3,27 @@
 // point, or does not meet its start within its bound is lost, and says so.
 // Not here: whether the mesh is closed (`audit`).
 // Definitions: `specs/Steps.antt`, `specs/Border.antt`. Laws for callers: `proofs/Laws.antt`.
-mod t_nurcc_face;
-mod t_nurcc_iter;
+pub mod t_nurcc_control_point;
+pub mod t_nurcc_face;
+pub mod t_nurcc_iter;
 
-// One step of a walk about a face: the point at which the walk comes to the edge, and the next edge; or the walk is lost.
-pub enum FaceStep {
+// One step of a walk: the next edge, and a point of the edge that it leaves (about a face, the point at which the walk came to
+// that edge; about a point, its other end); or the walk is lost.
+pub enum Step {
     To { point: u32, next: u32 },
     Lost,
+}
+
+// The number of edges that a walk passed before it met its start; or the walk is lost.
+pub enum Passed {
+    Back(usize),
+    Lost,
+}
+
+// An edge that is looked for.
+pub enum FoundEdge {
+    At(u32),
+    Nowhere,
 }
 
 // The border of a face: whether the walk met its start; then the number of edges, the edges, and the points at which the walk

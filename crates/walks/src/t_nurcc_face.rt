@@ -6,7 +6,7 @@ ghost use lib.ListN.{length};
 ghost use Rattle.walks.specs.Steps.{faceTables};
 ghost use Rattle.walks.specs.Border.{padded, again, border};
 use crate::FaceBorder;
-use crate::FaceStep;
+use crate::Step;
 use crate::t_nurcc_iter::face_step;
 use tables::index;
 
@@ -35,7 +35,7 @@ pub fn border(edges: &[u32], faces: &[u32], ne: usize, f: usize) -> FaceBorder
     let mut n = 0;
     let mut e = start;
     while n < 64 {
-        let FaceStep::To { point, next } = face_step(edges, ne, f, index(e)) else {
+        let Step::To { point, next } = face_step(edges, ne, f, index(e)) else {
             return FaceBorder {
                 back: false,
                 n: 0,

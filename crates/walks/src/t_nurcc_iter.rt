@@ -1,31 +1,101 @@
 // One step anticlockwise about a face or a point, and the walks that count.
 ghost use mathlib.Core.Path.{_≡_};
-ghost use Prim.Native.Nat.{_*_, _≤_};
+ghost use Prim.Native.Nat.{_+_, _*_, _≤_};
 ghost use lib.ListN.{length};
-ghost use Rattle.walks.specs.Steps.{faceTables, faceStep};
-use crate::FaceStep;
+ghost use Rattle.audited_meshes.specs.Walks.{faceWalk, pointWalk};
+ghost use Rattle.walks.specs.Steps.{faceTables, pointTables, faceStep, pointStep, passedBy};
+use crate::Passed;
+use crate::Step;
 use tables::index;
 
 // One step about face f from edge e, among the edges below ne.
-pub fn face_step(edges: &[u32], ne: usize, f: usize, e: usize) -> FaceStep
+pub fn face_step(edges: &[u32], ne: usize, f: usize, e: usize) -> Step
     requires { ⌜ ne * 8 ≤ length (now edges) ⌝ }
     ensures { λ r. ⌜ r ≡ faceStep (now (edges .entry)) ne f e ⌝ }
 {
     if ne <= e {
-        return FaceStep::Lost;
+        return Step::Lost;
     }
     let b = e * 8;
     if index(edges[b + 2]) == f {
-        return FaceStep::To {
+        return Step::To {
             point: edges[b],
             next: edges[b + 5],
         };
     }
     if index(edges[b + 3]) == f {
-        return FaceStep::To {
+        return Step::To {
             point: edges[b + 1],
             next: edges[b + 7],
         };
     }
-    FaceStep::Lost
+    Step::Lost
+}
+
+// One step about point p from edge e, among the edges below ne.
+pub fn point_step(edges: &[u32], ne: usize, p: usize, e: usize) -> Step
+    requires { ⌜ ne * 8 ≤ length (now edges) ⌝ }
+    ensures { λ r. ⌜ r ≡ pointStep (now (edges .entry)) ne p e ⌝ }
+{
+    if ne <= e {
+        return Step::Lost;
+    }
+    let b = e * 8;
+    if index(edges[b]) == p {
+        return Step::To {
+            point: edges[b + 1],
+            next: edges[b + 4],
+        };
+    }
+    if index(edges[b + 1]) == p {
+        return Step::To {
+            point: edges[b],
+            next: edges[b + 6],
+        };
+    }
+    Step::Lost
+}
+
+// The number of edges that the walk about face f passes, of at most 64.
+pub fn face_walk(edges: &[u32], faces: &[u32], ne: usize, f: usize) -> Passed
+    requires { ⌜ ne * 8 ≤ length (now edges) ⌝ }
+    requires { ⌜ f * 5 + 5 ≤ length (now faces) ⌝ }
+    ensures { λ r. ⌜ r ≡ passedBy (faceWalk (faceTables (now (edges .entry)) (now (faces .entry))) ne f) ⌝ }
+{
+    let start = faces[f * 5];
+    let mut n = 0;
+    let mut e = start;
+    while n < 64 {
+        let Step::To { point: _, next } = face_step(edges, ne, f, index(e)) else {
+            return Passed::Lost;
+        };
+        n += 1;
+        if next == start {
+            return Passed::Back(n);
+        }
+        e = next;
+    }
+    Passed::Lost
+}
+
+// The number of edges that the walk about point p passes, of at most k.
+pub fn point_walk(edges: &[u32], points: &[u32], ne: usize, k: usize, p: usize) -> Passed
+    requires { ⌜ ne * 8 ≤ length (now edges) ⌝ }
+    requires { ⌜ p * 3 + 3 ≤ length (now points) ⌝ }
+    ensures { λ r. ⌜ r ≡ passedBy (pointWalk (pointTables (now (points .entry)) (now (edges .entry))) ne k p) ⌝ }
+{
+    let start = points[p * 3 + 1];
+    let mut n = 0;
+    let mut e = start;
+    while n < k {
+        let Step::To { point: _, next } = point_step(edges, ne, p, index(e)) else {
+            return Passed::Lost;
+        };
+        n += 1;
+        if next == start {
+            return Passed::Back(n);
+        }
+        e = next;
+    }
+    Passed::Lost
 }

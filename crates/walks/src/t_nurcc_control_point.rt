@@ -1,0 +1,84 @@
+// The radial edges of a point, and the edge to a neighbour.
+ghost use mathlib.Core.Path.{_≡_};
+ghost use mathlib.Core.List.{[]};
+ghost use Prim.Native.Nat.{_+_, _*_, _≤_};
+ghost use lib.ListN.{length};
+ghost use Rattle.audited_meshes.specs.Walks.{touches, acwOfPoint, pointWalk};
+ghost use Rattle.walks.specs.Steps.{faceTables, pointTables, passedBy, radialOver};
+ghost use Rattle.walks.specs.Neighbour.{edgeTo};
+use crate::FoundEdge;
+use crate::Passed;
+use crate::Step;
+use crate::t_nurcc_iter::point_step;
+use crate::t_nurcc_iter::point_walk;
+use tables::index;
+
+// The edges about point p, anticlockwise from its start edge, in the lent words: as many as the walk passes, none if it is lost.
+pub fn radial_edges(edges: &[u32], points: &[u32], ne: usize, p: usize, radial: &mut [u32]) -> Passed
+    requires { ⌜ ne * 8 ≤ length (now edges) ⌝ }
+    requires { ⌜ p * 3 + 3 ≤ length (now points) ⌝ }
+    ensures { λ r. ⌜ r ≡ passedBy (pointWalk (pointTables (now (points .entry)) (now (edges .entry))) ne (length (now (radial .entry))) p) ⌝ }
+    ensures { λ r. ⌜ now (radial .exit) ≡ radialOver (pointWalk (pointTables (now (points .entry)) (now (edges .entry))) ne (length (now (radial .entry))) p) (now (radial .entry)) ⌝ }
+{
+    let k = radial.len();
+    let Passed::Back(n) = point_walk(edges, points, ne, k, p) else {
+        return Passed::Lost;
+    };
+    let mut i = 0;
+    let mut e = points[p * 3 + 1];
+    while i < n {
+        radial[i] = e;
+        e = acw_of_point(edges, p, index(e));
+        i += 1;
+    }
+    Passed::Back(n)
+}
+
+// The next edge anticlockwise about point p from edge e, which touches it.
+pub fn acw_of_point(edges: &[u32], p: usize, e: usize) -> u32
+    requires { ⌜ e * 8 + 8 ≤ length (now edges) ⌝ }
+    ensures { λ r. ⌜ r ≡ acwOfPoint (faceTables (now (edges .entry)) []) p e ⌝ }
+{
+    let b = e * 8;
+    if index(edges[b]) == p {
+        return edges[b + 4];
+    }
+    edges[b + 6]
+}
+
+// Whether point p is an end of edge e.
+pub fn touches(edges: &[u32], p: usize, e: usize) -> bool
+    requires { ⌜ e * 8 + 8 ≤ length (now edges) ⌝ }
+    ensures { λ r. ⌜ r ≡ touches (faceTables (now (edges .entry)) []) p e ⌝ }
+{
+    let b = e * 8;
+    if index(edges[b]) == p {
+        return true;
+    }
+    index(edges[b + 1]) == p
+}
+
+// The first edge about point p, of at most k from its start edge, that touches point q too.
+pub fn edge_from_opposing_point(edges: &[u32], points: &[u32], ne: usize, k: usize, p: usize, q: usize) -> FoundEdge
+    requires { ⌜ ne * 8 ≤ length (now edges) ⌝ }
+    requires { ⌜ p * 3 + 3 ≤ length (now points) ⌝ }
+    ensures { λ r. ⌜ r ≡ edgeTo (pointTables (now (points .entry)) (now (edges .entry))) ne k p q ⌝ }
+{
+    let start = points[p * 3 + 1];
+    let mut n = 0;
+    let mut e = start;
+    while n < k {
+        let Step::To { point: _, next } = point_step(edges, ne, p, index(e)) else {
+            return FoundEdge::Nowhere;
+        };
+        if touches(edges, q, index(e)) {
+            return FoundEdge::At(e);
+        }
+        n += 1;
+        if next == start {
+            return FoundEdge::Nowhere;
+        }
+        e = next;
+    }
+    FoundEdge::Nowhere
+}
