@@ -1,0 +1,91 @@
+// Faces entered into the tables: one place of a perimeter after the other, each edge connected to the one before and the first to
+// the last, then the face's row (document 01, "Building"; grounds 10 to 15).
+// Carries over the loop of `try_new` of t_nurcc/mod.rs.
+// Not here: the grounds of the lists and of the whole (`building_tests`, `building`).
+// Definitions: `Perimeters` and `Building` of `built_meshes`; `specs/Rings.antt`. Laws: `proofs/Turns.antt`.
+ghost use mathlib.Core.Path.{_≡_};
+ghost use mathlib.Core.List.{List, []};
+ghost use Prim.Native.Nat.{ℕ, _+_, _*_, _/_, _≤_, _<_};
+ghost use lib.Ieee.{Float};
+ghost use lib.ListN.{length, getD};
+ghost use Rattle.closed_meshes.specs.Renumbering.{sumTo};
+ghost use Rattle.built_meshes.specs.Lists.{size};
+ghost use Rattle.built_meshes.specs.Perimeters.{Ring, State, Step, on, nextPlace, turn, places, closedUp};
+ghost use Rattle.built_meshes.specs.Building.{facePassed, facesFrom};
+ghost use Rattle.building_tests.specs.Lent.{lists};
+ghost use Rattle.edge_search.specs.Chains.{Standing};
+ghost use Rattle.edge_search.specs.Places.{mesh};
+ghost use Rattle.building_faces.specs.Rings.{ringOf, turnOf, stateOf, Lent, Placed, Closing, TurnStands, FaceStands};
+use building_tests::faces::face_size;
+use building_tests::faces::face_verdict;
+use built_meshes::Ground;
+use built_meshes::Verdict;
+use edge_search::Entry;
+use edge_search::enter;
+use t_nurcc_edge::connect;
+use t_spline::NONE;
+use t_spline::TnurccFace;
+use tables::index;
+use tables::store_face;
+
+// A perimeter under way: how many edges there are, the perimeter's first edge and the one of the place before.
+pub struct RingEdges {
+    pub edges: u32,
+    pub first: u32,
+    pub before: u32,
+}
+
+// What a turn answers.
+pub enum Turned {
+    On(RingEdges),
+    Stopped(Ground),
+}
+
+// What a face answers: how many edges there are then, or the ground.
+pub enum Faced {
+    On(u32),
+    Stopped(Ground),
+}
+
+// The place after place i of n.
+fn next_place(n: usize, i: usize) -> usize
+    requires { ⌜ i < n ⌝ }
+    ensures { λ r. ⌜ r ≡ nextPlace n i ⌝ }
+{
+    if i + 1 == n { 0 } else { i + 1 }
+}
+
+// Enters place i of the perimeter of face f, and connects its edge to the one before.
+fn turn_place(listed: &[u32], beside: &[f64], points: &mut [u32], edges: &mut [u32], intervals: &mut [f64], chain: &mut [u32], np: usize, ring: RingEdges, f: u32, a: usize, n: usize, i: usize) -> Turned
+    requires { ⌜ Standing np (now points) (now edges) (now chain) (ring .edges) ⌝ }
+    requires { ⌜ Lent np (now listed) (now beside) (now edges) (now intervals) (now chain) ⌝ }
+    requires { ⌜ Placed np (now listed) a n ⌝ }
+    requires { ⌜ i < n ⌝ }
+    requires { ⌜ ring .edges ≤ a + i ⌝ }
+    requires { ⌜ (0 < i → Closing ring) ⌝ }
+    ensures { λ r. ⌜ ((cs : List Float) (ss : List ℕ) (ps : List Float) (fs : List ℕ) → _≡_ {A = Step Ring} (turnOf (mesh ps (now (points .exit)) (now (edges .exit)) (now (intervals .exit)) fs) r) (turn (lists cs ss (now (listed .entry)) (now (beside .entry))) f a n i (ringOf (mesh ps (now (points .entry)) (now (edges .entry)) (now (intervals .entry)) fs) ring))) ⌝ }
+    ensures { λ r. ⌜ TurnStands np (now (points .exit)) (now (edges .exit)) (now (chain .exit)) (a + i + 1) r ⌝ }
+{
+    let p = listed[a + i];
+    let q = listed[a + next_place(n, i)];
+    let v = beside[a + i];
+    let k = ring.edges;
+    match enter(points, edges, intervals, chain, np, k, f, p, q, v) {
+        Entry::Made { edges: count, edge } => {
+            if i == 0 {
+                return Turned::On(RingEdges {
+                    edges: count,
+                    first: edge,
+                    before: edge,
+                });
+            }
+            connect(edges, intervals, edge, ring.before);
+            Turned::On(RingEdges {
+                edges: count,
+                first: ring.first,
+                before: edge,
+            })
+        }
+        Entry::Refused(g) => Turned::Stopped(g),
+    }
+}
