@@ -1,1 +1,15 @@
-
+pub mod Connecting
+pub mod Rows
+pub mod Places
+pub mod Beyond
+pub mod Invariant
+pub mod Joining
+pub mod Entering
+pub mod Perimeter
+pub mod Faces
+pub mod Whole
+pub mod Begin
+pub mod Finished
+pub mod Refusals
+pub mod Theorem
+pub mod Cases

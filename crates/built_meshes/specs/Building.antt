@@ -1,5 +1,6 @@
 -- Building: every set of lists becomes a mesh in the lent tables, or meets the first ground that holds.
 --     numberOf g              document 01's number of a ground
+--     numbersOf a             document 01's numbers for an answer: points, edges and faces, or that of the ground
 --     zeroedRows l m          the tables m with the rows that ground 4 counts made zero
 --     facePassed, facesFrom   one face with its tests, and k faces from face f on
 --     wholeVerdict m np ne    the first of the grounds 20, 21 and 22 that holds of the tables
@@ -9,7 +10,7 @@
 --     build c l m             building from the lists l in the lent tables m, within the limits c
 -- Grounds 2 to 4 leave the tables as they are, the others leave the counted rows zero; rows beyond are never touched.
 use mathlib.Core.Bool.{Bool, true, false, not, _&&_, cond}
-use mathlib.Core.List.{List}
+use mathlib.Core.List.{List, [], _∷_}
 use Prim.Native.Nat.{ℕ, zero, suc, _+_, _*_}
 use lib.Dec.{eqb, ltb}
 use lib.ListN.{length, getD, set}
@@ -42,6 +43,10 @@ numberOf SameWay = 15
 numberOf MissingFace = 20
 numberOf NoEdge = 21
 numberOf MissedEdge = 22
+
+abbrev pub numbersOf : Built → List ℕ
+numbersOf (Accepted k) = k .points ∷ k .edges ∷ k .faces ∷ []
+numbersOf (Refused g) = numberOf g ∷ []
 
 unfoldable pub zeroedRows : Lists → Mesh → Mesh
 unfolding zeroed

@@ -2,3 +2,8 @@ pub mod Lists
 pub mod Faces
 pub mod Perimeters
 pub mod Building
+pub mod Places
+pub mod Beyond
+pub mod Grounds
+pub mod Claims
+pub mod Pieces

@@ -1,0 +1,28 @@
+-- The places of the lists: place i of face f is the edge from its point i to its point i + 1, round to the start.
+--     pointOf l f i           the point at which the place begins
+--     nextOf l f i            the point at which it ends
+--     IsPlace l f i           face f has a place i
+--     Runs l f i p q          place i of face f runs from p to q
+--     Differ f i g j          the places are two
+use mathlib.Core.Path.{_≡_}
+use Prim.Native.Nat.{ℕ, _<_}
+use Rattle.built_meshes.specs.Lists.{Lists, facesOf, size, offset}
+use Rattle.built_meshes.specs.Faces.{listedAt}
+use Rattle.built_meshes.specs.Perimeters.{nextPlace}
+
+abbrev pub pointOf : Lists → ℕ → ℕ → ℕ
+pointOf l f i = listedAt l (offset l f) i
+
+abbrev pub nextOf : Lists → ℕ → ℕ → ℕ
+nextOf l f i = pointOf l f (nextPlace (size l f) i)
+
+abbrev pub IsPlace : Lists → ℕ → ℕ → Type 0
+IsPlace l f i = (f < facesOf l) × (i < size l f)
+
+pub record Runs (l : Lists) (f i p q : ℕ) : Type 0 where
+  pub is-place : IsPlace l f i
+  pub begins : pointOf l f i ≡ p
+  pub ends : nextOf l f i ≡ q
+
+abbrev pub Differ : ℕ → ℕ → ℕ → ℕ → Type 0
+Differ f i g j = ¬ ((f ≡ g) × (i ≡ j))
