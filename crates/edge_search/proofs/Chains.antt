@@ -28,6 +28,7 @@ use Rattle.built_meshes.specs.declared.Found.{Found}
 use Rattle.built_meshes.specs.declared.Found.the-variants.{At, Nothing}
 use Rattle.built_meshes.specs.declared.Ground.the-variants.{EdgeTripleFace, SameWay}
 use Rattle.built_meshes.specs.Perimeters.{joins, orLast, edgeBetween, newEdge, enteredAt, enteredIf, entered, filled}
+use Rattle.built_meshes.proofs.Entering.{Finds, finds, finds-none, found-is}
 use Rattle.edge_search.specs.Chains.{edgeTable, linkTo, SameEnds, Newest, olderLink, Chained, Standing}
 use Rattle.edge_search.specs.Places.{mesh, EnteredBy, FilledBy, StandingAfter}
 use Rattle.edge_search.specs.declared.Entry.{Entry}
@@ -77,16 +78,12 @@ edgeBetween-gap m p q l (suc b) h n = go (decLe l b) (λ g. edgeBetween-gap m p 
         (orLast-none (edgeBetween m b p q) b ∙ rest g)
     go (no g) rest = let s : suc b ≡ l = omega arith in ap (λ (i : ℕ). edgeBetween m i p q) s
 
-orLast-below : (x : Found) (b : Bool) (k e : ℕ) → ((i : ℕ) → x ≡ At i → i < k) → orLast x b k ≡ At e → e < suc k
-orLast-below (At i) b k e h q = let s : i ≡ e = cc in let l : i < k = h i refl in omega arith
-orLast-below Nothing true k e h q = let s : k ≡ e = cc in omega arith
-orLast-below Nothing false k e h q = let z : _≡_ {A = ℕ} 0 1 = cc in absurd (omega arith)
-
 pub edgeBetween-below : (m : Mesh) (k p q e : ℕ) → edgeBetween m k p q ≡ At e → e < k
-unfolding edgeBetween
-edgeBetween-below m zero p q e h = let z : _≡_ {A = ℕ} 0 1 = cc in absurd (omega arith)
-edgeBetween-below m (suc k) p q e h =
-    orLast-below (edgeBetween m k p q) (joins m p q k) k e (λ i g. edgeBetween-below m k p q i g) h
+edgeBetween-below m k p q e h = below (edgeBetween m k p q) (found-is m k p q) h
+  where
+    below : (x : Found) → Finds m k p q x → x ≡ At e → e < k
+    below x (finds {e = i} l j) s = let same : i ≡ e = cc in omega arith
+    below x (finds-none n) s = let z : _≡_ {A = ℕ} 0 1 = cc in absurd (omega arith)
 
 -- ---- the newest edge
 
