@@ -11,13 +11,15 @@ use lib.Ieee.{Float, nan}
 use lib.ListN.{length, getD}
 use borrow.Author.Tests.{ltb-true, eqb-false}
 use Rattle.tables.specs.Mesh.{Mesh, none, origin, rightFace}
+use Rattle.tables.specs.Rows.{putRow}
+use Rattle.tables.specs.Records.{faceWords}
 use Rattle.t_nurcc_edge.specs.Connected.{connectedRows}
 use Rattle.t_nurcc_edge.proofs.Laws.{length-connectedRows}
 use Rattle.audited_meshes.specs.Folds.{every}
 use Rattle.audited_meshes.proofs.Tests.{every-is, self-is}
 use Rattle.built_meshes.specs.Lists.{Lists}
 use Rattle.built_meshes.specs.Faces.{listedAt, inRange}
-use Rattle.built_meshes.specs.Perimeters.{State, Ring, Step, on, stopped, Entered, at, refused, edgeBetween, enteredAt, enteredIf, entered, joined, withEdges, nextPlace, turned, turn, places}
+use Rattle.built_meshes.specs.Perimeters.{State, Ring, Step, on, stopped, Entered, at, refused, edgeBetween, enteredAt, enteredIf, entered, joined, withEdges, nextPlace, turned, turn, faceOf, closedUp}
 use Rattle.built_meshes.specs.declared.Ground.{Ground}
 use Rattle.built_meshes.specs.declared.Found.{Found}
 use Rattle.built_meshes.specs.declared.Found.the-variants as Founds
@@ -27,9 +29,10 @@ use Rattle.edge_search.specs.Places.{mesh, Place, placeOf, entering, EnteredBy}
 use Rattle.edge_search.specs.declared.Entry.{Entry}
 use Rattle.edge_search.specs.declared.Entry.the-variants.{Made, Refused}
 use Rattle.edge_search.proofs.Chains.{edgeBetween-below, standing-ends}
-use Rattle.building_faces.specs.Rings.{ringOf, Lent, Placed, Closing, TurnStands}
+use Rattle.building_faces.specs.Rings.{ringOf, Lent, Placed, Closing, TurnStands, FaceStands}
 use Rattle.building_faces.specs.declared.RingEdges.{RingEdges}
 use Rattle.building_faces.specs.declared.Turned.the-variants as Turns
+use Rattle.building_faces.specs.declared.Faced.the-variants as Faces
 use Rattle.building_faces.proofs.Ends.{connected-ends}
 
 -- ---- what an entry says
@@ -127,6 +130,20 @@ module _ (cs : List Float) (ss ls : List ℕ) (be : List Float) (f a n i next p 
   turn-more c e es h z s =
       rw (turn-is, entering-at m new c e (entered m (ring .edges) f p q v) h, chained-joined i c e z, s)
 
+-- ---- two edges connected while k edges stand
+
+module _ (np : ℕ) (pts es ch : List ℕ) (k e o : ℕ) (h : Standing np pts es ch k) (below : e < k) (other-below : o < k) where
+  pub connect-fits : (is : List Float) → k ≤ length is
+      → (e * 8 + 8 ≤ length es) × ((o * 8 + 8 ≤ length es) × ((e < length is) × (o < length is)))
+  connect-fits is room = let fit = h .edges-fit in (omega arith, (omega arith, (omega arith, omega arith)))
+
+  pub standing-connected : (is : List Float) (new : List ℕ) → new ≡ connectedRows es is e o → Standing np pts new ch k
+  standing-connected is new s =
+      let fit = h .edges-fit in
+      rw s
+      (standing-ends np pts es (connectedRows es is e o) ch k (connected-ends es is e o (omega arith) (omega arith))
+      (length-connectedRows es is e o) h)
+
 -- ---- what stands after a turn: k edges stood before it, and at most `most` stand after it
 
 module _ (np : ℕ) (pts es ch : List ℕ) (k c e most : ℕ) (h : Standing np pts es ch c) (n : Counted k c e) (few : k + 1 ≤ most) where
@@ -136,24 +153,37 @@ module _ (np : ℕ) (pts es ch : List ℕ) (k c e most : ℕ) (h : Standing np p
       (h, omega arith, record { first-edge = n .edge-below; before-edge = n .edge-below })
 
   module _ (ring : RingEdges) (count : ring .edges ≡ k) (closing : Closing ring) where
-    pub joined-fits : (is : List Float) → most ≤ length is → (e * 8 + 8 ≤ length es) × ((ring .before * 8 + 8 ≤ length es) × ((e < length is) × (ring .before < length is)))
-    joined-fits is room =
-        let fit = h .edges-fit in
-        let a = n .one-more in
-        let b = n .more in
-        let d = n .edge-below in
-        let o = closing .before-edge in
-        (omega arith, (omega arith, (omega arith, omega arith)))
+    before-below : ring .before < c
+    before-below = let b = n .more in let o = closing .before-edge in omega arith
+
+    pub joined-fits : (is : List Float) → most ≤ length is
+        → (e * 8 + 8 ≤ length es) × ((ring .before * 8 + 8 ≤ length es) × ((e < length is) × (ring .before < length is)))
+    joined-fits is room = let a = n .one-more in connect-fits np pts es ch c e (ring .before) h (n .edge-below) before-below is (omega arith)
 
     pub stands-more : (is : List Float) (new : List ℕ) → new ≡ connectedRows es is e (ring .before)
         → TurnStands np pts new ch most (Turns.On (record { edges = c; first = ring .first; before = e }))
     stands-more is new s =
-        let fit = h .edges-fit in
         let a = n .one-more in
         let b = n .more in
-        let d = n .edge-below in
-        let o = closing .before-edge in
         let f = closing .first-edge in
-        let ends = connected-ends es is e (ring .before) (omega arith) (omega arith) in
-        (rw s (standing-ends np pts es (connectedRows es is e (ring .before)) ch c ends (length-connectedRows es is e (ring .before)) h),
-          omega arith, record { first-edge = omega arith; before-edge = d })
+        (standing-connected np pts es ch c e (ring .before) h (n .edge-below) before-below is new s, omega arith,
+          record { first-edge = omega arith; before-edge = n .edge-below })
+
+-- ---- a perimeter closed up, and its face's row stored
+
+pub closed-on : (f row : ℕ) (x : Step Ring) (ring : RingEdges) (m : Mesh) (es fs : List ℕ) → on (ringOf m ring) ≡ x
+    → es ≡ connectedRows (m .edges) (m .intervals) (ring .first) (ring .before) → row ≡ f
+    → fs ≡ putRow (m .faces) (row * 5) (faceWords (faceOf (ring .first)))
+    → _≡_ {A = Step State} (on (record { mesh = mesh (m .positions) (m .points) es (m .intervals) fs; edges = ring .edges })) (closedUp f x)
+unfolding closedUp joined
+closed-on f row x ring m es fs h a b c = rw (← h, a, c, b)
+
+pub closed-stopped : (f : ℕ) (x : Step Ring) (g : Ground) (m : Mesh) → stopped g m ≡ x → _≡_ {A = Step State} (stopped g m) (closedUp f x)
+unfolding closedUp
+closed-stopped f x g m h = rw (← h)
+
+pub face-stands : (np : ℕ) (pts es ch : List ℕ) (is : List Float) (new : List ℕ) (most : ℕ) (ring : RingEdges)
+    → TurnStands np pts es ch most (Turns.On ring) → new ≡ connectedRows es is (ring .first) (ring .before)
+    → FaceStands np pts new ch most (Faces.On (ring .edges))
+face-stands np pts es ch is new most ring h s =
+    (standing-connected np pts es ch (ring .edges) (ring .first) (ring .before) (h .0) (h .2 .first-edge) (h .2 .before-edge) is new s, h .1)

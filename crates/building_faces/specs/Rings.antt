@@ -1,5 +1,6 @@
 -- Perimeters and faces, as the code answers them, and what their code asks of what it is lent.
 --     ringOf m r              the definition's ring of the tables m and of the code's ring r
+--     ringAt m k              the definition's ring before the first place, while k edges stand
 --     turnOf m r              the ring after a turn, or its ground, with the tables m as they stand then
 --     stateOf m r             the state after a face, or its ground, with the tables m as they stand then
 --     Lent                    there is a row and links for as many edges as points are listed, and an interval beside each
@@ -25,6 +26,9 @@ use Rattle.building_faces.specs.declared.Faced.the-variants as Faces
 
 abbrev pub ringOf : Mesh → RingEdges → Ring
 ringOf m r = record { mesh = m; edges = r .edges; first = r .first; before = r .before }
+
+abbrev pub ringAt : Mesh → ℕ → Ring
+ringAt m k = record { mesh = m; edges = k; first = 0; before = 0 }
 
 abbrev pub turnOf : Mesh → Turned → Step Ring
 turnOf m (Turns.On r) = on (ringOf m r)

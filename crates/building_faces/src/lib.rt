@@ -15,7 +15,7 @@ ghost use Rattle.built_meshes.specs.Building.{facePassed, facesFrom};
 ghost use Rattle.building_tests.specs.Lent.{lists};
 ghost use Rattle.edge_search.specs.Chains.{Standing};
 ghost use Rattle.edge_search.specs.Places.{mesh};
-ghost use Rattle.building_faces.specs.Rings.{ringOf, turnOf, stateOf, Lent, Placed, Closing, TurnStands, FaceStands};
+ghost use Rattle.building_faces.specs.Rings.{ringOf, ringAt, turnOf, stateOf, Lent, Placed, Closing, TurnStands, FaceStands};
 use building_tests::faces::face_size;
 use building_tests::faces::face_verdict;
 use built_meshes::Ground;
@@ -87,5 +87,63 @@ fn turn_place(listed: &[u32], beside: &[f64], points: &mut [u32], edges: &mut [u
             })
         }
         Entry::Refused(g) => Turned::Stopped(g),
+    }
+}
+
+// Enters all n places of the perimeter of face f, while k edges stand.
+fn enter_places(listed: &[u32], beside: &[f64], points: &mut [u32], edges: &mut [u32], intervals: &mut [f64], chain: &mut [u32], np: usize, k: u32, f: u32, a: usize, n: usize) -> Turned
+    requires { ⌜ Standing np (now points) (now edges) (now chain) k ⌝ }
+    requires { ⌜ Lent np (now listed) (now beside) (now edges) (now intervals) (now chain) ⌝ }
+    requires { ⌜ Placed np (now listed) a n ⌝ }
+    requires { ⌜ 0 < n ⌝ }
+    requires { ⌜ k ≤ a ⌝ }
+    ensures { λ r. ⌜ ((cs : List Float) (ss : List ℕ) (ps : List Float) (fs : List ℕ) → _≡_ {A = Step Ring} (turnOf (mesh ps (now (points .exit)) (now (edges .exit)) (now (intervals .exit)) fs) r) (places n (lists cs ss (now (listed .entry)) (now (beside .entry))) f a n 0 (on (ringAt (mesh ps (now (points .entry)) (now (edges .entry)) (now (intervals .entry)) fs) k)))) ⌝ }
+    ensures { λ r. ⌜ TurnStands np (now (points .exit)) (now (edges .exit)) (now (chain .exit)) (a + n) r ⌝ }
+{
+    let mut ring = RingEdges {
+        edges: k,
+        first: 0,
+        before: 0,
+    };
+    let mut i = 0;
+    while i < n {
+        match turn_place(listed, beside, points, edges, intervals, chain, np, ring, f, a, n, i) {
+            Turned::On(next) => {
+                ring = next;
+            }
+            Turned::Stopped(g) => {
+                return Turned::Stopped(g);
+            }
+        }
+        i += 1;
+    }
+    Turned::On(ring)
+}
+
+// Enters the perimeter of face f, connects its first edge to its last, and stores the face's row.
+fn enter_perimeter(listed: &[u32], beside: &[f64], points: &mut [u32], edges: &mut [u32], intervals: &mut [f64], faces: &mut [u32], chain: &mut [u32], np: usize, k: u32, f: u32, a: usize, n: usize) -> Faced
+    requires { ⌜ Standing np (now points) (now edges) (now chain) k ⌝ }
+    requires { ⌜ Lent np (now listed) (now beside) (now edges) (now intervals) (now chain) ⌝ }
+    requires { ⌜ Placed np (now listed) a n ⌝ }
+    requires { ⌜ 0 < n ⌝ }
+    requires { ⌜ k ≤ a ⌝ }
+    requires { ⌜ f * 5 + 5 ≤ length (now faces) ⌝ }
+    ensures { λ r. ⌜ ((cs : List Float) (ss : List ℕ) (ps : List Float) → _≡_ {A = Step State} (stateOf (mesh ps (now (points .exit)) (now (edges .exit)) (now (intervals .exit)) (now (faces .exit))) r) (closedUp f (places n (lists cs ss (now (listed .entry)) (now (beside .entry))) f a n 0 (on (ringAt (mesh ps (now (points .entry)) (now (edges .entry)) (now (intervals .entry)) (now (faces .entry))) k))))) ⌝ }
+    ensures { λ r. ⌜ FaceStands np (now (points .exit)) (now (edges .exit)) (now (chain .exit)) (a + n) r ⌝ }
+{
+    match enter_places(listed, beside, points, edges, intervals, chain, np, k, f, a, n) {
+        Turned::On(ring) => {
+            connect(edges, intervals, ring.first, ring.before);
+            store_face(
+                faces,
+                index(f),
+                TnurccFace {
+                    edge: ring.first,
+                    corners: [NONE, NONE, NONE, NONE],
+                },
+            );
+            Faced::On(ring.edges)
+        }
+        Turned::Stopped(g) => Faced::Stopped(g),
     }
 }
