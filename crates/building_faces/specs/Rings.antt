@@ -2,9 +2,11 @@
 --     ringOf m r              the definition's ring of the tables m and of the code's ring r
 --     ringAt m k              the definition's ring before the first place, while k edges stand
 --     turnOf m r              the ring after a turn, or its ground, with the tables m as they stand then
+--     stateAt m k             the state of the tables m in which k edges stand
 --     stateOf m r             the state after a face, or its ground, with the tables m as they stand then
 --     Lent                    there is a row and links for as many edges as points are listed, and an interval beside each
 --     Placed                  n points from the place a on are listed and in range
+--     Sided                   face f has its four sides, of n points in all, and as many are listed from the place a on
 --     Closing                 the first edge of a ring and the one before are edges
 --     TurnStands, FaceStands  what holds of tables and links after a turn, and after a face
 use mathlib.Core.Path.{_≡_}
@@ -14,6 +16,7 @@ use Prim.Native.Nat.{ℕ, _+_, _*_, _≤_, _<_}
 use lib.Ieee.{Float}
 use lib.ListN.{length}
 use Rattle.tables.specs.Mesh.{Mesh}
+use Rattle.built_meshes.specs.Lists.{size}
 use Rattle.built_meshes.specs.Faces.{inRange}
 use Rattle.built_meshes.specs.Perimeters.{State, Ring, Step, on, stopped}
 use Rattle.building_tests.specs.Lent.{lists}
@@ -34,8 +37,11 @@ abbrev pub turnOf : Mesh → Turned → Step Ring
 turnOf m (Turns.On r) = on (ringOf m r)
 turnOf m (Turns.Stopped g) = stopped g m
 
+abbrev pub stateAt : Mesh → ℕ → State
+stateAt m k = record { mesh = m; edges = k }
+
 abbrev pub stateOf : Mesh → Faced → Step State
-stateOf m (Faces.On k) = on (record { mesh = m; edges = k })
+stateOf m (Faces.On k) = on (stateAt m k)
 stateOf m (Faces.Stopped g) = stopped g m
 
 pub record Lent (np : ℕ) (ls : List ℕ) (be : List Float) (es : List ℕ) (is : List Float) (ch : List ℕ) : Type 0 where
@@ -48,6 +54,11 @@ pub record Lent (np : ℕ) (ls : List ℕ) (be : List Float) (es : List ℕ) (is
 pub record Placed (np : ℕ) (ls : List ℕ) (a n : ℕ) : Type 0 where
   pub within : a + n ≤ length ls
   pub points : inRange (lists [] [] ls []) np a n ≡ true
+
+pub record Sided (ss ls : List ℕ) (f a n : ℕ) : Type 0 where
+  pub sides : f * 4 + 4 ≤ length ss
+  pub is-size : n ≡ size (lists [] ss [] []) f
+  pub within : a + n ≤ length ls
 
 pub record Closing (r : RingEdges) : Type 0 where
   pub first-edge : r .first < r .edges

@@ -7,15 +7,14 @@ ghost use mathlib.Core.Path.{_≡_};
 ghost use mathlib.Core.List.{List, []};
 ghost use Prim.Native.Nat.{ℕ, _+_, _*_, _/_, _≤_, _<_};
 ghost use lib.Ieee.{Float};
-ghost use lib.ListN.{length, getD};
-ghost use Rattle.closed_meshes.specs.Renumbering.{sumTo};
-ghost use Rattle.built_meshes.specs.Lists.{size};
+ghost use lib.ListN.{length};
+ghost use Rattle.built_meshes.specs.Lists.{offset};
 ghost use Rattle.built_meshes.specs.Perimeters.{Ring, State, Step, on, nextPlace, turn, places, closedUp};
 ghost use Rattle.built_meshes.specs.Building.{facePassed, facesFrom};
 ghost use Rattle.building_tests.specs.Lent.{lists};
 ghost use Rattle.edge_search.specs.Chains.{Standing};
 ghost use Rattle.edge_search.specs.Places.{mesh};
-ghost use Rattle.building_faces.specs.Rings.{ringOf, ringAt, turnOf, stateOf, Lent, Placed, Closing, TurnStands, FaceStands};
+ghost use Rattle.building_faces.specs.Rings.{ringOf, ringAt, turnOf, stateAt, stateOf, Lent, Placed, Sided, Closing, TurnStands, FaceStands};
 use building_tests::faces::face_size;
 use building_tests::faces::face_verdict;
 use built_meshes::Ground;
@@ -146,4 +145,50 @@ fn enter_perimeter(listed: &[u32], beside: &[f64], points: &mut [u32], edges: &m
         }
         Turned::Stopped(g) => Faced::Stopped(g),
     }
+}
+
+// Enters face f, whose n listed points stand from the place a on, if it passes its tests.
+fn enter_face(sides: &[u32], listed: &[u32], beside: &[f64], points: &mut [u32], edges: &mut [u32], intervals: &mut [f64], faces: &mut [u32], chain: &mut [u32], np: usize, k: u32, f: u32, a: usize, n: usize) -> Faced
+    requires { ⌜ Standing np (now points) (now edges) (now chain) k ⌝ }
+    requires { ⌜ Lent np (now listed) (now beside) (now edges) (now intervals) (now chain) ⌝ }
+    requires { ⌜ Sided (now sides) (now listed) f a n ⌝ }
+    requires { ⌜ k ≤ a ⌝ }
+    requires { ⌜ f * 5 + 5 ≤ length (now faces) ⌝ }
+    ensures { λ r. ⌜ ((cs : List Float) (ps : List Float) → length cs / 3 ≡ np → _≡_ {A = Step State} (stateOf (mesh ps (now (points .exit)) (now (edges .exit)) (now (intervals .exit)) (now (faces .exit))) r) (facePassed (lists cs (now (sides .entry)) (now (listed .entry)) (now (beside .entry))) f a (stateAt (mesh ps (now (points .entry)) (now (edges .entry)) (now (intervals .entry)) (now (faces .entry))) k))) ⌝ }
+    ensures { λ r. ⌜ FaceStands np (now (points .exit)) (now (edges .exit)) (now (chain .exit)) (a + n) r ⌝ }
+{
+    match face_verdict(sides, listed, beside, np, index(f), a, n) {
+        Verdict::Fit => enter_perimeter(listed, beside, points, edges, intervals, faces, chain, np, k, f, a, n),
+        Verdict::Unfit(g) => Faced::Stopped(g),
+    }
+}
+
+// Enters all faces into tables that hold none.
+pub fn enter_faces(sides: &[u32], listed: &[u32], beside: &[f64], points: &mut [u32], edges: &mut [u32], intervals: &mut [f64], faces: &mut [u32], chain: &mut [u32], np: usize) -> Faced
+    requires { ⌜ Standing np (now points) (now edges) (now chain) 0 ⌝ }
+    requires { ⌜ Lent np (now listed) (now beside) (now edges) (now intervals) (now chain) ⌝ }
+    requires { ⌜ length (now sides) / 4 ≤ 4096 ⌝ }
+    requires { ⌜ length (now sides) / 4 * 5 ≤ length (now faces) ⌝ }
+    requires { ⌜ offset (lists [] (now sides) [] []) (length (now sides) / 4) ≡ length (now listed) ⌝ }
+    ensures { λ r. ⌜ ((cs : List Float) (ps : List Float) → length cs / 3 ≡ np → _≡_ {A = Step State} (stateOf (mesh ps (now (points .exit)) (now (edges .exit)) (now (intervals .exit)) (now (faces .exit))) r) (facesFrom (length (now (sides .entry)) / 4) (lists cs (now (sides .entry)) (now (listed .entry)) (now (beside .entry))) 0 0 (on (stateAt (mesh ps (now (points .entry)) (now (edges .entry)) (now (intervals .entry)) (now (faces .entry))) 0)))) ⌝ }
+    ensures { λ r. ⌜ FaceStands np (now (points .exit)) (now (edges .exit)) (now (chain .exit)) (length (now (listed .entry))) r ⌝ }
+{
+    let nf = sides.len() / 4;
+    let mut k = 0;
+    let mut a = 0;
+    let mut f = 0;
+    while f < nf {
+        let n = face_size(sides, f);
+        match enter_face(sides, listed, beside, points, edges, intervals, faces, chain, np, k, f as u32, a, n) {
+            Faced::On(count) => {
+                k = count;
+            }
+            Faced::Stopped(g) => {
+                return Faced::Stopped(g);
+            }
+        }
+        a += n;
+        f += 1;
+    }
+    Faced::On(k)
 }
