@@ -1,0 +1,61 @@
+// Building: lists of coordinates, side lengths, listed points and intervals become a mesh in the lent tables, or meet the first ground
+// that holds (document 01, "Building" and "Grounds").
+// Carries over `try_new` of t_nurcc/mod.rs.
+// Contract: `build`. Definitions: `Building` of `built_meshes`; `specs/Concluding.antt`.
+ghost use mathlib.Core.Path.{_≡_};
+ghost use mathlib.Core.Bool.{true};
+ghost use mathlib.Core.List.{List};
+ghost use Prim.Native.Nat.{ℕ, _*_, _/_, _≤_};
+ghost use lib.ListN.{length};
+ghost use Rattle.built_meshes.specs.Lists.{countsFit, numbersFit, rowsFit};
+ghost use Rattle.built_meshes.specs.Building.{Outcome, wholeVerdict, answered, allFaces, build};
+ghost use Rattle.building_tests.specs.Lent.{lists, limitsOf};
+ghost use Rattle.edge_search.specs.Places.{mesh};
+ghost use Rattle.building.specs.Concluding.{concluded};
+use building_faces::Faced;
+use building_faces::enter_faces;
+use building_tests::Bounds;
+use building_tests::lists::counts_fit;
+use building_tests::lists::numbers_fit;
+use built_meshes::Built;
+use built_meshes::Ground;
+use built_meshes::Verdict;
+use crate::rows::rows_fit;
+use crate::rows::zero_rows;
+use crate::whole::mark_points;
+use crate::whole::whole_verdict;
+use tables::Counts;
+use tables::copy_numbers;
+use tables::index;
+
+pub mod rows;
+pub mod whole;
+
+// The verdict on the whole when k edges stand, and the tables by it: finished, or their counted rows made zero.
+fn conclude(coordinates: &[f64], positions: &mut [f64], points: &mut [u32], edges: &mut [u32], intervals: &mut [f64], faces: &mut [u32], nl: usize, nf: usize, k: u32) -> Built
+    requires { ⌜ length (now coordinates) / 3 * 3 ≤ length (now positions) ⌝ }
+    requires { ⌜ length (now coordinates) / 3 * 3 ≤ length (now points) ⌝ }
+    requires { ⌜ nl * 8 ≤ length (now edges) ⌝ }
+    requires { ⌜ nl ≤ length (now intervals) ⌝ }
+    requires { ⌜ nf * 5 ≤ length (now faces) ⌝ }
+    requires { ⌜ k ≤ nl ⌝ }
+    ensures { λ r. ⌜ _≡_ {A = Outcome} (record { answer = r; tables = mesh (now (positions .exit)) (now (points .exit)) (now (edges .exit)) (now (intervals .exit)) (now (faces .exit)) }) (concluded (now (coordinates .entry)) (length (now (coordinates .entry)) / 3) nl nf (mesh (now (positions .entry)) (now (points .entry)) (now (edges .entry)) (now (intervals .entry)) (now (faces .entry))) k (wholeVerdict (mesh (now (positions .entry)) (now (points .entry)) (now (edges .entry)) (now (intervals .entry)) (now (faces .entry))) (length (now (coordinates .entry)) / 3) k)) ⌝ }
+{
+    let np = coordinates.len() / 3;
+    let ne = index(k);
+    match whole_verdict(points, edges, np, ne) {
+        Verdict::Fit => {
+            copy_numbers(coordinates, positions, np * 3);
+            mark_points(points, np);
+            Built::Accepted(Counts {
+                points: np,
+                edges: ne,
+                faces: nf,
+            })
+        }
+        Verdict::Unfit(g) => {
+            zero_rows(positions, points, edges, intervals, faces, np, nl, nf);
+            Built::Refused(g)
+        }
+    }
+}
