@@ -2,19 +2,18 @@
 --     passes-back, passes-lost    whether a walk passes as many edges as the valence, by its answer
 --     marked-none, marked-more    the marks before the first turn, and one turn more
 --     whole-is                    the verdict on the whole by its three tests
-use mathlib.Core.Path.{_≡_, refl, sym, _∙_, ap}
-use mathlib.Core.Bool.{Bool, true, false, not, cond}
+use mathlib.Core.Path.{_≡_, refl}
+use mathlib.Core.Bool.{Bool, not, cond}
 use mathlib.Core.List.{List, []}
-use Prim.Native.Nat.{ℕ, zero, suc, _+_, _*_, _≤_, _<_}
+use Prim.Native.Nat.{ℕ, _+_, _*_}
 use native.Mathlib.Numerals.{add-one}
 use native.Mathlib.Omega.{arith}
-use lib.Dec.{eqb, ltb}
+use lib.Dec.{ltb}
 use lib.Ieee.{Float}
-use lib.ListN.{length, getD, set}
+use lib.ListN.{getD, set}
 use Rattle.tables.specs.Mesh.{Mesh}
 use Rattle.audited_meshes.specs.Walks.{Walk, back, lost, passed, pointWalk}
 use Rattle.walks.specs.Steps.{pointTables, passedBy}
-use Rattle.walks.specs.declared.Passed.{Passed}
 use Rattle.walks.specs.declared.Passed.the-variants as Answers
 use Rattle.built_meshes.specs.Building.{noMissingFace, everyEdged, noMissedEdge, wholeVerdict, markOf, marked}
 use Rattle.built_meshes.specs.declared.Verdict.{Verdict}
@@ -54,6 +53,6 @@ wholeBy faces edged walks =
 
 pub whole-is : (ps : List Float) (pts es : List ℕ) (is : List Float) (fs : List ℕ) (np ne : ℕ)
     → wholeVerdict (mesh ps pts es is fs) np ne
-      ≡ wholeBy (noMissingFace (pointTables [] es) ne) (everyEdged (pointTables pts []) np) (noMissedEdge (pointTables pts es) np ne)
+    ≡ wholeBy (noMissingFace (pointTables [] es) ne) (everyEdged (pointTables pts []) np) (noMissedEdge (pointTables pts es) np ne)
 unfolding wholeVerdict noMissingFace everyEdged noMissedEdge pointWalk
 whole-is ps pts es is fs np ne = refl

@@ -6,9 +6,9 @@
 --     stopped-outcome, on-outcome       the answer when a face was refused, and when all faces stand
 --     refused-counts .. begun-build     the answer by the tests before the faces
 use mathlib.Core.Path.{_≡_, refl, sym, _∙_, ap, subst}
-use mathlib.Core.Bool.{Bool, true, false, _&&_}
+use mathlib.Core.Bool.{true, false, _&&_}
 use mathlib.Core.List.{List, []}
-use Prim.Native.Nat.{ℕ, zero, suc, _+_, _*_, _/_, _≤_, _<_}
+use Prim.Native.Nat.{ℕ, zero, _*_, _≤_, _<_}
 use native.Mathlib.Nat.{le-of-eq}
 use native.Mathlib.Omega.{arith}
 use lib.Dec.{leb}
@@ -42,10 +42,11 @@ module _ (cs : List Float) (np nl nf : ℕ) (m : Mesh) (k : ℕ) (v : Verdict) w
   pub concluded-fit : (row : ℕ) (ps : List Float) (pts : List ℕ) → v ≡ Fit → row ≡ k → ps ≡ over (np * 3) cs (m .positions)
       → pts ≡ marked np (m .points)
       → _≡_ {A = Outcome}
-        (record {
-          answer = Accepted (record { points = np; edges = row; faces = nf });
-          tables = mesh ps pts (m .edges) (m .intervals) (m .faces) })
-        (concluded cs np nl nf m k v)
+      (record {
+        answer = Accepted (record { points = np; edges = row; faces = nf });
+        tables = mesh ps pts (m .edges) (m .intervals) (m .faces);
+      })
+      (concluded cs np nl nf m k v)
   unfolding concluded
   concluded-fit row ps pts h r a b = rw (h, r, a, b)
 
@@ -93,7 +94,8 @@ rooms l m h =
       faces-few = omega (arith, counted .faces-few, few .1);
       listed-few = omega (arith, counted .listed-few, few .2);
       beside = sym (counted .alike);
-      all-listed = listed-all c l m counted (numbers-is l (h .numbers)) roomy (omega (arith, few .1)) }
+      all-listed = listed-all c l m counted (numbers-is l (h .numbers)) roomy (omega (arith, few .1));
+    }
 
 pub rooms-zeroed : (l : Lists) (m t : Mesh) → t ≡ zeroedRows l m → Rooms l m → Rooms l t
 unfolding zeroedRows
@@ -105,7 +107,12 @@ rooms-zeroed l m t z r =
       edges-fit = rw (length-zeroed (length (l .listed) * 8) 0 (m .edges) (r .edges-fit)) (r .edges-fit);
       intervals-fit = rw (length-zeroed (length (l .listed)) (ofBits binary64 0) (m .intervals) (r .intervals-fit)) (r .intervals-fit);
       faces-fit = rw (length-zeroed (facesOf l * 5) 0 (m .faces) (r .faces-fit)) (r .faces-fit);
-      points-few = r .points-few; faces-few = r .faces-few; listed-few = r .listed-few; beside = r .beside; all-listed = r .all-listed })
+      points-few = r .points-few;
+      faces-few = r .faces-few;
+      listed-few = r .listed-few;
+      beside = r .beside;
+      all-listed = r .all-listed;
+    })
 
 -- the room of zeroed tables
 pub rooms-of : (l : Lists) (t : Mesh) → Zeroed l t → Rooms l t
@@ -127,12 +134,16 @@ standing-none l t links ch h room c =
       links-fit = rw (c, length-zeroed (pointsOf l) 0 links room) (omega arith);
       valences = λ p b. rw (h .zero) (rw (getD-zeroed (pointsOf l * 3) (p * 3) 0 0 (h .lent .points) (omega arith)) (omega arith));
       newest = λ p b. rw (c, getD-zeroed (pointsOf l) p 0 0 links b) (none-newest (t .edges) p);
-      chained = record { older-origin = λ e b. absurd (omega arith); older-dest = λ e b. absurd (omega arith) } }
+      chained = record { older-origin = λ e b. absurd (omega arith); older-dest = λ e b. absurd (omega arith) };
+    }
   where
     none-newest : (es : List ℕ) (p : ℕ) → Newest es p 0 0
     none-newest es p =
         record {
-          below = omega arith; touching = λ e s. absurd (omega arith); none-between = λ e i b. absurd (omega arith) }
+          below = omega arith;
+          touching = λ e s. absurd (omega arith);
+          none-between = λ e i b. absurd (omega arith);
+        }
 
 -- there are rows and links for all edges
 pub lent-rooms : (l : Lists) (t : Mesh) (ch : List ℕ) → Rooms l t → 36864 ≤ length ch
@@ -141,7 +152,12 @@ lent-rooms l t ch r room =
     let a = r .points-few in
     let b = r .listed-few in
     record {
-      edge-rows = r .edges-fit; interval-rows = r .intervals-fit; link-rows = omega arith; few = r .listed-few; beside = r .beside }
+      edge-rows = r .edges-fit;
+      interval-rows = r .intervals-fit;
+      link-rows = omega arith;
+      few = r .listed-few;
+      beside = r .beside;
+    }
 
 -- ---- after the faces: t are the zeroed tables, n those after the faces
 

@@ -27,7 +27,7 @@ zeroedTo np nl nf m =
       points = zeroed (np * 3) 0 (m .points);
       edges = zeroed (nl * 8) 0 (m .edges);
       intervals = zeroed nl (ofBits binary64 0) (m .intervals);
-      faces = zeroed (nf * 5) 0 (m .faces)
+      faces = zeroed (nf * 5) 0 (m .faces);
     }
 
 unfoldable pub concluded : List Float → ℕ → ℕ → ℕ → Mesh → ℕ → Verdict → Outcome
@@ -36,9 +36,14 @@ concluded cs np nl nf m k Fit =
     record {
       answer = Accepted (record { points = np; edges = k; faces = nf });
       tables =
-        record {
-          positions = over (np * 3) cs (m .positions); points = marked np (m .points); edges = m .edges; intervals = m .intervals;
-          faces = m .faces } }
+          record {
+            positions = over (np * 3) cs (m .positions);
+            points = marked np (m .points);
+            edges = m .edges;
+            intervals = m .intervals;
+            faces = m .faces;
+          };
+    }
 concluded cs np nl nf m k (Unfit g) = refusal g (zeroedTo np nl nf m)
 
 -- what is answered of the lists l and the tables m when all faces were tried

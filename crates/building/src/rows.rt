@@ -15,7 +15,16 @@ use tables::zero_numbers;
 use tables::zero_words;
 
 // Whether the tables have rows for np points, nl edges and nf faces.
-pub fn rows_fit(positions: &[f64], points: &[u32], edges: &[u32], intervals: &[f64], faces: &[u32], np: usize, nl: usize, nf: usize) -> bool
+pub fn rows_fit(
+    positions: &[f64],
+    points: &[u32],
+    edges: &[u32],
+    intervals: &[f64],
+    faces: &[u32],
+    np: usize,
+    nl: usize,
+    nf: usize,
+) -> bool
     ensures { λ r. ⌜ _≡_ r (leb np (pointRows (mesh (now (positions .entry)) (now (points .entry)) (now (edges .entry)) (now (intervals .entry)) (now (faces .entry)))) && leb nf (faceRows (mesh (now (positions .entry)) (now (points .entry)) (now (edges .entry)) (now (intervals .entry)) (now (faces .entry)))) && leb nl (edgeRows (mesh (now (positions .entry)) (now (points .entry)) (now (edges .entry)) (now (intervals .entry)) (now (faces .entry))))) ⌝ }
 {
     if point_rows(positions, points) < np {
@@ -28,7 +37,16 @@ pub fn rows_fit(positions: &[f64], points: &[u32], edges: &[u32], intervals: &[f
 }
 
 // Makes the rows of np points, nl edges and nf faces zero.
-pub fn zero_rows(positions: &mut [f64], points: &mut [u32], edges: &mut [u32], intervals: &mut [f64], faces: &mut [u32], np: usize, nl: usize, nf: usize)
+pub fn zero_rows(
+    positions: &mut [f64],
+    points: &mut [u32],
+    edges: &mut [u32],
+    intervals: &mut [f64],
+    faces: &mut [u32],
+    np: usize,
+    nl: usize,
+    nf: usize,
+)
     requires { ⌜ np * 3 ≤ length (now positions) ⌝ }
     requires { ⌜ np * 3 ≤ length (now points) ⌝ }
     requires { ⌜ nl * 8 ≤ length (now edges) ⌝ }

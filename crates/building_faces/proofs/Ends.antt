@@ -1,6 +1,5 @@
 -- Connecting two edges keeps the ends of all edges. Assumes nothing.
 use mathlib.Core.Path.{_≡_, refl, sym, _∙_, ap, subst}
-use mathlib.Core.Bool.{Bool, true, false}
 use mathlib.Core.List.{List}
 use Prim.Native.Nat.{ℕ, _+_, _*_, _≤_, _<_}
 use native.Mathlib.Nat.{add-zero}
@@ -9,14 +8,13 @@ use native.Mathlib.Decide.{ℕ-discrete}
 use lib.Ieee.{Float}
 use lib.ListN.{length, getD}
 use Rattle.t_spline.specs.declared.TnurccEdge.{TnurccEdge}
-use Rattle.t_spline.specs.declared.Pair.{Pair}
 use Rattle.tables.specs.Mesh.{origin, dest}
 use Rattle.tables.specs.Rows.{putRow}
 use Rattle.tables.specs.Records.{edgeAt, edgeWords}
 use Rattle.tables.proofs.Laws.{length-putRow, getD-putRow, getD-putRow-other}
 use Rattle.t_nurcc_edge.specs.Connected.{pairOf, connectedRows}
 use Rattle.built_meshes.proofs.Connecting.{Wrote, connected-wrote}
-use Rattle.edge_search.specs.Chains.{edgeTable, SameEnds}
+use Rattle.edge_search.specs.Chains.{SameEnds}
 use Rattle.edge_search.proofs.Chains.{ends-trans}
 
 -- an edge with the same ends is put into its row
@@ -36,10 +34,11 @@ module _ (es : List ℕ) (i : ℕ) (e : TnurccEdge) (fits : i * 8 + 8 ≤ length
   put-ends a b =
       record {
         origins = λ x.
-          ap (λ (k : ℕ). getD new k 0) (sym (add-zero (x * 8)))
-          ∙ word-kept 0 (omega arith) (a ∙ ap (λ (k : ℕ). getD es k 0) (sym (add-zero (i * 8)))) x
-          ∙ ap (λ (k : ℕ). getD es k 0) (add-zero (x * 8));
-        dests = λ x. word-kept 1 (omega arith) b x }
+            ap (λ (k : ℕ). getD new k 0) (sym (add-zero (x * 8)))
+            ∙ word-kept 0 (omega arith) (a ∙ ap (λ (k : ℕ). getD es k 0) (sym (add-zero (i * 8)))) x
+            ∙ ap (λ (k : ℕ). getD es k 0) (add-zero (x * 8));
+        dests = λ x. word-kept 1 (omega arith) b x;
+      }
 
 pub connected-ends : (es : List ℕ) (is : List Float) (i j : ℕ) → i * 8 + 8 ≤ length es → j * 8 + 8 ≤ length es
     → SameEnds es (connectedRows es is i j)
@@ -52,7 +51,9 @@ connected-ends es is i j hi hj =
   where
     mid : List ℕ
     mid = putRow es (i * 8) (edgeWords (pairOf es is i j .first))
+
     wrote : Wrote i j (edgeAt es is i) (edgeAt es is j) (record { first = edgeAt es is i; other = edgeAt es is j }) (pairOf es is i j)
     wrote = connected-wrote i j (edgeAt es is i) (edgeAt es is j) refl refl
+
     one : SameEnds es mid
     one = put-ends es i (pairOf es is i j .first) hi (wrote .kept-first .origin) (wrote .kept-first .dest)

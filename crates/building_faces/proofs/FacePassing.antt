@@ -1,15 +1,14 @@
 -- One face, and the loop of `enter_faces`, over plain variables: the faces before f are in, a is the place at which the listed points of
 -- face f begin, k edges stand, and pts, es, is, fs, ch are the tables and links; those at the beginning bear a 0. Assumes nothing.
-use mathlib.Core.Path.{_≡_, refl, sym, _∙_, ap, subst}
+use mathlib.Core.Path.{_≡_, refl, sym, _∙_, ap}
 use mathlib.Core.Bool.{Bool, true, false}
 use mathlib.Core.List.{List, []}
-use Prim.Native.Nat.{ℕ, zero, suc, _+_, _-_, _*_, _/_, _≤_, _<_}
+use Prim.Native.Nat.{ℕ, zero, suc, _+_, _-_, _/_, _≤_, _<_}
 use native.Mathlib.Numerals.{add-one}
 use native.Mathlib.Omega.{arith}
 use native.Mathlib.Decide.{decLe}
 use lib.Ieee.{Float}
 use lib.ListN.{length}
-use borrow.Author.Tests.{leb-true}
 use Rattle.tables.specs.Mesh.{Mesh}
 use Rattle.audited_meshes.proofs.Tests.{and-is, leb-is}
 use Rattle.built_meshes.specs.Lists.{Lists, size, offset}
@@ -17,14 +16,13 @@ use Rattle.built_meshes.specs.Faces.{sizeFit, inRange, noPointTwice, sumsFit, f
 use Rattle.built_meshes.specs.Perimeters.{State, Step, on, stopped, places, closedUp, perimeter}
 use Rattle.built_meshes.specs.Building.{faceIf, facePassed, facesFrom}
 use Rattle.built_meshes.specs.declared.Ground.{Ground}
-use Rattle.built_meshes.specs.declared.Verdict.{Verdict}
 use Rattle.built_meshes.specs.declared.Verdict.the-variants.{Fit, Unfit}
 use Rattle.built_meshes.proofs.Perimeter.{offset-suc}
 use Rattle.building_tests.specs.Lent.{lists}
 use Rattle.building_tests.proofs.Laws.{verdictBy, verdict-is}
 use Rattle.edge_search.specs.Chains.{Standing}
 use Rattle.edge_search.specs.Places.{mesh}
-use Rattle.building_faces.specs.Rings.{ringAt, stateAt, Lent, Placed, Sided, FaceStands}
+use Rattle.building_faces.specs.Rings.{ringAt, stateAt, Placed, Sided, FaceStands}
 use Rattle.building_faces.specs.declared.Faced.the-variants as Faces
 
 -- ---- one face
@@ -39,9 +37,10 @@ module _ (ss ls : List ℕ) (be : List Float) (np f a n : ℕ) (h : Sided ss ls 
   pub fit-placed : faceVerdict (lists [] ss ls be) np f a ≡ Fit → Placed np ls a n × (0 < n)
   fit-placed fit =
       let t = fit-tests (sizeFit n) (inRange (lists [] [] ls []) np a n) (noPointTwice (lists [] [] ls []) a n)
-            (sumsFit (lists [] ss [] be) f a) (sym (verdict-is [] ss ls be np f a n (h .is-size)) ∙ fit) in
-      (record { within = h .within; points = t .1 },
-        let three = and-is (leb-is 3 n) (leb-is n 64) .0 (t .0) .0 in omega arith)
+      (sumsFit (lists [] ss [] be) f a) (sym (verdict-is [] ss ls be np f a n (h .is-size)) ∙ fit) in (
+        record { within = h .within; points = t .1 },
+        let three = and-is (leb-is 3 n) (leb-is n 64) .0 (t .0) .0 in omega arith,
+      )
 
   module _ (cs : List Float) (np-is : length cs / 3 ≡ np) (s : State) where
     pub passed-fit : (x : Step State) → faceVerdict (lists cs ss ls be) np f a ≡ Fit
@@ -79,9 +78,6 @@ from-turn l nf f a n s x h e p = rw (p, e, less nf f h, add-one f)
     less n i h = omega arith
 
 module _ (np : ℕ) (ss ls : List ℕ) (be : List Float) (pts₀ es₀ : List ℕ) (is₀ : List Float) (fs₀ ch₀ : List ℕ) where
-  abbrev nf : ℕ
-  nf = length ss / 4
-
   pub record FacePassing (pts es : List ℕ) (is : List Float) (fs ch : List ℕ) (k a f : ℕ) : Type 0 where
     pub within : f ≤ length ss / 4
     pub points-length : length pts ≡ length pts₀
@@ -93,17 +89,25 @@ module _ (np : ℕ) (ss ls : List ℕ) (be : List Float) (pts₀ es₀ : List �
     pub count : k ≤ a
     pub begins : a ≡ offset (lists [] ss [] []) f
     pub rest :
-      (cs ps : List Float) → length cs / 3 ≡ np
-      → facesFrom (length ss / 4 - f) (lists cs ss ls be) f a (on (stateAt (mesh ps pts es is fs) k))
+        (cs ps : List Float) → length cs / 3 ≡ np
+        → facesFrom (length ss / 4 - f) (lists cs ss ls be) f a (on (stateAt (mesh ps pts es is fs) k))
         ≡ facesFrom (length ss / 4) (lists cs ss ls be) 0 0 (on (stateAt (mesh ps pts₀ es₀ is₀ fs₀) 0))
 
   pub face-start : Standing np pts₀ es₀ ch₀ 0 → FacePassing pts₀ es₀ is₀ fs₀ ch₀ 0 0 0
   unfolding offset
   face-start h =
       record {
-        within = omega arith; points-length = refl; edges-length = refl; intervals-length = refl; faces-length = refl; links-length = refl;
-        standing = h; count = omega arith; begins = refl;
-        rest = λ cs ps e. ap (λ (j : ℕ). facesFrom j (lists cs ss ls be) 0 0 (on (stateAt (mesh ps pts₀ es₀ is₀ fs₀) 0))) (none (length ss / 4)) }
+        within = omega arith;
+        points-length = refl;
+        edges-length = refl;
+        intervals-length = refl;
+        faces-length = refl;
+        links-length = refl;
+        standing = h;
+        count = omega arith;
+        begins = refl;
+        rest = λ cs ps e. ap (λ (j : ℕ). facesFrom j (lists cs ss ls be) 0 0 (on (stateAt (mesh ps pts₀ es₀ is₀ fs₀) 0))) (none (length ss / 4));
+      }
     where
       none : (n : ℕ) → n - 0 ≡ n
       none n = omega arith
@@ -119,20 +123,26 @@ module _ (np : ℕ) (ss ls : List ℕ) (be : List Float) (pts₀ es₀ : List �
     module _ (pts' es' : List ℕ) (is' : List Float) (fs' ch' : List ℕ) where
       pub face-more : (c : ℕ)
           → ((cs ps : List Float) → length cs / 3 ≡ np
-            → on (stateAt (mesh ps pts' es' is' fs') c) ≡ facePassed (lists cs ss ls be) f a (stateAt (mesh ps pts es is fs) k))
+          → on (stateAt (mesh ps pts' es' is' fs') c) ≡ facePassed (lists cs ss ls be) f a (stateAt (mesh ps pts es is fs) k))
           → FaceStands np pts' es' ch' (a + n) (Faces.On c)
           → length pts' ≡ length pts → length es' ≡ length es → length is' ≡ length is → length fs' ≡ length fs → length ch' ≡ length ch
           → FacePassing pts' es' is' fs' ch' c (a + n) (f + 1)
       face-more c passes s lp le li lf lc =
           record {
-            within = omega arith; points-length = lp ∙ h .points-length; edges-length = le ∙ h .edges-length;
-            intervals-length = li ∙ h .intervals-length; faces-length = lf ∙ h .faces-length; links-length = lc ∙ h .links-length;
-            standing = s .0; count = s .1;
+            within = omega arith;
+            points-length = lp ∙ h .points-length;
+            edges-length = le ∙ h .edges-length;
+            intervals-length = li ∙ h .intervals-length;
+            faces-length = lf ∙ h .faces-length;
+            links-length = lc ∙ h .links-length;
+            standing = s .0;
+            count = s .1;
             begins = rw (add-one f, offset-suc (lists [] ss [] []) f) (let b = h .begins in omega arith);
             rest = λ cs ps z.
-              from-turn (lists cs ss ls be) (length ss / 4) f a n (stateAt (mesh ps pts es is fs) k) (on (stateAt (mesh ps pts' es' is' fs') c)) l
-              e (passes cs ps z)
-              ∙ h .rest cs ps z }
+                from-turn (lists cs ss ls be) (length ss / 4) f a n (stateAt (mesh ps pts es is fs) k) (on (stateAt (mesh ps pts' es' is' fs') c)) l
+                e (passes cs ps z)
+                ∙ h .rest cs ps z;
+          }
 
       pub face-stop : (g : Ground) (cs ps : List Float) → length cs / 3 ≡ np
           → stopped g (mesh ps pts' es' is' fs') ≡ facePassed (lists cs ss ls be) f a (stateAt (mesh ps pts es is fs) k)

@@ -1,8 +1,8 @@
 -- The loop of `enter_places`, over plain variables: the places before i are entered, ring is the ring then, and pts, es, is, ch are the
 -- tables and links; those at the beginning bear a 0. Assumes nothing.
-use mathlib.Core.Path.{_≡_, refl, sym, _∙_, ap, subst}
-use mathlib.Core.List.{List, []}
-use Prim.Native.Nat.{ℕ, zero, suc, _+_, _-_, _*_, _≤_, _<_}
+use mathlib.Core.Path.{_≡_, refl, sym, _∙_, ap}
+use mathlib.Core.List.{List}
+use Prim.Native.Nat.{ℕ, zero, suc, _+_, _-_, _≤_, _<_}
 use native.Mathlib.Numerals.{add-one}
 use native.Mathlib.Omega.{arith}
 use lib.Ieee.{Float}
@@ -14,9 +14,8 @@ use Rattle.built_meshes.specs.declared.Ground.{Ground}
 use Rattle.building_tests.specs.Lent.{lists}
 use Rattle.edge_search.specs.Chains.{Standing}
 use Rattle.edge_search.specs.Places.{mesh}
-use Rattle.building_faces.specs.Rings.{ringOf, ringAt, turnOf, Lent, Closing, TurnStands}
+use Rattle.building_faces.specs.Rings.{ringOf, ringAt, Lent, Closing, TurnStands}
 use Rattle.building_faces.specs.declared.RingEdges.{RingEdges}
-use Rattle.building_faces.specs.declared.Turned.{Turned}
 use Rattle.building_faces.specs.declared.Turned.the-variants as Turns
 
 -- what is lent serves as well when the tables keep their lengths
@@ -24,8 +23,12 @@ pub lent-same : (np : ℕ) (ls : List ℕ) (be : List Float) (es₀ es : List �
     → length es ≡ length es₀ → length is ≡ length is₀ → length ch ≡ length ch₀ → Lent np ls be es₀ is₀ ch₀ → Lent np ls be es is ch
 lent-same np ls be es₀ es is₀ is ch₀ ch a b c h =
     record {
-      edge-rows = rw a (h .edge-rows); interval-rows = rw b (h .interval-rows); link-rows = rw c (h .link-rows); few = h .few;
-      beside = h .beside }
+      edge-rows = rw a (h .edge-rows);
+      interval-rows = rw b (h .interval-rows);
+      link-rows = rw c (h .link-rows);
+      few = h .few;
+      beside = h .beside;
+    }
 
 places-stopped : (j : ℕ) (l : Lists) (f a n i : ℕ) (g : Ground) (m : Mesh) → places j l f a n i (stopped g m) ≡ stopped g m
 unfolding places
@@ -42,10 +45,6 @@ places-turn l f a n i r x h s = rw (s, less n i h, add-one i)
     less n i h = omega arith
 
 module _ (np : ℕ) (ls : List ℕ) (be : List Float) (f a n k : ℕ) (pts₀ es₀ : List ℕ) (is₀ : List Float) (ch₀ : List ℕ) where
-  -- all places, from the beginning
-  abbrev all : List Float → List ℕ → List Float → List ℕ → Step Ring
-  all cs ss ps fs = places n (lists cs ss ls be) f a n 0 (on (ringAt (mesh ps pts₀ es₀ is₀ fs) k))
-
   pub record Passing (pts es : List ℕ) (is : List Float) (ch : List ℕ) (ring : RingEdges) (i : ℕ) : Type 0 where
     pub within : i ≤ n
     pub points-length : length pts ≡ length pts₀
@@ -56,16 +55,23 @@ module _ (np : ℕ) (ls : List ℕ) (be : List Float) (f a n k : ℕ) (pts₀ es
     pub count : ring .edges ≤ a + i
     pub closing : 0 < i → Closing ring
     pub rest :
-      (cs : List Float) (ss : List ℕ) (ps : List Float) (fs : List ℕ)
-      → places (n - i) (lists cs ss ls be) f a n i (on (ringOf (mesh ps pts es is fs) ring))
+        (cs : List Float) (ss : List ℕ) (ps : List Float) (fs : List ℕ)
+        → places (n - i) (lists cs ss ls be) f a n i (on (ringOf (mesh ps pts es is fs) ring))
         ≡ places n (lists cs ss ls be) f a n 0 (on (ringAt (mesh ps pts₀ es₀ is₀ fs) k))
 
   pub passing-start : Standing np pts₀ es₀ ch₀ k → k ≤ a → Passing pts₀ es₀ is₀ ch₀ (record { edges = k; first = 0; before = 0 }) 0
   passing-start h l =
       record {
-        within = omega arith; points-length = refl; edges-length = refl; intervals-length = refl; links-length = refl; standing = h;
-        count = omega arith; closing = λ z. absurd (omega arith);
-        rest = λ cs ss ps fs. ap (λ (j : ℕ). places j (lists cs ss ls be) f a n 0 (on (ringAt (mesh ps pts₀ es₀ is₀ fs) k))) (none n) }
+        within = omega arith;
+        points-length = refl;
+        edges-length = refl;
+        intervals-length = refl;
+        links-length = refl;
+        standing = h;
+        count = omega arith;
+        closing = λ z. absurd (omega arith);
+        rest = λ cs ss ps fs. ap (λ (j : ℕ). places j (lists cs ss ls be) f a n 0 (on (ringAt (mesh ps pts₀ es₀ is₀ fs) k))) (none n);
+      }
     where
       none : (n : ℕ) → n - 0 ≡ n
       none n = omega arith
@@ -74,20 +80,26 @@ module _ (np : ℕ) (ls : List ℕ) (be : List Float) (f a n k : ℕ) (pts₀ es
       (pts' es' : List ℕ) (is' : List Float) (ch' : List ℕ) where
     pub passing-more : (next : RingEdges)
         → ((cs : List Float) (ss : List ℕ) (ps : List Float) (fs : List ℕ)
-          → on (ringOf (mesh ps pts' es' is' fs) next) ≡ turn (lists cs ss ls be) f a n i (ringOf (mesh ps pts es is fs) ring))
+        → on (ringOf (mesh ps pts' es' is' fs) next) ≡ turn (lists cs ss ls be) f a n i (ringOf (mesh ps pts es is fs) ring))
         → TurnStands np pts' es' ch' (a + i + 1) (Turns.On next)
         → length pts' ≡ length pts → length es' ≡ length es → length is' ≡ length is → length ch' ≡ length ch
         → Passing pts' es' is' ch' next (i + 1)
     passing-more next turns s lp le li lc =
         let c = s .1 in
         record {
-          within = omega arith; points-length = lp ∙ h .points-length; edges-length = le ∙ h .edges-length;
-          intervals-length = li ∙ h .intervals-length; links-length = lc ∙ h .links-length; standing = s .0; count = omega arith;
+          within = omega arith;
+          points-length = lp ∙ h .points-length;
+          edges-length = le ∙ h .edges-length;
+          intervals-length = li ∙ h .intervals-length;
+          links-length = lc ∙ h .links-length;
+          standing = s .0;
+          count = omega arith;
           closing = λ z. s .2;
           rest = λ cs ss ps fs.
-            places-turn (lists cs ss ls be) f a n i (ringOf (mesh ps pts es is fs) ring) (on (ringOf (mesh ps pts' es' is' fs) next)) l
-            (turns cs ss ps fs)
-            ∙ h .rest cs ss ps fs }
+              places-turn (lists cs ss ls be) f a n i (ringOf (mesh ps pts es is fs) ring) (on (ringOf (mesh ps pts' es' is' fs) next)) l
+              (turns cs ss ps fs)
+              ∙ h .rest cs ss ps fs;
+        }
 
     pub passing-stop : (g : Ground) (cs : List Float) (ss : List ℕ) (ps : List Float) (fs : List ℕ)
         → stopped g (mesh ps pts' es' is' fs) ≡ turn (lists cs ss ls be) f a n i (ringOf (mesh ps pts es is fs) ring)

@@ -1,10 +1,8 @@
 -- A turn, the places of a perimeter and a face, over plain variables. Assumes nothing.
-use mathlib.Core.Path.{_≡_, refl, sym, _∙_, ap, subst}
+use mathlib.Core.Path.{_≡_, refl, sym, ap}
 use mathlib.Core.Bool.{Bool, true, false, cond}
-use mathlib.Core.List.{List, []}
-use mathlib.Core.Logic.{_≢_}
-use Prim.Native.Nat.{ℕ, zero, suc, _+_, _-_, _*_, _≤_, _<_}
-use native.Mathlib.Numerals.{add-one}
+use mathlib.Core.List.{List}
+use Prim.Native.Nat.{ℕ, zero, suc, _+_, _*_, _≤_, _<_}
 use native.Mathlib.Omega.{arith}
 use lib.Dec.{eqb, ltb}
 use lib.Ieee.{Float, nan}
@@ -15,10 +13,9 @@ use Rattle.tables.specs.Rows.{putRow}
 use Rattle.tables.specs.Records.{faceWords}
 use Rattle.t_nurcc_edge.specs.Connected.{connectedRows}
 use Rattle.t_nurcc_edge.proofs.Laws.{length-connectedRows}
-use Rattle.audited_meshes.specs.Folds.{every}
 use Rattle.audited_meshes.proofs.Tests.{every-is, self-is}
 use Rattle.built_meshes.specs.Lists.{Lists}
-use Rattle.built_meshes.specs.Faces.{listedAt, inRange}
+use Rattle.built_meshes.specs.Faces.{inRange}
 use Rattle.built_meshes.specs.Perimeters.{State, Ring, Step, on, stopped, Entered, at, refused, edgeBetween, enteredAt, enteredIf, entered, joined, withEdges, nextPlace, turned, turn, faceOf, closedUp}
 use Rattle.built_meshes.specs.declared.Ground.{Ground}
 use Rattle.built_meshes.specs.declared.Found.{Found}
@@ -26,7 +23,6 @@ use Rattle.built_meshes.specs.declared.Found.the-variants as Founds
 use Rattle.building_tests.specs.Lent.{lists}
 use Rattle.edge_search.specs.Chains.{Standing, Room}
 use Rattle.edge_search.specs.Places.{mesh, Place, placeOf, entering, EnteredBy}
-use Rattle.edge_search.specs.declared.Entry.{Entry}
 use Rattle.edge_search.specs.declared.Entry.the-variants.{Made, Refused}
 use Rattle.edge_search.proofs.Chains.{edgeBetween-below, standing-ends}
 use Rattle.building_faces.specs.Rings.{ringOf, Lent, Placed, Closing, TurnStands, FaceStands}
@@ -52,9 +48,6 @@ pub record Counted (k n e : ℕ) : Type 0 where
   pub edge-below : e < n
   pub more : k ≤ n
   pub one-more : n ≤ k + 1
-
-at-same : (m : Mesh) (k e : ℕ) {m' : Mesh} {k' e' : ℕ} → at m k e ≡ at m' k' e' → (k ≡ k') × (e ≡ e')
-at-same m k e h = ((cc), (cc))
 
 counted-at : (m : Mesh) (k f i : ℕ) (a b : Bool) {n : Mesh} {c e : ℕ} → i < k → enteredAt m k f i a b ≡ at n c e → Counted k c e
 unfolding enteredAt
@@ -165,9 +158,11 @@ module _ (np : ℕ) (pts es ch : List ℕ) (k c e most : ℕ) (h : Standing np p
     stands-more is new s =
         let a = n .one-more in
         let b = n .more in
-        let f = closing .first-edge in
-        (standing-connected np pts es ch c e (ring .before) h (n .edge-below) before-below is new s, omega arith,
-          record { first-edge = omega arith; before-edge = n .edge-below })
+        let f = closing .first-edge in (
+          standing-connected np pts es ch c e (ring .before) h (n .edge-below) before-below is new s,
+          omega arith,
+          record { first-edge = omega arith; before-edge = n .edge-below },
+        )
 
 -- ---- a perimeter closed up, and its face's row stored
 

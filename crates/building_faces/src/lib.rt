@@ -55,7 +55,20 @@ fn next_place(n: usize, i: usize) -> usize
 }
 
 // Enters place i of the perimeter of face f, and connects its edge to the one before.
-fn turn_place(listed: &[u32], beside: &[f64], points: &mut [u32], edges: &mut [u32], intervals: &mut [f64], chain: &mut [u32], np: usize, ring: RingEdges, f: u32, a: usize, n: usize, i: usize) -> Turned
+fn turn_place(
+    listed: &[u32],
+    beside: &[f64],
+    points: &mut [u32],
+    edges: &mut [u32],
+    intervals: &mut [f64],
+    chain: &mut [u32],
+    np: usize,
+    ring: RingEdges,
+    f: u32,
+    a: usize,
+    n: usize,
+    i: usize,
+) -> Turned
     requires { ⌜ Standing np (now points) (now edges) (now chain) (ring .edges) ⌝ }
     requires { ⌜ Lent np (now listed) (now beside) (now edges) (now intervals) (now chain) ⌝ }
     requires { ⌜ Placed np (now listed) a n ⌝ }
@@ -90,7 +103,19 @@ fn turn_place(listed: &[u32], beside: &[f64], points: &mut [u32], edges: &mut [u
 }
 
 // Enters all n places of the perimeter of face f, while k edges stand.
-fn enter_places(listed: &[u32], beside: &[f64], points: &mut [u32], edges: &mut [u32], intervals: &mut [f64], chain: &mut [u32], np: usize, k: u32, f: u32, a: usize, n: usize) -> Turned
+fn enter_places(
+    listed: &[u32],
+    beside: &[f64],
+    points: &mut [u32],
+    edges: &mut [u32],
+    intervals: &mut [f64],
+    chain: &mut [u32],
+    np: usize,
+    k: u32,
+    f: u32,
+    a: usize,
+    n: usize,
+) -> Turned
     requires { ⌜ Standing np (now points) (now edges) (now chain) k ⌝ }
     requires { ⌜ Lent np (now listed) (now beside) (now edges) (now intervals) (now chain) ⌝ }
     requires { ⌜ Placed np (now listed) a n ⌝ }
@@ -106,7 +131,20 @@ fn enter_places(listed: &[u32], beside: &[f64], points: &mut [u32], edges: &mut 
     };
     let mut i = 0;
     while i < n {
-        match turn_place(listed, beside, points, edges, intervals, chain, np, ring, f, a, n, i) {
+        match turn_place(
+            listed,
+            beside,
+            points,
+            edges,
+            intervals,
+            chain,
+            np,
+            ring,
+            f,
+            a,
+            n,
+            i,
+        ) {
             Turned::On(next) => {
                 ring = next;
             }
@@ -120,7 +158,20 @@ fn enter_places(listed: &[u32], beside: &[f64], points: &mut [u32], edges: &mut 
 }
 
 // Enters the perimeter of face f, connects its first edge to its last, and stores the face's row.
-fn enter_perimeter(listed: &[u32], beside: &[f64], points: &mut [u32], edges: &mut [u32], intervals: &mut [f64], faces: &mut [u32], chain: &mut [u32], np: usize, k: u32, f: u32, a: usize, n: usize) -> Faced
+fn enter_perimeter(
+    listed: &[u32],
+    beside: &[f64],
+    points: &mut [u32],
+    edges: &mut [u32],
+    intervals: &mut [f64],
+    faces: &mut [u32],
+    chain: &mut [u32],
+    np: usize,
+    k: u32,
+    f: u32,
+    a: usize,
+    n: usize,
+) -> Faced
     requires { ⌜ Standing np (now points) (now edges) (now chain) k ⌝ }
     requires { ⌜ Lent np (now listed) (now beside) (now edges) (now intervals) (now chain) ⌝ }
     requires { ⌜ Placed np (now listed) a n ⌝ }
@@ -130,7 +181,19 @@ fn enter_perimeter(listed: &[u32], beside: &[f64], points: &mut [u32], edges: &m
     ensures { λ r. ⌜ ((cs : List Float) (ss : List ℕ) (ps : List Float) → _≡_ {A = Step State} (stateOf (mesh ps (now (points .exit)) (now (edges .exit)) (now (intervals .exit)) (now (faces .exit))) r) (closedUp f (places n (lists cs ss (now (listed .entry)) (now (beside .entry))) f a n 0 (on (ringAt (mesh ps (now (points .entry)) (now (edges .entry)) (now (intervals .entry)) (now (faces .entry))) k))))) ⌝ }
     ensures { λ r. ⌜ FaceStands np (now (points .exit)) (now (edges .exit)) (now (chain .exit)) (a + n) r ⌝ }
 {
-    match enter_places(listed, beside, points, edges, intervals, chain, np, k, f, a, n) {
+    match enter_places(
+        listed,
+        beside,
+        points,
+        edges,
+        intervals,
+        chain,
+        np,
+        k,
+        f,
+        a,
+        n,
+    ) {
         Turned::On(ring) => {
             connect(edges, intervals, ring.first, ring.before);
             store_face(
@@ -148,7 +211,21 @@ fn enter_perimeter(listed: &[u32], beside: &[f64], points: &mut [u32], edges: &m
 }
 
 // Enters face f, whose n listed points stand from the place a on, if it passes its tests.
-fn enter_face(sides: &[u32], listed: &[u32], beside: &[f64], points: &mut [u32], edges: &mut [u32], intervals: &mut [f64], faces: &mut [u32], chain: &mut [u32], np: usize, k: u32, f: u32, a: usize, n: usize) -> Faced
+fn enter_face(
+    sides: &[u32],
+    listed: &[u32],
+    beside: &[f64],
+    points: &mut [u32],
+    edges: &mut [u32],
+    intervals: &mut [f64],
+    faces: &mut [u32],
+    chain: &mut [u32],
+    np: usize,
+    k: u32,
+    f: u32,
+    a: usize,
+    n: usize,
+) -> Faced
     requires { ⌜ Standing np (now points) (now edges) (now chain) k ⌝ }
     requires { ⌜ Lent np (now listed) (now beside) (now edges) (now intervals) (now chain) ⌝ }
     requires { ⌜ Sided (now sides) (now listed) f a n ⌝ }
@@ -158,13 +235,36 @@ fn enter_face(sides: &[u32], listed: &[u32], beside: &[f64], points: &mut [u32],
     ensures { λ r. ⌜ FaceStands np (now (points .exit)) (now (edges .exit)) (now (chain .exit)) (a + n) r ⌝ }
 {
     match face_verdict(sides, listed, beside, np, index(f), a, n) {
-        Verdict::Fit => enter_perimeter(listed, beside, points, edges, intervals, faces, chain, np, k, f, a, n),
+        Verdict::Fit => enter_perimeter(
+            listed,
+            beside,
+            points,
+            edges,
+            intervals,
+            faces,
+            chain,
+            np,
+            k,
+            f,
+            a,
+            n,
+        ),
         Verdict::Unfit(g) => Faced::Stopped(g),
     }
 }
 
 // Enters all faces into tables that hold none.
-pub fn enter_faces(sides: &[u32], listed: &[u32], beside: &[f64], points: &mut [u32], edges: &mut [u32], intervals: &mut [f64], faces: &mut [u32], chain: &mut [u32], np: usize) -> Faced
+pub fn enter_faces(
+    sides: &[u32],
+    listed: &[u32],
+    beside: &[f64],
+    points: &mut [u32],
+    edges: &mut [u32],
+    intervals: &mut [f64],
+    faces: &mut [u32],
+    chain: &mut [u32],
+    np: usize,
+) -> Faced
     requires { ⌜ Standing np (now points) (now edges) (now chain) 0 ⌝ }
     requires { ⌜ Lent np (now listed) (now beside) (now edges) (now intervals) (now chain) ⌝ }
     requires { ⌜ length (now sides) / 4 ≤ 4096 ⌝ }
@@ -179,7 +279,21 @@ pub fn enter_faces(sides: &[u32], listed: &[u32], beside: &[f64], points: &mut [
     let mut f = 0;
     while f < nf {
         let n = face_size(sides, f);
-        match enter_face(sides, listed, beside, points, edges, intervals, faces, chain, np, k, f as u32, a, n) {
+        match enter_face(
+            sides,
+            listed,
+            beside,
+            points,
+            edges,
+            intervals,
+            faces,
+            chain,
+            np,
+            k,
+            f as u32,
+            a,
+            n,
+        ) {
             Faced::On(count) => {
                 k = count;
             }

@@ -4,7 +4,7 @@
 --     size-read, sums-read                    the size and the side sums of a face from its sides
 --     faces-few               the limits allow at most 4,096 faces
 --     verdict-is              the verdict on a face by its four tests
-use mathlib.Core.Path.{_≡_, refl, sym, _∙_, ap}
+use mathlib.Core.Path.{_≡_, refl, ap}
 use mathlib.Core.Bool.{Bool, true, false, not, _&&_, cond}
 use mathlib.Core.List.{List, []}
 use Prim.Native.Nat.{ℕ, zero, suc, _+_, _*_, _≤_, _<_}
@@ -91,6 +91,6 @@ verdictBy size points new sums =
 
 pub verdict-is : (cs : List Float) (ss ls : List ℕ) (is : List Float) (np f a n : ℕ) → n ≡ size (lists [] ss [] []) f
     → faceVerdict (lists cs ss ls is) np f a
-      ≡ verdictBy (sizeFit n) (inRange (lists [] [] ls []) np a n) (noPointTwice (lists [] [] ls []) a n) (sumsFit (lists [] ss [] is) f a)
+    ≡ verdictBy (sizeFit n) (inRange (lists [] [] ls []) np a n) (noPointTwice (lists [] [] ls []) a n) (sumsFit (lists [] ss [] is) f a)
 unfolding faceVerdict inRange noPointTwice apart
 verdict-is cs ss ls is np f a n e = rw e

@@ -8,7 +8,7 @@ ghost use lib.Ieee.{Float};
 ghost use lib.ListN.{length, getD};
 ghost use Rattle.audited_meshes.specs.Folds.{every};
 ghost use Rattle.built_meshes.specs.Lists.{size};
-ghost use Rattle.built_meshes.specs.Faces.{sizeFit, inRange, noPointTwice, sideSum, sumsFit, faceVerdict, listedAt};
+ghost use Rattle.built_meshes.specs.Faces.{sizeFit, inRange, noPointTwice, sideSum, sumsFit, faceVerdict};
 ghost use Rattle.building_tests.specs.Lent.{lists};
 use built_meshes::Ground;
 use built_meshes::Verdict;
@@ -113,7 +113,15 @@ pub fn sums_fit(sides: &[u32], beside: &[f64], f: usize, a: usize) -> bool
 }
 
 // The first of the grounds 10 to 13 that holds of face f, whose n listed points stand from the place a on.
-pub fn face_verdict(sides: &[u32], listed: &[u32], beside: &[f64], np: usize, f: usize, a: usize, n: usize) -> Verdict
+pub fn face_verdict(
+    sides: &[u32],
+    listed: &[u32],
+    beside: &[f64],
+    np: usize,
+    f: usize,
+    a: usize,
+    n: usize,
+) -> Verdict
     requires { ⌜ f * 4 + 4 ≤ length (now sides) ⌝ }
     requires { ⌜ n ≡ size (lists [] (now sides) [] []) f ⌝ }
     requires { ⌜ a + n ≤ length (now listed) ⌝ }

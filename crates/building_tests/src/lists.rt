@@ -30,7 +30,13 @@ pub fn sum_of(words: &[u32]) -> usize
 }
 
 // Whether the lists are within the limits and their lengths agree.
-pub fn counts_fit(coordinates: &[f64], sides: &[u32], listed: &[u32], beside: &[f64], bounds: Bounds) -> bool
+pub fn counts_fit(
+    coordinates: &[f64],
+    sides: &[u32],
+    listed: &[u32],
+    beside: &[f64],
+    bounds: Bounds,
+) -> bool
     ensures { λ r. ⌜ r ≡ countsFit (limitsOf bounds) (lists (now (coordinates .entry)) (now (sides .entry)) (now (listed .entry)) (now (beside .entry))) ⌝ }
 {
     let most = bounds.most();

@@ -54,8 +54,10 @@ pub edgeBetween-swap : (m : Mesh) (k p q : ℕ) → edgeBetween m k p q ≡ edge
 unfolding edgeBetween
 edgeBetween-swap m zero p q = refl
 edgeBetween-swap m (suc k) p q =
-    rw (edgeBetween-swap m k p q,
-      or-swap (eqb (origin m k) p) (eqb (dest m k) q) (eqb (origin m k) q) (eqb (dest m k) p))
+    rw (
+      edgeBetween-swap m k p q,
+      or-swap (eqb (origin m k) p) (eqb (dest m k) q) (eqb (origin m k) q) (eqb (dest m k) p),
+    )
 
 not-joined : (a b c d : Bool) → (a || d) ≡ false → (a && b || c && d) ≡ false
 not-joined true b c d h = absurd (false≢true (sym h))
@@ -93,14 +95,16 @@ newest-kept es new p b l h same =
     record {
       below = h .below;
       touching = λ e s. let lt : l ≤ b = h .below in same e (omega arith) ∙ h .touching e s;
-      none-between = λ e i j. same e j ∙ h .none-between e i j }
+      none-between = λ e i j. same e j ∙ h .none-between e i j;
+    }
 
 pub newest-more : (es : List ℕ) (p k l : ℕ) → Newest es p k l → touches (edgeTable es) p k ≡ false → Newest es p (k + 1) l
 newest-more es p k l h n =
     record {
       below = let lt : l ≤ k = h .below in omega arith;
       touching = h .touching;
-      none-between = λ e i j. go e i j (decLe (suc e) k) }
+      none-between = λ e i j. go e i j (decLe (suc e) k);
+    }
   where
     go : (e : ℕ) → l ≤ e → e < k + 1 → Dec (suc e ≤ k) → touches (edgeTable es) p e ≡ false
     go e i j (yes g) = h .none-between e i g
@@ -111,7 +115,8 @@ newest-top es p k t =
     record {
       below = omega arith;
       touching = λ e s. let i : k ≡ e = omega arith in subst (λ e. touches (edgeTable es) p e ≡ true) i t;
-      none-between = λ e i j. absurd (omega arith) }
+      none-between = λ e i j. absurd (omega arith);
+    }
 
 pub older-newest : (np : ℕ) (es ch : List ℕ) (k p e : ℕ) → Chained np es ch k → e < k → touches (edgeTable es) p e ≡ true
     → Newest es p e (olderLink np es ch p e)
@@ -137,7 +142,8 @@ pub set-ends : (es : List ℕ) (e f : ℕ) → SameEnds es (set es (e * 8 + 3) f
 set-ends es e f =
     record {
       origins = λ i. getD-set-other es (e * 8 + 3) (i * 8) f 0 (λ h. omega arith);
-      dests = λ i. getD-set-other es (e * 8 + 3) (i * 8 + 1) f 0 (λ h. omega arith) }
+      dests = λ i. getD-set-other es (e * 8 + 3) (i * 8 + 1) f 0 (λ h. omega arith);
+    }
 
 touches-ends : (es new : List ℕ) (p e : ℕ) → SameEnds es new → touches (edgeTable new) p e ≡ touches (edgeTable es) p e
 touches-ends es new p e h = rw (h .origins e, h .dests e)
@@ -152,11 +158,13 @@ standing-ends np pts es new ch k s n h =
       valences = h .valences;
       newest = λ p l. newest-kept es new p k (getD ch p 0) (h .newest p l) (λ e i. touches-ends es new p e s);
       chained =
-        record {
-          older-origin =
-            λ e l. rw (s .origins e) (kept (origin (edgeTable es) e) e (getD ch (np + e * 2) 0) (h .chained .older-origin e l));
-          older-dest =
-            λ e l. rw (s .dests e) (kept (dest (edgeTable es) e) e (getD ch (np + e * 2 + 1) 0) (h .chained .older-dest e l)) } }
+          record {
+            older-origin =
+                λ e l. rw (s .origins e) (kept (origin (edgeTable es) e) e (getD ch (np + e * 2) 0) (h .chained .older-origin e l));
+            older-dest =
+                λ e l. rw (s .dests e) (kept (dest (edgeTable es) e) e (getD ch (np + e * 2 + 1) 0) (h .chained .older-dest e l));
+          };
+    }
   where
     kept : (p b l : ℕ) → Newest es p b l → Newest new p b l
     kept p b l g = newest-kept es new p b l g (λ e i. touches-ends es new p e s)
@@ -179,7 +187,8 @@ module _ (es : List ℕ) (k f e p : ℕ) where
       record {
         filled = λ m s. rw (s, ne-eqb (getD es (e * 8 + 3) 0) none n);
         ends = ends-refl es;
-        count = refl }
+        count = refl;
+      }
 
   pub filled-same-way : getD es (e * 8 + 3) 0 ≡ none → getD es (e * 8) 0 ≡ p → FilledBy es k f e p (Refused SameWay) es
   unfolding enteredAt
@@ -187,7 +196,8 @@ module _ (es : List ℕ) (k f e p : ℕ) where
       record {
         filled = λ m s. rw (s, eq-eqb (getD es (e * 8 + 3) 0) none a, eq-eqb (getD es (e * 8) 0) p b);
         ends = ends-refl es;
-        count = refl }
+        count = refl;
+      }
 
   pub filled-made : getD es (e * 8 + 3) 0 ≡ none → (getD es (e * 8) 0 ≡ p → ⊥)
       → FilledBy es k f e p (Made k e) (set es (e * 8 + 3) f)
@@ -196,7 +206,8 @@ module _ (es : List ℕ) (k f e p : ℕ) where
       record {
         filled = λ m s. rw (s, eq-eqb (getD es (e * 8 + 3) 0) none a, ne-eqb (getD es (e * 8) 0) p b);
         ends = set-ends es e f;
-        count = refl }
+        count = refl;
+      }
 
 -- ---- a place entered
 

@@ -4,9 +4,9 @@
 --     first-touch, second-touch, made-mesh, made-standing    the steps of `make_edge`
 use mathlib.Core.Path.{_≡_, refl, sym, _∙_, ap, subst}
 use mathlib.Core.Bool.{Bool, true, false, _||_}
-use mathlib.Core.List.{List, _∷_}
+use mathlib.Core.List.{List}
 use mathlib.Core.Logic.{_≢_}
-use Prim.Native.Nat.{ℕ, zero, suc, _+_, _*_, _≤_, _<_}
+use Prim.Native.Nat.{ℕ, suc, _+_, _*_, _≤_, _<_}
 use native.Mathlib.Nat.{add-zero}
 use native.Mathlib.Omega.{arith}
 use native.Mathlib.Decide.{ℕ-discrete, decLe}
@@ -15,13 +15,13 @@ use lib.Ieee.{Float}
 use lib.ListN.{length, getD, set, length-set}
 use lib.Seq.{getD-set-same, getD-set-other}
 use borrow.Author.Tests.{eq-eqb, ne-eqb}
-use Rattle.tables.specs.Mesh.{Mesh, origin, dest, none}
+use Rattle.tables.specs.Mesh.{Mesh, origin, dest}
 use Rattle.tables.specs.Rows.{putRow}
 use Rattle.tables.specs.Records.{edgeWords}
 use Rattle.tables.proofs.Laws.{length-putRow, getD-putRow, getD-putRow-before}
 use Rattle.audited_meshes.specs.Walks.{touches}
 use Rattle.built_meshes.specs.Perimeters.{edgeOf, touched, newEdge}
-use Rattle.edge_search.specs.Chains.{edgeTable, Newest, chainedEdge, Chained, Standing, Room}
+use Rattle.edge_search.specs.Chains.{edgeTable, Newest, chainedEdge, Standing, Room}
 use Rattle.edge_search.specs.Places.{mesh}
 use Rattle.edge_search.proofs.Chains.{newest-kept, newest-more, newest-top}
 
@@ -33,6 +33,7 @@ getD-touched ws p e i l = go (ℕ-discrete i p)
   where
     start : getD (touched ws p e) (i * 3) 0 ≡ getD (set ws (p * 3) (getD ws (p * 3) 0 + 1)) (i * 3) 0
     start = getD-set-other (set ws (p * 3) (getD ws (p * 3) 0 + 1)) (p * 3 + 1) (i * 3) e 0 (λ h. omega arith)
+
     go : Dec (i ≡ p) → getD (touched ws p e) (i * 3) 0 ≤ getD ws (i * 3) 0 + 1
     go (yes s) =
         rw (start, s) (rw (getD-set-same ws (p * 3) (getD ws (p * 3) 0 + 1) 0 (omega arith)) (omega arith))
@@ -146,8 +147,10 @@ module _ (np : ℕ) (pts es : List ℕ) (is : List Float) (ch : List ℕ) (k f p
       go : Dec (suc e ≤ k)
           → Newest (putRow es (k * 8) (edgeWords (edgeOf k f p q v))) (origin (edgeTable (putRow es (k * 8) (edgeWords (edgeOf k f p q v)))) e) e (getD (chainedEdge np ch k p q) (np + e * 2) 0)
       go (yes g) =
-          rw (old-origin es k f p q v (room .edge-row) e g,
-            link-other np ch k p q pin qin (room .links-row) (np + e * 2) (λ h. omega arith) (λ h. omega arith) (omega arith))
+          rw (
+            old-origin es k f p q v (room .edge-row) e g,
+            link-other np ch k p q pin qin (room .links-row) (np + e * 2) (λ h. omega arith) (λ h. omega arith) (omega arith),
+          )
           (kept es k f p q v (room .edge-row) (origin (edgeTable es) e) e (getD ch (np + e * 2) 0) (omega arith) (h .chained .older-origin e g))
       go (no g) =
           let s : e ≡ k = omega arith in
@@ -161,8 +164,10 @@ module _ (np : ℕ) (pts es : List ℕ) (is : List Float) (ch : List ℕ) (k f p
       go : Dec (suc e ≤ k)
           → Newest (putRow es (k * 8) (edgeWords (edgeOf k f p q v))) (dest (edgeTable (putRow es (k * 8) (edgeWords (edgeOf k f p q v)))) e) e (getD (chainedEdge np ch k p q) (np + e * 2 + 1) 0)
       go (yes g) =
-          rw (old-dest es k f p q v (room .edge-row) e g,
-            link-other np ch k p q pin qin (room .links-row) (np + e * 2 + 1) (λ h. omega arith) (λ h. omega arith) (omega arith))
+          rw (
+            old-dest es k f p q v (room .edge-row) e g,
+            link-other np ch k p q pin qin (room .links-row) (np + e * 2 + 1) (λ h. omega arith) (λ h. omega arith) (omega arith),
+          )
           (kept es k f p q v (room .edge-row) (dest (edgeTable es) e) e (getD ch (np + e * 2 + 1) 0) (omega arith) (h .chained .older-dest e g))
       go (no g) =
           let s : e ≡ k = omega arith in
@@ -177,9 +182,10 @@ module _ (np : ℕ) (pts es : List ℕ) (is : List Float) (ch : List ℕ) (k f p
         edges-fit = rw (length-putRow (edgeWords (edgeOf k f p q v)) es (k * 8)) (let r = room .edge-row in omega arith);
         links-fit = rw (length-chained np ch k p q pin qin (room .links-row)) (let r = room .links-row in omega arith);
         valences = λ i l.
-          omega (arith, h .valences i l, getD-touched pts p k i (omega arith), getD-touched (touched pts p k) q k i (simp length-set (omega arith)));
+            omega (arith, h .valences i l, getD-touched pts p k i (omega arith), getD-touched (touched pts p k) q k i (simp length-set (omega arith)));
         newest = newest-new;
-        chained = record { older-origin = older-origin-new; older-dest = older-dest-new } }
+        chained = record { older-origin = older-origin-new; older-dest = older-dest-new };
+      }
 
   -- each end can be counted once more
   pub first-touch : (p * 3 + 3 ≤ length pts) × (getD pts (p * 3) 0 < 4294967295)

@@ -3,7 +3,7 @@
 use mathlib.Core.Path.{_≡_, refl, sym, _∙_, ap}
 use mathlib.Core.Bool.{Bool, true, false, cond}
 use mathlib.Core.List.{List}
-use Prim.Native.Nat.{ℕ, zero, suc, _+_, _*_, _≤_, _<_}
+use Prim.Native.Nat.{ℕ, suc, _≤_, _<_}
 use native.Mathlib.Omega.{arith}
 use Rattle.tables.specs.Mesh.{Mesh}
 use Rattle.audited_meshes.specs.Walks.{touches}
@@ -45,8 +45,9 @@ module _ (es : List ℕ) (p q k : ℕ) where
         touching = h .touching;
         found-below = omega arith;
         left =
-          orElse-nothing (edgeBetween (edgeTable es) from p q)
-          ∙ sym (edgeBetween-gap (edgeTable es) p q from k (h .below) (h .none-between)) }
+            orElse-nothing (edgeBetween (edgeTable es) from p q)
+            ∙ sym (edgeBetween-gap (edgeTable es) p q from k (h .below) (h .none-between));
+      }
 
   suc-turn : (np : ℕ) (ch : List ℕ) (e found : ℕ) → Chained np es ch k → Searching es p q k (suc e) found
       → Searching es p q k (olderLink np es ch p e) (cond (joins (edgeTable es) p q e) (suc e) found)
@@ -62,10 +63,11 @@ module _ (es : List ℕ) (p q k : ℕ) where
         touching = o .touching;
         found-below = cond-below (joins m p q e) (suc e) found k l (h .found-below);
         left =
-          ap (λ (x : Found). orElse x (linkTo (cond (joins m p q e) (suc e) found)))
-          (sym (edgeBetween-gap m p q next e o-below (o .none-between)))
-          ∙ found-turn (edgeBetween m e p q) (joins m p q e) e found
-          ∙ h .left }
+            ap (λ (x : Found). orElse x (linkTo (cond (joins m p q e) (suc e) found)))
+            (sym (edgeBetween-gap m p q next e o-below (o .none-between)))
+            ∙ found-turn (edgeBetween m e p q) (joins m p q e) e found
+            ∙ h .left;
+      }
 
   pub search-turn : (np : ℕ) (ch : List ℕ) (link e found next new : ℕ) → Chained np es ch k → link ≡ suc e
       → next ≡ olderLink np es ch p e → new ≡ cond (joins (edgeTable es) p q e) link found

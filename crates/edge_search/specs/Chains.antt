@@ -13,7 +13,7 @@
 --     Standing                what holds of the tables of points and edges and of the links while k edges stand
 --     Room                    there is a row and links for an edge k
 use mathlib.Core.Path.{_≡_}
-use mathlib.Core.Bool.{Bool, true, false, cond}
+use mathlib.Core.Bool.{true, false, cond}
 use mathlib.Core.List.{List, []}
 use Prim.Native.Nat.{ℕ, zero, suc, _+_, _*_, _≤_, _<_}
 use lib.Dec.{eqb}

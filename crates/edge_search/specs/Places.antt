@@ -8,7 +8,7 @@
 --     EnteredBy, FilledBy     what entering a place promises, and at an edge that exists
 use mathlib.Core.Path.{_≡_}
 use mathlib.Core.List.{List}
-use Prim.Native.Nat.{ℕ, suc}
+use Prim.Native.Nat.{ℕ}
 use lib.Dec.{eqb}
 use lib.Ieee.{Float}
 use Rattle.tables.specs.Mesh.{Mesh, none, origin, rightFace}

@@ -101,7 +101,15 @@ fn edge_of(link: u32) -> Found
 }
 
 // The first of the k edges that join the points p and q, from the one that has fewer edges.
-pub fn find_edge(points: &[u32], edges: &[u32], chain: &[u32], np: usize, k: u32, p: u32, q: u32) -> Found
+pub fn find_edge(
+    points: &[u32],
+    edges: &[u32],
+    chain: &[u32],
+    np: usize,
+    k: u32,
+    p: u32,
+    q: u32,
+) -> Found
     requires { ⌜ Standing np (now points) (now edges) (now chain) k ⌝ }
     requires { ⌜ p < np ⌝ }
     requires { ⌜ q < np ⌝ }
@@ -146,7 +154,18 @@ fn touch(points: &mut [u32], p: u32, e: u32)
 }
 
 // Makes the edge k from p to q, with face f on its left.
-fn make_edge(points: &mut [u32], edges: &mut [u32], intervals: &mut [f64], chain: &mut [u32], np: usize, k: u32, f: u32, p: u32, q: u32, v: f64)
+fn make_edge(
+    points: &mut [u32],
+    edges: &mut [u32],
+    intervals: &mut [f64],
+    chain: &mut [u32],
+    np: usize,
+    k: u32,
+    f: u32,
+    p: u32,
+    q: u32,
+    v: f64,
+)
     requires { ⌜ Standing np (now points) (now edges) (now chain) k ⌝ }
     requires { ⌜ Room np (now edges) (now intervals) (now chain) k ⌝ }
     requires { ⌜ p < np ⌝ }
@@ -189,7 +208,18 @@ fn fill_edge(edges: &mut [u32], k: u32, f: u32, e: u32, p: u32) -> Entry
 }
 
 // Enters a place of face f, from p to q with the interval v, while k edges stand.
-pub fn enter(points: &mut [u32], edges: &mut [u32], intervals: &mut [f64], chain: &mut [u32], np: usize, k: u32, f: u32, p: u32, q: u32, v: f64) -> Entry
+pub fn enter(
+    points: &mut [u32],
+    edges: &mut [u32],
+    intervals: &mut [f64],
+    chain: &mut [u32],
+    np: usize,
+    k: u32,
+    f: u32,
+    p: u32,
+    q: u32,
+    v: f64,
+) -> Entry
     requires { ⌜ Standing np (now points) (now edges) (now chain) k ⌝ }
     requires { ⌜ Room np (now edges) (now intervals) (now chain) k ⌝ }
     requires { ⌜ p < np ⌝ }
@@ -201,7 +231,10 @@ pub fn enter(points: &mut [u32], edges: &mut [u32], intervals: &mut [f64], chain
         Found::At(e) => fill_edge(edges, k, f, e, p),
         Found::Nothing => {
             make_edge(points, edges, intervals, chain, np, k, f, p, q, v);
-            Entry::Made { edges: k + 1, edge: k }
+            Entry::Made {
+                edges: k + 1,
+                edge: k,
+            }
         }
     }
 }

@@ -2,14 +2,10 @@
 use borrow.Author.Tests.{eq-eqb, ne-eqb}
 use Rattle.edge_search.proofs.are.Statement.{statement}
 use Rattle.edge_search.proofs.are.Tie as tie
-use Rattle.edge_search.proofs.are.Reads as reads
-use Rattle.edge_search.proofs.are.Lts as lts
 
--- src/lib.rt:36:9
 returns : tie.Need-returns
 returns c = simp (eq-eqb _ _ (c .if1 .taken))
 
--- src/lib.rt:32:1
 returns-2 : tie.Need-returns-2
 returns-2 c = simp (ne-eqb _ _ (c .if1 .left))
 

@@ -1,6 +1,5 @@
 use Prim.Native.Nat.{suc}
-use mathlib.Core.Path.{_≡_, _∙_, sym}
-use borrow.Author.Needs.{needs}
+use mathlib.Core.Path.{_≡_}
 use native.Mathlib.Omega.{arith}
 use Rattle.edge_search.proofs.Searching.{search-less}
 -- search meets its contract. The invariant: the edges that the chain has still to pass and the one found so far give what all edges
@@ -8,12 +7,6 @@ use Rattle.edge_search.proofs.Searching.{search-less}
 use Rattle.edge_search.proofs.Searching.{Searching, search-start, search-turn, search-end}
 use Rattle.edge_search.proofs.search.Statement.{statement}
 use Rattle.edge_search.proofs.search.Tie as tie
-use Rattle.edge_search.proofs.search.Reads as reads
-use Rattle.edge_search.proofs.search.Lts as lts
-use Rattle.edge_search.proofs.chosen.Reads as chosen-reads
-use Rattle.edge_search.proofs.joins_points.Reads as joins-points-reads
-use Rattle.edge_search.proofs.older_link.Reads as older-link-reads
-use Rattle.tables.proofs.index.Reads as index-reads
 
 abbrev Inv-loop : tie.InvT-loop
 Inv-loop edges chain np k from p q link₀ found₀ link found = Searching edges p q k link found
@@ -21,43 +14,31 @@ Inv-loop edges chain np k from p q link₀ found₀ link found = Searching edges
 abbrev μ-loop : tie.MeasureT-loop
 μ-loop edges chain np k from p q link₀ found₀ link found = link
 
--- src/lib.rt:85:5
 loop-holds : tie.Need-loop-holds Inv-loop μ-loop
 loop-holds c = search-start (c .before .before .args .edges .now) (c .before .before .args .p) (c .before .before .args .q) (c .before .before .args .k) (c .before .before .args .from) (c .before .before .pre .1 .1 .1)
 
--- src/lib.rt:86:23
-sub-index : tie.Need-sub-index Inv-loop μ-loop
-sub-index c = omega arith
-
--- src/lib.rt:86:13
 index-requires : tie.Need-index-requires Inv-loop μ-loop
 index-requires c κs = tt
 
--- src/lib.rt:87:24
 joins-points-requires : tie.Need-joins-points-requires Inv-loop μ-loop
 joins-points-requires c κs = let b = c .before .before .loop .inv .below in omega (arith, c .index .ensures, c .before .loop-test .taken)
 
--- src/lib.rt:87:9
 chosen-requires : tie.Need-chosen-requires Inv-loop μ-loop
 chosen-requires c κs = tt
 
--- src/lib.rt:88:9
 older-link-requires : tie.Need-older-link-requires Inv-loop μ-loop
 older-link-requires c κs = let b = c .before .before .before .before .loop .inv .below in omega (arith, c .before .before .index .ensures, c .before .before .before .loop-test .taken)
 
--- src/lib.rt:85:5
 loop-less : tie.Need-loop-less Inv-loop μ-loop
-loop-less c = 
+loop-less c =
     let s : c .before .before .before .before .before .loop .link ≡ suc (c .before .before .before .index .result) = omega (arith, c .before .before .before .index .ensures, c .before .before .before .before .loop-test .taken) in
     search-less (c .before .before .before .before .before .before .before .before .args .edges .now) (c .before .before .before .before .before .before .before .before .args .p) (c .before .before .before .before .before .before .before .before .args .q) (c .before .before .before .before .before .before .before .before .args .k) (c .before .before .before .before .before .before .before .before .args .np) (c .before .before .before .before .before .before .before .before .args .chain .now) (c .before .before .before .before .before .loop .link) (c .before .before .before .index .result) (c .before .before .before .before .before .loop .found) (c .older-link .result) (c .before .before .before .before .before .before .before .before .pre .1 .1 .0) s (c .older-link .ensures) (c .before .before .before .before .before .loop .inv)
 
--- src/lib.rt:85:5
 loop-again : tie.Need-loop-again Inv-loop μ-loop
-loop-again c = 
+loop-again c =
     let s : c .before .before .before .before .before .loop .link ≡ suc (c .before .before .before .index .result) = omega (arith, c .before .before .before .index .ensures, c .before .before .before .before .loop-test .taken) in
     search-turn (c .before .before .before .before .before .before .before .before .args .edges .now) (c .before .before .before .before .before .before .before .before .args .p) (c .before .before .before .before .before .before .before .before .args .q) (c .before .before .before .before .before .before .before .before .args .k) (c .before .before .before .before .before .before .before .before .args .np) (c .before .before .before .before .before .before .before .before .args .chain .now) (c .before .before .before .before .before .loop .link) (c .before .before .before .index .result) (c .before .before .before .before .before .loop .found) (c .older-link .result) (c .before .chosen .result) (c .before .before .before .before .before .before .before .before .pre .1 .1 .0) s (c .older-link .ensures) (rw (c .before .before .joins-points .ensures) at (c .before .chosen .ensures)) (c .before .before .before .before .before .loop .inv)
 
--- src/lib.rt:75:1
 returns : tie.Need-returns Inv-loop μ-loop
 returns c = (search-end (c .before .before .before .before .args .edges .now) (c .before .before .before .before .args .p) (c .before .before .before .before .args .q) (c .before .before .before .before .args .k) (c .before .loop .link) (c .before .loop .found) (c .loop-test .left) (c .before .loop .inv), c .before .loop .inv .found-below)
 
@@ -68,7 +49,7 @@ search-spec =
     Inv-loop
     μ-loop
     loop-holds
-    sub-index
+    (λ c. omega arith)
     index-requires
     joins-points-requires
     chosen-requires

@@ -1,16 +1,11 @@
 -- mark_of meets its contract.
-use borrow.Author.Needs.{needs}
 use borrow.Author.Tests.{eq-eqb, ne-eqb}
 use Rattle.building.proofs.whole.mark_of.Statement.{statement}
 use Rattle.building.proofs.whole.mark_of.Tie as tie
-use Rattle.building.proofs.whole.mark_of.Reads as reads
-use Rattle.building.proofs.whole.mark_of.Lts as lts
 
--- src/whole.rt:99:1
 returns : tie.Need-returns
 returns c = rw (eq-eqb _ _ (c .if1 .taken))
 
--- src/whole.rt:99:1
 returns-2 : tie.Need-returns-2
 returns-2 c = rw (ne-eqb _ _ (c .if1 .left))
 

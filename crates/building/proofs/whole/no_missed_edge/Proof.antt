@@ -6,19 +6,15 @@ use Rattle.tables.specs.Mesh.{valence}
 use Rattle.audited_meshes.specs.Walks.{passed, pointWalk}
 use Rattle.built_meshes.specs.Building.{noMissedEdge}
 use mathlib.Core.List.{List}
-use lib.ListN.{length, getD}
-use lib.Dec.{eqb, ltb}
+use lib.Dec.{ltb}
 use native.Mathlib.Omega.{arith}
-use Prim.Native.Nat.{ℕ, _≤_, _<_, _-_, _+_, _*_}
+use Prim.Native.Nat.{ℕ, _≤_, _-_}
 use mathlib.Core.Bool.{Bool, true, not}
-use mathlib.Core.Path.{_≡_, _∙_, sym, ap}
+use mathlib.Core.Path.{_≡_, _∙_, sym}
 use Rattle.audited_meshes.specs.Folds.{every}
 use Rattle.building_tests.proofs.Laws.{every-none, every-more, every-stop, whole}
 use Rattle.building.proofs.whole.no_missed_edge.Statement.{statement}
 use Rattle.building.proofs.whole.no_missed_edge.Tie as tie
-use Rattle.building.proofs.whole.no_missed_edge.Reads as reads
-use Rattle.building.proofs.whole.no_missed_edge.Lts as lts
-use Rattle.building.proofs.whole.walk_passes_all.Reads as walk-passes-all-reads
 
 -- whether the walk about point p passes as many edges as its valence
 abbrev passes : List ℕ → List ℕ → ℕ → ℕ → Bool
@@ -30,32 +26,16 @@ Inv-loop points edges np ne p₀ p = (p ≤ np) × (every p (passes points edges
 abbrev μ-loop : tie.MeasureT-loop
 μ-loop points edges np ne p₀ p = np - p
 
--- src/whole.rt:71:5
 loop-holds : tie.Need-loop-holds Inv-loop μ-loop
 loop-holds c = (omega arith, every-none (passes (c .before .before .args .points .now) (c .before .before .args .edges .now) (c .before .before .args .ne)))
 
--- src/whole.rt:72:13
-walk-passes-all-requires : tie.Need-walk-passes-all-requires Inv-loop μ-loop
-walk-passes-all-requires c κs = search needs
-
--- src/whole.rt:73:13
 returns : tie.Need-returns Inv-loop μ-loop
 unfolding noMissedEdge
 returns c = sym (every-stop (c .before .before .before .before .before .before .args .np) (c .before .before .before .loop .p) (passes (c .before .before .before .before .before .before .args .points .now) (c .before .before .before .before .before .before .args .edges .now) (c .before .before .before .before .before .before .args .ne)) (c .before .before .loop-test .taken) (sym (c .before .walk-passes-all .ensures) ∙ not-true _ (c .if1 .taken)))
 
--- src/whole.rt:75:9
-add-p : tie.Need-add-p Inv-loop μ-loop
-add-p c = search needs
-
--- src/whole.rt:71:5
-loop-less : tie.Need-loop-less Inv-loop μ-loop
-loop-less c = search needs
-
--- src/whole.rt:71:5
 loop-again : tie.Need-loop-again Inv-loop μ-loop
 loop-again c = (omega arith, every-more (c .before .before .before .loop .p) (passes (c .before .before .before .before .before .before .args .points .now) (c .before .before .before .before .before .before .args .edges .now) (c .before .before .before .before .before .before .args .ne)) (c .before .before .before .loop .inv .1) (sym (c .before .walk-passes-all .ensures) ∙ not-false _ (c .if1 .left)))
 
--- src/whole.rt:65:1
 returns-2 : tie.Need-returns-2 Inv-loop μ-loop
 unfolding noMissedEdge
 returns-2 c = sym (rw (whole (c .before .loop .p) (c .before .before .before .before .args .np) (c .before .loop .inv .0) (c .loop-test .left)) at (c .before .loop .inv .1))
@@ -67,9 +47,9 @@ no-missed-edge-spec =
     Inv-loop
     μ-loop
     loop-holds
-    walk-passes-all-requires
+    (λ c κs. search needs)
     returns
-    add-p
-    loop-less
+    (λ c. search needs)
+    (λ c. search needs)
     loop-again
     returns-2)

@@ -2,18 +2,16 @@
 use borrow.Author.Needs.{needs}
 use borrow.Author.Tests.{eq-eqb, ne-eqb}
 use Rattle.built_meshes.specs.Building.{noMissingFace}
-use lib.ListN.{length, getD}
-use lib.Dec.{eqb, ltb}
+use lib.ListN.{getD}
+use lib.Dec.{eqb}
 use native.Mathlib.Omega.{arith}
-use Prim.Native.Nat.{ℕ, _≤_, _<_, _-_, _+_, _*_}
-use mathlib.Core.Bool.{Bool, true, not}
-use mathlib.Core.Path.{_≡_, _∙_, sym, ap}
+use Prim.Native.Nat.{_≤_, _-_, _+_, _*_}
+use mathlib.Core.Bool.{true, not}
+use mathlib.Core.Path.{_≡_, sym, ap}
 use Rattle.audited_meshes.specs.Folds.{every}
 use Rattle.building_tests.proofs.Laws.{every-none, every-more, every-stop, whole}
 use Rattle.building.proofs.whole.no_missing_face.Statement.{statement}
 use Rattle.building.proofs.whole.no_missing_face.Tie as tie
-use Rattle.building.proofs.whole.no_missing_face.Reads as reads
-use Rattle.building.proofs.whole.no_missing_face.Lts as lts
 
 abbrev Inv-loop : tie.InvT-loop
 Inv-loop edges ne e₀ e = (e ≤ ne) × (every e (λ i. not (eqb (getD edges (i * 8 + 3) 0) 4294967295)) ≡ true)
@@ -21,44 +19,16 @@ Inv-loop edges ne e₀ e = (e ≤ ne) × (every e (λ i. not (eqb (getD edges (i
 abbrev μ-loop : tie.MeasureT-loop
 μ-loop edges ne e₀ e = ne - e
 
--- src/whole.rt:27:5
 loop-holds : tie.Need-loop-holds Inv-loop μ-loop
 loop-holds c = (omega arith, every-none (λ i. not (eqb (getD (c .args .edges .now) (i * 8 + 3) 0) 4294967295)))
 
--- src/whole.rt:28:18
-mul-if1 : tie.Need-mul-if1 Inv-loop μ-loop
-mul-if1 c = search needs
-
--- src/whole.rt:28:18
-add-if1 : tie.Need-add-if1 Inv-loop μ-loop
-add-if1 c = search needs
-
--- src/whole.rt:28:12
-mul-if1-2 : tie.Need-mul-if1-2 Inv-loop μ-loop
-mul-if1-2 c = search needs
-
--- src/whole.rt:28:12
-shared-slice-read-if1 : tie.Need-shared-slice-read-if1 Inv-loop μ-loop
-shared-slice-read-if1 c = search needs
-
--- src/whole.rt:29:13
 returns : tie.Need-returns Inv-loop μ-loop
 unfolding noMissingFace
 returns c = sym (every-stop (c .before .before .before .before .args .ne) (c .before .before .before .loop .e) (λ i. not (eqb (getD (c .before .before .before .before .args .edges .now) (i * 8 + 3) 0) 4294967295)) (c .before .before .loop-test .taken) (ap not (eq-eqb _ _ (c .if1 .taken))))
 
--- src/whole.rt:31:9
-add-e : tie.Need-add-e Inv-loop μ-loop
-add-e c = search needs
-
--- src/whole.rt:27:5
-loop-less : tie.Need-loop-less Inv-loop μ-loop
-loop-less c = search needs
-
--- src/whole.rt:27:5
 loop-again : tie.Need-loop-again Inv-loop μ-loop
 loop-again c = (omega arith, every-more (c .before .before .before .loop .e) (λ i. not (eqb (getD (c .before .before .before .before .args .edges .now) (i * 8 + 3) 0) 4294967295)) (c .before .before .before .loop .inv .1) (ap not (ne-eqb _ _ (c .if1 .left))))
 
--- src/whole.rt:22:1
 returns-2 : tie.Need-returns-2 Inv-loop μ-loop
 unfolding noMissingFace
 returns-2 c = sym (rw (whole (c .before .loop .e) (c .before .before .args .ne) (c .before .loop .inv .0) (c .loop-test .left)) at (c .before .loop .inv .1))
@@ -70,12 +40,12 @@ no-missing-face-spec =
     Inv-loop
     μ-loop
     loop-holds
-    mul-if1
-    add-if1
-    mul-if1-2
-    shared-slice-read-if1
+    (λ c. search needs)
+    (λ c. search needs)
+    (λ c. search needs)
+    (λ c. search needs)
     returns
-    add-e
-    loop-less
+    (λ c. search needs)
+    (λ c. search needs)
     loop-again
     returns-2)

@@ -1,20 +1,17 @@
 -- are_points meets its contract. The invariant: the listed points before i are in range; the measure is what is left of n.
 use borrow.Author.Needs.{needs}
 use borrow.Author.Tests.{le-ltb, lt-ltb}
-use lib.ListN.{length, getD}
+use lib.ListN.{getD}
 use lib.Dec.{ltb}
 use native.Mathlib.Omega.{arith}
-use Prim.Native.Nat.{ℕ, _≤_, _<_, _-_, _+_}
-use mathlib.Core.Bool.{Bool, true}
-use mathlib.Core.Path.{_≡_, _∙_, sym, ap}
+use Prim.Native.Nat.{_≤_, _-_, _+_}
+use mathlib.Core.Bool.{true}
+use mathlib.Core.Path.{_≡_, sym}
 use Rattle.built_meshes.specs.Faces.{inRange}
 use Rattle.audited_meshes.specs.Folds.{every}
 use Rattle.building_tests.proofs.Laws.{every-none, every-more, every-stop, whole}
 use Rattle.building_tests.proofs.faces.are_points.Statement.{statement}
 use Rattle.building_tests.proofs.faces.are_points.Tie as tie
-use Rattle.building_tests.proofs.faces.are_points.Reads as reads
-use Rattle.building_tests.proofs.faces.are_points.Lts as lts
-use Rattle.tables.proofs.index.Reads as index-reads
 
 abbrev Inv-loop : tie.InvT-loop
 Inv-loop listed np a n i₀ i = (i ≤ n) × (every i (λ j. ltb (getD listed (a + j) 0) np) ≡ true)
@@ -22,44 +19,16 @@ Inv-loop listed np a n i₀ i = (i ≤ n) × (every i (λ j. ltb (getD listed (a
 abbrev μ-loop : tie.MeasureT-loop
 μ-loop listed np a n i₀ i = n - i
 
--- src/faces.rt:43:5
 loop-holds : tie.Need-loop-holds Inv-loop μ-loop
 loop-holds c = (omega arith, every-none (λ j. ltb (getD (c .before .args .listed .now) (c .before .args .a + j) 0) (c .before .args .np)))
 
--- src/faces.rt:44:31
-add-index : tie.Need-add-index Inv-loop μ-loop
-add-index c = search needs
-
--- src/faces.rt:44:24
-mul-index : tie.Need-mul-index Inv-loop μ-loop
-mul-index c = search needs
-
--- src/faces.rt:44:24
-shared-slice-read-index : tie.Need-shared-slice-read-index Inv-loop μ-loop
-shared-slice-read-index c = search needs
-
--- src/faces.rt:44:18
-index-requires : tie.Need-index-requires Inv-loop μ-loop
-index-requires c κs = search needs
-
--- src/faces.rt:45:13
 returns : tie.Need-returns Inv-loop μ-loop
 unfolding inRange
 returns c = sym (every-stop (c .before .before .before .before .before .before .args .n) (c .before .before .before .before .loop .i) (λ j. ltb (getD (c .before .before .before .before .before .before .args .listed .now) (c .before .before .before .before .before .before .args .a + j) 0) (c .before .before .before .before .before .before .args .np)) (c .before .before .before .loop-test .taken) (le-ltb _ _ (rw (c .before .index .ensures) at (c .if1 .taken))))
 
--- src/faces.rt:47:9
-add-i : tie.Need-add-i Inv-loop μ-loop
-add-i c = search needs
-
--- src/faces.rt:43:5
-loop-less : tie.Need-loop-less Inv-loop μ-loop
-loop-less c = search needs
-
--- src/faces.rt:43:5
 loop-again : tie.Need-loop-again Inv-loop μ-loop
 loop-again c = (omega arith, every-more (c .before .before .before .before .loop .i) (λ j. ltb (getD (c .before .before .before .before .before .before .args .listed .now) (c .before .before .before .before .before .before .args .a + j) 0) (c .before .before .before .before .before .before .args .np)) (c .before .before .before .before .loop .inv .1) (lt-ltb _ _ (rw (c .before .index .ensures) at (c .if1 .left))))
 
--- src/faces.rt:38:1
 returns-2 : tie.Need-returns-2 Inv-loop μ-loop
 unfolding inRange
 returns-2 c = sym (rw (whole (c .before .loop .i) (c .before .before .before .args .n) (c .before .loop .inv .0) (c .loop-test .left)) at (c .before .loop .inv .1))
@@ -71,12 +40,12 @@ are-points-spec =
     Inv-loop
     μ-loop
     loop-holds
-    add-index
-    mul-index
-    shared-slice-read-index
-    index-requires
+    (λ c. search needs)
+    (λ c. search needs)
+    (λ c. search needs)
+    (λ c κs. search needs)
     returns
-    add-i
-    loop-less
+    (λ c. search needs)
+    (λ c. search needs)
     loop-again
     returns-2)

@@ -5,46 +5,19 @@ use Rattle.building_tests.proofs.Laws.{verdict-is}
 use borrow.Author.Needs.{needs}
 use Rattle.building_tests.proofs.faces.face_verdict.Statement.{statement}
 use Rattle.building_tests.proofs.faces.face_verdict.Tie as tie
-use Rattle.building_tests.proofs.faces.face_verdict.Reads as reads
-use Rattle.building_tests.proofs.faces.face_verdict.Lts as lts
-use Rattle.building_tests.proofs.faces.are_points.Reads as are-points-reads
-use Rattle.building_tests.proofs.faces.no_point_twice.Reads as no-point-twice-reads
-use Rattle.building_tests.proofs.faces.size_fits.Reads as size-fits-reads
-use Rattle.building_tests.proofs.faces.sums_fit.Reads as sums-fit-reads
 
--- src/faces.rt:123:9
-size-fits-requires : tie.Need-size-fits-requires
-size-fits-requires c κs = search needs
-
--- src/faces.rt:124:9
 returns : tie.Need-returns
 returns c = λ cs. rw (verdict-is cs (c .before .before .before .before .before .args .sides .now) (c .before .before .before .before .before .args .listed .now) (c .before .before .before .before .before .args .beside .now) (c .before .before .before .before .before .args .np) (c .before .before .before .before .before .args .f) (c .before .before .before .before .before .args .a) (c .before .before .before .before .before .args .n) (c .before .before .before .before .before .pre .1 .0), sym (c .before .size-fits .ensures) ∙ not-true _ (c .if1 .taken))
 
--- src/faces.rt:126:9
-are-points-requires : tie.Need-are-points-requires
-are-points-requires c κs = search needs
-
--- src/faces.rt:127:9
 returns-2 : tie.Need-returns-2
 returns-2 c = λ cs. rw (verdict-is cs (c .before .before .before .before .before .before .before .args .sides .now) (c .before .before .before .before .before .before .before .args .listed .now) (c .before .before .before .before .before .before .before .args .beside .now) (c .before .before .before .before .before .before .before .args .np) (c .before .before .before .before .before .before .before .args .f) (c .before .before .before .before .before .before .before .args .a) (c .before .before .before .before .before .before .before .args .n) (c .before .before .before .before .before .before .before .pre .1 .0), sym (c .before .before .before .size-fits .ensures) ∙ not-false _ (c .before .before .if1 .left), sym (c .before .are-points .ensures) ∙ not-true _ (c .if2 .taken))
 
--- src/faces.rt:129:9
-no-point-twice-requires : tie.Need-no-point-twice-requires
-no-point-twice-requires c κs = search needs
-
--- src/faces.rt:130:9
 returns-3 : tie.Need-returns-3
 returns-3 c = λ cs. rw (verdict-is cs (c .before .before .before .before .before .before .before .before .before .args .sides .now) (c .before .before .before .before .before .before .before .before .before .args .listed .now) (c .before .before .before .before .before .before .before .before .before .args .beside .now) (c .before .before .before .before .before .before .before .before .before .args .np) (c .before .before .before .before .before .before .before .before .before .args .f) (c .before .before .before .before .before .before .before .before .before .args .a) (c .before .before .before .before .before .before .before .before .before .args .n) (c .before .before .before .before .before .before .before .before .before .pre .1 .0), sym (c .before .before .before .before .before .size-fits .ensures) ∙ not-false _ (c .before .before .before .before .if1 .left), sym (c .before .before .before .are-points .ensures) ∙ not-false _ (c .before .before .if2 .left), sym (c .before .no-point-twice .ensures) ∙ not-true _ (c .if3 .taken))
 
--- src/faces.rt:132:9
-sums-fit-requires : tie.Need-sums-fit-requires
-sums-fit-requires c κs = search needs
-
--- src/faces.rt:133:9
 returns-4 : tie.Need-returns-4
 returns-4 c = λ cs. rw (verdict-is cs (c .before .before .before .before .before .before .before .before .before .before .before .args .sides .now) (c .before .before .before .before .before .before .before .before .before .before .before .args .listed .now) (c .before .before .before .before .before .before .before .before .before .before .before .args .beside .now) (c .before .before .before .before .before .before .before .before .before .before .before .args .np) (c .before .before .before .before .before .before .before .before .before .before .before .args .f) (c .before .before .before .before .before .before .before .before .before .before .before .args .a) (c .before .before .before .before .before .before .before .before .before .before .before .args .n) (c .before .before .before .before .before .before .before .before .before .before .before .pre .1 .0), sym (c .before .before .before .before .before .before .before .size-fits .ensures) ∙ not-false _ (c .before .before .before .before .before .before .if1 .left), sym (c .before .before .before .before .before .are-points .ensures) ∙ not-false _ (c .before .before .before .before .if2 .left), sym (c .before .before .before .no-point-twice .ensures) ∙ not-false _ (c .before .before .if3 .left), sym (c .before .sums-fit .ensures) ∙ not-true _ (c .if4 .taken))
 
--- src/faces.rt:116:1
 returns-5 : tie.Need-returns-5
 returns-5 c = λ cs. rw (verdict-is cs (c .before .before .before .before .before .before .before .before .before .before .before .args .sides .now) (c .before .before .before .before .before .before .before .before .before .before .before .args .listed .now) (c .before .before .before .before .before .before .before .before .before .before .before .args .beside .now) (c .before .before .before .before .before .before .before .before .before .before .before .args .np) (c .before .before .before .before .before .before .before .before .before .before .before .args .f) (c .before .before .before .before .before .before .before .before .before .before .before .args .a) (c .before .before .before .before .before .before .before .before .before .before .before .args .n) (c .before .before .before .before .before .before .before .before .before .before .before .pre .1 .0), sym (c .before .before .before .before .before .before .before .size-fits .ensures) ∙ not-false _ (c .before .before .before .before .before .before .if1 .left), sym (c .before .before .before .before .before .are-points .ensures) ∙ not-false _ (c .before .before .before .before .if2 .left), sym (c .before .before .before .no-point-twice .ensures) ∙ not-false _ (c .before .before .if3 .left), sym (c .before .sums-fit .ensures) ∙ not-false _ (c .if4 .left))
 
@@ -52,12 +25,12 @@ pub face-verdict-spec : {M : Type 1} → statement M
 face-verdict-spec =
     tie.close
     (tie.spec
-    size-fits-requires
+    (λ c κs. search needs)
     returns
-    are-points-requires
+    (λ c κs. search needs)
     returns-2
-    no-point-twice-requires
+    (λ c κs. search needs)
     returns-3
-    sums-fit-requires
+    (λ c κs. search needs)
     returns-4
     returns-5)

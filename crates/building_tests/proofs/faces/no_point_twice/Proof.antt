@@ -1,21 +1,18 @@
 -- no_point_twice meets its contract. The invariant: the points before place i are new; the measure is what is left of n.
 use borrow.Author.Needs.{needs}
 use borrow.Author.Tests.{not-true, not-false}
-use lib.ListN.{length, getD}
+use lib.ListN.{getD}
 use lib.Dec.{eqb}
 use native.Mathlib.Omega.{arith}
-use Prim.Native.Nat.{ℕ, _≤_, _<_, _-_, _+_}
+use Prim.Native.Nat.{ℕ, _≤_, _-_, _+_}
 use mathlib.Core.List.{List}
 use mathlib.Core.Bool.{Bool, true, not}
-use mathlib.Core.Path.{_≡_, _∙_, sym, ap}
+use mathlib.Core.Path.{_≡_, _∙_, sym}
 use Rattle.built_meshes.specs.Faces.{noPointTwice}
 use Rattle.audited_meshes.specs.Folds.{every}
 use Rattle.building_tests.proofs.Laws.{every-none, every-more, every-stop, whole}
 use Rattle.building_tests.proofs.faces.no_point_twice.Statement.{statement}
 use Rattle.building_tests.proofs.faces.no_point_twice.Tie as tie
-use Rattle.building_tests.proofs.faces.no_point_twice.Reads as reads
-use Rattle.building_tests.proofs.faces.no_point_twice.Lts as lts
-use Rattle.building_tests.proofs.faces.is_new.Reads as is-new-reads
 
 -- whether the listed point i is none of those before it
 abbrev new : List ℕ → ℕ → ℕ → Bool
@@ -27,32 +24,16 @@ Inv-loop listed a n i₀ i = (i ≤ n) × (every i (new listed a) ≡ true)
 abbrev μ-loop : tie.MeasureT-loop
 μ-loop listed a n i₀ i = n - i
 
--- src/faces.rt:74:5
 loop-holds : tie.Need-loop-holds Inv-loop μ-loop
 loop-holds c = (omega arith, every-none (new (c .before .args .listed .now) (c .before .args .a)))
 
--- src/faces.rt:75:13
-is-new-requires : tie.Need-is-new-requires Inv-loop μ-loop
-is-new-requires c κs = search needs
-
--- src/faces.rt:76:13
 returns : tie.Need-returns Inv-loop μ-loop
 unfolding noPointTwice
 returns c = sym (every-stop (c .before .before .before .before .before .args .n) (c .before .before .before .loop .i) (new (c .before .before .before .before .before .args .listed .now) (c .before .before .before .before .before .args .a)) (c .before .before .loop-test .taken) (sym (c .before .is-new .ensures) ∙ not-true _ (c .if1 .taken)))
 
--- src/faces.rt:78:9
-add-i : tie.Need-add-i Inv-loop μ-loop
-add-i c = search needs
-
--- src/faces.rt:74:5
-loop-less : tie.Need-loop-less Inv-loop μ-loop
-loop-less c = search needs
-
--- src/faces.rt:74:5
 loop-again : tie.Need-loop-again Inv-loop μ-loop
 loop-again c = (omega arith, every-more (c .before .before .before .loop .i) (new (c .before .before .before .before .before .args .listed .now) (c .before .before .before .before .before .args .a)) (c .before .before .before .loop .inv .1) (sym (c .before .is-new .ensures) ∙ not-false _ (c .if1 .left)))
 
--- src/faces.rt:69:1
 returns-2 : tie.Need-returns-2 Inv-loop μ-loop
 unfolding noPointTwice
 returns-2 c = sym (rw (whole (c .before .loop .i) (c .before .before .before .args .n) (c .before .loop .inv .0) (c .loop-test .left)) at (c .before .loop .inv .1))
@@ -64,9 +45,9 @@ no-point-twice-spec =
     Inv-loop
     μ-loop
     loop-holds
-    is-new-requires
+    (λ c κs. search needs)
     returns
-    add-i
-    loop-less
+    (λ c. search needs)
+    (λ c. search needs)
     loop-again
     returns-2)

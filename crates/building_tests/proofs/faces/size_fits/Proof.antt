@@ -1,16 +1,11 @@
 -- size_fits meets its contract.
-use borrow.Author.Needs.{needs}
 use borrow.Author.Tests.{lt-leb, le-leb}
 use Rattle.building_tests.proofs.faces.size_fits.Statement.{statement}
 use Rattle.building_tests.proofs.faces.size_fits.Tie as tie
-use Rattle.building_tests.proofs.faces.size_fits.Reads as reads
-use Rattle.building_tests.proofs.faces.size_fits.Lts as lts
 
--- src/faces.rt:32:9
 returns : tie.Need-returns
 returns c = simp (lt-leb _ _ (c .if1 .taken))
 
--- src/faces.rt:28:1
 returns-2 : tie.Need-returns-2
 returns-2 c = simp (le-leb _ _ (c .if1 .left))
 

@@ -5,16 +5,13 @@ use lib.ListN.{length, getD}
 use lib.Ieee.{nan}
 use lib.Ieee.Scale.{finite}
 use native.Mathlib.Omega.{arith}
-use Prim.Native.Nat.{ℕ, _≤_, _-_}
-use mathlib.Core.Bool.{Bool, true}
-use mathlib.Core.Path.{_≡_, _∙_, sym, ap}
+use Prim.Native.Nat.{_≤_, _-_}
+use mathlib.Core.Bool.{true}
+use mathlib.Core.Path.{_≡_, _∙_, sym}
 use Rattle.audited_meshes.specs.Folds.{every}
 use Rattle.building_tests.proofs.Laws.{every-none, every-more, every-stop, whole}
 use Rattle.building_tests.proofs.lists.all_finite.Statement.{statement}
 use Rattle.building_tests.proofs.lists.all_finite.Tie as tie
-use Rattle.building_tests.proofs.lists.all_finite.Reads as reads
-use Rattle.building_tests.proofs.lists.all_finite.Lts as lts
-use Rattle.positions.proofs.is_finite.Reads as is-finite-reads
 
 abbrev Inv-loop : tie.InvT-loop
 Inv-loop coordinates k₀ k = (k ≤ length coordinates) × (every k (λ i. finite (getD coordinates i nan)) ≡ true)
@@ -22,39 +19,15 @@ Inv-loop coordinates k₀ k = (k ≤ length coordinates) × (every k (λ i. fini
 abbrev μ-loop : tie.MeasureT-loop
 μ-loop coordinates k₀ k = length coordinates - k
 
--- src/lists.rt:63:5
 loop-holds : tie.Need-loop-holds Inv-loop μ-loop
 loop-holds c = (omega arith, every-none (λ i. finite (getD (c .before .args .coordinates .now) i nan)))
 
--- src/lists.rt:64:23
-mul-is-finite : tie.Need-mul-is-finite Inv-loop μ-loop
-mul-is-finite c = search needs
-
--- src/lists.rt:64:23
-shared-slice-read-is-finite : tie.Need-shared-slice-read-is-finite Inv-loop μ-loop
-shared-slice-read-is-finite c = search needs
-
--- src/lists.rt:64:13
-is-finite-requires : tie.Need-is-finite-requires Inv-loop μ-loop
-is-finite-requires c κs = search needs
-
--- src/lists.rt:65:13
 returns : tie.Need-returns Inv-loop μ-loop
 returns c = sym (every-stop (length (c .before .before .before .before .before .before .args .coordinates .now)) (c .before .before .before .before .loop .k) (λ i. finite (getD (c .before .before .before .before .before .before .args .coordinates .now) i nan)) (c .before .before .before .loop-test .taken) (sym (c .before .is-finite .ensures) ∙ not-true _ (c .if1 .taken)))
 
--- src/lists.rt:67:9
-add-k : tie.Need-add-k Inv-loop μ-loop
-add-k c = search needs
-
--- src/lists.rt:63:5
-loop-less : tie.Need-loop-less Inv-loop μ-loop
-loop-less c = search needs
-
--- src/lists.rt:63:5
 loop-again : tie.Need-loop-again Inv-loop μ-loop
 loop-again c = (omega arith, every-more (c .before .before .before .before .loop .k) (λ i. finite (getD (c .before .before .before .before .before .before .args .coordinates .now) i nan)) (c .before .before .before .before .loop .inv .1) (sym (c .before .is-finite .ensures) ∙ not-false _ (c .if1 .left)))
 
--- src/lists.rt:59:1
 returns-2 : tie.Need-returns-2 Inv-loop μ-loop
 returns-2 c = sym (rw (whole (c .before .loop .k) (length (c .before .before .before .args .coordinates .now)) (c .before .loop .inv .0) (c .loop-test .left)) at (c .before .loop .inv .1))
 
@@ -65,11 +38,11 @@ all-finite-spec =
     Inv-loop
     μ-loop
     loop-holds
-    mul-is-finite
-    shared-slice-read-is-finite
-    is-finite-requires
+    (λ c. search needs)
+    (λ c. search needs)
+    (λ c κs. search needs)
     returns
-    add-k
-    loop-less
+    (λ c. search needs)
+    (λ c. search needs)
     loop-again
     returns-2)

@@ -3,14 +3,11 @@ use borrow.Author.Needs.{needs}
 use lib.ListN.{length, getD}
 use native.Mathlib.Omega.{arith}
 use Prim.Native.Nat.{ℕ, _≤_, _-_, _+_, _*_}
-use mathlib.Core.Path.{_≡_, _∙_, sym, ap, ap₂}
+use mathlib.Core.Path.{_≡_, _∙_, sym, ap₂}
 use Rattle.closed_meshes.specs.Renumbering.{sumTo}
 use Rattle.building_tests.proofs.Laws.{sum-none, sum-more, whole}
 use Rattle.building_tests.proofs.lists.sum_of.Statement.{statement}
 use Rattle.building_tests.proofs.lists.sum_of.Tie as tie
-use Rattle.building_tests.proofs.lists.sum_of.Reads as reads
-use Rattle.building_tests.proofs.lists.sum_of.Lts as lts
-use Rattle.tables.proofs.index.Reads as index-reads
 
 abbrev Inv-loop : tie.InvT-loop
 Inv-loop words sum₀ k₀ sum k = (k ≤ length words) × (sum ≤ k * 4294967295) × (sum ≡ sumTo k (λ i. getD words i 0))
@@ -18,40 +15,16 @@ Inv-loop words sum₀ k₀ sum k = (k ≤ length words) × (sum ≤ k * 42949672
 abbrev μ-loop : tie.MeasureT-loop
 μ-loop words sum₀ k₀ sum k = length words - k
 
--- src/lists.rt:25:5
 loop-holds : tie.Need-loop-holds Inv-loop μ-loop
 loop-holds c = (omega arith, omega arith, sym (sum-none (λ i. getD (c .before .args .words .now) i 0)))
 
--- src/lists.rt:26:27
-mul-index : tie.Need-mul-index Inv-loop μ-loop
-mul-index c = search needs
-
--- src/lists.rt:26:27
-shared-slice-read-index : tie.Need-shared-slice-read-index Inv-loop μ-loop
-shared-slice-read-index c = search needs
-
--- src/lists.rt:26:21
-index-requires : tie.Need-index-requires Inv-loop μ-loop
-index-requires c κs = search needs
-
--- src/lists.rt:26:15
 add-sum : tie.Need-add-sum Inv-loop μ-loop
 add-sum c = let l = c .before .before .before .loop .inv .0 in let m = c .before .before .before .loop .inv .1 in omega (arith, c .index .ensures, c .before .before .before .before .shared-slice-known .given (c .before .before .before .loop .k), c .before .before .before .before .before .pre)
 
--- src/lists.rt:27:9
-add-k : tie.Need-add-k Inv-loop μ-loop
-add-k c = search needs
-
--- src/lists.rt:25:5
-loop-less : tie.Need-loop-less Inv-loop μ-loop
-loop-less c = search needs
-
--- src/lists.rt:25:5
 loop-again : tie.Need-loop-again Inv-loop μ-loop
 loop-again c = let l = c .before .before .before .loop .inv .0 in let m = c .before .before .before .loop .inv .1 in
     (omega arith, omega (arith, c .index .ensures, c .before .before .before .before .shared-slice-known .given (c .before .before .before .loop .k)), ap₂ (λ (x y : ℕ). x + y) (c .before .before .before .loop .inv .2) (c .index .ensures) ∙ sym (sum-more (c .before .before .before .loop .k) (λ i. getD (c .before .before .before .before .before .args .words .now) i 0)))
 
--- src/lists.rt:19:1
 returns : tie.Need-returns Inv-loop μ-loop
 returns c = rw (whole (c .before .loop .k) (length (c .before .before .before .args .words .now)) (c .before .loop .inv .0) (c .loop-test .left)) at (c .before .loop .inv .2)
 
@@ -62,11 +35,11 @@ sum-of-spec =
     Inv-loop
     μ-loop
     loop-holds
-    mul-index
-    shared-slice-read-index
-    index-requires
+    (λ c. search needs)
+    (λ c. search needs)
+    (λ c κs. search needs)
     add-sum
-    add-k
-    loop-less
+    (λ c. search needs)
+    (λ c. search needs)
     loop-again
     returns)
