@@ -1,0 +1,229 @@
+-- How building begins and ends, over plain variables. Assumes nothing.
+--     concluded-fit, concluded-unfit    the ends of `conclude`
+--     zeroedTo-rows                     the rows that ground 4 counts, by their numbers
+--     Rooms, rooms, rooms-of            what the tables have room for when no ground up to 4 holds, and when they are zeroed
+--     standing-none                     nothing stands in zeroed tables
+--     stopped-outcome, on-outcome       the answer when a face was refused, and when all faces stand
+--     refused-counts .. begun-build     the answer by the tests before the faces
+use mathlib.Core.Path.{_≡_, refl, sym, _∙_, ap, subst}
+use mathlib.Core.Bool.{true, false, _&&_}
+use mathlib.Core.List.{List, []}
+use Prim.Native.Nat.{ℕ, zero, _*_, _≤_, _<_}
+use native.Mathlib.Nat.{le-of-eq}
+use native.Mathlib.Omega.{arith}
+use lib.Dec.{leb}
+use lib.Ieee.{Float, ofBits, binary64}
+use lib.ListN.{length, getD, drop, replicate, List·getD-append, getD-replicate, length-replicate}
+use Rattle.tables.specs.Mesh.{Mesh, none}
+use Rattle.tables.specs.Rows.{over, zeroed}
+use Rattle.tables.proofs.Laws.{length-zeroed}
+use Rattle.audited_meshes.specs.Audit.{pointRows, edgeRows, faceRows}
+use Rattle.built_meshes.specs.Lists.{Lists, Limits, pointsOf, facesOf, offset, countsFit, numbersFit, rowsFit}
+use Rattle.built_meshes.specs.Perimeters.{State, Step, on, stopped}
+use Rattle.built_meshes.specs.Building.{Outcome, refusal, marked, finished, zeroedRows, wholeVerdict, wholeIf, facesFrom, answered, allFaces, buildIf, build}
+use Rattle.built_meshes.specs.declared.Ground.{Ground}
+use Rattle.built_meshes.specs.declared.Ground.the-variants.{OverCounts, UnfitNumber, FewRows}
+use Rattle.built_meshes.specs.declared.Verdict.{Verdict}
+use Rattle.built_meshes.specs.declared.Verdict.the-variants.{Fit, Unfit}
+use Rattle.built_meshes.specs.declared.Built.the-variants.{Accepted, Refused}
+use Rattle.built_meshes.proofs.Begin.{Counted, counts-is, numbers-is, Roomy, rows-is, listed-all}
+use Rattle.built_meshes.proofs.Theorem.{tablesOf, zeroed-after}
+use Rattle.building_tests.specs.Lent.{lists, limitsOf}
+use Rattle.building_tests.specs.declared.Bounds.{Bounds}
+use Rattle.building_tests.specs.declared.Bounds.the-variants.{General, Refine}
+use Rattle.edge_search.specs.Chains.{Newest, Standing}
+use Rattle.edge_search.specs.Places.{mesh}
+use Rattle.building_faces.specs.Rings.{stateAt, Lent}
+use Rattle.building.specs.Concluding.{zeroedTo, concluded, answeredFrom, Begun, Zeroed}
+
+-- ---- the ends of `conclude`
+
+module _ (cs : List Float) (np nl nf : ℕ) (m : Mesh) (k : ℕ) (v : Verdict) where
+  pub concluded-fit : (row : ℕ) (ps : List Float) (pts : List ℕ) → v ≡ Fit → row ≡ k → ps ≡ over (np * 3) cs (m .positions)
+      → pts ≡ marked np (m .points)
+      → _≡_ {A = Outcome}
+      (record {
+        answer = Accepted (record { points = np; edges = row; faces = nf });
+        tables = mesh ps pts (m .edges) (m .intervals) (m .faces);
+      })
+      (concluded cs np nl nf m k v)
+  unfolding concluded
+  concluded-fit row ps pts h r a b = rw (h, r, a, b)
+
+  pub concluded-unfit : (g : Ground) (new : Mesh) → v ≡ Unfit g → new ≡ zeroedTo np nl nf m
+      → _≡_ {A = Outcome} (record { answer = Refused g; tables = new }) (concluded cs np nl nf m k v)
+  unfolding concluded
+  concluded-unfit g new h z = rw (h, z)
+
+-- ---- before the faces
+
+pub zeroedTo-rows : (l : Lists) (m : Mesh) → zeroedTo (pointsOf l) (length (l .listed)) (facesOf l) m ≡ zeroedRows l m
+unfolding zeroedTo zeroedRows
+zeroedTo-rows l m = refl
+
+-- what the tables have room for
+pub record Rooms (l : Lists) (m : Mesh) : Type 0 where
+  pub positions-fit : pointsOf l * 3 ≤ length (m .positions)
+  pub points-fit : pointsOf l * 3 ≤ length (m .points)
+  pub edges-fit : length (l .listed) * 8 ≤ length (m .edges)
+  pub intervals-fit : length (l .listed) ≤ length (m .intervals)
+  pub faces-fit : facesOf l * 5 ≤ length (m .faces)
+  pub points-few : pointsOf l ≤ 4096
+  pub faces-few : facesOf l ≤ 4096
+  pub listed-few : length (l .listed) ≤ 16384
+  pub beside : length (l .intervals) ≡ length (l .listed)
+  pub all-listed : offset l (facesOf l) ≡ length (l .listed)
+
+limits-few : (b : Bounds) → (limitsOf b .points ≤ 4096) × (limitsOf b .faces ≤ 4096) × (limitsOf b .listed ≤ 16384)
+limits-few General = (omega arith, omega arith, omega arith)
+limits-few Refine = (omega arith, omega arith, omega arith)
+
+pub rooms : (l : Lists) (m : Mesh) → Begun l m → Rooms l m
+rooms l m h =
+    let c : Limits = limitsOf (h .bounds) in
+    let counted : Counted c l = counts-is c l (h .counts) in
+    let roomy : Roomy l m = rows-is l m (h .rows) in
+    let few = limits-few (h .bounds) in
+    record {
+      positions-fit = omega (arith, roomy .points-enough);
+      points-fit = omega (arith, roomy .points-enough);
+      edges-fit = omega (arith, roomy .edges-enough);
+      intervals-fit = omega (arith, roomy .edges-enough);
+      faces-fit = omega (arith, roomy .faces-enough);
+      points-few = omega (arith, counted .points-few, few .0);
+      faces-few = omega (arith, counted .faces-few, few .1);
+      listed-few = omega (arith, counted .listed-few, few .2);
+      beside = sym (counted .alike);
+      all-listed = listed-all c l m counted (numbers-is l (h .numbers)) roomy (omega (arith, few .1));
+    }
+
+pub rooms-zeroed : (l : Lists) (m t : Mesh) → t ≡ zeroedRows l m → Rooms l m → Rooms l t
+unfolding zeroedRows
+rooms-zeroed l m t z r =
+    rw z
+    (record {
+      positions-fit = rw (length-zeroed (pointsOf l * 3) (ofBits binary64 0) (m .positions) (r .positions-fit)) (r .positions-fit);
+      points-fit = rw (length-zeroed (pointsOf l * 3) 0 (m .points) (r .points-fit)) (r .points-fit);
+      edges-fit = rw (length-zeroed (length (l .listed) * 8) 0 (m .edges) (r .edges-fit)) (r .edges-fit);
+      intervals-fit = rw (length-zeroed (length (l .listed)) (ofBits binary64 0) (m .intervals) (r .intervals-fit)) (r .intervals-fit);
+      faces-fit = rw (length-zeroed (facesOf l * 5) 0 (m .faces) (r .faces-fit)) (r .faces-fit);
+      points-few = r .points-few;
+      faces-few = r .faces-few;
+      listed-few = r .listed-few;
+      beside = r .beside;
+      all-listed = r .all-listed;
+    })
+
+-- the room of zeroed tables
+pub rooms-of : (l : Lists) (t : Mesh) → Zeroed l t → Rooms l t
+rooms-of l t h = rooms-zeroed l (h .lent) t (h .zero) (rooms l (h .lent) (h .begun))
+
+getD-zeroed : {A : Type 0} (n i : ℕ) (z d : A) (xs : List A) → i < n → getD (zeroed n z xs) i d ≡ z
+unfolding zeroed
+getD-zeroed n i z d xs h =
+    List·getD-append (replicate n z) (drop n xs) d i (subst (λ k. i < k) (sym (length-replicate n z)) h) ∙ getD-replicate n i z d h
+
+-- nothing stands in zeroed tables, with links that are 0
+pub standing-none : (l : Lists) (t : Mesh) (links ch : List ℕ) → Zeroed l t → pointsOf l ≤ length links → ch ≡ zeroed (pointsOf l) 0 links
+    → Standing (pointsOf l) (t .points) (t .edges) ch 0
+unfolding zeroedRows
+standing-none l t links ch h room c =
+    record {
+      points-fit = rooms-of l t h .points-fit;
+      edges-fit = omega arith;
+      links-fit = rw (c, length-zeroed (pointsOf l) 0 links room) (omega arith);
+      valences = λ p b. rw (h .zero) (rw (getD-zeroed (pointsOf l * 3) (p * 3) 0 0 (h .lent .points) (omega arith)) (omega arith));
+      newest = λ p b. rw (c, getD-zeroed (pointsOf l) p 0 0 links b) (none-newest (t .edges) p);
+      chained = record { older-origin = λ e b. absurd (omega arith); older-dest = λ e b. absurd (omega arith) };
+    }
+  where
+    none-newest : (es : List ℕ) (p : ℕ) → Newest es p 0 0
+    none-newest es p =
+        record {
+          below = omega arith;
+          touching = λ e s. absurd (omega arith);
+          none-between = λ e i b. absurd (omega arith);
+        }
+
+-- there are rows and links for all edges
+pub lent-rooms : (l : Lists) (t : Mesh) (ch : List ℕ) → Rooms l t → 36864 ≤ length ch
+    → Lent (pointsOf l) (l .listed) (l .intervals) (t .edges) (t .intervals) ch
+lent-rooms l t ch r room =
+    let a = r .points-few in
+    let b = r .listed-few in
+    record {
+      edge-rows = r .edges-fit;
+      interval-rows = r .intervals-fit;
+      link-rows = omega arith;
+      few = r .listed-few;
+      beside = r .beside;
+    }
+
+-- ---- after the faces: t are the zeroed tables, n those after the faces
+
+module _ (l : Lists) (m t : Mesh) (begun : Begun l m) (zero : t ≡ zeroedRows l m) where
+  faces-few : limitsOf (begun .bounds) .faces ≤ none
+  faces-few = let few = limits-few (begun .bounds) in omega (arith, few .1)
+
+  all-from : (x : Step State) → x ≡ facesFrom (facesOf l) l 0 0 (on (stateAt t 0)) → x ≡ allFaces l m
+  unfolding allFaces
+  all-from x h = rw zero at h
+
+  zeroed-tables : (x : Step State) → x ≡ allFaces l m → zeroedRows l (tablesOf x) ≡ zeroedRows l m
+  zeroed-tables x h =
+      ap (λ (y : Step State). zeroedRows l (tablesOf y)) h
+      ∙ zeroed-after (limitsOf (begun .bounds)) l m faces-few (begun .counts) (begun .numbers) (begun .rows)
+
+  pub stopped-outcome : (g : Ground) (n after : Mesh) → stopped g n ≡ facesFrom (facesOf l) l 0 0 (on (stateAt t 0))
+      → after ≡ zeroedTo (pointsOf l) (length (l .listed)) (facesOf l) n
+      → _≡_ {A = Outcome} (record { answer = Refused g; tables = after }) (answeredFrom l m)
+  unfolding answeredFrom answered
+  stopped-outcome g n after h z =
+      rw (← all-from (stopped g n) h, z, zeroedTo-rows l n, zeroed-tables (stopped g n) (all-from (stopped g n) h))
+
+  verdict-outcome : (k : ℕ) (n : Mesh) (v : Verdict) → zeroedRows l n ≡ zeroedRows l m
+      → concluded (l .coordinates) (pointsOf l) (length (l .listed)) (facesOf l) n k v ≡ wholeIf l m (stateAt n k) v
+  unfolding concluded wholeIf finished
+  verdict-outcome k n Fit z = refl
+  verdict-outcome k n (Unfit g) z = ap (λ (x : Mesh). refusal g x) (zeroedTo-rows l n ∙ z)
+
+  pub on-outcome : (k : ℕ) (n : Mesh) (o : Outcome) → on (stateAt n k) ≡ facesFrom (facesOf l) l 0 0 (on (stateAt t 0))
+      → o ≡ concluded (l .coordinates) (pointsOf l) (length (l .listed)) (facesOf l) n k (wholeVerdict n (pointsOf l) k)
+      → o ≡ answeredFrom l m
+  unfolding answeredFrom answered
+  on-outcome k n o h c =
+      c ∙ verdict-outcome k n (wholeVerdict n (pointsOf l) k) (zeroed-tables (on (stateAt n k)) (all-from (on (stateAt n k)) h))
+      ∙ ap (λ (x : Step State). answered l m x) (all-from (on (stateAt n k)) h)
+
+-- ---- the tests before the faces
+
+pub numbers-same : (cs : List Float) (ss ls : List ℕ) (be : List Float) → numbersFit (lists cs [] [] be) ≡ numbersFit (lists cs ss ls be)
+unfolding numbersFit
+numbers-same cs ss ls be = refl
+
+pub rows-same : (l : Lists) (m : Mesh)
+    → (leb (pointsOf l) (pointRows m) && leb (facesOf l) (faceRows m) && leb (length (l .listed)) (edgeRows m)) ≡ rowsFit l m
+unfolding rowsFit
+rows-same l m = refl
+
+module _ (b : Bounds) (l : Lists) (m : Mesh) where
+  pub refused-counts : countsFit (limitsOf b) l ≡ false → refusal OverCounts m ≡ build (limitsOf b) l m
+  unfolding build buildIf
+  refused-counts h = rw h
+
+  pub refused-numbers : countsFit (limitsOf b) l ≡ true → numbersFit l ≡ false → refusal UnfitNumber m ≡ build (limitsOf b) l m
+  unfolding build buildIf
+  refused-numbers h k = rw (h, k)
+
+  pub refused-rows : countsFit (limitsOf b) l ≡ true → numbersFit l ≡ true → rowsFit l m ≡ false → refusal FewRows m ≡ build (limitsOf b) l m
+  unfolding build buildIf
+  refused-rows h k r = rw (h, k, r)
+
+  pub begun-build : (o : Outcome) → countsFit (limitsOf b) l ≡ true → numbersFit l ≡ true → rowsFit l m ≡ true → o ≡ answeredFrom l m
+      → o ≡ build (limitsOf b) l m
+  unfolding build buildIf answeredFrom
+  begun-build o h k r a = a ∙ rw (h, k, r)
+
+-- the links at the beginning
+pub links-room : 36864 ≤ length (replicate {A = ℕ} 36864 0)
+links-room = le-of-eq (sym (length-replicate {A = ℕ} 36864 0))

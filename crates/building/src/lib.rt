@@ -1,0 +1,206 @@
+// Building: lists of coordinates, side lengths, listed points and intervals become a mesh in the lent tables, or meet the first ground
+// that holds (document 01, "Building" and "Grounds").
+// Carries over `try_new` of t_nurcc/mod.rs.
+// Contract: `build`. Definitions: `Building` of `built_meshes`; `specs/Concluding.antt`.
+ghost use mathlib.Core.Path.{_≡_};
+ghost use Prim.Native.Nat.{_*_, _/_, _≤_};
+ghost use lib.ListN.{length};
+ghost use Rattle.tables.specs.Mesh.{Mesh};
+ghost use Rattle.built_meshes.specs.Building.{Outcome, zeroedRows, wholeVerdict, build};
+ghost use Rattle.building_tests.specs.Lent.{lists, limitsOf};
+ghost use Rattle.edge_search.specs.Places.{mesh};
+ghost use Rattle.building.specs.Concluding.{concluded, answeredFrom, Begun, Zeroed};
+use crate::rows::rows_fit;
+use crate::rows::zero_rows;
+use crate::whole::mark_points;
+use crate::whole::whole_verdict;
+use building_faces::Faced;
+use building_faces::enter_faces;
+use building_tests::Bounds;
+use building_tests::lists::counts_fit;
+use building_tests::lists::numbers_fit;
+use built_meshes::Built;
+use built_meshes::Ground;
+use built_meshes::Verdict;
+use tables::Counts;
+use tables::copy_numbers;
+use tables::index;
+use tables::zero_words;
+
+pub mod rows;
+pub mod whole;
+
+// The verdict on the whole when k edges stand, and the tables by it: finished, or their counted rows made zero.
+fn conclude(
+    coordinates: &[f64],
+    positions: &mut [f64],
+    points: &mut [u32],
+    edges: &mut [u32],
+    intervals: &mut [f64],
+    faces: &mut [u32],
+    nl: usize,
+    nf: usize,
+    k: u32,
+) -> Built
+    requires { ⌜ length (now coordinates) / 3 * 3 ≤ length (now positions) ⌝ }
+    requires { ⌜ length (now coordinates) / 3 * 3 ≤ length (now points) ⌝ }
+    requires { ⌜ nl * 8 ≤ length (now edges) ⌝ }
+    requires { ⌜ nl ≤ length (now intervals) ⌝ }
+    requires { ⌜ nf * 5 ≤ length (now faces) ⌝ }
+    requires { ⌜ k ≤ nl ⌝ }
+    ensures { λ r. ⌜ _≡_ {A = Outcome} (record { answer = r; tables = mesh (now (positions .exit)) (now (points .exit)) (now (edges .exit)) (now (intervals .exit)) (now (faces .exit)) }) (concluded (now (coordinates .entry)) (length (now (coordinates .entry)) / 3) nl nf (mesh (now (positions .entry)) (now (points .entry)) (now (edges .entry)) (now (intervals .entry)) (now (faces .entry))) k (wholeVerdict (mesh (now (positions .entry)) (now (points .entry)) (now (edges .entry)) (now (intervals .entry)) (now (faces .entry))) (length (now (coordinates .entry)) / 3) k)) ⌝ }
+{
+    let np = coordinates.len() / 3;
+    let ne = index(k);
+    match whole_verdict(points, edges, np, ne) {
+        Verdict::Fit => {
+            copy_numbers(coordinates, positions, np * 3);
+            mark_points(points, np);
+            Built::Accepted(Counts {
+                points: np,
+                edges: ne,
+                faces: nf,
+            })
+        }
+        Verdict::Unfit(g) => {
+            zero_rows(positions, points, edges, intervals, faces, np, nl, nf);
+            Built::Refused(g)
+        }
+    }
+}
+
+// Builds in tables whose counted rows are zero, from lists that meet no ground up to 4.
+fn build_zeroed(
+    coordinates: &[f64],
+    sides: &[u32],
+    listed: &[u32],
+    beside: &[f64],
+    positions: &mut [f64],
+    points: &mut [u32],
+    edges: &mut [u32],
+    intervals: &mut [f64],
+    faces: &mut [u32],
+    chain: &mut [u32],
+) -> Built
+    requires { ⌜ Zeroed (lists (now coordinates) (now sides) (now listed) (now beside)) (mesh (now positions) (now points) (now edges) (now intervals) (now faces)) ⌝ }
+    requires { ⌜ 36864 ≤ length (now chain) ⌝ }
+    ensures { λ r. ⌜ ((m : Mesh) → Begun (lists (now (coordinates .entry)) (now (sides .entry)) (now (listed .entry)) (now (beside .entry))) m → (mesh (now (positions .entry)) (now (points .entry)) (now (edges .entry)) (now (intervals .entry)) (now (faces .entry))) ≡ zeroedRows (lists (now (coordinates .entry)) (now (sides .entry)) (now (listed .entry)) (now (beside .entry))) m → _≡_ {A = Outcome} (record { answer = r; tables = mesh (now (positions .exit)) (now (points .exit)) (now (edges .exit)) (now (intervals .exit)) (now (faces .exit)) }) (answeredFrom (lists (now (coordinates .entry)) (now (sides .entry)) (now (listed .entry)) (now (beside .entry))) m)) ⌝ }
+{
+    let np = coordinates.len() / 3;
+    let nl = listed.len();
+    let nf = sides.len() / 4;
+    zero_words(chain, np);
+    match enter_faces(
+        sides,
+        listed,
+        beside,
+        points,
+        edges,
+        intervals,
+        faces,
+        chain,
+        np,
+    ) {
+        Faced::On(k) => conclude(
+            coordinates,
+            positions,
+            points,
+            edges,
+            intervals,
+            faces,
+            nl,
+            nf,
+            k,
+        ),
+        Faced::Stopped(g) => {
+            zero_rows(positions, points, edges, intervals, faces, np, nl, nf);
+            Built::Refused(g)
+        }
+    }
+}
+
+// Builds from lists that meet no ground up to 4.
+fn build_begun(
+    coordinates: &[f64],
+    sides: &[u32],
+    listed: &[u32],
+    beside: &[f64],
+    positions: &mut [f64],
+    points: &mut [u32],
+    edges: &mut [u32],
+    intervals: &mut [f64],
+    faces: &mut [u32],
+) -> Built
+    requires { ⌜ Begun (lists (now coordinates) (now sides) (now listed) (now beside)) (mesh (now positions) (now points) (now edges) (now intervals) (now faces)) ⌝ }
+    ensures { λ r. ⌜ _≡_ {A = Outcome} (record { answer = r; tables = mesh (now (positions .exit)) (now (points .exit)) (now (edges .exit)) (now (intervals .exit)) (now (faces .exit)) }) (answeredFrom (lists (now (coordinates .entry)) (now (sides .entry)) (now (listed .entry)) (now (beside .entry))) (mesh (now (positions .entry)) (now (points .entry)) (now (edges .entry)) (now (intervals .entry)) (now (faces .entry)))) ⌝ }
+{
+    zero_rows(
+        positions,
+        points,
+        edges,
+        intervals,
+        faces,
+        coordinates.len() / 3,
+        listed.len(),
+        sides.len() / 4,
+    );
+    let mut chain = [0u32; 36864];
+    build_zeroed(
+        coordinates,
+        sides,
+        listed,
+        beside,
+        positions,
+        points,
+        edges,
+        intervals,
+        faces,
+        &mut chain,
+    )
+}
+
+// Builds a mesh from lists of any content and lengths in the lent tables, within the bounds.
+pub fn build(
+    coordinates: &[f64],
+    sides: &[u32],
+    listed: &[u32],
+    beside: &[f64],
+    positions: &mut [f64],
+    points: &mut [u32],
+    edges: &mut [u32],
+    intervals: &mut [f64],
+    faces: &mut [u32],
+    bounds: Bounds,
+) -> Built
+    ensures { λ r. ⌜ _≡_ {A = Outcome} (record { answer = r; tables = mesh (now (positions .exit)) (now (points .exit)) (now (edges .exit)) (now (intervals .exit)) (now (faces .exit)) }) (build (limitsOf bounds) (lists (now (coordinates .entry)) (now (sides .entry)) (now (listed .entry)) (now (beside .entry))) (mesh (now (positions .entry)) (now (points .entry)) (now (edges .entry)) (now (intervals .entry)) (now (faces .entry)))) ⌝ }
+{
+    if !counts_fit(coordinates, sides, listed, beside, bounds) {
+        return Built::Refused(Ground::OverCounts);
+    }
+    if !numbers_fit(coordinates, beside) {
+        return Built::Refused(Ground::UnfitNumber);
+    }
+    if !rows_fit(
+        positions,
+        points,
+        edges,
+        intervals,
+        faces,
+        coordinates.len() / 3,
+        listed.len(),
+        sides.len() / 4,
+    ) {
+        return Built::Refused(Ground::FewRows);
+    }
+    build_begun(
+        coordinates,
+        sides,
+        listed,
+        beside,
+        positions,
+        points,
+        edges,
+        intervals,
+        faces,
+    )
+}

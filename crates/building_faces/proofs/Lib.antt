@@ -1,0 +1,4 @@
+pub mod Ends
+mod Turns
+mod Passing
+mod FacePassing

@@ -1,0 +1,71 @@
+-- enter_faces meets its contract. The invariant `FacePassing`: what is left of the definition's faces, from the state at face f, is all of
+-- them from the beginning; the measure is what is left of the faces.
+use borrow.Author.Needs.{needs}
+use native.Mathlib.Omega.{arith}
+use Prim.Native.Nat.{_-_}
+use Rattle.building_faces.proofs.Passing.{lent-same}
+use Rattle.building_faces.proofs.FacePassing.{FacePassing, face-start, face-sided, face-more, face-stop, face-end, faces-stand}
+use Rattle.building_faces.proofs.enter_faces.Statement.{statement}
+use Rattle.building_faces.proofs.enter_faces.Tie as tie
+
+abbrev Inv-loop : tie.InvT-loop
+Inv-loop sides listed beside points₀ edges₀ intervals₀ faces₀ chain₀ np nf k₀ a₀ f₀ points edges intervals faces chain k a f = FacePassing np sides listed beside points₀ edges₀ intervals₀ faces₀ chain₀ points edges intervals faces chain k a f
+
+abbrev μ-loop : tie.MeasureT-loop
+μ-loop sides listed beside points₀ edges₀ intervals₀ faces₀ chain₀ np nf k₀ a₀ f₀ points edges intervals faces chain k a f = nf - f
+
+loop-holds : tie.Need-loop-holds Inv-loop μ-loop
+loop-holds c = face-start (c .before .before .before .before .before .before .before .before .args .np) (c .before .before .before .before .before .before .before .before .args .sides .now) (c .before .before .before .before .before .before .before .before .args .listed .now) (c .before .before .before .before .before .before .before .before .args .beside .now) (c .before .before .before .before .before .before .before .before .args .points .now) (c .before .before .before .before .before .before .before .before .args .edges .now) (c .before .before .before .before .before .before .before .before .args .intervals .now) (c .before .before .before .before .before .before .before .before .args .faces .now) (c .before .before .before .before .before .before .before .before .args .chain .now) (c .before .before .before .before .before .before .before .before .pre .0)
+
+enter-face-requires : tie.Need-enter-face-requires Inv-loop μ-loop
+enter-face-requires c κs =
+    let h = c .before .before .before .before .before .before .before .loop .inv in
+    let r = c .before .before .before .before .before .before .before .before .before .before .before .before .before .before .before .before .pre .1 .1 .1 .0 in
+    let e = h .faces-length in (
+      h .standing,
+      (
+        lent-same (c .before .before .before .before .before .before .before .before .before .before .before .before .before .before .before .before .args .np) (c .before .before .before .before .before .before .before .before .before .before .before .before .before .before .before .before .args .listed .now) (c .before .before .before .before .before .before .before .before .before .before .before .before .before .before .before .before .args .beside .now) (c .before .before .before .before .before .before .before .before .before .before .before .before .before .before .before .before .args .edges .now) (c .before .before .before .before .before .before .before .loop .edges) (c .before .before .before .before .before .before .before .before .before .before .before .before .before .before .before .before .args .intervals .now) (c .before .before .before .before .before .before .before .loop .intervals) (c .before .before .before .before .before .before .before .before .before .before .before .before .before .before .before .before .args .chain .now) (c .before .before .before .before .before .before .before .loop .chain) (h .edges-length) (h .intervals-length) (h .links-length) (c .before .before .before .before .before .before .before .before .before .before .before .before .before .before .before .before .pre .1 .0),
+        ((face-sided (c .before .before .before .before .before .before .before .before .before .before .before .before .before .before .before .before .args .np) (c .before .before .before .before .before .before .before .before .before .before .before .before .before .before .before .before .args .sides .now) (c .before .before .before .before .before .before .before .before .before .before .before .before .before .before .before .before .args .listed .now) (c .before .before .before .before .before .before .before .before .before .before .before .before .before .before .before .before .args .beside .now) (c .before .before .before .before .before .before .before .before .before .before .before .before .before .before .before .before .args .points .now) (c .before .before .before .before .before .before .before .before .before .before .before .before .before .before .before .before .args .edges .now) (c .before .before .before .before .before .before .before .before .before .before .before .before .before .before .before .before .args .intervals .now) (c .before .before .before .before .before .before .before .before .before .before .before .before .before .before .before .before .args .faces .now) (c .before .before .before .before .before .before .before .before .before .before .before .before .before .before .before .before .args .chain .now) (c .before .before .before .before .before .before .before .before .before .before .before .before .before .before .before .before .pre .1 .1 .1 .1) (c .before .before .before .before .before .before .before .loop .points) (c .before .before .before .before .before .before .before .loop .edges) (c .before .before .before .before .before .before .before .loop .intervals) (c .before .before .before .before .before .before .before .loop .faces) (c .before .before .before .before .before .before .before .loop .chain) (c .before .before .before .before .before .before .before .loop .k) (c .before .before .before .before .before .before .before .loop .a) (c .before .before .before .before .before .before .before .loop .f) (c .before .before .before .before .before .face-size .result) (c .before .before .before .before .before .before .before .loop .inv) (c .before .before .before .before .before .before .loop-test .taken) (c .before .before .before .before .before .face-size .ensures)), (h .count, omega (arith, c .before .before .before .before .before .before .loop-test .taken))),
+      ),
+    )
+
+returns : tie.Need-returns Inv-loop μ-loop
+returns c = ((λ cs ps z. face-stop (c .before .before .before .before .before .before .before .before .before .before .before .before .before .before .before .before .before .before .before .before .before .before .before .before .before .before .before .before .before .before .args .np) (c .before .before .before .before .before .before .before .before .before .before .before .before .before .before .before .before .before .before .before .before .before .before .before .before .before .before .before .before .before .before .args .sides .now) (c .before .before .before .before .before .before .before .before .before .before .before .before .before .before .before .before .before .before .before .before .before .before .before .before .before .before .before .before .before .before .args .listed .now) (c .before .before .before .before .before .before .before .before .before .before .before .before .before .before .before .before .before .before .before .before .before .before .before .before .before .before .before .before .before .before .args .beside .now) (c .before .before .before .before .before .before .before .before .before .before .before .before .before .before .before .before .before .before .before .before .before .before .before .before .before .before .before .before .before .before .args .points .now) (c .before .before .before .before .before .before .before .before .before .before .before .before .before .before .before .before .before .before .before .before .before .before .before .before .before .before .before .before .before .before .args .edges .now) (c .before .before .before .before .before .before .before .before .before .before .before .before .before .before .before .before .before .before .before .before .before .before .before .before .before .before .before .before .before .before .args .intervals .now) (c .before .before .before .before .before .before .before .before .before .before .before .before .before .before .before .before .before .before .before .before .before .before .before .before .before .before .before .before .before .before .args .faces .now) (c .before .before .before .before .before .before .before .before .before .before .before .before .before .before .before .before .before .before .before .before .before .before .before .before .before .before .before .before .before .before .args .chain .now) (c .before .before .before .before .before .before .before .before .before .before .before .before .before .before .before .before .before .before .before .before .before .before .before .before .before .before .before .before .before .before .pre .1 .1 .1 .1) (c .before .before .before .before .before .before .before .before .before .before .before .before .before .before .before .before .before .before .before .before .before .loop .points) (c .before .before .before .before .before .before .before .before .before .before .before .before .before .before .before .before .before .before .before .before .before .loop .edges) (c .before .before .before .before .before .before .before .before .before .before .before .before .before .before .before .before .before .before .before .before .before .loop .intervals) (c .before .before .before .before .before .before .before .before .before .before .before .before .before .before .before .before .before .before .before .before .before .loop .faces) (c .before .before .before .before .before .before .before .before .before .before .before .before .before .before .before .before .before .before .before .before .before .loop .chain) (c .before .before .before .before .before .before .before .before .before .before .before .before .before .before .before .before .before .before .before .before .before .loop .k) (c .before .before .before .before .before .before .before .before .before .before .before .before .before .before .before .before .before .before .before .before .before .loop .a) (c .before .before .before .before .before .before .before .before .before .before .before .before .before .before .before .before .before .before .before .before .before .loop .f) (c .before .before .before .before .before .before .before .before .before .before .before .before .before .before .before .before .before .before .before .face-size .result) (c .before .before .before .before .before .before .before .before .before .before .before .before .before .before .before .before .before .before .before .before .before .loop .inv) (c .before .before .before .before .before .before .before .before .before .before .before .before .before .before .before .before .before .before .before .before .loop-test .taken) (c .before .before .before .before .before .before .before .before .before .before .before .before .before .before .before .before .before .before .before .face-size .ensures) (c .before .before .before .before .before .before .before .before .before .before .before .before .before .enter-face .last .1 .1 .1 .0) (c .before .before .before .before .before .before .before .before .before .before .before .before .before .enter-face .last .1 .1 .1 .1 .0) (c .before .before .before .before .before .before .before .before .before .before .before .before .before .enter-face .last .1 .1 .1 .1 .1 .0) (c .before .before .before .before .before .before .before .before .before .before .before .before .before .enter-face .last .1 .1 .1 .1 .1 .1 .0) (c .before .before .before .before .before .before .before .before .before .before .before .before .before .enter-face .last .1 .1 .1 .1 .1 .1 .1 .0) (c .before .g .given .0 .0) cs ps z (rw (c .before .g .given .1) at (c .before .before .before .before .before .before .before .before .before .before .before .before .before .enter-face .ensures .0 cs ps z))), tt)
+
+add-a : tie.Need-add-a Inv-loop μ-loop
+add-a c = let w = (face-sided (c .before .before .before .before .before .before .before .before .before .before .before .before .before .before .before .before .before .before .before .before .before .before .before .before .before .before .before .before .before .before .args .np) (c .before .before .before .before .before .before .before .before .before .before .before .before .before .before .before .before .before .before .before .before .before .before .before .before .before .before .before .before .before .before .args .sides .now) (c .before .before .before .before .before .before .before .before .before .before .before .before .before .before .before .before .before .before .before .before .before .before .before .before .before .before .before .before .before .before .args .listed .now) (c .before .before .before .before .before .before .before .before .before .before .before .before .before .before .before .before .before .before .before .before .before .before .before .before .before .before .before .before .before .before .args .beside .now) (c .before .before .before .before .before .before .before .before .before .before .before .before .before .before .before .before .before .before .before .before .before .before .before .before .before .before .before .before .before .before .args .points .now) (c .before .before .before .before .before .before .before .before .before .before .before .before .before .before .before .before .before .before .before .before .before .before .before .before .before .before .before .before .before .before .args .edges .now) (c .before .before .before .before .before .before .before .before .before .before .before .before .before .before .before .before .before .before .before .before .before .before .before .before .before .before .before .before .before .before .args .intervals .now) (c .before .before .before .before .before .before .before .before .before .before .before .before .before .before .before .before .before .before .before .before .before .before .before .before .before .before .before .before .before .before .args .faces .now) (c .before .before .before .before .before .before .before .before .before .before .before .before .before .before .before .before .before .before .before .before .before .before .before .before .before .before .before .before .before .before .args .chain .now) (c .before .before .before .before .before .before .before .before .before .before .before .before .before .before .before .before .before .before .before .before .before .before .before .before .before .before .before .before .before .before .pre .1 .1 .1 .1) (c .before .before .before .before .before .before .before .before .before .before .before .before .before .before .before .before .before .before .before .before .before .loop .points) (c .before .before .before .before .before .before .before .before .before .before .before .before .before .before .before .before .before .before .before .before .before .loop .edges) (c .before .before .before .before .before .before .before .before .before .before .before .before .before .before .before .before .before .before .before .before .before .loop .intervals) (c .before .before .before .before .before .before .before .before .before .before .before .before .before .before .before .before .before .before .before .before .before .loop .faces) (c .before .before .before .before .before .before .before .before .before .before .before .before .before .before .before .before .before .before .before .before .before .loop .chain) (c .before .before .before .before .before .before .before .before .before .before .before .before .before .before .before .before .before .before .before .before .before .loop .k) (c .before .before .before .before .before .before .before .before .before .before .before .before .before .before .before .before .before .before .before .before .before .loop .a) (c .before .before .before .before .before .before .before .before .before .before .before .before .before .before .before .before .before .before .before .before .before .loop .f) (c .before .before .before .before .before .before .before .before .before .before .before .before .before .before .before .before .before .before .before .face-size .result) (c .before .before .before .before .before .before .before .before .before .before .before .before .before .before .before .before .before .before .before .before .before .loop .inv) (c .before .before .before .before .before .before .before .before .before .before .before .before .before .before .before .before .before .before .before .before .loop-test .taken) (c .before .before .before .before .before .before .before .before .before .before .before .before .before .before .before .before .before .before .before .face-size .ensures)) .within in omega (arith, c .before .before .before .before .before .before .before .before .before .before .before .before .before .before .before .before .before .before .before .before .before .before .before .before .before .before .before .before .before .before .good .1 .0)
+
+loop-again : tie.Need-loop-again Inv-loop μ-loop
+loop-again c = face-more (c .before .before .before .before .before .before .before .before .before .before .before .before .before .before .before .before .before .before .before .before .before .before .before .before .before .before .before .before .before .before .args .np) (c .before .before .before .before .before .before .before .before .before .before .before .before .before .before .before .before .before .before .before .before .before .before .before .before .before .before .before .before .before .before .args .sides .now) (c .before .before .before .before .before .before .before .before .before .before .before .before .before .before .before .before .before .before .before .before .before .before .before .before .before .before .before .before .before .before .args .listed .now) (c .before .before .before .before .before .before .before .before .before .before .before .before .before .before .before .before .before .before .before .before .before .before .before .before .before .before .before .before .before .before .args .beside .now) (c .before .before .before .before .before .before .before .before .before .before .before .before .before .before .before .before .before .before .before .before .before .before .before .before .before .before .before .before .before .before .args .points .now) (c .before .before .before .before .before .before .before .before .before .before .before .before .before .before .before .before .before .before .before .before .before .before .before .before .before .before .before .before .before .before .args .edges .now) (c .before .before .before .before .before .before .before .before .before .before .before .before .before .before .before .before .before .before .before .before .before .before .before .before .before .before .before .before .before .before .args .intervals .now) (c .before .before .before .before .before .before .before .before .before .before .before .before .before .before .before .before .before .before .before .before .before .before .before .before .before .before .before .before .before .before .args .faces .now) (c .before .before .before .before .before .before .before .before .before .before .before .before .before .before .before .before .before .before .before .before .before .before .before .before .before .before .before .before .before .before .args .chain .now) (c .before .before .before .before .before .before .before .before .before .before .before .before .before .before .before .before .before .before .before .before .before .before .before .before .before .before .before .before .before .before .pre .1 .1 .1 .1) (c .before .before .before .before .before .before .before .before .before .before .before .before .before .before .before .before .before .before .before .before .before .loop .points) (c .before .before .before .before .before .before .before .before .before .before .before .before .before .before .before .before .before .before .before .before .before .loop .edges) (c .before .before .before .before .before .before .before .before .before .before .before .before .before .before .before .before .before .before .before .before .before .loop .intervals) (c .before .before .before .before .before .before .before .before .before .before .before .before .before .before .before .before .before .before .before .before .before .loop .faces) (c .before .before .before .before .before .before .before .before .before .before .before .before .before .before .before .before .before .before .before .before .before .loop .chain) (c .before .before .before .before .before .before .before .before .before .before .before .before .before .before .before .before .before .before .before .before .before .loop .k) (c .before .before .before .before .before .before .before .before .before .before .before .before .before .before .before .before .before .before .before .before .before .loop .a) (c .before .before .before .before .before .before .before .before .before .before .before .before .before .before .before .before .before .before .before .before .before .loop .f) (c .before .before .before .before .before .before .before .before .before .before .before .before .before .before .before .before .before .before .before .face-size .result) (c .before .before .before .before .before .before .before .before .before .before .before .before .before .before .before .before .before .before .before .before .before .loop .inv) (c .before .before .before .before .before .before .before .before .before .before .before .before .before .before .before .before .before .before .before .before .loop-test .taken) (c .before .before .before .before .before .before .before .before .before .before .before .before .before .before .before .before .before .before .before .face-size .ensures) (c .before .before .before .before .before .before .before .before .before .before .before .before .before .enter-face .last .1 .1 .1 .0) (c .before .before .before .before .before .before .before .before .before .before .before .before .before .enter-face .last .1 .1 .1 .1 .0) (c .before .before .before .before .before .before .before .before .before .before .before .before .before .enter-face .last .1 .1 .1 .1 .1 .0) (c .before .before .before .before .before .before .before .before .before .before .before .before .before .enter-face .last .1 .1 .1 .1 .1 .1 .0) (c .before .before .before .before .before .before .before .before .before .before .before .before .before .enter-face .last .1 .1 .1 .1 .1 .1 .1 .0) (c .before .count .given .0 .0) (λ cs ps z. rw (c .before .count .given .1) at (c .before .before .before .before .before .before .before .before .before .before .before .before .before .enter-face .ensures .0 cs ps z)) (rw (c .before .count .given .1) at (c .before .before .before .before .before .before .before .before .before .before .before .before .before .enter-face .ensures .1)) (c .before .before .before .before .before .before .before .before .before .before .before .before .before .enter-face .kept .1 .1 .1 .0) (c .before .before .before .before .before .before .before .before .before .before .before .before .before .enter-face .kept .1 .1 .1 .1 .0) (c .before .before .before .before .before .before .before .before .before .before .before .before .before .enter-face .kept .1 .1 .1 .1 .1 .0) (c .before .before .before .before .before .before .before .before .before .before .before .before .before .enter-face .kept .1 .1 .1 .1 .1 .1 .0) (c .before .before .before .before .before .before .before .before .before .before .before .before .before .enter-face .kept .1 .1 .1 .1 .1 .1 .1 .0)
+
+returns-2 : tie.Need-returns-2 Inv-loop μ-loop
+returns-2 c = (face-end (c .before .before .before .before .before .before .before .before .before .before .args .np) (c .before .before .before .before .before .before .before .before .before .before .args .sides .now) (c .before .before .before .before .before .before .before .before .before .before .args .listed .now) (c .before .before .before .before .before .before .before .before .before .before .args .beside .now) (c .before .before .before .before .before .before .before .before .before .before .args .points .now) (c .before .before .before .before .before .before .before .before .before .before .args .edges .now) (c .before .before .before .before .before .before .before .before .before .before .args .intervals .now) (c .before .before .before .before .before .before .before .before .before .before .args .faces .now) (c .before .before .before .before .before .before .before .before .before .before .args .chain .now) (c .before .loop .points) (c .before .loop .edges) (c .before .loop .intervals) (c .before .loop .faces) (c .before .loop .chain) (c .before .loop .k) (c .before .loop .a) (c .before .loop .f) (c .before .loop .inv) (c .loop-test .left), faces-stand (c .before .before .before .before .before .before .before .before .before .before .args .np) (c .before .before .before .before .before .before .before .before .before .before .args .sides .now) (c .before .before .before .before .before .before .before .before .before .before .args .listed .now) (c .before .before .before .before .before .before .before .before .before .before .args .beside .now) (c .before .before .before .before .before .before .before .before .before .before .args .points .now) (c .before .before .before .before .before .before .before .before .before .before .args .edges .now) (c .before .before .before .before .before .before .before .before .before .before .args .intervals .now) (c .before .before .before .before .before .before .before .before .before .before .args .faces .now) (c .before .before .before .before .before .before .before .before .before .before .args .chain .now) (c .before .loop .points) (c .before .loop .edges) (c .before .loop .intervals) (c .before .loop .faces) (c .before .loop .chain) (c .before .loop .k) (c .before .loop .a) (c .before .loop .f) (c .before .loop .inv) (c .loop-test .left) (c .before .before .before .before .before .before .before .before .before .before .pre .1 .1 .1 .1))
+
+pub enter-faces-spec : {M : Type 1} → statement M
+enter-faces-spec =
+    tie.close
+    (tie.spec
+    Inv-loop
+    μ-loop
+    loop-holds
+    (λ c κs. search needs)
+    (λ c. search needs)
+    enter-face-requires
+    (λ c. search needs)
+    (λ c. search needs)
+    (λ c. search needs)
+    (λ c. search needs)
+    (λ c. search needs)
+    (λ c. search needs)
+    (λ c. search needs)
+    returns
+    add-a
+    (λ c. search needs)
+    (λ c. search needs)
+    loop-again
+    (λ c. search needs)
+    (λ c. search needs)
+    (λ c. search needs)
+    (λ c. search needs)
+    (λ c. search needs)
+    returns-2)

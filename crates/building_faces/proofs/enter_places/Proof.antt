@@ -1,0 +1,59 @@
+-- enter_places meets its contract. The invariant `Passing`: what is left of the definition's places, from the ring at place i, is all of
+-- them from the beginning; the measure is what is left of n.
+use borrow.Author.Needs.{needs}
+use Prim.Native.Nat.{_-_}
+use Rattle.building_faces.proofs.Passing.{Passing, lent-same, passing-start, passing-more, passing-stop, passing-end, passing-stands}
+use Rattle.building_faces.proofs.enter_places.Statement.{statement}
+use Rattle.building_faces.proofs.enter_places.Tie as tie
+
+abbrev Inv-loop : tie.InvT-loop
+Inv-loop listed beside points₀ edges₀ intervals₀ chain₀ np k f a n ring₀ i₀ points edges intervals chain ring i = Passing np listed beside f a n k points₀ edges₀ intervals₀ chain₀ points edges intervals chain ring i
+
+abbrev μ-loop : tie.MeasureT-loop
+μ-loop listed beside points₀ edges₀ intervals₀ chain₀ np k f a n ring₀ i₀ points edges intervals chain ring i = n - i
+
+loop-holds : tie.Need-loop-holds Inv-loop μ-loop
+loop-holds c = passing-start (c .before .before .before .before .before .before .args .np) (c .before .before .before .before .before .before .args .listed .now) (c .before .before .before .before .before .before .args .beside .now) (c .before .before .before .before .before .before .args .f) (c .before .before .before .before .before .before .args .a) (c .before .before .before .before .before .before .args .n) (c .before .before .before .before .before .before .args .k) (c .before .before .before .before .before .before .args .points .now) (c .before .before .before .before .before .before .args .edges .now) (c .before .before .before .before .before .before .args .intervals .now) (c .before .before .before .before .before .before .args .chain .now) (c .before .before .before .before .before .before .pre .0) (c .before .before .before .before .before .before .pre .1 .1 .1 .1)
+
+turn-place-requires : tie.Need-turn-place-requires Inv-loop μ-loop
+turn-place-requires c κs =
+    let h = c .before .before .before .before .before .loop .inv in (
+      h .standing,
+      (
+        lent-same (c .before .before .before .before .before .before .before .before .before .before .before .before .args .np) (c .before .before .before .before .before .before .before .before .before .before .before .before .args .listed .now) (c .before .before .before .before .before .before .before .before .before .before .before .before .args .beside .now) (c .before .before .before .before .before .before .before .before .before .before .before .before .args .edges .now) (c .before .before .before .before .before .loop .edges) (c .before .before .before .before .before .before .before .before .before .before .before .before .args .intervals .now) (c .before .before .before .before .before .loop .intervals) (c .before .before .before .before .before .before .before .before .before .before .before .before .args .chain .now) (c .before .before .before .before .before .loop .chain) (h .edges-length) (h .intervals-length) (h .links-length) (c .before .before .before .before .before .before .before .before .before .before .before .before .pre .1 .0),
+        (c .before .before .before .before .before .before .before .before .before .before .before .before .pre .1 .1 .0, (c .before .before .before .before .loop-test .taken, (h .count, h .closing))),
+      ),
+    )
+
+returns : tie.Need-returns Inv-loop μ-loop
+returns c = ((λ cs ss ps fs. passing-stop (c .before .before .before .before .before .before .before .before .before .before .before .before .before .before .before .before .before .before .before .before .before .before .before .before .args .np) (c .before .before .before .before .before .before .before .before .before .before .before .before .before .before .before .before .before .before .before .before .before .before .before .before .args .listed .now) (c .before .before .before .before .before .before .before .before .before .before .before .before .before .before .before .before .before .before .before .before .before .before .before .before .args .beside .now) (c .before .before .before .before .before .before .before .before .before .before .before .before .before .before .before .before .before .before .before .before .before .before .before .before .args .f) (c .before .before .before .before .before .before .before .before .before .before .before .before .before .before .before .before .before .before .before .before .before .before .before .before .args .a) (c .before .before .before .before .before .before .before .before .before .before .before .before .before .before .before .before .before .before .before .before .before .before .before .before .args .n) (c .before .before .before .before .before .before .before .before .before .before .before .before .before .before .before .before .before .before .before .before .before .before .before .before .args .k) (c .before .before .before .before .before .before .before .before .before .before .before .before .before .before .before .before .before .before .before .before .before .before .before .before .args .points .now) (c .before .before .before .before .before .before .before .before .before .before .before .before .before .before .before .before .before .before .before .before .before .before .before .before .args .edges .now) (c .before .before .before .before .before .before .before .before .before .before .before .before .before .before .before .before .before .before .before .before .before .before .before .before .args .intervals .now) (c .before .before .before .before .before .before .before .before .before .before .before .before .before .before .before .before .before .before .before .before .before .before .before .before .args .chain .now) (c .before .before .before .before .before .before .before .before .before .before .before .before .before .before .before .before .before .loop .points) (c .before .before .before .before .before .before .before .before .before .before .before .before .before .before .before .before .before .loop .edges) (c .before .before .before .before .before .before .before .before .before .before .before .before .before .before .before .before .before .loop .intervals) (c .before .before .before .before .before .before .before .before .before .before .before .before .before .before .before .before .before .loop .chain) (c .before .before .before .before .before .before .before .before .before .before .before .before .before .before .before .before .before .loop .ring) (c .before .before .before .before .before .before .before .before .before .before .before .before .before .before .before .before .before .loop .i) (c .before .before .before .before .before .before .before .before .before .before .before .before .before .before .before .before .before .loop .inv) (c .before .before .before .before .before .before .before .before .before .before .before .before .before .before .before .before .loop-test .taken) (c .before .before .before .before .before .before .before .before .before .before .before .turn-place .last .1 .1 .0) (c .before .before .before .before .before .before .before .before .before .before .before .turn-place .last .1 .1 .1 .0) (c .before .before .before .before .before .before .before .before .before .before .before .turn-place .last .1 .1 .1 .1 .0) (c .before .before .before .before .before .before .before .before .before .before .before .turn-place .last .1 .1 .1 .1 .1 .0) (c .before .g .given .0 .0) cs ss ps fs (rw (c .before .g .given .1) at (c .before .before .before .before .before .before .before .before .before .before .before .turn-place .ensures .0 cs ss ps fs))), tt)
+
+loop-again : tie.Need-loop-again Inv-loop μ-loop
+loop-again c = passing-more (c .before .before .before .before .before .before .before .before .before .before .before .before .before .before .before .before .before .before .before .before .before .before .before .before .args .np) (c .before .before .before .before .before .before .before .before .before .before .before .before .before .before .before .before .before .before .before .before .before .before .before .before .args .listed .now) (c .before .before .before .before .before .before .before .before .before .before .before .before .before .before .before .before .before .before .before .before .before .before .before .before .args .beside .now) (c .before .before .before .before .before .before .before .before .before .before .before .before .before .before .before .before .before .before .before .before .before .before .before .before .args .f) (c .before .before .before .before .before .before .before .before .before .before .before .before .before .before .before .before .before .before .before .before .before .before .before .before .args .a) (c .before .before .before .before .before .before .before .before .before .before .before .before .before .before .before .before .before .before .before .before .before .before .before .before .args .n) (c .before .before .before .before .before .before .before .before .before .before .before .before .before .before .before .before .before .before .before .before .before .before .before .before .args .k) (c .before .before .before .before .before .before .before .before .before .before .before .before .before .before .before .before .before .before .before .before .before .before .before .before .args .points .now) (c .before .before .before .before .before .before .before .before .before .before .before .before .before .before .before .before .before .before .before .before .before .before .before .before .args .edges .now) (c .before .before .before .before .before .before .before .before .before .before .before .before .before .before .before .before .before .before .before .before .before .before .before .before .args .intervals .now) (c .before .before .before .before .before .before .before .before .before .before .before .before .before .before .before .before .before .before .before .before .before .before .before .before .args .chain .now) (c .before .before .before .before .before .before .before .before .before .before .before .before .before .before .before .before .before .loop .points) (c .before .before .before .before .before .before .before .before .before .before .before .before .before .before .before .before .before .loop .edges) (c .before .before .before .before .before .before .before .before .before .before .before .before .before .before .before .before .before .loop .intervals) (c .before .before .before .before .before .before .before .before .before .before .before .before .before .before .before .before .before .loop .chain) (c .before .before .before .before .before .before .before .before .before .before .before .before .before .before .before .before .before .loop .ring) (c .before .before .before .before .before .before .before .before .before .before .before .before .before .before .before .before .before .loop .i) (c .before .before .before .before .before .before .before .before .before .before .before .before .before .before .before .before .before .loop .inv) (c .before .before .before .before .before .before .before .before .before .before .before .before .before .before .before .before .loop-test .taken) (c .before .before .before .before .before .before .before .before .before .before .before .turn-place .last .1 .1 .0) (c .before .before .before .before .before .before .before .before .before .before .before .turn-place .last .1 .1 .1 .0) (c .before .before .before .before .before .before .before .before .before .before .before .turn-place .last .1 .1 .1 .1 .0) (c .before .before .before .before .before .before .before .before .before .before .before .turn-place .last .1 .1 .1 .1 .1 .0) (c .before .next .given .0 .0) (λ cs ss ps fs. rw (c .before .next .given .1) at (c .before .before .before .before .before .before .before .before .before .before .before .turn-place .ensures .0 cs ss ps fs)) (rw (c .before .next .given .1) at (c .before .before .before .before .before .before .before .before .before .before .before .turn-place .ensures .1)) (c .before .before .before .before .before .before .before .before .before .before .before .turn-place .kept .1 .1 .0) (c .before .before .before .before .before .before .before .before .before .before .before .turn-place .kept .1 .1 .1 .0) (c .before .before .before .before .before .before .before .before .before .before .before .turn-place .kept .1 .1 .1 .1 .0) (c .before .before .before .before .before .before .before .before .before .before .before .turn-place .kept .1 .1 .1 .1 .1 .0)
+
+returns-2 : tie.Need-returns-2 Inv-loop μ-loop
+returns-2 c = (passing-end (c .before .before .before .before .before .before .before .before .args .np) (c .before .before .before .before .before .before .before .before .args .listed .now) (c .before .before .before .before .before .before .before .before .args .beside .now) (c .before .before .before .before .before .before .before .before .args .f) (c .before .before .before .before .before .before .before .before .args .a) (c .before .before .before .before .before .before .before .before .args .n) (c .before .before .before .before .before .before .before .before .args .k) (c .before .before .before .before .before .before .before .before .args .points .now) (c .before .before .before .before .before .before .before .before .args .edges .now) (c .before .before .before .before .before .before .before .before .args .intervals .now) (c .before .before .before .before .before .before .before .before .args .chain .now) (c .before .loop .points) (c .before .loop .edges) (c .before .loop .intervals) (c .before .loop .chain) (c .before .loop .ring) (c .before .loop .i) (c .before .loop .inv) (c .loop-test .left), passing-stands (c .before .before .before .before .before .before .before .before .args .np) (c .before .before .before .before .before .before .before .before .args .listed .now) (c .before .before .before .before .before .before .before .before .args .beside .now) (c .before .before .before .before .before .before .before .before .args .f) (c .before .before .before .before .before .before .before .before .args .a) (c .before .before .before .before .before .before .before .before .args .n) (c .before .before .before .before .before .before .before .before .args .k) (c .before .before .before .before .before .before .before .before .args .points .now) (c .before .before .before .before .before .before .before .before .args .edges .now) (c .before .before .before .before .before .before .before .before .args .intervals .now) (c .before .before .before .before .before .before .before .before .args .chain .now) (c .before .loop .points) (c .before .loop .edges) (c .before .loop .intervals) (c .before .loop .chain) (c .before .loop .ring) (c .before .loop .i) (c .before .loop .inv) (c .loop-test .left) (c .before .before .before .before .before .before .before .before .pre .1 .1 .1 .0))
+
+pub enter-places-spec : {M : Type 1} → statement M
+enter-places-spec =
+    tie.close
+    (tie.spec
+    Inv-loop
+    μ-loop
+    loop-holds
+    turn-place-requires
+    (λ c. search needs)
+    (λ c. search needs)
+    (λ c. search needs)
+    (λ c. search needs)
+    (λ c. search needs)
+    (λ c. search needs)
+    returns
+    (λ c. search needs)
+    (λ c. search needs)
+    loop-again
+    (λ c. search needs)
+    (λ c. search needs)
+    (λ c. search needs)
+    (λ c. search needs)
+    returns-2)

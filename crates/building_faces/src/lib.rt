@@ -1,0 +1,308 @@
+// Faces entered into the tables: one place of a perimeter after the other, each edge connected to the one before and the first to
+// the last, then the face's row (document 01, "Building"; grounds 10 to 15).
+// Carries over the loop of `try_new` of t_nurcc/mod.rs.
+// Not here: the grounds of the lists and of the whole (`building_tests`, `building`).
+// Definitions: `Perimeters` and `Building` of `built_meshes`; `specs/Rings.antt`. Laws: `proofs/Turns.antt`.
+ghost use mathlib.Core.Path.{_≡_};
+ghost use mathlib.Core.List.{List, []};
+ghost use Prim.Native.Nat.{ℕ, _+_, _*_, _/_, _≤_, _<_};
+ghost use lib.Ieee.{Float};
+ghost use lib.ListN.{length};
+ghost use Rattle.built_meshes.specs.Lists.{offset};
+ghost use Rattle.built_meshes.specs.Perimeters.{Ring, State, Step, on, nextPlace, turn, places, closedUp};
+ghost use Rattle.built_meshes.specs.Building.{facePassed, facesFrom};
+ghost use Rattle.building_tests.specs.Lent.{lists};
+ghost use Rattle.edge_search.specs.Chains.{Standing};
+ghost use Rattle.edge_search.specs.Places.{mesh};
+ghost use Rattle.building_faces.specs.Rings.{ringOf, ringAt, turnOf, stateAt, stateOf, Lent, Placed, Sided, Closing, TurnStands, FaceStands};
+use building_tests::faces::face_size;
+use building_tests::faces::face_verdict;
+use built_meshes::Ground;
+use built_meshes::Verdict;
+use edge_search::Entry;
+use edge_search::enter;
+use t_nurcc_edge::connect;
+use t_spline::NONE;
+use t_spline::TnurccFace;
+use tables::index;
+use tables::store_face;
+
+// A perimeter under way: how many edges there are, the perimeter's first edge and the one of the place before.
+pub struct RingEdges {
+    pub edges: u32,
+    pub first: u32,
+    pub before: u32,
+}
+
+// What a turn answers.
+pub enum Turned {
+    On(RingEdges),
+    Stopped(Ground),
+}
+
+// What a face answers: how many edges there are then, or the ground.
+pub enum Faced {
+    On(u32),
+    Stopped(Ground),
+}
+
+// The place after place i of n.
+fn next_place(n: usize, i: usize) -> usize
+    requires { ⌜ i < n ⌝ }
+    ensures { λ r. ⌜ r ≡ nextPlace n i ⌝ }
+{
+    if i + 1 == n { 0 } else { i + 1 }
+}
+
+// Enters place i of the perimeter of face f, and connects its edge to the one before.
+fn turn_place(
+    listed: &[u32],
+    beside: &[f64],
+    points: &mut [u32],
+    edges: &mut [u32],
+    intervals: &mut [f64],
+    chain: &mut [u32],
+    np: usize,
+    ring: RingEdges,
+    f: u32,
+    a: usize,
+    n: usize,
+    i: usize,
+) -> Turned
+    requires { ⌜ Standing np (now points) (now edges) (now chain) (ring .edges) ⌝ }
+    requires { ⌜ Lent np (now listed) (now beside) (now edges) (now intervals) (now chain) ⌝ }
+    requires { ⌜ Placed np (now listed) a n ⌝ }
+    requires { ⌜ i < n ⌝ }
+    requires { ⌜ ring .edges ≤ a + i ⌝ }
+    requires { ⌜ (0 < i → Closing ring) ⌝ }
+    ensures { λ r. ⌜ ((cs : List Float) (ss : List ℕ) (ps : List Float) (fs : List ℕ) → _≡_ {A = Step Ring} (turnOf (mesh ps (now (points .exit)) (now (edges .exit)) (now (intervals .exit)) fs) r) (turn (lists cs ss (now (listed .entry)) (now (beside .entry))) f a n i (ringOf (mesh ps (now (points .entry)) (now (edges .entry)) (now (intervals .entry)) fs) ring))) ⌝ }
+    ensures { λ r. ⌜ TurnStands np (now (points .exit)) (now (edges .exit)) (now (chain .exit)) (a + i + 1) r ⌝ }
+{
+    let p = listed[a + i];
+    let q = listed[a + next_place(n, i)];
+    let v = beside[a + i];
+    let k = ring.edges;
+    match enter(points, edges, intervals, chain, np, k, f, p, q, v) {
+        Entry::Made { edges: count, edge } => {
+            if i == 0 {
+                return Turned::On(RingEdges {
+                    edges: count,
+                    first: edge,
+                    before: edge,
+                });
+            }
+            connect(edges, intervals, edge, ring.before);
+            Turned::On(RingEdges {
+                edges: count,
+                first: ring.first,
+                before: edge,
+            })
+        }
+        Entry::Refused(g) => Turned::Stopped(g),
+    }
+}
+
+// Enters all n places of the perimeter of face f, while k edges stand.
+fn enter_places(
+    listed: &[u32],
+    beside: &[f64],
+    points: &mut [u32],
+    edges: &mut [u32],
+    intervals: &mut [f64],
+    chain: &mut [u32],
+    np: usize,
+    k: u32,
+    f: u32,
+    a: usize,
+    n: usize,
+) -> Turned
+    requires { ⌜ Standing np (now points) (now edges) (now chain) k ⌝ }
+    requires { ⌜ Lent np (now listed) (now beside) (now edges) (now intervals) (now chain) ⌝ }
+    requires { ⌜ Placed np (now listed) a n ⌝ }
+    requires { ⌜ 0 < n ⌝ }
+    requires { ⌜ k ≤ a ⌝ }
+    ensures { λ r. ⌜ ((cs : List Float) (ss : List ℕ) (ps : List Float) (fs : List ℕ) → _≡_ {A = Step Ring} (turnOf (mesh ps (now (points .exit)) (now (edges .exit)) (now (intervals .exit)) fs) r) (places n (lists cs ss (now (listed .entry)) (now (beside .entry))) f a n 0 (on (ringAt (mesh ps (now (points .entry)) (now (edges .entry)) (now (intervals .entry)) fs) k)))) ⌝ }
+    ensures { λ r. ⌜ TurnStands np (now (points .exit)) (now (edges .exit)) (now (chain .exit)) (a + n) r ⌝ }
+{
+    let mut ring = RingEdges {
+        edges: k,
+        first: 0,
+        before: 0,
+    };
+    let mut i = 0;
+    while i < n {
+        match turn_place(
+            listed,
+            beside,
+            points,
+            edges,
+            intervals,
+            chain,
+            np,
+            ring,
+            f,
+            a,
+            n,
+            i,
+        ) {
+            Turned::On(next) => {
+                ring = next;
+            }
+            Turned::Stopped(g) => {
+                return Turned::Stopped(g);
+            }
+        }
+        i += 1;
+    }
+    Turned::On(ring)
+}
+
+// Enters the perimeter of face f, connects its first edge to its last, and stores the face's row.
+fn enter_perimeter(
+    listed: &[u32],
+    beside: &[f64],
+    points: &mut [u32],
+    edges: &mut [u32],
+    intervals: &mut [f64],
+    faces: &mut [u32],
+    chain: &mut [u32],
+    np: usize,
+    k: u32,
+    f: u32,
+    a: usize,
+    n: usize,
+) -> Faced
+    requires { ⌜ Standing np (now points) (now edges) (now chain) k ⌝ }
+    requires { ⌜ Lent np (now listed) (now beside) (now edges) (now intervals) (now chain) ⌝ }
+    requires { ⌜ Placed np (now listed) a n ⌝ }
+    requires { ⌜ 0 < n ⌝ }
+    requires { ⌜ k ≤ a ⌝ }
+    requires { ⌜ f * 5 + 5 ≤ length (now faces) ⌝ }
+    ensures { λ r. ⌜ ((cs : List Float) (ss : List ℕ) (ps : List Float) → _≡_ {A = Step State} (stateOf (mesh ps (now (points .exit)) (now (edges .exit)) (now (intervals .exit)) (now (faces .exit))) r) (closedUp f (places n (lists cs ss (now (listed .entry)) (now (beside .entry))) f a n 0 (on (ringAt (mesh ps (now (points .entry)) (now (edges .entry)) (now (intervals .entry)) (now (faces .entry))) k))))) ⌝ }
+    ensures { λ r. ⌜ FaceStands np (now (points .exit)) (now (edges .exit)) (now (chain .exit)) (a + n) r ⌝ }
+{
+    match enter_places(
+        listed,
+        beside,
+        points,
+        edges,
+        intervals,
+        chain,
+        np,
+        k,
+        f,
+        a,
+        n,
+    ) {
+        Turned::On(ring) => {
+            connect(edges, intervals, ring.first, ring.before);
+            store_face(
+                faces,
+                index(f),
+                TnurccFace {
+                    edge: ring.first,
+                    corners: [NONE, NONE, NONE, NONE],
+                },
+            );
+            Faced::On(ring.edges)
+        }
+        Turned::Stopped(g) => Faced::Stopped(g),
+    }
+}
+
+// Enters face f, whose n listed points stand from the place a on, if it passes its tests.
+fn enter_face(
+    sides: &[u32],
+    listed: &[u32],
+    beside: &[f64],
+    points: &mut [u32],
+    edges: &mut [u32],
+    intervals: &mut [f64],
+    faces: &mut [u32],
+    chain: &mut [u32],
+    np: usize,
+    k: u32,
+    f: u32,
+    a: usize,
+    n: usize,
+) -> Faced
+    requires { ⌜ Standing np (now points) (now edges) (now chain) k ⌝ }
+    requires { ⌜ Lent np (now listed) (now beside) (now edges) (now intervals) (now chain) ⌝ }
+    requires { ⌜ Sided (now sides) (now listed) f a n ⌝ }
+    requires { ⌜ k ≤ a ⌝ }
+    requires { ⌜ f * 5 + 5 ≤ length (now faces) ⌝ }
+    ensures { λ r. ⌜ ((cs : List Float) (ps : List Float) → length cs / 3 ≡ np → _≡_ {A = Step State} (stateOf (mesh ps (now (points .exit)) (now (edges .exit)) (now (intervals .exit)) (now (faces .exit))) r) (facePassed (lists cs (now (sides .entry)) (now (listed .entry)) (now (beside .entry))) f a (stateAt (mesh ps (now (points .entry)) (now (edges .entry)) (now (intervals .entry)) (now (faces .entry))) k))) ⌝ }
+    ensures { λ r. ⌜ FaceStands np (now (points .exit)) (now (edges .exit)) (now (chain .exit)) (a + n) r ⌝ }
+{
+    match face_verdict(sides, listed, beside, np, index(f), a, n) {
+        Verdict::Fit => enter_perimeter(
+            listed,
+            beside,
+            points,
+            edges,
+            intervals,
+            faces,
+            chain,
+            np,
+            k,
+            f,
+            a,
+            n,
+        ),
+        Verdict::Unfit(g) => Faced::Stopped(g),
+    }
+}
+
+// Enters all faces into tables that hold none.
+pub fn enter_faces(
+    sides: &[u32],
+    listed: &[u32],
+    beside: &[f64],
+    points: &mut [u32],
+    edges: &mut [u32],
+    intervals: &mut [f64],
+    faces: &mut [u32],
+    chain: &mut [u32],
+    np: usize,
+) -> Faced
+    requires { ⌜ Standing np (now points) (now edges) (now chain) 0 ⌝ }
+    requires { ⌜ Lent np (now listed) (now beside) (now edges) (now intervals) (now chain) ⌝ }
+    requires { ⌜ length (now sides) / 4 ≤ 4096 ⌝ }
+    requires { ⌜ length (now sides) / 4 * 5 ≤ length (now faces) ⌝ }
+    requires { ⌜ offset (lists [] (now sides) [] []) (length (now sides) / 4) ≡ length (now listed) ⌝ }
+    ensures { λ r. ⌜ ((cs : List Float) (ps : List Float) → length cs / 3 ≡ np → _≡_ {A = Step State} (stateOf (mesh ps (now (points .exit)) (now (edges .exit)) (now (intervals .exit)) (now (faces .exit))) r) (facesFrom (length (now (sides .entry)) / 4) (lists cs (now (sides .entry)) (now (listed .entry)) (now (beside .entry))) 0 0 (on (stateAt (mesh ps (now (points .entry)) (now (edges .entry)) (now (intervals .entry)) (now (faces .entry))) 0)))) ⌝ }
+    ensures { λ r. ⌜ FaceStands np (now (points .exit)) (now (edges .exit)) (now (chain .exit)) (length (now (listed .entry))) r ⌝ }
+{
+    let nf = sides.len() / 4;
+    let mut k = 0;
+    let mut a = 0;
+    let mut f = 0;
+    while f < nf {
+        let n = face_size(sides, f);
+        match enter_face(
+            sides,
+            listed,
+            beside,
+            points,
+            edges,
+            intervals,
+            faces,
+            chain,
+            np,
+            k,
+            f as u32,
+            a,
+            n,
+        ) {
+            Faced::On(count) => {
+                k = count;
+            }
+            Faced::Stopped(g) => {
+                return Faced::Stopped(g);
+            }
+        }
+        a += n;
+        f += 1;
+    }
+    Faced::On(k)
+}

@@ -1,0 +1,3 @@
+pub mod Chains
+mod Searching
+mod NewEdge

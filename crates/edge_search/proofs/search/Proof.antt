@@ -1,0 +1,59 @@
+use Prim.Native.Nat.{suc}
+use mathlib.Core.Path.{_≡_}
+use native.Mathlib.Omega.{arith}
+use Rattle.edge_search.proofs.Searching.{search-less}
+-- search meets its contract. The invariant: the edges that the chain has still to pass and the one found so far give what all edges
+-- give; links fall, so the link is the measure.
+use Rattle.edge_search.proofs.Searching.{Searching, search-start, search-turn, search-end}
+use Rattle.edge_search.proofs.search.Statement.{statement}
+use Rattle.edge_search.proofs.search.Tie as tie
+
+abbrev Inv-loop : tie.InvT-loop
+Inv-loop edges chain np k from p q link₀ found₀ link found = Searching edges p q k link found
+
+abbrev μ-loop : tie.MeasureT-loop
+μ-loop edges chain np k from p q link₀ found₀ link found = link
+
+loop-holds : tie.Need-loop-holds Inv-loop μ-loop
+loop-holds c = search-start (c .before .before .args .edges .now) (c .before .before .args .p) (c .before .before .args .q) (c .before .before .args .k) (c .before .before .args .from) (c .before .before .pre .1 .1 .1)
+
+index-requires : tie.Need-index-requires Inv-loop μ-loop
+index-requires c κs = tt
+
+joins-points-requires : tie.Need-joins-points-requires Inv-loop μ-loop
+joins-points-requires c κs = let b = c .before .before .loop .inv .below in omega (arith, c .index .ensures, c .before .loop-test .taken)
+
+chosen-requires : tie.Need-chosen-requires Inv-loop μ-loop
+chosen-requires c κs = tt
+
+older-link-requires : tie.Need-older-link-requires Inv-loop μ-loop
+older-link-requires c κs = let b = c .before .before .before .before .loop .inv .below in omega (arith, c .before .before .index .ensures, c .before .before .before .loop-test .taken)
+
+loop-less : tie.Need-loop-less Inv-loop μ-loop
+loop-less c =
+    let s : c .before .before .before .before .before .loop .link ≡ suc (c .before .before .before .index .result) = omega (arith, c .before .before .before .index .ensures, c .before .before .before .before .loop-test .taken) in
+    search-less (c .before .before .before .before .before .before .before .before .args .edges .now) (c .before .before .before .before .before .before .before .before .args .p) (c .before .before .before .before .before .before .before .before .args .q) (c .before .before .before .before .before .before .before .before .args .k) (c .before .before .before .before .before .before .before .before .args .np) (c .before .before .before .before .before .before .before .before .args .chain .now) (c .before .before .before .before .before .loop .link) (c .before .before .before .index .result) (c .before .before .before .before .before .loop .found) (c .older-link .result) (c .before .before .before .before .before .before .before .before .pre .1 .1 .0) s (c .older-link .ensures) (c .before .before .before .before .before .loop .inv)
+
+loop-again : tie.Need-loop-again Inv-loop μ-loop
+loop-again c =
+    let s : c .before .before .before .before .before .loop .link ≡ suc (c .before .before .before .index .result) = omega (arith, c .before .before .before .index .ensures, c .before .before .before .before .loop-test .taken) in
+    search-turn (c .before .before .before .before .before .before .before .before .args .edges .now) (c .before .before .before .before .before .before .before .before .args .p) (c .before .before .before .before .before .before .before .before .args .q) (c .before .before .before .before .before .before .before .before .args .k) (c .before .before .before .before .before .before .before .before .args .np) (c .before .before .before .before .before .before .before .before .args .chain .now) (c .before .before .before .before .before .loop .link) (c .before .before .before .index .result) (c .before .before .before .before .before .loop .found) (c .older-link .result) (c .before .chosen .result) (c .before .before .before .before .before .before .before .before .pre .1 .1 .0) s (c .older-link .ensures) (rw (c .before .before .joins-points .ensures) at (c .before .chosen .ensures)) (c .before .before .before .before .before .loop .inv)
+
+returns : tie.Need-returns Inv-loop μ-loop
+returns c = (search-end (c .before .before .before .before .args .edges .now) (c .before .before .before .before .args .p) (c .before .before .before .before .args .q) (c .before .before .before .before .args .k) (c .before .loop .link) (c .before .loop .found) (c .loop-test .left) (c .before .loop .inv), c .before .loop .inv .found-below)
+
+pub search-spec : {M : Type 1} → statement M
+search-spec =
+    tie.close
+    (tie.spec
+    Inv-loop
+    μ-loop
+    loop-holds
+    (λ c. omega arith)
+    index-requires
+    joins-points-requires
+    chosen-requires
+    older-link-requires
+    loop-less
+    loop-again
+    returns)

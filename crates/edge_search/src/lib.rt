@@ -1,0 +1,240 @@
+// The edge between two points, found along the chain of the edges that touch one of them, and one place of a perimeter entered
+// with it: an edge is made, or the right side of one is filled.
+// Carries over what `try_new` of t_nurcc/mod.rs does for one edge. No search looks at all edges: it looks at as many as the
+// point with fewer edges has.
+// Not here: a whole perimeter (`building_faces`).
+// Definitions: `specs/Chains.antt`, `specs/Places.antt`, and `Perimeters` of `built_meshes`. Laws: `proofs/Chains.antt`.
+ghost use mathlib.Core.Path.{_≡_};
+ghost use mathlib.Core.Bool.{cond, _&&_};
+ghost use mathlib.Core.List.{List};
+ghost use Prim.Native.Nat.{ℕ, _+_, _*_, _≤_, _<_};
+ghost use lib.Dec.{eqb};
+ghost use lib.Ieee.{Float};
+ghost use lib.ListN.{length, getD};
+ghost use Rattle.tables.specs.Mesh.{Mesh};
+ghost use Rattle.built_meshes.specs.Perimeters.{joins, edgeBetween, touched, newEdge};
+ghost use Rattle.edge_search.specs.Chains.{edgeTable, linkTo, Newest, olderLink, chainedEdge, Chained, Standing, Room};
+ghost use Rattle.edge_search.specs.Places.{mesh, EnteredBy, FilledBy, StandingAfter};
+use built_meshes::Found;
+use built_meshes::Ground;
+use t_spline::NONE;
+use t_spline::TnurccEdge;
+use tables::index;
+use tables::store_edge;
+
+// What entering a place of a perimeter answers: how many edges there are then and the place's edge, or the ground.
+pub enum Entry {
+    Made { edges: u32, edge: u32 },
+    Refused(Ground),
+}
+
+// Whether two numbers are two others, in their order.
+fn are(a: u32, b: u32, p: u32, q: u32) -> bool
+    ensures { λ r. ⌜ r ≡ eqb a p && eqb b q ⌝ }
+{
+    if a == p {
+        return b == q;
+    }
+    false
+}
+
+// Whether edge e joins the points p and q, in either direction.
+fn joins_points(edges: &[u32], e: usize, p: u32, q: u32) -> bool
+    requires { ⌜ e * 8 + 8 ≤ length (now edges) ⌝ }
+    ensures { λ r. ⌜ r ≡ joins (edgeTable (now (edges .entry))) p q e ⌝ }
+{
+    let origin = edges[e * 8];
+    let dest = edges[e * 8 + 1];
+    if are(origin, dest, p, q) {
+        return true;
+    }
+    are(origin, dest, q, p)
+}
+
+// The next link of the chain of point p, behind its edge e.
+fn older_link(edges: &[u32], chain: &[u32], np: usize, p: u32, e: usize) -> u32
+    requires { ⌜ e * 8 + 8 ≤ length (now edges) ⌝ }
+    requires { ⌜ np + e * 2 + 2 ≤ length (now chain) ⌝ }
+    ensures { λ r. ⌜ r ≡ olderLink np (now (edges .entry)) (now (chain .entry)) p e ⌝ }
+{
+    let b = np + e * 2;
+    if edges[e * 8] == p {
+        return chain[b];
+    }
+    chain[b + 1]
+}
+
+// The one of two links that a test chooses.
+fn chosen(test: bool, link: u32, other: u32) -> u32
+    ensures { λ r. ⌜ r ≡ cond test link other ⌝ }
+{
+    if test { link } else { other }
+}
+
+// The link to the first of the k edges that join the points p and q, found along the chain of p, which begins with the link from.
+fn search(edges: &[u32], chain: &[u32], np: usize, k: u32, from: u32, p: u32, q: u32) -> u32
+    requires { ⌜ k * 8 ≤ length (now edges) ⌝ }
+    requires { ⌜ np + k * 2 ≤ length (now chain) ⌝ }
+    requires { ⌜ Chained np (now edges) (now chain) k ⌝ }
+    requires { ⌜ Newest (now edges) p k from ⌝ }
+    ensures { λ r. ⌜ linkTo r ≡ edgeBetween (edgeTable (now (edges .entry))) k p q ⌝ }
+    ensures { λ r. ⌜ r ≤ k ⌝ }
+{
+    let mut link = from;
+    let mut found = 0;
+    while 0 < link {
+        let e = index(link - 1);
+        found = chosen(joins_points(edges, e, p, q), link, found);
+        link = older_link(edges, chain, np, p, e);
+    }
+    found
+}
+
+// The edge of a link.
+fn edge_of(link: u32) -> Found
+    ensures { λ r. ⌜ r ≡ linkTo link ⌝ }
+{
+    if link == 0 {
+        return Found::Nothing;
+    }
+    Found::At(link - 1)
+}
+
+// The first of the k edges that join the points p and q, from the one that has fewer edges.
+pub fn find_edge(
+    points: &[u32],
+    edges: &[u32],
+    chain: &[u32],
+    np: usize,
+    k: u32,
+    p: u32,
+    q: u32,
+) -> Found
+    requires { ⌜ Standing np (now points) (now edges) (now chain) k ⌝ }
+    requires { ⌜ p < np ⌝ }
+    requires { ⌜ q < np ⌝ }
+    ensures { λ r. ⌜ r ≡ edgeBetween (edgeTable (now (edges .entry))) k p q ⌝ }
+{
+    let a = index(p);
+    let b = index(q);
+    if points[a * 3] <= points[b * 3] {
+        return edge_of(search(edges, chain, np, k, chain[a], p, q));
+    }
+    edge_of(search(edges, chain, np, k, chain[b], q, p))
+}
+
+// Chains a new edge k from p to q.
+fn chain_edge(chain: &mut [u32], np: usize, k: u32, p: u32, q: u32)
+    requires { ⌜ p < np ⌝ }
+    requires { ⌜ q < np ⌝ }
+    requires { ⌜ np + k * 2 + 2 ≤ length (now chain) ⌝ }
+    requires { ⌜ k < 1073741824 ⌝ }
+    ensures { λ _. ⌜ now (chain .exit) ≡ chainedEdge np (now (chain .entry)) k p q ⌝ }
+{
+    let a = index(p);
+    let b = index(q);
+    let c = np + index(k) * 2;
+    let from = chain[a];
+    let to = chain[b];
+    chain[c] = from;
+    chain[c + 1] = to;
+    chain[a] = k + 1;
+    chain[b] = k + 1;
+}
+
+// Counts one edge more at point p, and makes it the start edge.
+fn touch(points: &mut [u32], p: u32, e: u32)
+    requires { ⌜ p * 3 + 3 ≤ length (now points) ⌝ }
+    requires { ⌜ getD (now points) (p * 3) 0 < 4294967295 ⌝ }
+    ensures { λ _. ⌜ now (points .exit) ≡ touched (now (points .entry)) p e ⌝ }
+{
+    let b = index(p) * 3;
+    points[b] = points[b] + 1;
+    points[b + 1] = e;
+}
+
+// Makes the edge k from p to q, with face f on its left.
+fn make_edge(
+    points: &mut [u32],
+    edges: &mut [u32],
+    intervals: &mut [f64],
+    chain: &mut [u32],
+    np: usize,
+    k: u32,
+    f: u32,
+    p: u32,
+    q: u32,
+    v: f64,
+)
+    requires { ⌜ Standing np (now points) (now edges) (now chain) k ⌝ }
+    requires { ⌜ Room np (now edges) (now intervals) (now chain) k ⌝ }
+    requires { ⌜ p < np ⌝ }
+    requires { ⌜ q < np ⌝ }
+    ensures { λ _. ⌜ ((ps : List Float) (fs : List ℕ) → _≡_ {A = Mesh} (mesh ps (now (points .exit)) (now (edges .exit)) (now (intervals .exit)) fs) (newEdge (mesh ps (now (points .entry)) (now (edges .entry)) (now (intervals .entry)) fs) k f p q v)) ⌝ }
+    ensures { λ _. ⌜ Standing np (now (points .exit)) (now (edges .exit)) (now (chain .exit)) (k + 1) ⌝ }
+{
+    chain_edge(chain, np, k, p, q);
+    touch(points, p, k);
+    touch(points, q, k);
+    store_edge(
+        edges,
+        intervals,
+        index(k),
+        TnurccEdge {
+            connections: [k, k, k, k],
+            face_left: f,
+            face_right: NONE,
+            origin: p,
+            dest: q,
+            knot_interval: v,
+        },
+    );
+}
+
+// Puts face f on the right of edge e at a place whose first point is p, if there is no face and the edge runs the other way.
+fn fill_edge(edges: &mut [u32], k: u32, f: u32, e: u32, p: u32) -> Entry
+    requires { ⌜ e * 8 + 8 ≤ length (now edges) ⌝ }
+    ensures { λ r. ⌜ FilledBy (now (edges .entry)) k f e p r (now (edges .exit)) ⌝ }
+{
+    let b = index(e) * 8;
+    if edges[b + 3] != NONE {
+        return Entry::Refused(Ground::EdgeTripleFace);
+    }
+    if edges[b] == p {
+        return Entry::Refused(Ground::SameWay);
+    }
+    edges[b + 3] = f;
+    Entry::Made { edges: k, edge: e }
+}
+
+// Enters a place of face f, from p to q with the interval v, while k edges stand.
+pub fn enter(
+    points: &mut [u32],
+    edges: &mut [u32],
+    intervals: &mut [f64],
+    chain: &mut [u32],
+    np: usize,
+    k: u32,
+    f: u32,
+    p: u32,
+    q: u32,
+    v: f64,
+) -> Entry
+    requires { ⌜ Standing np (now points) (now edges) (now chain) k ⌝ }
+    requires { ⌜ Room np (now edges) (now intervals) (now chain) k ⌝ }
+    requires { ⌜ p < np ⌝ }
+    requires { ⌜ q < np ⌝ }
+    ensures { λ r. ⌜ ((ps : List Float) (fs : List ℕ) → EnteredBy r (mesh ps (now (points .entry)) (now (edges .entry)) (now (intervals .entry)) fs) (mesh ps (now (points .exit)) (now (edges .exit)) (now (intervals .exit)) fs) k f p q v) ⌝ }
+    ensures { λ r. ⌜ StandingAfter np (now (points .exit)) (now (edges .exit)) (now (chain .exit)) r ⌝ }
+{
+    match find_edge(points, edges, chain, np, k, p, q) {
+        Found::At(e) => fill_edge(edges, k, f, e, p),
+        Found::Nothing => {
+            make_edge(points, edges, intervals, chain, np, k, f, p, q, v);
+            Entry::Made {
+                edges: k + 1,
+                edge: k,
+            }
+        }
+    }
+}
