@@ -15,7 +15,7 @@ use Rattle.tables.specs.Mesh.{Mesh}
 use Rattle.audited_meshes.specs.Walks.{Walk, back, lost, passed, pointWalk}
 use Rattle.walks.specs.Steps.{pointTables, passedBy}
 use Rattle.walks.specs.declared.Passed.the-variants as Answers
-use Rattle.built_meshes.specs.Building.{noMissingFace, everyEdged, noMissedEdge, wholeVerdict, markOf, marked}
+use Rattle.built_meshes.specs.Whole.{noMissingFace, everyEdged, noMissedEdge, wholeVerdict, markOf, marked}
 use Rattle.built_meshes.specs.declared.Verdict.{Verdict}
 use Rattle.built_meshes.specs.declared.Verdict.the-variants.{Fit, Unfit}
 use Rattle.built_meshes.specs.declared.Ground.the-variants.{MissingFace, NoEdge, MissedEdge}

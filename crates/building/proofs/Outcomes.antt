@@ -20,7 +20,8 @@ use Rattle.tables.proofs.Laws.{length-zeroed}
 use Rattle.audited_meshes.specs.Audit.{pointRows, edgeRows, faceRows}
 use Rattle.built_meshes.specs.Lists.{Lists, Limits, pointsOf, facesOf, offset, countsFit, numbersFit, rowsFit}
 use Rattle.built_meshes.specs.Perimeters.{State, Step, on, stopped}
-use Rattle.built_meshes.specs.Building.{Outcome, refusal, marked, finished, zeroedRows, wholeVerdict, wholeIf, facesFrom, answered, allFaces, buildIf, build}
+use Rattle.built_meshes.specs.Building.{Outcome, refusal, zeroedRows, wholeIf, facesFrom, answered, allFaces, buildIf, build}
+use Rattle.built_meshes.specs.Whole.{marked, finished, wholeVerdict}
 use Rattle.built_meshes.specs.declared.Ground.{Ground}
 use Rattle.built_meshes.specs.declared.Ground.the-variants.{OverCounts, UnfitNumber, FewRows}
 use Rattle.built_meshes.specs.declared.Verdict.{Verdict}

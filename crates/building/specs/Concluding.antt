@@ -12,7 +12,8 @@ use lib.Ieee.{Float, ofBits, binary64}
 use Rattle.tables.specs.Mesh.{Mesh}
 use Rattle.tables.specs.Rows.{over, zeroed}
 use Rattle.built_meshes.specs.Lists.{Lists, countsFit, numbersFit, rowsFit}
-use Rattle.built_meshes.specs.Building.{Outcome, refusal, marked, zeroedRows, answered, allFaces}
+use Rattle.built_meshes.specs.Building.{Outcome, refusal, zeroedRows, answered, allFaces}
+use Rattle.built_meshes.specs.Whole.{marked}
 use Rattle.built_meshes.specs.declared.Verdict.{Verdict}
 use Rattle.built_meshes.specs.declared.Verdict.the-variants.{Fit, Unfit}
 use Rattle.built_meshes.specs.declared.Built.the-variants.{Accepted}

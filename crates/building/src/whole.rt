@@ -8,7 +8,7 @@ ghost use lib.Ieee.{Float};
 ghost use lib.ListN.{length};
 ghost use Rattle.tables.specs.Mesh.{valence};
 ghost use Rattle.audited_meshes.specs.Walks.{passed, pointWalk};
-ghost use Rattle.built_meshes.specs.Building.{noMissingFace, everyEdged, noMissedEdge, wholeVerdict, markOf, marked};
+ghost use Rattle.built_meshes.specs.Whole.{noMissingFace, everyEdged, noMissedEdge, wholeVerdict, markOf, marked};
 ghost use Rattle.walks.specs.Steps.{pointTables};
 ghost use Rattle.edge_search.specs.Places.{mesh};
 use built_meshes::Ground;

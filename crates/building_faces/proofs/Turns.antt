@@ -16,7 +16,8 @@ use Rattle.t_nurcc_edge.proofs.Laws.{length-connectedRows}
 use Rattle.audited_meshes.proofs.Tests.{every-is, self-is}
 use Rattle.built_meshes.specs.Lists.{Lists}
 use Rattle.built_meshes.specs.Faces.{inRange}
-use Rattle.built_meshes.specs.Perimeters.{State, Ring, Step, on, stopped, Entered, at, refused, edgeBetween, enteredAt, enteredIf, entered, joined, withEdges, nextPlace, turned, turn, faceOf, closedUp}
+use Rattle.built_meshes.specs.Perimeters.{State, Ring, Step, on, stopped, nextPlace, turned, turn, faceOf, closedUp}
+use Rattle.built_meshes.specs.Edges.{Entered, at, refused, edgeBetween, enteredAt, enteredIf, entered, joined, withEdges}
 use Rattle.built_meshes.specs.declared.Ground.{Ground}
 use Rattle.built_meshes.specs.declared.Found.{Found}
 use Rattle.built_meshes.specs.declared.Found.the-variants as Founds

@@ -27,7 +27,7 @@ use Rattle.audited_meshes.specs.Walks.{touches}
 use Rattle.built_meshes.specs.declared.Found.{Found}
 use Rattle.built_meshes.specs.declared.Found.the-variants.{At, Nothing}
 use Rattle.built_meshes.specs.declared.Ground.the-variants.{EdgeTripleFace, SameWay}
-use Rattle.built_meshes.specs.Perimeters.{joins, orLast, edgeBetween, newEdge, enteredAt, enteredIf, entered, filled}
+use Rattle.built_meshes.specs.Edges.{joins, orLast, edgeBetween, newEdge, enteredAt, enteredIf, entered, filled}
 use Rattle.built_meshes.proofs.Entering.{Finds, finds, finds-none, found-is}
 use Rattle.edge_search.specs.Chains.{edgeTable, linkTo, SameEnds, Newest, olderLink, Chained, Standing}
 use Rattle.edge_search.specs.Places.{mesh, EnteredBy, FilledBy, StandingAfter}

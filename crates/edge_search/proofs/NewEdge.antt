@@ -20,7 +20,7 @@ use Rattle.tables.specs.Rows.{putRow}
 use Rattle.tables.specs.Records.{edgeWords}
 use Rattle.tables.proofs.Laws.{length-putRow, getD-putRow, getD-putRow-before}
 use Rattle.audited_meshes.specs.Walks.{touches}
-use Rattle.built_meshes.specs.Perimeters.{edgeOf, touched, newEdge}
+use Rattle.built_meshes.specs.Edges.{edgeOf, touched, newEdge}
 use Rattle.edge_search.specs.Chains.{edgeTable, Newest, chainedEdge, Standing, Room}
 use Rattle.edge_search.specs.Places.{mesh}
 use Rattle.edge_search.proofs.Chains.{newest-kept, newest-more, newest-top}

@@ -9,7 +9,7 @@ use Rattle.tables.specs.Mesh.{Mesh}
 use Rattle.audited_meshes.specs.Walks.{touches}
 use Rattle.built_meshes.specs.declared.Found.{Found}
 use Rattle.built_meshes.specs.declared.Found.the-variants.{At, Nothing}
-use Rattle.built_meshes.specs.Perimeters.{joins, orLast, edgeBetween}
+use Rattle.built_meshes.specs.Edges.{joins, orLast, edgeBetween}
 use Rattle.edge_search.specs.Chains.{edgeTable, linkTo, Newest, olderLink, Chained}
 use Rattle.edge_search.proofs.Chains.{edgeBetween-gap, older-newest}
 

@@ -12,7 +12,8 @@ use Prim.Native.Nat.{ℕ}
 use lib.Dec.{eqb}
 use lib.Ieee.{Float}
 use Rattle.tables.specs.Mesh.{Mesh, none, origin, rightFace}
-use Rattle.built_meshes.specs.Perimeters.{Step, on, stopped, Entered, at, refused, enteredAt, entered, withEdges}
+use Rattle.built_meshes.specs.Perimeters.{Step, on, stopped}
+use Rattle.built_meshes.specs.Edges.{Entered, at, refused, enteredAt, entered, withEdges}
 use Rattle.edge_search.specs.Chains.{Standing, SameEnds}
 use Rattle.edge_search.specs.declared.Entry.{Entry}
 use Rattle.edge_search.specs.declared.Entry.the-variants.{Made, Refused}

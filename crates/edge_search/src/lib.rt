@@ -12,7 +12,7 @@ ghost use lib.Dec.{eqb};
 ghost use lib.Ieee.{Float};
 ghost use lib.ListN.{length, getD};
 ghost use Rattle.tables.specs.Mesh.{Mesh};
-ghost use Rattle.built_meshes.specs.Perimeters.{joins, edgeBetween, touched, newEdge};
+ghost use Rattle.built_meshes.specs.Edges.{joins, edgeBetween, touched, newEdge};
 ghost use Rattle.edge_search.specs.Chains.{edgeTable, linkTo, Newest, olderLink, chainedEdge, Chained, Standing, Room};
 ghost use Rattle.edge_search.specs.Places.{mesh, EnteredBy, FilledBy, StandingAfter};
 use built_meshes::Found;

@@ -3,7 +3,7 @@ use lib.ListN.{length}
 use Prim.Native.Nat.{_/_}
 use mathlib.Core.Path.{_∙_, sym}
 use Rattle.edge_search.specs.Places.{mesh}
-use Rattle.built_meshes.specs.Building.{wholeVerdict}
+use Rattle.built_meshes.specs.Whole.{wholeVerdict}
 use Rattle.building.proofs.Outcomes.{concluded-fit, concluded-unfit}
 use borrow.Author.Needs.{needs}
 use Rattle.building.proofs.conclude.Statement.{statement}

@@ -1,7 +1,7 @@
 -- every_edged meets its contract. The invariant: the points before p have an edge; the measure is what is left of them.
 use borrow.Author.Needs.{needs}
 use borrow.Author.Tests.{eq-eqb, ne-eqb}
-use Rattle.built_meshes.specs.Building.{everyEdged}
+use Rattle.built_meshes.specs.Whole.{everyEdged}
 use lib.ListN.{getD}
 use lib.Dec.{eqb}
 use native.Mathlib.Omega.{arith}

@@ -4,7 +4,7 @@ use lib.ListN.{length, length-set}
 use native.Mathlib.Omega.{arith}
 use Prim.Native.Nat.{_≤_, _-_}
 use mathlib.Core.Path.{_≡_, refl, sym}
-use Rattle.built_meshes.specs.Building.{marked}
+use Rattle.built_meshes.specs.Whole.{marked}
 use Rattle.building_tests.proofs.Laws.{whole}
 use Rattle.building.proofs.Laws.{marked-none, marked-more}
 use Rattle.building.proofs.whole.mark_points.Statement.{statement}

@@ -4,7 +4,7 @@ use borrow.Author.Tests.{not-true, not-false}
 use Rattle.walks.specs.Steps.{pointTables}
 use Rattle.tables.specs.Mesh.{valence}
 use Rattle.audited_meshes.specs.Walks.{passed, pointWalk}
-use Rattle.built_meshes.specs.Building.{noMissedEdge}
+use Rattle.built_meshes.specs.Whole.{noMissedEdge}
 use mathlib.Core.List.{List}
 use lib.Dec.{ltb}
 use native.Mathlib.Omega.{arith}

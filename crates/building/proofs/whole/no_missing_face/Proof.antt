@@ -1,7 +1,7 @@
 -- no_missing_face meets its contract. The invariant: the edges before e have a face on their right; the measure is what is left of them.
 use borrow.Author.Needs.{needs}
 use borrow.Author.Tests.{eq-eqb, ne-eqb}
-use Rattle.built_meshes.specs.Building.{noMissingFace}
+use Rattle.built_meshes.specs.Whole.{noMissingFace}
 use lib.ListN.{getD}
 use lib.Dec.{eqb}
 use native.Mathlib.Omega.{arith}

@@ -1,0 +1,60 @@
+-- make meets its contract: the visits make the rows, and the rules find in them what they ask.
+use Prim.Native.Nat.{_≤_, _*_, _+_}
+use native.Mathlib.Omega.{arith}
+use lib.ListN.{length}
+use borrow.Author.Needs.{needs}
+use Rattle.making.proofs.Laws.{old-rows-hold, new-rows-hold, visits-fit, faces-fit, edges-fit, points-fit, made-of-parts}
+use Rattle.visiting.specs.Visiting.{meshOf}
+use Rattle.splitting.specs.Scratch.{tablesOf}
+use Rattle.refined_meshes.specs.State.{State}
+use Rattle.tables.specs.Mesh.{Mesh}
+use Rattle.making.proofs.make.Statement.{statement}
+use Rattle.making.proofs.make.Tie as tie
+
+refined-rows-requires : tie.Need-refined-rows-requires
+refined-rows-requires c κs = 
+    let a = c .before .before .before .before .before .before .before .before .before .before .before .before .before .before .before .args in
+    let m : Mesh = meshOf (a .positions .now) (a .points .now) (a .edges .now) (a .intervals .now) (a .faces .now) in
+    let t : Mesh = meshOf (a .places .now) (a .rows .now) (a .halves .now) (a .lengths .now) (a .quads .now) in
+    (old-rows-hold m (a .counts) (a .order .now) t (c .before .before .before .before .before .before .before .before .before .before .before .before .before .before .before .pre), (new-rows-hold m (a .counts) (a .order .now) t (c .before .before .before .before .before .before .before .before .before .before .before .before .before .before .before .pre),
+    visits-fit m (a .counts) (a .order .now) t (c .before .before .before .before .before .before .before .before .before .before .before .before .before .before .before .pre)))
+
+place-all-requires : tie.Need-place-all-requires
+place-all-requires c κs = 
+    let a = c .before .before .before .before .before .before .before .before .before .before .before .before .before .before .before .before .before .before .before .before .before .before .before .before .before .before .before .args in
+    let m : Mesh = meshOf (a .positions .now) (a .points .now) (a .edges .now) (a .intervals .now) (a .faces .now) in
+    let t : Mesh = meshOf (a .places .now) (a .rows .now) (a .halves .now) (a .lengths .now) (a .quads .now) in
+    let v = c .before .before .before .before .before .before .before .before .before .before .before .refined-rows in
+    let s : State = tablesOf (v .last .1 .1 .1 .1 .0) (v .last .1 .1 .1 .1 .1 .0) (v .last .1 .1 .1 .1 .1 .1 .0) (v .last .1 .1 .1 .1 .1 .1 .1 .0) (v .result) in
+    let same = v .ensures (a .positions .now) (a .places .now) in
+    let held = new-rows-hold m (a .counts) (a .order .now) t (c .before .before .before .before .before .before .before .before .before .before .before .before .before .before .before .before .before .before .before .before .before .before .before .before .before .before .before .pre) in
+    let edges-there : a .counts .edges * 8 ≤ length (s .edges) = rw (v .kept .1 .1 .1 .1 .1 .0) (held .edges) in
+    let faces-there : a .counts .faces * 5 ≤ length (s .faces) = rw (v .kept .1 .1 .1 .1 .1 .1 .1 .0) (held .faces) in
+    let room = c .before .before .before .before .before .before .before .before .before .before .before .before .before .before .before .before .before .before .before .before .before .before .before .before .before .before .before .pre .points-room in
+    let places-there : (a .counts .points + a .counts .edges + a .counts .faces) * 3 ≤ length (a .places .now) = omega (arith, room) in
+    (faces-fit m (a .counts) (a .order .now) t (c .before .before .before .before .before .before .before .before .before .before .before .before .before .before .before .before .before .before .before .before .before .before .before .before .before .before .before .pre) s same edges-there faces-there (a .places .now) places-there,
+    (edges-fit m (a .counts) (a .order .now) t (c .before .before .before .before .before .before .before .before .before .before .before .before .before .before .before .before .before .before .before .before .before .before .before .before .before .before .before .pre) s same edges-there faces-there (a .places .now) places-there,
+    points-fit m (a .counts) (a .order .now) t (c .before .before .before .before .before .before .before .before .before .before .before .before .before .before .before .before .before .before .before .before .before .before .before .before .before .before .before .pre) s same edges-there faces-there (a .places .now) places-there))
+
+returns : tie.Need-returns
+returns c = 
+    let a = c .before .before .before .before .before .before .before .before .before .before .before .before .before .before .before .before .before .before .before .before .before .before .before .before .before .before .before .before .before .before .args in
+    let m : Mesh = meshOf (a .positions .now) (a .points .now) (a .edges .now) (a .intervals .now) (a .faces .now) in
+    let t : Mesh = meshOf (a .places .now) (a .rows .now) (a .halves .now) (a .lengths .now) (a .quads .now) in
+    let v = c .before .before .before .before .before .before .before .before .before .before .before .before .before .before .refined-rows in
+    let s : State = tablesOf (v .last .1 .1 .1 .1 .0) (v .last .1 .1 .1 .1 .1 .0) (v .last .1 .1 .1 .1 .1 .1 .0) (v .last .1 .1 .1 .1 .1 .1 .1 .0) (v .result) in
+    made-of-parts m (a .counts) (a .order .now) t s (c .before .before .place-all .result) (c .before .before .place-all .last .1 .1 .1 .1 .1 .1 .1 .1 .0)
+    (v .ensures (a .positions .now) (a .places .now)) (c .before .before .place-all .ensures)
+
+pub make-spec : {M : Type 1} → statement M
+make-spec =
+    tie.close
+    (tie.spec
+    refined-rows-requires
+    place-all-requires
+    (λ c. search needs)
+    (λ c. search needs)
+    (λ c. search needs)
+    (λ c. search needs)
+    (λ c. search needs)
+    returns)
