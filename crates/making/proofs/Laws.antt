@@ -88,7 +88,7 @@ module _ (m : Mesh) (c : Counts) (order : List ℕ) (t : Mesh) (ready : Ready m 
           edge-row = λ i l. omega arith;
           edge-place = λ i l. omega (arith, edge-place i l);
           face-row = λ f l. omega arith;
-          face-place = λ f l. omega (arith, face-place f l)
+          face-place = λ f l. omega (arith, face-place f l);
         }
 
     pub faces-fit : FacesFit (m .positions) (m .edges) (m .intervals) (m .faces) (c .edges) (c .faces) (s .faces) places
@@ -96,24 +96,24 @@ module _ (m : Mesh) (c : Counts) (order : List ℕ) (t : Mesh) (ready : Ready m 
         record {
           rule-fits = face-point-fits m (c .points) (c .edges) (c .faces) audited;
           row-there = λ f l. omega arith;
-          place-there = λ f l. omega (arith, face-place f l)
+          place-there = λ f l. omega (arith, face-place f l);
         }
 
     pub edges-fit : EdgesFit (m .positions) (m .edges) (m .intervals) (c .edges) (s .edges) (s .faces) places
     edges-fit =
         record {
           rule-fits = λ new e.
-            edge-point-fits m (c .points) (c .edges) (c .faces) audited new (s .edges) (s .faces) (new-points-fit new e);
+              edge-point-fits m (c .points) (c .edges) (c .faces) audited new (s .edges) (s .faces) (new-points-fit new e);
           row-there = λ i l. omega arith;
-          place-there = λ i l. omega (arith, edge-place i l)
+          place-there = λ i l. omega (arith, edge-place i l);
         }
 
     pub points-fit : PointsFit (m .positions) (m .points) (m .edges) (m .intervals) (c .points) (s .edges) (s .faces) places
     points-fit =
         record {
           rule-fits = λ new e.
-            old-point-fits m (c .points) (c .edges) (c .faces) audited new (s .edges) (s .faces) (new-points-fit new e) few-faces;
-          place-there = λ p l. omega arith
+              old-point-fits m (c .points) (c .edges) (c .faces) audited new (s .edges) (s .faces) (new-points-fit new e) few-faces;
+          place-there = λ p l. omega arith;
         }
 
 -- The visits made the rows s, and the loops over the points came so far.

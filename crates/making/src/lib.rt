@@ -37,6 +37,27 @@ pub fn make(
         (meshOf (now (places .entry)) (now (rows .entry)) (now (halves .entry)) (now (lengths .entry)) (now (quads .entry)))
         ≡ madeAs r (meshOf (now (places .exit)) (now (rows .exit)) (now (halves .exit)) (now (lengths .exit)) (now (quads .exit))) ⌝ }
 {
-    refined_rows(points, edges, intervals, faces, rows, halves, lengths, quads, counts, order);
-    place_all(positions, points, edges, intervals, faces, counts, halves, quads, places)
+    refined_rows(
+        points,
+        edges,
+        intervals,
+        faces,
+        rows,
+        halves,
+        lengths,
+        quads,
+        counts,
+        order,
+    );
+    place_all(
+        positions,
+        points,
+        edges,
+        intervals,
+        faces,
+        counts,
+        halves,
+        quads,
+        places,
+    )
 }

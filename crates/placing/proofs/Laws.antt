@@ -99,7 +99,7 @@ edges-fit-length same fit =
     record {
       rule-fits = λ other e. fit .rule-fits other (e ∙ same);
       row-there = fit .row-there;
-      place-there = λ e l. rw same (fit .place-there e l)
+      place-there = λ e l. rw same (fit .place-there e l);
     }
 
 pub points-fit-length : {ps is : List Float} {ws es halves quads : List ℕ} {np : ℕ} {places new : List Float} → length new ≡ length places
@@ -107,5 +107,5 @@ pub points-fit-length : {ps is : List Float} {ws es halves quads : List ℕ} {np
 points-fit-length same fit =
     record {
       rule-fits = λ other e. fit .rule-fits other (e ∙ same);
-      place-there = λ p l. rw same (fit .place-there p l)
+      place-there = λ p l. rw same (fit .place-there p l);
     }

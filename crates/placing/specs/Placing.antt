@@ -42,5 +42,5 @@ rowsOf halves quads =
       faces = quads;
       pointsTaken = 0;
       edgesTaken = 0;
-      facesTaken = 0
+      facesTaken = 0;
     }

@@ -12,11 +12,11 @@ ghost use Rattle.position_rules.specs.OldPoint.{oldPoint};
 ghost use Rattle.position_rules.specs.Places.{edgePointAt, facePointAt};
 ghost use Rattle.steps.specs.Positions.{on, placed, placedAll};
 ghost use Rattle.placing.specs.Placing.{came, FacesFit, EdgesFit, PointsFit, rowsOf};
-use positions::Placed;
-use positions::Position;
 use position_rules::edge_point::edge_point;
 use position_rules::face_point::face_point;
 use position_rules::old_point::old_point;
+use positions::Placed;
+use positions::Position;
 use tables::Counts;
 use tables::index;
 use tables::store_position;
@@ -98,7 +98,16 @@ pub fn place_old_points(
 {
     let mut p = 0;
     while p < np {
-        let Placed::At(x, y, z) = old_point(positions, points, edges, intervals, places, halves, quads, p) else {
+        let Placed::At(x, y, z) = old_point(
+            positions,
+            points,
+            edges,
+            intervals,
+            places,
+            halves,
+            quads,
+            p,
+        ) else {
             return false;
         };
         store_position(places, p, Position { x, y, z });
@@ -136,11 +145,37 @@ pub fn place_all(
         (now (places .entry))
         ≡ came r (now (places .exit)) ⌝ }
 {
-    if !place_face_points(positions, edges, intervals, faces, counts.edges, counts.faces, quads, places) {
+    if !place_face_points(
+        positions,
+        edges,
+        intervals,
+        faces,
+        counts.edges,
+        counts.faces,
+        quads,
+        places,
+    ) {
         return false;
     }
-    if !place_edge_points(positions, edges, intervals, counts.edges, halves, quads, places) {
+    if !place_edge_points(
+        positions,
+        edges,
+        intervals,
+        counts.edges,
+        halves,
+        quads,
+        places,
+    ) {
         return false;
     }
-    place_old_points(positions, points, edges, intervals, counts.points, halves, quads, places)
+    place_old_points(
+        positions,
+        points,
+        edges,
+        intervals,
+        counts.points,
+        halves,
+        quads,
+        places,
+    )
 }

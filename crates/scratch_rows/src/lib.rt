@@ -28,7 +28,14 @@ pub fn refined_counts(c: Counts) -> Counts
 }
 
 // Whether the tables have the rows of a mesh with these counts.
-pub fn rows_for(c: Counts, positions: &[f64], points: &[u32], edges: &[u32], intervals: &[f64], faces: &[u32]) -> bool
+pub fn rows_for(
+    c: Counts,
+    positions: &[f64],
+    points: &[u32],
+    edges: &[u32],
+    intervals: &[f64],
+    faces: &[u32],
+) -> bool
     ensures { λ r. ⌜
         r
         ≡ rowsFor c
@@ -63,7 +70,14 @@ pub fn within_ceilings(c: Counts) -> bool
 }
 
 // Zeroes the rows of a mesh with these counts.
-pub fn zero_rows(c: Counts, positions: &mut [f64], points: &mut [u32], edges: &mut [u32], intervals: &mut [f64], faces: &mut [u32])
+pub fn zero_rows(
+    c: Counts,
+    positions: &mut [f64],
+    points: &mut [u32],
+    edges: &mut [u32],
+    intervals: &mut [f64],
+    faces: &mut [u32],
+)
     requires { ⌜ c .points * 3 ≤ length (now positions) ⌝ }
     requires { ⌜ c .points * 3 ≤ length (now points) ⌝ }
     requires { ⌜ c .edges * 8 ≤ length (now edges) ⌝ }

@@ -12,15 +12,19 @@ use Rattle.making.proofs.make.Statement.{statement}
 use Rattle.making.proofs.make.Tie as tie
 
 refined-rows-requires : tie.Need-refined-rows-requires
-refined-rows-requires c κs = 
+refined-rows-requires c κs =
     let a = c .before .before .before .before .before .before .before .before .before .before .before .before .before .before .before .args in
     let m : Mesh = meshOf (a .positions .now) (a .points .now) (a .edges .now) (a .intervals .now) (a .faces .now) in
-    let t : Mesh = meshOf (a .places .now) (a .rows .now) (a .halves .now) (a .lengths .now) (a .quads .now) in
-    (old-rows-hold m (a .counts) (a .order .now) t (c .before .before .before .before .before .before .before .before .before .before .before .before .before .before .before .pre), (new-rows-hold m (a .counts) (a .order .now) t (c .before .before .before .before .before .before .before .before .before .before .before .before .before .before .before .pre),
-    visits-fit m (a .counts) (a .order .now) t (c .before .before .before .before .before .before .before .before .before .before .before .before .before .before .before .pre)))
+    let t : Mesh = meshOf (a .places .now) (a .rows .now) (a .halves .now) (a .lengths .now) (a .quads .now) in (
+      old-rows-hold m (a .counts) (a .order .now) t (c .before .before .before .before .before .before .before .before .before .before .before .before .before .before .before .pre),
+      (
+        new-rows-hold m (a .counts) (a .order .now) t (c .before .before .before .before .before .before .before .before .before .before .before .before .before .before .before .pre),
+        visits-fit m (a .counts) (a .order .now) t (c .before .before .before .before .before .before .before .before .before .before .before .before .before .before .before .pre),
+      ),
+    )
 
 place-all-requires : tie.Need-place-all-requires
-place-all-requires c κs = 
+place-all-requires c κs =
     let a = c .before .before .before .before .before .before .before .before .before .before .before .before .before .before .before .before .before .before .before .before .before .before .before .before .before .before .before .args in
     let m : Mesh = meshOf (a .positions .now) (a .points .now) (a .edges .now) (a .intervals .now) (a .faces .now) in
     let t : Mesh = meshOf (a .places .now) (a .rows .now) (a .halves .now) (a .lengths .now) (a .quads .now) in
@@ -31,13 +35,16 @@ place-all-requires c κs =
     let edges-there : a .counts .edges * 8 ≤ length (s .edges) = rw (v .kept .1 .1 .1 .1 .1 .0) (held .edges) in
     let faces-there : a .counts .faces * 5 ≤ length (s .faces) = rw (v .kept .1 .1 .1 .1 .1 .1 .1 .0) (held .faces) in
     let room = c .before .before .before .before .before .before .before .before .before .before .before .before .before .before .before .before .before .before .before .before .before .before .before .before .before .before .before .pre .points-room in
-    let places-there : (a .counts .points + a .counts .edges + a .counts .faces) * 3 ≤ length (a .places .now) = omega (arith, room) in
-    (faces-fit m (a .counts) (a .order .now) t (c .before .before .before .before .before .before .before .before .before .before .before .before .before .before .before .before .before .before .before .before .before .before .before .before .before .before .before .pre) s same edges-there faces-there (a .places .now) places-there,
-    (edges-fit m (a .counts) (a .order .now) t (c .before .before .before .before .before .before .before .before .before .before .before .before .before .before .before .before .before .before .before .before .before .before .before .before .before .before .before .pre) s same edges-there faces-there (a .places .now) places-there,
-    points-fit m (a .counts) (a .order .now) t (c .before .before .before .before .before .before .before .before .before .before .before .before .before .before .before .before .before .before .before .before .before .before .before .before .before .before .before .pre) s same edges-there faces-there (a .places .now) places-there))
+    let places-there : (a .counts .points + a .counts .edges + a .counts .faces) * 3 ≤ length (a .places .now) = omega (arith, room) in (
+      faces-fit m (a .counts) (a .order .now) t (c .before .before .before .before .before .before .before .before .before .before .before .before .before .before .before .before .before .before .before .before .before .before .before .before .before .before .before .pre) s same edges-there faces-there (a .places .now) places-there,
+      (
+        edges-fit m (a .counts) (a .order .now) t (c .before .before .before .before .before .before .before .before .before .before .before .before .before .before .before .before .before .before .before .before .before .before .before .before .before .before .before .pre) s same edges-there faces-there (a .places .now) places-there,
+        points-fit m (a .counts) (a .order .now) t (c .before .before .before .before .before .before .before .before .before .before .before .before .before .before .before .before .before .before .before .before .before .before .before .before .before .before .before .pre) s same edges-there faces-there (a .places .now) places-there,
+      ),
+    )
 
 returns : tie.Need-returns
-returns c = 
+returns c =
     let a = c .before .before .before .before .before .before .before .before .before .before .before .before .before .before .before .before .before .before .before .before .before .before .before .before .before .before .before .before .before .before .args in
     let m : Mesh = meshOf (a .positions .now) (a .points .now) (a .edges .now) (a .intervals .now) (a .faces .now) in
     let t : Mesh = meshOf (a .places .now) (a .rows .now) (a .halves .now) (a .lengths .now) (a .quads .now) in

@@ -27,7 +27,7 @@ same-length c = search needs
 
 -- src/lib.rt:140:9
 returns : tie.Need-returns
-returns c = 
+returns c =
     let a = c .before .before .before .before .before .before .before .before .before .before .before .before .before .args in
     let m : Mesh = record { positions = a .positions .now; points = a .points .now; edges = a .edges .now; intervals = a .intervals .now; faces = a .faces .now } in
     let s = rowsOf (a .halves .now) (a .quads .now) in
@@ -45,7 +45,7 @@ same-length-2 c = search needs
 
 -- src/lib.rt:143:9
 returns-2 : tie.Need-returns-2
-returns-2 c = 
+returns-2 c =
     let a = c .before .before .before .before .before .before .before .before .before .before .before .before .before .before .before .before .before .before .args in
     let m : Mesh = record { positions = a .positions .now; points = a .points .now; edges = a .edges .now; intervals = a .intervals .now; faces = a .faces .now } in
     let s = rowsOf (a .halves .now) (a .quads .now) in
@@ -57,7 +57,7 @@ returns-2 c =
 
 -- src/lib.rt:145:5
 place-old-points-requires : tie.Need-place-old-points-requires
-place-old-points-requires c κs = 
+place-old-points-requires c κs =
     points-fit-length (c .before .before .before .before .place-edge-points .kept .1 .1 .1 .1 .1 .1 .0 ∙ c .before .before .before .before .before .before .before .before .before .place-face-points .kept .1 .1 .1 .1 .1 .1 .1 .0) (c .before .before .before .before .before .before .before .before .before .before .before .before .before .before .before .before .before .before .before .pre .1 .1)
 
 -- src/lib.rt:111:1
@@ -66,7 +66,7 @@ same-length-3 c = search needs
 
 -- src/lib.rt:111:1
 returns-3 : tie.Need-returns-3
-returns-3 c = 
+returns-3 c =
     let a = c .before .before .before .before .before .before .before .before .before .before .before .before .before .before .before .before .before .before .before .before .before .before .args in
     let m : Mesh = record { positions = a .positions .now; points = a .points .now; edges = a .edges .now; intervals = a .intervals .now; faces = a .faces .now } in
     let s = rowsOf (a .halves .now) (a .quads .now) in

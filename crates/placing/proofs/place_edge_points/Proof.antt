@@ -16,7 +16,7 @@ use Rattle.placing.proofs.place_edge_points.Statement.{statement}
 use Rattle.placing.proofs.place_edge_points.Tie as tie
 
 abbrev Inv-loop : tie.InvT-loop
-Inv-loop positions edges intervals ne halves quads places₀ e₀ places e = 
+Inv-loop positions edges intervals ne halves quads places₀ e₀ places e =
     (e ≤ ne) × (length places ≡ length places₀)
     × (placed e (λ k. getD halves (k * 8 + 1) 0) (λ k ps. edgePoint positions edges intervals (facePointAt ps quads) k) (on places₀) ≡ on places)
 
@@ -30,7 +30,7 @@ edge-point-requires : tie.Need-edge-point-requires Inv-loop μ-loop
 edge-point-requires c κs = c .before .before .before .before .before .before .before .before .before .pre .rule-fits (c .before .before .loop .places) (c .before .before .loop .inv .1) (c .before .before .loop .e) (omega arith)
 
 returns : tie.Need-returns Inv-loop μ-loop
-returns c = 
+returns c =
     let a = c .before .before .before .before .before .before .before .before .before .before .before .before .args in
     let row : ℕ → ℕ = λ k. getD (a .halves .now) (k * 8 + 1) 0 in
     let rule : ℕ → List Float → Position = λ k ps. edgePoint (a .positions .now) (a .edges .now) (a .intervals .now) (facePointAt ps (a .quads .now)) k in
@@ -53,7 +53,7 @@ store-position-requires : tie.Need-store-position-requires Inv-loop μ-loop
 store-position-requires c κs = omega (arith, c .index .ensures, c .before .before .before .before .before .before .before .before .before .before .before .before .before .before .before .before .pre .place-there (c .before .before .before .before .before .before .before .before .before .loop .e) (omega arith))
 
 loop-again : tie.Need-loop-again Inv-loop μ-loop
-loop-again c = 
+loop-again c =
     let a = c .before .before .before .before .before .before .before .before .before .before .before .before .before .before .before .before .before .before .before .args in
     let row : ℕ → ℕ = λ k. getD (a .halves .now) (k * 8 + 1) 0 in
     let rule : ℕ → List Float → Position = λ k ps. edgePoint (a .positions .now) (a .edges .now) (a .intervals .now) (facePointAt ps (a .quads .now)) k in
@@ -62,7 +62,7 @@ loop-again c =
     (omega arith, rw (c .before .before .store-position .ensures, length-putRow) (c .before .before .before .before .before .before .before .before .before .before .before .before .loop .inv .1), rw (c .before .before .store-position .ensures, c .before .before .before .index .ensures) put)
 
 returns-2 : tie.Need-returns-2 Inv-loop μ-loop
-returns-2 c = 
+returns-2 c =
     let a = c .before .before .before .before .before .before .before .before .args in
     let row : ℕ → ℕ = λ k. getD (a .halves .now) (k * 8 + 1) 0 in
     let rule : ℕ → List Float → Position = λ k ps. edgePoint (a .positions .now) (a .edges .now) (a .intervals .now) (facePointAt ps (a .quads .now)) k in

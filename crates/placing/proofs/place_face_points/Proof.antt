@@ -15,7 +15,7 @@ use Rattle.placing.proofs.place_face_points.Statement.{statement}
 use Rattle.placing.proofs.place_face_points.Tie as tie
 
 abbrev Inv-loop : tie.InvT-loop
-Inv-loop positions edges intervals faces ne nf quads places₀ f₀ places f = 
+Inv-loop positions edges intervals faces ne nf quads places₀ f₀ places f =
     (f ≤ nf) × (length places ≡ length places₀)
     × (placed f (λ k. getD quads (k * 5 + 1) 0) (λ k ps. facePointOf (faceMesh positions edges intervals faces) ne k) (on places₀) ≡ on places)
 
@@ -29,7 +29,7 @@ face-point-requires : tie.Need-face-point-requires Inv-loop μ-loop
 face-point-requires c κs = c .before .before .before .before .before .before .before .before .pre .rule-fits (c .before .loop .f) (omega arith)
 
 returns : tie.Need-returns Inv-loop μ-loop
-returns c = 
+returns c =
     let a = c .before .before .before .before .before .before .before .before .before .before .before .args in
     let row : ℕ → ℕ = λ k. getD (a .quads .now) (k * 5 + 1) 0 in
     let rule : ℕ → List Float → Position = λ k ps. facePointOf (faceMesh (a .positions .now) (a .edges .now) (a .intervals .now) (a .faces .now)) (a .ne) k in
@@ -52,7 +52,7 @@ store-position-requires : tie.Need-store-position-requires Inv-loop μ-loop
 store-position-requires c κs = omega (arith, c .index .ensures, c .before .before .before .before .before .before .before .before .before .before .before .before .before .before .before .pre .place-there (c .before .before .before .before .before .before .before .before .loop .f) (omega arith))
 
 loop-again : tie.Need-loop-again Inv-loop μ-loop
-loop-again c = 
+loop-again c =
     let a = c .before .before .before .before .before .before .before .before .before .before .before .before .before .before .before .before .before .before .args in
     let row : ℕ → ℕ = λ k. getD (a .quads .now) (k * 5 + 1) 0 in
     let rule : ℕ → List Float → Position = λ k ps. facePointOf (faceMesh (a .positions .now) (a .edges .now) (a .intervals .now) (a .faces .now)) (a .ne) k in
@@ -61,7 +61,7 @@ loop-again c =
     (omega arith, rw (c .before .before .store-position .ensures, length-putRow) (c .before .before .before .before .before .before .before .before .before .before .before .loop .inv .1), rw (c .before .before .store-position .ensures, c .before .before .before .index .ensures) put)
 
 returns-2 : tie.Need-returns-2 Inv-loop μ-loop
-returns-2 c = 
+returns-2 c =
     let a = c .before .before .before .before .before .before .before .before .args in
     let row : ℕ → ℕ = λ k. getD (a .quads .now) (k * 5 + 1) 0 in
     let rule : ℕ → List Float → Position = λ k ps. facePointOf (faceMesh (a .positions .now) (a .edges .now) (a .intervals .now) (a .faces .now)) (a .ne) k in

@@ -16,7 +16,7 @@ use Rattle.placing.proofs.place_old_points.Statement.{statement}
 use Rattle.placing.proofs.place_old_points.Tie as tie
 
 abbrev Inv-loop : tie.InvT-loop
-Inv-loop positions points edges intervals np halves quads places₀ p₀ places p = 
+Inv-loop positions points edges intervals np halves quads places₀ p₀ places p =
     (p ≤ np) × (length places ≡ length places₀)
     × (placed p (λ k. k) (λ k ps. oldPoint positions points edges intervals (edgePointAt ps halves) (facePointAt ps quads) k) (on places₀) ≡ on places)
 
@@ -30,7 +30,7 @@ old-point-requires : tie.Need-old-point-requires Inv-loop μ-loop
 old-point-requires c κs = c .before .before .before .before .before .before .before .before .before .before .pre .rule-fits (c .before .before .loop .places) (c .before .before .loop .inv .1) (c .before .before .loop .p) (omega arith)
 
 returns : tie.Need-returns Inv-loop μ-loop
-returns c = 
+returns c =
     let a = c .before .before .before .before .before .before .before .before .before .before .before .before .before .args in
     let row : ℕ → ℕ = λ k. k in
     let rule : ℕ → List Float → Position = λ k ps. oldPoint (a .positions .now) (a .points .now) (a .edges .now) (a .intervals .now) (edgePointAt ps (a .halves .now)) (facePointAt ps (a .quads .now)) k in
@@ -41,7 +41,7 @@ store-position-requires : tie.Need-store-position-requires Inv-loop μ-loop
 store-position-requires c κs = omega (arith, c .before .before .before .before .before .before .before .before .before .before .before .before .before .before .before .pre .place-there (c .before .before .before .before .before .before .before .loop .p) (omega arith))
 
 loop-again : tie.Need-loop-again Inv-loop μ-loop
-loop-again c = 
+loop-again c =
     let a = c .before .before .before .before .before .before .before .before .before .before .before .before .before .before .before .before .before .before .args in
     let row : ℕ → ℕ = λ k. k in
     let rule : ℕ → List Float → Position = λ k ps. oldPoint (a .positions .now) (a .points .now) (a .edges .now) (a .intervals .now) (edgePointAt ps (a .halves .now)) (facePointAt ps (a .quads .now)) k in
@@ -50,7 +50,7 @@ loop-again c =
     (omega arith, rw (c .before .before .store-position .ensures, length-putRow) (c .before .before .before .before .before .before .before .before .before .before .loop .inv .1), rw (c .before .before .store-position .ensures) put)
 
 returns-2 : tie.Need-returns-2 Inv-loop μ-loop
-returns-2 c = 
+returns-2 c =
     let a = c .before .before .before .before .before .before .before .before .before .args in
     let row : ℕ → ℕ = λ k. k in
     let rule : ℕ → List Float → Position = λ k ps. oldPoint (a .positions .now) (a .points .now) (a .edges .now) (a .intervals .now) (edgePointAt ps (a .halves .now)) (facePointAt ps (a .quads .now)) k in

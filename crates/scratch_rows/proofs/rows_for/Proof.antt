@@ -15,7 +15,7 @@ returns-2 c = rw (← (c .before .before .before .before .before .point-rows .en
 
 returns-3 : tie.Need-returns-3
 unfolding rowsFor
-returns-3 c = 
+returns-3 c =
     rw (← (c .before .before .before .before .before .before .before .point-rows .ensures), ← (c .before .before .before .before .edge-rows .ensures), ← (c .before .face-rows .ensures), le-leb _ _ (c .before .before .before .before .before .if1 .left), le-leb _ _ (c .before .before .if2 .left))
 
 pub rows-for-spec : {M : Type 1} → statement M
