@@ -4,29 +4,28 @@
 --     fits                   the lists hold what was read
 --     first-entries          the first entries of the lists are the lists of the text
 use mathlib.Core.Path.{_≡_, refl, sym, ap, _∙_}
-use mathlib.Core.Bool.{Bool, true, false, _&&_}
-use mathlib.Core.List.{List, [], _∷_, _++_}
-use Prim.Native.Nat.{ℕ, zero, suc, _+_, _*_, _/_, _%_, _≤_}
+use mathlib.Core.Bool.{Bool, true, false}
+use mathlib.Core.List.{List}
+use Prim.Native.Nat.{ℕ, _+_, _*_, _≤_}
 use native.Mathlib.Omega.{arith}
 use lib.Dec.{leb}
-use lib.ListN.{length, getD, take, drop}
+use lib.ListN.{length, take, drop}
 use lib.Seq.{sets, length-sets, sets-eq, take-append-seam}
-use borrow.Author.Tests.{leb-true, le-leb, eq-eqb}
+use borrow.Author.Tests.{leb-true, le-leb}
 use Rattle.tables.specs.Mesh.{Mesh}
 use Rattle.text_numbers.specs.Form.{Found, found, none}
-use Rattle.text_numbers.proofs.Laws.{total, and-both}
+use Rattle.text_numbers.proofs.Laws.{and-both}
 use Rattle.mesh_text.specs.Text.{text, Mesh as TextMesh}
 use Rattle.mesh_text.specs.Reading.{coordinates, lengths, listedPoints, intervals, counts, Lists, filled, within, Answer, readInto}
 use Rattle.mesh_text.specs.declared.Counts.{Counts}
 use Rattle.mesh_text.specs.declared.Reading.{Reading}
 use Rattle.mesh_text.specs.declared.Reading.the-variants as Reading
-use Rattle.mesh_text.proofs.Read.{ReadText, read-means, length-coordinates, length-lengths, length-intervals, total-lengths}
-use Rattle.closed_meshes.specs.Renumbering.{sumTo}
-use Rattle.built_meshes.specs.Lists.{Limits, countsFit}
+use Rattle.mesh_text.proofs.Read.{ReadText, read-means, length-coordinates, length-lengths, length-intervals}
+use Rattle.built_meshes.specs.Lists.{countsFit}
 use Rattle.built_meshes.specs.Building.{build, Outcome as ListsOutcome}
 use Rattle.built_meshes.specs.declared.Ground.the-variants.{OverCounts}
 use Rattle.built_meshes.specs.declared.Built.{Built}
-use Rattle.built_meshes.proofs.Begin.{Counted, counts-is}
+use Rattle.built_meshes.proofs.Begin.{counts-is}
 use Rattle.building_tests.specs.Lent.{lists, limitsOf}
 use Rattle.building_tests.specs.declared.Bounds.{Bounds}
 use Rattle.building_tests.specs.declared.Bounds.the-variants.{General, Refine}
@@ -46,8 +45,16 @@ within-room : (b : Bounds) (c : Counts) (xs ls ps ds : ℕ) → c .points ≤ li
 unfolding within
 within-room b c xs ls ps ds hp hf hl rx rl rp rd =
     let (kp, kf, kl) = few b in
-    rw (le-leb (c .points) (limitsOf b .points) hp, le-leb (c .faces) (limitsOf b .faces) hf, le-leb (c .listed) (limitsOf b .listed) hl,
-    le-leb (c .listed) 4294967295 (omega arith), le-leb (3 * c .points) xs (omega arith), le-leb (4 * c .faces) ls (omega arith), le-leb (c .listed) ps (omega arith), le-leb (c .listed) ds (omega arith))
+    rw (
+      le-leb (c .points) (limitsOf b .points) hp,
+      le-leb (c .faces) (limitsOf b .faces) hf,
+      le-leb (c .listed) (limitsOf b .listed) hl,
+      le-leb (c .listed) 4294967295 (omega arith),
+      le-leb (3 * c .points) xs (omega arith),
+      le-leb (4 * c .faces) ls (omega arith),
+      le-leb (c .listed) ps (omega arith),
+      le-leb (c .listed) ds (omega arith),
+    )
 
 -- a text over the limits has lists that are over them
 over-counts : (b : Bounds) (s : List ℕ) (t : TextMesh) (n : ℕ) → text s ≡ found t n → (xs ls ps ds : ℕ) → 12288 ≤ xs → 16384 ≤ ls → 16384 ≤ ps → 16384 ≤ ds
@@ -157,7 +164,6 @@ module _ (b : Bounds) (s : List ℕ) (l : Lists) (m : Mesh) {r : Reading} {l′ 
         let lp = length-sets (l .listed) 0 (listedPoints t) in
         let ld = length-sets (l .intervals) 0 (intervals t) in
         rw read-lists (record { coordinates = omega (arith, h .coordinates); lengths = omega (arith, h .lengths); listed = omega (arith, h .listed); intervals = omega (arith, h .intervals) })
-
 
     pub first-entries : (o : Outcome) → o ≡ toldOutcome (build (limitsOf b)
         (lists (take (3 * c .points) (l′ .coordinates)) (take (4 * c .faces) (l′ .lengths)) (take (c .listed) (l′ .listed)) (take (c .listed) (l′ .intervals))) m)
