@@ -1,0 +1,138 @@
+use borrow.Author.Needs.{needs}
+use Rattle.refining.proofs.finish.Statement.{statement}
+use Rattle.refining.proofs.finish.Tie as tie
+use Rattle.refining.proofs.finish.Reads as reads
+use Rattle.refining.proofs.finish.Lts as lts
+use Rattle.refining.proofs.commit.Reads as commit-reads
+use Rattle.refining.proofs.make_from_rows.Reads as make-from-rows-reads
+use Rattle.scratch_rows.proofs.zero_rows.Reads as zero-rows-reads
+
+-- src/lib.rt:223:8
+make-from-rows-requires : tie.Need-make-from-rows-requires
+make-from-rows-requires c κs = search needs
+
+-- src/lib.rt:224:9
+commit-requires : tie.Need-commit-requires
+commit-requires c κs = ?
+
+-- src/lib.rt:225:9
+same-length : tie.Need-same-length
+same-length c = search needs
+
+-- src/lib.rt:225:9
+same-length-2 : tie.Need-same-length-2
+same-length-2 c = search needs
+
+-- src/lib.rt:225:9
+same-length-3 : tie.Need-same-length-3
+same-length-3 c = search needs
+
+-- src/lib.rt:225:9
+same-length-4 : tie.Need-same-length-4
+same-length-4 c = search needs
+
+-- src/lib.rt:225:9
+same-length-5 : tie.Need-same-length-5
+same-length-5 c = search needs
+
+-- src/lib.rt:225:9
+same-length-6 : tie.Need-same-length-6
+same-length-6 c = search needs
+
+-- src/lib.rt:225:9
+same-length-7 : tie.Need-same-length-7
+same-length-7 c = search needs
+
+-- src/lib.rt:225:9
+same-length-8 : tie.Need-same-length-8
+same-length-8 c = search needs
+
+-- src/lib.rt:225:9
+same-length-9 : tie.Need-same-length-9
+same-length-9 c = ?
+
+-- src/lib.rt:225:9
+same-length-10 : tie.Need-same-length-10
+same-length-10 c = ?
+
+-- src/lib.rt:225:9
+returns : tie.Need-returns
+returns c = ?
+
+-- src/lib.rt:227:5
+zero-rows-requires : tie.Need-zero-rows-requires
+zero-rows-requires c κs = ?
+
+-- src/lib.rt:198:1
+same-length-11 : tie.Need-same-length-11
+same-length-11 c = search needs
+
+-- src/lib.rt:198:1
+same-length-12 : tie.Need-same-length-12
+same-length-12 c = search needs
+
+-- src/lib.rt:198:1
+same-length-13 : tie.Need-same-length-13
+same-length-13 c = search needs
+
+-- src/lib.rt:198:1
+same-length-14 : tie.Need-same-length-14
+same-length-14 c = search needs
+
+-- src/lib.rt:198:1
+same-length-15 : tie.Need-same-length-15
+same-length-15 c = search needs
+
+-- src/lib.rt:198:1
+same-length-16 : tie.Need-same-length-16
+same-length-16 c = search needs
+
+-- src/lib.rt:198:1
+same-length-17 : tie.Need-same-length-17
+same-length-17 c = search needs
+
+-- src/lib.rt:198:1
+same-length-18 : tie.Need-same-length-18
+same-length-18 c = search needs
+
+-- src/lib.rt:198:1
+same-length-19 : tie.Need-same-length-19
+same-length-19 c = search needs
+
+-- src/lib.rt:198:1
+same-length-20 : tie.Need-same-length-20
+same-length-20 c = search needs
+
+-- src/lib.rt:198:1
+returns-2 : tie.Need-returns-2
+returns-2 c = ?
+
+pub finish-spec : {M : Type 1} → statement M
+finish-spec =
+    tie.close
+    (tie.spec
+    make-from-rows-requires
+    commit-requires
+    same-length
+    same-length-2
+    same-length-3
+    same-length-4
+    same-length-5
+    same-length-6
+    same-length-7
+    same-length-8
+    same-length-9
+    same-length-10
+    returns
+    zero-rows-requires
+    same-length-11
+    same-length-12
+    same-length-13
+    same-length-14
+    same-length-15
+    same-length-16
+    same-length-17
+    same-length-18
+    same-length-19
+    same-length-20
+    returns-2)
