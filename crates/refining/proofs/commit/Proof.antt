@@ -1,3 +1,5 @@
+-- commit meets its contract: the rows are copied, then made zero.
+
 use borrow.Author.Needs.{needs}
 use Rattle.refining.proofs.commit.Statement.{statement}
 use Rattle.refining.proofs.commit.Tie as tie
@@ -12,7 +14,9 @@ copy-rows-requires c κs = search needs
 
 -- src/lib.rt:193:5
 zero-rows-requires : tie.Need-zero-rows-requires
-zero-rows-requires c κs = ?
+zero-rows-requires c κs =
+    let r = c .before .before .before .before .before .before .before .before .before .before .before .before .before .before .before .before .before .before .before .before .before .before .before .before .before .before .before .before .before .before .before .before .before .before .before .before .pre .0 in
+    (r .positions, (r .points, (r .edges, (r .intervals, r .faces))))
 
 -- src/lib.rt:169:1
 same-length : tie.Need-same-length

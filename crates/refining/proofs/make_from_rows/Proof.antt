@@ -1,3 +1,7 @@
+-- make_from_rows meets its contract: the first rows of the tables are handed on.
+use lib.Seq.{length-take-le}
+use Rattle.steps.specs.Step.{firstRows}
+use mathlib.Core.Path.{sym}
 use borrow.Author.Needs.{needs}
 use Rattle.refining.proofs.make_from_rows.Statement.{statement}
 use Rattle.refining.proofs.make_from_rows.Tie as tie
@@ -19,27 +23,34 @@ mul-f c = search needs
 
 -- src/lib.rt:112:9
 slice-aggregate-make-in-rows : tie.Need-slice-aggregate-make-in-rows
-slice-aggregate-make-in-rows c = ?
+slice-aggregate-make-in-rows c =
+    sym (length-take-le _ (c .before .before .before .before .before .before .before .before .before .before .before .before .before .before .before .args .positions .now) (c .before .before .before .before .before .before .before .before .before .before .before .before .before .before .before .pre .rows .positions))
 
 -- src/lib.rt:113:9
 slice-aggregate-make-in-rows-2 : tie.Need-slice-aggregate-make-in-rows-2
-slice-aggregate-make-in-rows-2 c = ?
+slice-aggregate-make-in-rows-2 c =
+    sym (length-take-le _ (c .before .before .before .before .before .before .before .before .before .before .before .before .before .before .before .before .args .points .now) (c .before .before .before .before .before .before .before .before .before .before .before .before .before .before .before .before .pre .rows .points))
 
 -- src/lib.rt:114:9
 slice-aggregate-make-in-rows-3 : tie.Need-slice-aggregate-make-in-rows-3
-slice-aggregate-make-in-rows-3 c = ?
+slice-aggregate-make-in-rows-3 c =
+    sym (length-take-le _ (c .before .before .before .before .before .before .before .before .before .before .before .before .before .before .before .before .before .args .edges .now) (c .before .before .before .before .before .before .before .before .before .before .before .before .before .before .before .before .before .pre .rows .edges))
 
 -- src/lib.rt:115:9
 slice-aggregate-make-in-rows-4 : tie.Need-slice-aggregate-make-in-rows-4
-slice-aggregate-make-in-rows-4 c = ?
+slice-aggregate-make-in-rows-4 c =
+    sym (length-take-le _ (c .before .before .before .before .before .before .before .before .before .before .before .before .before .before .before .before .before .before .args .intervals .now) (c .before .before .before .before .before .before .before .before .before .before .before .before .before .before .before .before .before .before .pre .rows .intervals))
 
 -- src/lib.rt:116:9
 slice-aggregate-make-in-rows-5 : tie.Need-slice-aggregate-make-in-rows-5
-slice-aggregate-make-in-rows-5 c = ?
+slice-aggregate-make-in-rows-5 c =
+    sym (length-take-le _ (c .before .before .before .before .before .before .before .before .before .before .before .before .before .before .before .before .before .before .before .args .faces .now) (c .before .before .before .before .before .before .before .before .before .before .before .before .before .before .before .before .before .before .before .pre .rows .faces))
 
 -- src/lib.rt:111:5
 make-in-rows-requires : tie.Need-make-in-rows-requires
-make-in-rows-requires c κs = ?
+unfolding firstRows
+make-in-rows-requires c κs =
+    (c .before .before .before .before .before .before .before .before .before .before .before .before .before .before .before .before .before .before .before .before .before .before .before .before .pre .scratch, c .before .before .before .before .before .before .before .before .before .before .before .before .before .before .before .before .before .before .before .before .before .before .before .before .pre .ready)
 
 -- src/lib.rt:78:1
 same-length : tie.Need-same-length
@@ -63,7 +74,9 @@ same-length-5 c = search needs
 
 -- src/lib.rt:78:1
 returns : tie.Need-returns
-returns c = ?
+unfolding firstRows
+returns c =
+    c .before .before .before .before .before .before .before .before .before .before .make-in-rows .ensures
 
 pub make-from-rows-spec : {M : Type 1} → statement M
 make-from-rows-spec =

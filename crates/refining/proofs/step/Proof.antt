@@ -1,3 +1,14 @@
+-- step meets its contract: the first ground is answered with everything untouched, else the step is made.
+use Rattle.refining.proofs.Laws.{passed, refused}
+use Rattle.visiting.specs.Visiting.{meshOf}
+use Rattle.tables.specs.Mesh.{Mesh}
+use mathlib.Core.Path.{_≡_, refl, sym, _∙_, ap, subst}
+use mathlib.Core.List.{[], _∷_}
+use mathlib.Core.Logic.{inl, inr}
+use native.Mathlib.Omega.{arith}
+use types.Run.{OneOf}
+use denote.Enum.Declared.{tagOf}
+use Rattle.steps.specs.declared.Stepped.{Stepped, the-type}
 use borrow.Author.Needs.{needs}
 use Rattle.refining.proofs.step.Statement.{statement}
 use Rattle.refining.proofs.step.Tie as tie
@@ -5,6 +16,13 @@ use Rattle.refining.proofs.step.Reads as reads
 use Rattle.refining.proofs.step.Lts as lts
 use Rattle.refining.proofs.finish.Reads as finish-reads
 use Rattle.refining.proofs.first_ground.Reads as first-ground-reads
+
+-- the tag of the counts is 0
+not-one : OneOf (1 ∷ 2 ∷ 3 ∷ 4 ∷ []) 0 → ⊥
+not-one (inl e) = omega (arith, e)
+not-one (inr (inl e)) = omega (arith, e)
+not-one (inr (inr (inl e))) = omega (arith, e)
+not-one (inr (inr (inr e))) = omega (arith, e)
 
 -- src/lib.rt:253:9
 first-ground-requires : tie.Need-first-ground-requires
@@ -56,11 +74,19 @@ same-length-10 c = search needs
 
 -- src/lib.rt:255:9
 returns : tie.Need-returns
-returns c = ?
+returns c =
+    let a = c .before .before .before .before .before .before .before .before .before .before .before .before .before .before .before .before .before .before .before .before .before .before .before .args in
+    let m : Mesh = meshOf (a .positions .now) (a .points .now) (a .edges .now) (a .intervals .now) (a .faces .now) in
+    let t : Mesh = meshOf (a .places .now) (a .rows .now) (a .halves .now) (a .lengths .now) (a .quads .now) in
+    refused m (a .counts) (a .order .now) t (c .before .first-ground .result) (c .before .first-ground .ensures) (λ c' e. not-one (subst (λ (x : Stepped). OneOf (1 ∷ 2 ∷ 3 ∷ 4 ∷ []) (tagOf the-type x)) e (c .match .keys2)))
 
 -- src/lib.rt:257:5
 finish-requires : tie.Need-finish-requires
-finish-requires c κs = ?
+finish-requires c κs =
+    let a = c .before .before .before .before .before .before .before .before .before .before .before .before .before .before .before .before .before .before .before .before .before .before .before .before .before .before .before .before .before .before .before .before .before .before .before .args in
+    let m : Mesh = meshOf (a .positions .now) (a .points .now) (a .edges .now) (a .intervals .now) (a .faces .now) in
+    let t : Mesh = meshOf (a .places .now) (a .rows .now) (a .halves .now) (a .lengths .now) (a .quads .now) in
+    passed m (a .counts) (a .order .now) t _ (sym (c .before .before .before .before .before .before .before .before .before .before .before .ground .given .1) ∙ c .before .before .before .before .before .before .before .before .before .before .before .before .before .first-ground .ensures)
 
 -- src/lib.rt:232:1
 same-length-11 : tie.Need-same-length-11
