@@ -1,9 +1,9 @@
--- The first rows of tables, worked on as parts of their own and put back. Assumes nothing.
+-- The laws of a step: first rows worked on as parts of their own and put back, the tests in their order, the end. Assumes nothing.
 use mathlib.Core.Path.{_≡_, refl, sym, _∙_, ap, subst}
 use mathlib.Core.Logic.{_≢_}
 use mathlib.Core.Bool.{Bool, true, false, _&&_, cond}
 use mathlib.Core.List.{List, _++_}
-use Prim.Native.Nat.{ℕ, _+_, _*_, _≤_, _<_}
+use Prim.Native.Nat.{ℕ, _+_, _*_, _<_}
 use lib.ListN.{length, getD, take, drop, replicate}
 use lib.Dec.{eqb, ltb}
 use native.Mathlib.Omega.{arith}
@@ -18,13 +18,11 @@ use Rattle.audited_meshes.specs.Audit.{audit}
 use Rattle.audited_meshes.specs.Folds.{every, distinct}
 use Rattle.audited_meshes.proofs.Audited.{audit-is-audited}
 use Rattle.steps.specs.declared.Stepped.the-variants.{Refined, NotClosed, NotEachFaceOnce, NoRoom, NotFinite}
-use Rattle.steps.specs.Step.{Made, whole, notFinite, Outcome, ended, firstRows, zeroedRows, overRows, refinedCounts, eachFaceOnce, rowsFor, withinCeilings, roomFor}
-use Rattle.steps.specs.Step.{refusal, stepIf, step, made}
+use Rattle.steps.specs.Step.{Made, whole, notFinite, Outcome, refusal, ended, firstRows, zeroedRows, overRows, refinedCounts, eachFaceOnce, rowsFor, withinCeilings, roomFor, stepIf, step}
 use Rattle.steps.specs.declared.Stepped.{Stepped}
 use Rattle.steps.proofs.Rows.{Room, room-of-holds, holds-firstRows, room-firstRows, points-fit, edges-fit, faces-fit}
 use Rattle.steps.proofs.Grounds.{eachFaceOnce-is, rooms-of-test, step-is}
 use Rattle.audited_meshes.proofs.Holds.{audit-is-closed}
-use Rattle.making.specs.Making.{Ready, madeAs}
 use Rattle.refining.specs.Refining.{Passed, tested}
 
 -- a part of n elements put back before the rest
@@ -44,18 +42,24 @@ module _ (c : Counts) (t : Mesh) (ps : List Float) (ws es : List ℕ) (is : List
   pub first-rows-back : firstRows c putBack ≡ meshOf ps ws es is fs
   unfolding firstRows
   first-rows-back =
-      rw
-      (take-at ps (drop (c .points * 3) (t .positions)) (c .points * 3) lp, take-at ws (drop (c .points * 3) (t .points)) (c .points * 3) lw,
-      take-at es (drop (c .edges * 8) (t .edges)) (c .edges * 8) le, take-at is (drop (c .edges) (t .intervals)) (c .edges) li,
-      take-at fs (drop (c .faces * 5) (t .faces)) (c .faces * 5) lf)
+      rw (
+        take-at ps (drop (c .points * 3) (t .positions)) (c .points * 3) lp,
+        take-at ws (drop (c .points * 3) (t .points)) (c .points * 3) lw,
+        take-at es (drop (c .edges * 8) (t .edges)) (c .edges * 8) le,
+        take-at is (drop (c .edges) (t .intervals)) (c .edges) li,
+        take-at fs (drop (c .faces * 5) (t .faces)) (c .faces * 5) lf,
+      )
 
   pub zeroed-rows-back : zeroedRows c putBack ≡ zeroedRows c t
   unfolding zeroedRows
   zeroed-rows-back =
-      rw
-      (zeroed-back (c .points * 3) _ ps (t .positions) lp, zeroed-back (c .points * 3) _ ws (t .points) lw,
-      zeroed-back (c .edges * 8) _ es (t .edges) le, zeroed-back (c .edges) _ is (t .intervals) li,
-      zeroed-back (c .faces * 5) _ fs (t .faces) lf)
+      rw (
+        zeroed-back (c .points * 3) _ ps (t .positions) lp,
+        zeroed-back (c .points * 3) _ ws (t .points) lw,
+        zeroed-back (c .edges * 8) _ es (t .edges) le,
+        zeroed-back (c .edges) _ is (t .intervals) li,
+        zeroed-back (c .faces * 5) _ fs (t .faces) lf,
+      )
 
 over-first : {A : Type 0} (n : ℕ) (new xs : List A) → over n (take n new) xs ≡ over n new xs
 unfolding over
@@ -65,10 +69,13 @@ over-first n new xs = ap (λ ys. ys ++ drop n xs) (take-take n n new (le-refl n)
 pub over-first-rows : (c : Counts) (new t : Mesh) → overRows c (firstRows c new) t ≡ overRows c new t
 unfolding overRows firstRows
 over-first-rows c new t =
-    rw
-    (over-first (c .points * 3) (new .positions) (t .positions), over-first (c .points * 3) (new .points) (t .points),
-    over-first (c .edges * 8) (new .edges) (t .edges), over-first (c .edges) (new .intervals) (t .intervals),
-    over-first (c .faces * 5) (new .faces) (t .faces))
+    rw (
+      over-first (c .points * 3) (new .positions) (t .positions),
+      over-first (c .points * 3) (new .points) (t .points),
+      over-first (c .edges * 8) (new .edges) (t .edges),
+      over-first (c .edges) (new .intervals) (t .intervals),
+      over-first (c .faces * 5) (new .faces) (t .faces),
+    )
 
 -- ---- the tests of a step, one after the other
 
@@ -136,7 +143,7 @@ rooms-kept c t t₁ lp lw le li lf h =
       points = omega (arith, h .points);
       edges = omega (arith, h .edges);
       intervals = omega (arith, h .intervals);
-      faces = omega (arith, h .faces)
+      faces = omega (arith, h .faces);
     }
 
 -- ---- from the tests to the step

@@ -3,11 +3,8 @@
 // Names: `places`, `rows`, `halves`, `lengths` and `quads` are the scratch tables of positions, points, edges, intervals, faces.
 // Contract: `step`. Definition: `steps`, specs/Step.antt, `step`.
 ghost use mathlib.Core.Path.{_≡_};
-ghost use Prim.Native.Nat.{_+_, _*_, _≤_};
-ghost use lib.ListN.{length};
-ghost use Rattle.tables.specs.Mesh.{Mesh};
 ghost use Rattle.visiting.specs.Visiting.{meshOf};
-ghost use Rattle.steps.specs.Step.{refinedCounts, firstRows, zeroedRows, overRows, made, step, Outcome};
+ghost use Rattle.steps.specs.Step.{firstRows, zeroedRows, overRows, made, step, Outcome};
 ghost use Rattle.steps.proofs.Rows.{Room};
 ghost use Rattle.making.specs.Making.{Ready, madeAs};
 ghost use Rattle.refining.specs.Refining.{Passed, tested};
@@ -189,7 +186,19 @@ fn commit(
         meshOf (now (places .exit)) (now (rows .exit)) (now (halves .exit)) (now (lengths .exit)) (now (quads .exit))
         ≡ zeroedRows c (meshOf (now (places .entry)) (now (rows .entry)) (now (halves .entry)) (now (lengths .entry)) (now (quads .entry))) ⌝ }
 {
-    copy_rows(c, places, rows, halves, lengths, quads, positions, points, edges, intervals, faces);
+    copy_rows(
+        c,
+        places,
+        rows,
+        halves,
+        lengths,
+        quads,
+        positions,
+        points,
+        edges,
+        intervals,
+        faces,
+    );
     zero_rows(c, places, rows, halves, lengths, quads);
 }
 
@@ -220,8 +229,34 @@ fn finish(
         counts (now (order .entry))
         (meshOf (now (places .entry)) (now (rows .entry)) (now (halves .entry)) (now (lengths .entry)) (now (quads .entry)))) ⌝ }
 {
-    if make_from_rows(positions, points, edges, intervals, faces, counts, order, c, places, rows, halves, lengths, quads) {
-        commit(c, places, rows, halves, lengths, quads, positions, points, edges, intervals, faces);
+    if make_from_rows(
+        positions,
+        points,
+        edges,
+        intervals,
+        faces,
+        counts,
+        order,
+        c,
+        places,
+        rows,
+        halves,
+        lengths,
+        quads,
+    ) {
+        commit(
+            c,
+            places,
+            rows,
+            halves,
+            lengths,
+            quads,
+            positions,
+            points,
+            edges,
+            intervals,
+            faces,
+        );
         return Stepped::Refined(c);
     }
     zero_rows(c, places, rows, halves, lengths, quads);
@@ -250,9 +285,36 @@ pub fn step(
         counts (now (order .entry))
         (meshOf (now (places .entry)) (now (rows .entry)) (now (halves .entry)) (now (lengths .entry)) (now (quads .entry)))) ⌝ }
 {
-    let ground = first_ground(positions, points, edges, intervals, faces, counts, order, places, rows, halves, lengths, quads);
+    let ground = first_ground(
+        positions,
+        points,
+        edges,
+        intervals,
+        faces,
+        counts,
+        order,
+        places,
+        rows,
+        halves,
+        lengths,
+        quads,
+    );
     let Stepped::Refined(c) = ground else {
         return ground;
     };
-    finish(positions, points, edges, intervals, faces, counts, order, c, places, rows, halves, lengths, quads)
+    finish(
+        positions,
+        points,
+        edges,
+        intervals,
+        faces,
+        counts,
+        order,
+        c,
+        places,
+        rows,
+        halves,
+        lengths,
+        quads,
+    )
 }

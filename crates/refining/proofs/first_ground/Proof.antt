@@ -8,85 +8,51 @@ use mathlib.Core.Path.{_≡_, sym, _∙_, ap}
 use borrow.Author.Needs.{needs}
 use Rattle.refining.proofs.first_ground.Statement.{statement}
 use Rattle.refining.proofs.first_ground.Tie as tie
-use Rattle.refining.proofs.first_ground.Reads as reads
-use Rattle.refining.proofs.first_ground.Lts as lts
-use Rattle.audit.proofs.audit.Reads as audit-reads
-use Rattle.orders.proofs.each_face_once.Reads as each-face-once-reads
-use Rattle.scratch_rows.proofs.refined_counts.Reads as refined-counts-reads
-use Rattle.scratch_rows.proofs.rows_for.Reads as rows-for-reads
-use Rattle.scratch_rows.proofs.within_ceilings.Reads as within-ceilings-reads
 
--- src/lib.rt:97:9
-audit-requires : tie.Need-audit-requires
-audit-requires c κs = search needs
-
--- src/lib.rt:98:9
 returns : tie.Need-returns
-returns c = 
+returns c =
     let a = c .before .before .before .before .before .before .before .before .before .before .before .before .before .args in
     let m : Mesh = meshOf (a .positions .now) (a .points .now) (a .edges .now) (a .intervals .now) (a .faces .now) in
     let t : Mesh = meshOf (a .places .now) (a .rows .now) (a .halves .now) (a .lengths .now) (a .quads .now) in
     not-closed m (a .counts) (a .order .now) t (sym (c .before .audit .ensures) ∙ not-true (c .before .audit .result) (c .if1 .taken))
 
--- src/lib.rt:100:9
-each-face-once-requires : tie.Need-each-face-once-requires
-each-face-once-requires c κs = search needs
-
--- src/lib.rt:101:9
 returns-2 : tie.Need-returns-2
-returns-2 c = 
+returns-2 c =
     let a = c .before .before .before .before .before .before .before .before .before .before .before .before .before .before .before .args in
     let m : Mesh = meshOf (a .positions .now) (a .points .now) (a .edges .now) (a .intervals .now) (a .faces .now) in
     let t : Mesh = meshOf (a .places .now) (a .rows .now) (a .halves .now) (a .lengths .now) (a .quads .now) in
     not-once m (a .counts) (a .order .now) t (sym (c .before .before .before .audit .ensures) ∙ not-false (c .before .before .before .audit .result) (c .before .before .if1 .left)) (sym (c .before .each-face-once .ensures) ∙ not-true (c .before .each-face-once .result) (c .if2 .taken))
 
--- src/lib.rt:103:9
 refined-counts-requires : tie.Need-refined-counts-requires
-refined-counts-requires c κs = 
+refined-counts-requires c κs =
     let a = c .before .before .before .before .before .before .before .before .before .before .before .before .before .before .before .args in
     let m : Mesh = meshOf (a .positions .now) (a .points .now) (a .edges .now) (a .intervals .now) (a .faces .now) in
     let t : Mesh = meshOf (a .places .now) (a .rows .now) (a .halves .now) (a .lengths .now) (a .quads .now) in
     counts-fit m (a .counts) (a .order .now) t (sym (c .before .before .before .audit .ensures) ∙ not-false (c .before .before .before .audit .result) (c .before .before .if1 .left)) (omega arith) (omega arith) (omega arith)
 
--- src/lib.rt:104:9
-rows-for-requires : tie.Need-rows-for-requires
-rows-for-requires c κs = search needs
-
--- src/lib.rt:105:9
 returns-3 : tie.Need-returns-3
-returns-3 c = 
+returns-3 c =
     let a = c .before .before .before .before .before .before .before .before .before .before .before .before .before .before .before .before .before .before .args in
     let m : Mesh = meshOf (a .positions .now) (a .points .now) (a .edges .now) (a .intervals .now) (a .faces .now) in
     let t : Mesh = meshOf (a .places .now) (a .rows .now) (a .halves .now) (a .lengths .now) (a .quads .now) in
     no-room-in-tables m (a .counts) (a .order .now) t (sym (c .before .before .before .before .before .before .audit .ensures) ∙ not-false (c .before .before .before .before .before .before .audit .result) (c .before .before .before .before .before .if1 .left)) (sym (c .before .before .before .before .each-face-once .ensures) ∙ not-false (c .before .before .before .before .each-face-once .result) (c .before .before .before .if2 .left)) (sym (rw (c .before .before .refined-counts .ensures) at (c .before .rows-for .ensures)) ∙ not-true (c .before .rows-for .result) (c .if3 .taken))
 
--- src/lib.rt:107:9
-rows-for-requires-2 : tie.Need-rows-for-requires-2
-rows-for-requires-2 c κs = search needs
-
--- src/lib.rt:108:9
 returns-4 : tie.Need-returns-4
-returns-4 c = 
+returns-4 c =
     let a = c .before .before .before .before .before .before .before .before .before .before .before .before .before .before .before .before .before .before .before .before .args in
     let m : Mesh = meshOf (a .positions .now) (a .points .now) (a .edges .now) (a .intervals .now) (a .faces .now) in
     let t : Mesh = meshOf (a .places .now) (a .rows .now) (a .halves .now) (a .lengths .now) (a .quads .now) in
     no-room-in-scratch m (a .counts) (a .order .now) t (sym (c .before .before .before .before .before .before .before .before .audit .ensures) ∙ not-false (c .before .before .before .before .before .before .before .before .audit .result) (c .before .before .before .before .before .before .before .if1 .left)) (sym (c .before .before .before .before .before .before .each-face-once .ensures) ∙ not-false (c .before .before .before .before .before .before .each-face-once .result) (c .before .before .before .before .before .if2 .left)) (sym (rw (c .before .before .before .before .refined-counts .ensures) at (c .before .before .before .rows-for .ensures)) ∙ not-false (c .before .before .before .rows-for .result) (c .before .before .if3 .left)) (sym (rw (c .before .before .before .before .refined-counts .ensures) at (c .before .rows-for2 .ensures)) ∙ not-true (c .before .rows-for2 .result) (c .if4 .taken))
 
--- src/lib.rt:110:9
-within-ceilings-requires : tie.Need-within-ceilings-requires
-within-ceilings-requires c κs = search needs
-
--- src/lib.rt:111:9
 returns-5 : tie.Need-returns-5
-returns-5 c = 
+returns-5 c =
     let a = c .before .before .before .before .before .before .before .before .before .before .before .before .before .before .before .before .before .before .before .before .before .before .args in
     let m : Mesh = meshOf (a .positions .now) (a .points .now) (a .edges .now) (a .intervals .now) (a .faces .now) in
     let t : Mesh = meshOf (a .places .now) (a .rows .now) (a .halves .now) (a .lengths .now) (a .quads .now) in
     over-ceilings m (a .counts) (a .order .now) t (sym (c .before .before .before .before .before .before .before .before .before .before .audit .ensures) ∙ not-false (c .before .before .before .before .before .before .before .before .before .before .audit .result) (c .before .before .before .before .before .before .before .before .before .if1 .left)) (sym (c .before .before .before .before .before .before .before .before .each-face-once .ensures) ∙ not-false (c .before .before .before .before .before .before .before .before .each-face-once .result) (c .before .before .before .before .before .before .before .if2 .left)) (sym (rw (c .before .before .before .before .before .before .refined-counts .ensures) at (c .before .before .before .before .before .rows-for .ensures)) ∙ not-false (c .before .before .before .before .before .rows-for .result) (c .before .before .before .before .if3 .left)) (sym (rw (c .before .before .before .before .before .before .refined-counts .ensures) at (c .before .before .before .rows-for2 .ensures)) ∙ not-false (c .before .before .before .rows-for2 .result) (c .before .before .if4 .left)) (sym (rw (c .before .before .before .before .before .before .refined-counts .ensures) at (c .before .within-ceilings .ensures)) ∙ not-true (c .before .within-ceilings .result) (c .if5 .taken))
 
--- src/lib.rt:77:1
 returns-6 : tie.Need-returns-6
-returns-6 c = 
+returns-6 c =
     let a = c .before .before .before .before .before .before .before .before .before .before .before .before .before .before .before .before .before .before .before .before .before .before .args in
     let m : Mesh = meshOf (a .positions .now) (a .points .now) (a .edges .now) (a .intervals .now) (a .faces .now) in
     let t : Mesh = meshOf (a .places .now) (a .rows .now) (a .halves .now) (a .lengths .now) (a .quads .now) in
@@ -97,15 +63,15 @@ pub first-ground-spec : {M : Type 1} → statement M
 first-ground-spec =
     tie.close
     (tie.spec
-    audit-requires
+    (λ c κs. search needs)
     returns
-    each-face-once-requires
+    (λ c κs. search needs)
     returns-2
     refined-counts-requires
-    rows-for-requires
+    (λ c κs. search needs)
     returns-3
-    rows-for-requires-2
+    (λ c κs. search needs)
     returns-4
-    within-ceilings-requires
+    (λ c κs. search needs)
     returns-5
     returns-6)

@@ -10,66 +10,28 @@ use mathlib.Core.Path.{_≡_, refl, sym, _∙_, ap}
 use borrow.Author.Needs.{needs}
 use Rattle.refining.proofs.make_in_rows.Statement.{statement}
 use Rattle.refining.proofs.make_in_rows.Tie as tie
-use Rattle.refining.proofs.make_in_rows.Reads as reads
-use Rattle.refining.proofs.make_in_rows.Lts as lts
-use Rattle.making.proofs.make.Reads as make-reads
 
--- src/lib.rt:54:13
-mul-p : tie.Need-mul-p
-mul-p c = search needs
-
--- src/lib.rt:55:13
-mul-e : tie.Need-mul-e
-mul-e c = search needs
-
--- src/lib.rt:57:13
 mul-f : tie.Need-mul-f
 mul-f c = omega (arith, c .before .before .before .before .before .before .before .before .before .before .before .before .before .before)
 
--- src/lib.rt:66:9
-slice-relend-prefix-make : tie.Need-slice-relend-prefix-make
-slice-relend-prefix-make c = search needs
-
--- src/lib.rt:66:9
 slice-aggregate-make : tie.Need-slice-aggregate-make
 slice-aggregate-make c = sym (length-take-le _ (c .before .before .before .before .before .before .before .before .before .before .before .before .before .before .before .args .places .now) (c .before .before .before .before .before .before .before .before .before .before .before .before .before .before .before .pre .0 .positions))
 
--- src/lib.rt:67:9
-slice-relend-prefix-make-2 : tie.Need-slice-relend-prefix-make-2
-slice-relend-prefix-make-2 c = search needs
-
--- src/lib.rt:67:9
 slice-aggregate-make-2 : tie.Need-slice-aggregate-make-2
 slice-aggregate-make-2 c = sym (length-take-le _ (c .before .before .before .before .before .before .before .before .before .before .before .before .before .before .before .before .args .rows .now) (c .before .before .before .before .before .before .before .before .before .before .before .before .before .before .before .before .pre .0 .points))
 
--- src/lib.rt:68:9
-slice-relend-prefix-make-3 : tie.Need-slice-relend-prefix-make-3
-slice-relend-prefix-make-3 c = search needs
-
--- src/lib.rt:68:9
 slice-aggregate-make-3 : tie.Need-slice-aggregate-make-3
 slice-aggregate-make-3 c = sym (length-take-le _ (c .before .before .before .before .before .before .before .before .before .before .before .before .before .before .before .before .before .args .halves .now) (c .before .before .before .before .before .before .before .before .before .before .before .before .before .before .before .before .before .pre .0 .edges))
 
--- src/lib.rt:69:9
-slice-relend-prefix-make-4 : tie.Need-slice-relend-prefix-make-4
-slice-relend-prefix-make-4 c = search needs
-
--- src/lib.rt:69:9
 slice-aggregate-make-4 : tie.Need-slice-aggregate-make-4
 slice-aggregate-make-4 c = sym (length-take-le _ (c .before .before .before .before .before .before .before .before .before .before .before .before .before .before .before .before .before .before .args .lengths .now) (c .before .before .before .before .before .before .before .before .before .before .before .before .before .before .before .before .before .before .pre .0 .intervals))
 
--- src/lib.rt:70:9
-slice-relend-prefix-make-5 : tie.Need-slice-relend-prefix-make-5
-slice-relend-prefix-make-5 c = search needs
-
--- src/lib.rt:70:9
 slice-aggregate-make-5 : tie.Need-slice-aggregate-make-5
 slice-aggregate-make-5 c = sym (length-take-le _ (c .before .before .before .before .before .before .before .before .before .before .before .before .before .before .before .before .before .before .before .args .quads .now) (c .before .before .before .before .before .before .before .before .before .before .before .before .before .before .before .before .before .before .before .pre .0 .faces))
 
--- src/lib.rt:58:5
 make-requires : tie.Need-make-requires
 unfolding firstRows
-make-requires c κs = 
+make-requires c κs =
     let r = c .before .before .before .before .before .before .before .before .before .before .before .before .before .before .before .before .before .before .before .pre .1 in
     record {
       closed = r .closed;
@@ -77,33 +39,12 @@ make-requires c κs =
       points-room = r .points-room;
       edges-room = r .edges-room;
       faces-room = r .faces-room;
-      ceilings = r .ceilings
+      ceilings = r .ceilings;
     }
 
--- src/lib.rt:24:1
-same-length : tie.Need-same-length
-same-length c = search needs
-
--- src/lib.rt:24:1
-same-length-2 : tie.Need-same-length-2
-same-length-2 c = search needs
-
--- src/lib.rt:24:1
-same-length-3 : tie.Need-same-length-3
-same-length-3 c = search needs
-
--- src/lib.rt:24:1
-same-length-4 : tie.Need-same-length-4
-same-length-4 c = search needs
-
--- src/lib.rt:24:1
-same-length-5 : tie.Need-same-length-5
-same-length-5 c = search needs
-
--- src/lib.rt:24:1
 returns : tie.Need-returns
 unfolding firstRows
-returns c = 
+returns c =
     let a = c .before .before .before .before .before .before .before .before .before .before .before .before .before .before .before .before .before .before .before .before .before .before .before .before .before .before .before .before .before .before .args in
     let h = c .before .before .before .before .before .before .before .before .before .before .before .before .before .before .before .before .before .before .before .before .before .before .before .before .before .before .before .before .before .before .pre .0 in
     let t : Mesh = meshOf (a .places .now) (a .rows .now) (a .halves .now) (a .lengths .now) (a .quads .now) in
@@ -112,31 +53,32 @@ returns c =
     let lw = v .kept .1 .1 .1 .1 .1 .1 .1 .1 .0 ∙ length-take-le _ (a .rows .now) (h .points) in
     let le = v .kept .1 .1 .1 .1 .1 .1 .1 .1 .1 .0 ∙ length-take-le _ (a .halves .now) (h .edges) in
     let li = v .kept .1 .1 .1 .1 .1 .1 .1 .1 .1 .1 .0 ∙ length-take-le _ (a .lengths .now) (h .intervals) in
-    let lf = v .kept .1 .1 .1 .1 .1 .1 .1 .1 .1 .1 .1 .0 ∙ length-take-le _ (a .quads .now) (h .faces) in
-    (v .ensures ∙ ap (madeAs (v .result)) (sym (first-rows-back (a .c) t (v .last .1 .1 .1 .1 .1 .1 .1 .0) (v .last .1 .1 .1 .1 .1 .1 .1 .1 .0) (v .last .1 .1 .1 .1 .1 .1 .1 .1 .1 .0) (v .last .1 .1 .1 .1 .1 .1 .1 .1 .1 .1 .0) (v .last .1 .1 .1 .1 .1 .1 .1 .1 .1 .1 .1 .0) lp lw le li lf)),
-    zeroed-rows-back (a .c) t (v .last .1 .1 .1 .1 .1 .1 .1 .0) (v .last .1 .1 .1 .1 .1 .1 .1 .1 .0) (v .last .1 .1 .1 .1 .1 .1 .1 .1 .1 .0) (v .last .1 .1 .1 .1 .1 .1 .1 .1 .1 .1 .0) (v .last .1 .1 .1 .1 .1 .1 .1 .1 .1 .1 .1 .0) lp lw le li lf)
+    let lf = v .kept .1 .1 .1 .1 .1 .1 .1 .1 .1 .1 .1 .0 ∙ length-take-le _ (a .quads .now) (h .faces) in (
+      v .ensures ∙ ap (madeAs (v .result)) (sym (first-rows-back (a .c) t (v .last .1 .1 .1 .1 .1 .1 .1 .0) (v .last .1 .1 .1 .1 .1 .1 .1 .1 .0) (v .last .1 .1 .1 .1 .1 .1 .1 .1 .1 .0) (v .last .1 .1 .1 .1 .1 .1 .1 .1 .1 .1 .0) (v .last .1 .1 .1 .1 .1 .1 .1 .1 .1 .1 .1 .0) lp lw le li lf)),
+      zeroed-rows-back (a .c) t (v .last .1 .1 .1 .1 .1 .1 .1 .0) (v .last .1 .1 .1 .1 .1 .1 .1 .1 .0) (v .last .1 .1 .1 .1 .1 .1 .1 .1 .1 .0) (v .last .1 .1 .1 .1 .1 .1 .1 .1 .1 .1 .0) (v .last .1 .1 .1 .1 .1 .1 .1 .1 .1 .1 .1 .0) lp lw le li lf,
+    )
 
 pub make-in-rows-spec : {M : Type 1} → statement M
 make-in-rows-spec =
     tie.close
     (tie.spec
-    mul-p
-    mul-e
+    (λ c. search needs)
+    (λ c. search needs)
     mul-f
-    slice-relend-prefix-make
+    (λ c. search needs)
     slice-aggregate-make
-    slice-relend-prefix-make-2
+    (λ c. search needs)
     slice-aggregate-make-2
-    slice-relend-prefix-make-3
+    (λ c. search needs)
     slice-aggregate-make-3
-    slice-relend-prefix-make-4
+    (λ c. search needs)
     slice-aggregate-make-4
-    slice-relend-prefix-make-5
+    (λ c. search needs)
     slice-aggregate-make-5
     make-requires
-    same-length
-    same-length-2
-    same-length-3
-    same-length-4
-    same-length-5
+    (λ c. search needs)
+    (λ c. search needs)
+    (λ c. search needs)
+    (λ c. search needs)
+    (λ c. search needs)
     returns)

@@ -2,20 +2,17 @@
 use Rattle.refining.proofs.Laws.{passed, refused}
 use Rattle.visiting.specs.Visiting.{meshOf}
 use Rattle.tables.specs.Mesh.{Mesh}
-use mathlib.Core.Path.{_≡_, refl, sym, _∙_, ap, subst}
+use mathlib.Core.Path.{sym, _∙_, subst}
 use mathlib.Core.List.{[], _∷_}
 use mathlib.Core.Logic.{inl, inr}
 use native.Mathlib.Omega.{arith}
 use types.Run.{OneOf}
 use denote.Enum.Declared.{tagOf}
-use Rattle.steps.specs.declared.Stepped.{Stepped, the-type}
+use Rattle.steps.specs.declared.Stepped.{Stepped}
+use Rattle.steps.proofs.Stepped.{the-type}
 use borrow.Author.Needs.{needs}
 use Rattle.refining.proofs.step.Statement.{statement}
 use Rattle.refining.proofs.step.Tie as tie
-use Rattle.refining.proofs.step.Reads as reads
-use Rattle.refining.proofs.step.Lts as lts
-use Rattle.refining.proofs.finish.Reads as finish-reads
-use Rattle.refining.proofs.first_ground.Reads as first-ground-reads
 
 -- the tag of the counts is 0
 not-one : OneOf (1 ∷ 2 ∷ 3 ∷ 4 ∷ []) 0 → ⊥
@@ -24,63 +21,14 @@ not-one (inr (inl e)) = omega (arith, e)
 not-one (inr (inr (inl e))) = omega (arith, e)
 not-one (inr (inr (inr e))) = omega (arith, e)
 
--- src/lib.rt:253:9
-first-ground-requires : tie.Need-first-ground-requires
-first-ground-requires c κs = search needs
-
--- src/lib.rt:254:26
-enum-known-ground : tie.Need-enum-known-ground
-enum-known-ground c = search needs
-
--- src/lib.rt:255:9
-same-length : tie.Need-same-length
-same-length c = search needs
-
--- src/lib.rt:255:9
-same-length-2 : tie.Need-same-length-2
-same-length-2 c = search needs
-
--- src/lib.rt:255:9
-same-length-3 : tie.Need-same-length-3
-same-length-3 c = search needs
-
--- src/lib.rt:255:9
-same-length-4 : tie.Need-same-length-4
-same-length-4 c = search needs
-
--- src/lib.rt:255:9
-same-length-5 : tie.Need-same-length-5
-same-length-5 c = search needs
-
--- src/lib.rt:255:9
-same-length-6 : tie.Need-same-length-6
-same-length-6 c = search needs
-
--- src/lib.rt:255:9
-same-length-7 : tie.Need-same-length-7
-same-length-7 c = search needs
-
--- src/lib.rt:255:9
-same-length-8 : tie.Need-same-length-8
-same-length-8 c = search needs
-
--- src/lib.rt:255:9
-same-length-9 : tie.Need-same-length-9
-same-length-9 c = search needs
-
--- src/lib.rt:255:9
-same-length-10 : tie.Need-same-length-10
-same-length-10 c = search needs
-
--- src/lib.rt:255:9
 returns : tie.Need-returns
 returns c =
     let a = c .before .before .before .before .before .before .before .before .before .before .before .before .before .before .before .before .before .before .before .before .before .before .before .args in
     let m : Mesh = meshOf (a .positions .now) (a .points .now) (a .edges .now) (a .intervals .now) (a .faces .now) in
     let t : Mesh = meshOf (a .places .now) (a .rows .now) (a .halves .now) (a .lengths .now) (a .quads .now) in
-    refused m (a .counts) (a .order .now) t (c .before .first-ground .result) (c .before .first-ground .ensures) (λ c' e. not-one (subst (λ (x : Stepped). OneOf (1 ∷ 2 ∷ 3 ∷ 4 ∷ []) (tagOf the-type x)) e (c .match .keys2)))
+    refused m (a .counts) (a .order .now) t (c .before .first-ground .result) (c .before .first-ground .ensures)
+    (λ c' e. not-one (subst (λ (x : Stepped). OneOf (1 ∷ 2 ∷ 3 ∷ 4 ∷ []) (tagOf the-type x)) e (c .match .keys2)))
 
--- src/lib.rt:257:5
 finish-requires : tie.Need-finish-requires
 finish-requires c κs =
     let a = c .before .before .before .before .before .before .before .before .before .before .before .before .before .before .before .before .before .before .before .before .before .before .before .before .before .before .before .before .before .before .before .before .before .before .before .args in
@@ -88,76 +36,32 @@ finish-requires c κs =
     let t : Mesh = meshOf (a .places .now) (a .rows .now) (a .halves .now) (a .lengths .now) (a .quads .now) in
     passed m (a .counts) (a .order .now) t _ (sym (c .before .before .before .before .before .before .before .before .before .before .before .ground .given .1) ∙ c .before .before .before .before .before .before .before .before .before .before .before .before .before .first-ground .ensures)
 
--- src/lib.rt:232:1
-same-length-11 : tie.Need-same-length-11
-same-length-11 c = search needs
-
--- src/lib.rt:232:1
-same-length-12 : tie.Need-same-length-12
-same-length-12 c = search needs
-
--- src/lib.rt:232:1
-same-length-13 : tie.Need-same-length-13
-same-length-13 c = search needs
-
--- src/lib.rt:232:1
-same-length-14 : tie.Need-same-length-14
-same-length-14 c = search needs
-
--- src/lib.rt:232:1
-same-length-15 : tie.Need-same-length-15
-same-length-15 c = search needs
-
--- src/lib.rt:232:1
-same-length-16 : tie.Need-same-length-16
-same-length-16 c = search needs
-
--- src/lib.rt:232:1
-same-length-17 : tie.Need-same-length-17
-same-length-17 c = search needs
-
--- src/lib.rt:232:1
-same-length-18 : tie.Need-same-length-18
-same-length-18 c = search needs
-
--- src/lib.rt:232:1
-same-length-19 : tie.Need-same-length-19
-same-length-19 c = search needs
-
--- src/lib.rt:232:1
-same-length-20 : tie.Need-same-length-20
-same-length-20 c = search needs
-
--- src/lib.rt:232:1
-returns-2 : tie.Need-returns-2
-returns-2 c = search needs
-
 pub step-spec : {M : Type 1} → statement M
 step-spec =
     tie.close
     (tie.spec
-    first-ground-requires
-    enum-known-ground
-    same-length
-    same-length-2
-    same-length-3
-    same-length-4
-    same-length-5
-    same-length-6
-    same-length-7
-    same-length-8
-    same-length-9
-    same-length-10
+    (λ c κs. search needs)
+    (λ c. search needs)
+    (λ c. search needs)
+    (λ c. search needs)
+    (λ c. search needs)
+    (λ c. search needs)
+    (λ c. search needs)
+    (λ c. search needs)
+    (λ c. search needs)
+    (λ c. search needs)
+    (λ c. search needs)
+    (λ c. search needs)
     returns
     finish-requires
-    same-length-11
-    same-length-12
-    same-length-13
-    same-length-14
-    same-length-15
-    same-length-16
-    same-length-17
-    same-length-18
-    same-length-19
-    same-length-20
-    returns-2)
+    (λ c. search needs)
+    (λ c. search needs)
+    (λ c. search needs)
+    (λ c. search needs)
+    (λ c. search needs)
+    (λ c. search needs)
+    (λ c. search needs)
+    (λ c. search needs)
+    (λ c. search needs)
+    (λ c. search needs)
+    (λ c. search needs))
