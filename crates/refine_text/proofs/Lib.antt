@@ -2,3 +2,4 @@ pub mod Orders
 pub mod Lines
 pub mod Steps
 pub mod FirstPoint
+pub mod Outputs

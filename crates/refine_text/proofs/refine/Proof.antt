@@ -1,3 +1,5 @@
+-- refine meets its contract.
+use Rattle.refine_text.proofs.Outputs.{no-room, written-by-zeros}
 use borrow.Author.Needs.{needs}
 use Rattle.refine_text.proofs.refine.Statement.{statement}
 use Rattle.refine_text.proofs.refine.Tie as tie
@@ -7,7 +9,7 @@ use Rattle.refine_text.proofs.write_output.Reads as write-output-reads
 
 -- src/lib.rt:237:9
 returns : tie.Need-returns
-returns c = ?
+returns c = no-room (c .before .before .before .args .text .now) (c .before .before .before .args .out .now) (c .if1 .taken)
 
 -- src/lib.rt:247:9
 slice-aggregate-write-output : tie.Need-slice-aggregate-write-output
@@ -39,7 +41,7 @@ same-length c = search needs
 
 -- src/lib.rt:233:1
 returns-2 : tie.Need-returns-2
-returns-2 c = ?
+returns-2 c = written-by-zeros (c .before .before .before .before .before .before .before .before .before .before .before .before .before .before .before .before .before .args .text .now) (c .before .before .before .before .before .before .before .before .before .before .before .before .before .before .before .before .before .args .out .now) (c .before .before .before .before .before .before .before .before .before .before .before .before .before .before .if1 .left) (c .before .before .before .before .before .before .before .write-output .ensures)
 
 pub refine-spec : {M : Type 1} → statement M
 refine-spec =

@@ -1,3 +1,6 @@
+-- write_built meets its contract: the line of the counts, then those of the step.
+use Rattle.visiting.specs.Visiting.{meshOf}
+use Rattle.refine_text.proofs.Outputs.{ready, written-both, step-room}
 use borrow.Author.Needs.{needs}
 use Rattle.refine_text.proofs.write_built.Statement.{statement}
 use Rattle.refine_text.proofs.write_built.Tie as tie
@@ -17,7 +20,7 @@ numbered-step-requires c κs = search needs
 
 -- src/lib.rt:194:5
 write-stepped-requires : tie.Need-write-stepped-requires
-write-stepped-requires c κs = ?
+write-stepped-requires c κs = (step-room (c .before .before .before .before .before .before .before .before .before .before .before .before .before .before .before .before .before .before .before .before .before .before .before .before .before .before .before .before .args .counts) (c .before .before .before .before .before .before .before .before .before .before .before .before .before .before .before .before .before .before .before .before .write-mesh .ensures) (c .before .before .before .before .before .before .before .before .before .before .before .before .before .before .before .before .before .before .before .before .before .before .before .before .before .before .before .before .pre .1) (c .before .before .before .before .before .before .before .before .before .before .before .before .before .before .before .before .before .before .before .before .write-mesh .kept .0), ready (c .before .before .before .before .before .before .before .before .before .before .before .before .before .before .before .before .before .before .before .before .before .before .before .before .before .before .before .before .args .counts) (meshOf (c .before .before .before .before .before .before .before .before .before .before .before .before .before .before .before .before .before .before .before .before .before .before .before .before .before .before .before .before .args .positions .now) (c .before .before .before .before .before .before .before .before .before .before .before .before .before .before .before .before .before .before .before .before .before .before .before .before .before .before .before .before .args .points .now) (c .before .before .before .before .before .before .before .before .before .before .before .before .before .before .before .before .before .before .before .before .before .before .before .before .before .before .before .before .args .edges .now) (c .before .before .before .before .before .before .before .before .before .before .before .before .before .before .before .before .before .before .before .before .before .before .before .before .before .before .before .before .args .intervals .now) (c .before .before .before .before .before .before .before .before .before .before .before .before .before .before .before .before .before .before .before .before .before .before .before .before .before .before .before .before .args .faces .now)) (c .before .before .before .before .before .before .before .before .before .before .before .before .numbered-step .ensures))
 
 -- src/lib.rt:167:1
 same-length : tie.Need-same-length
@@ -45,7 +48,7 @@ same-length-6 c = search needs
 
 -- src/lib.rt:167:1
 returns : tie.Need-returns
-returns c = ?
+returns c = written-both (c .before .before .before .before .before .before .before .before .before .before .before .before .before .before .before .before .before .before .before .before .before .before .before .before .before .before .before .before .before .before .before .args .counts) (meshOf (c .before .before .before .before .before .before .before .before .before .before .before .before .before .before .before .before .before .before .before .before .before .before .before .before .before .before .before .before .before .before .before .args .positions .now) (c .before .before .before .before .before .before .before .before .before .before .before .before .before .before .before .before .before .before .before .before .before .before .before .before .before .before .before .before .before .before .before .args .points .now) (c .before .before .before .before .before .before .before .before .before .before .before .before .before .before .before .before .before .before .before .before .before .before .before .before .before .before .before .before .before .before .before .args .edges .now) (c .before .before .before .before .before .before .before .before .before .before .before .before .before .before .before .before .before .before .before .before .before .before .before .before .before .before .before .before .before .before .before .args .intervals .now) (c .before .before .before .before .before .before .before .before .before .before .before .before .before .before .before .before .before .before .before .before .before .before .before .before .before .before .before .before .before .before .before .args .faces .now)) (c .before .before .before .before .before .before .before .before .before .before .before .before .before .before .before .numbered-step .ensures) (c .before .before .before .before .before .before .before .before .before .before .before .before .before .before .before .before .before .before .before .before .before .before .before .write-mesh .ensures) (c .before .before .write-stepped .ensures)
 
 pub write-built-spec : {M : Type 1} → statement M
 write-built-spec =
