@@ -3,3 +3,4 @@ pub mod Lines
 pub mod Steps
 pub mod FirstPoint
 pub mod Outputs
+pub mod Theorem
