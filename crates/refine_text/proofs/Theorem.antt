@@ -1,5 +1,6 @@
 -- The claims of the output. Assumes nothing.
 --     long-text, two-answers, fits     the claims of `specs/Claims.antt`
+--     answer-fits                      no more bytes are answered than are lent
 use mathlib.Core.Path.{_≡_, refl, sym, ap, _∙_}
 use mathlib.Core.Bool.{Bool, true, false}
 use mathlib.Core.List.{List, [], _∷_, _++_}
@@ -10,7 +11,7 @@ use native.Mathlib.Omega.{arith}
 use lib.Dec.{leb}
 use lib.Ieee.{Float, ofBits, toBits, binary64}
 use lib.ListN.{length, getD, length-append, length-replicate, List·getD-append}
-use lib.Seq.{getD-append-add}
+use lib.Seq.{getD-append-add, length-sets}
 use borrow.Author.Tests.{lt-ltb, leb-true}
 use Rattle.tables.specs.Mesh.{Mesh}
 use Rattle.tables.specs.Records.{positionAt}
@@ -33,7 +34,7 @@ use Rattle.steps.specs.declared.Stepped.{Stepped}
 use Rattle.steps.specs.declared.Stepped.the-variants.{Refined, NotClosed, NotEachFaceOnce, NoRoom, NotFinite}
 use Rattle.steps.proofs.Grounds.{step-is}
 use Rattle.runs.specs.Runs.{numbered}
-use Rattle.refine_text.specs.Output.{lent, pointLines, stepLines, linesOf, numberedStep, outputIf, outputFrom, output, writingIf, refine}
+use Rattle.refine_text.specs.Output.{lent, pointLines, stepLines, linesOf, numberedStep, outputIf, outputFrom, output, Writing, writingIf, refine}
 use Rattle.refine_text.specs.Claims.{Long-text, Step-of, Two-answers, Fits}
 use Rattle.refine_text.proofs.Orders.{length-numbered}
 
@@ -151,9 +152,14 @@ pub fits : Fits
 unfolding refine output
 fits s out = go (leb 256 (length out)) refl
   where
-    go : (b : Bool) → leb 256 (length out) ≡ b → writingIf b (output s) out .length ≤ length out
+    go : (b : Bool) → leb 256 (length out) ≡ b → writingIf b (output s) out .length ≤ length (writingIf b (output s) out .out)
     go true e =
         let h = leb-true 256 (length out) e in
         let k = length-output (buildText Refine s lent .answer) (buildText Refine s lent .tables) in
+        let l = length-sets out 0 (output s) in
         omega arith
     go false e = omega arith
+
+-- the same of what the function answers and leaves
+pub answer-fits : (s out : List ℕ) {r : ℕ} {out' : List ℕ} → record { length = r; out = out' } ≡ refine s out → r ≤ length out'
+answer-fits s out e = rw (ap (λ (w : Writing). w .length) e, ap (λ (w : Writing). w .out) e) (fits s out)

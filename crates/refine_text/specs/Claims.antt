@@ -2,7 +2,7 @@
 --     Long-text               of a text of more than 16,384 bytes it is the ground 2, whatever the bytes are
 --     Step-of s c a           the mesh of the text s is accepted with the counts c, and a is the answer of its step
 --     Two-answers             the step of a mesh that is accepted is either made or meets 33: never 30, 31 or 32
---     Fits                    256 bytes hold every output, so that what is answered is never more than what is lent
+--     Fits                    no more bytes are written than are lent: 256 hold every output
 use mathlib.Core.Path.{_≡_}
 use mathlib.Core.List.{List}
 use mathlib.Core.Logic.{_⊎_}
@@ -29,4 +29,4 @@ abbrev pub Two-answers : Type 0
 Two-answers = (s : List ℕ) (c : Counts) (a : Stepped) → Step-of s c a → (a ≡ Refined (refinedCounts c)) ⊎ (a ≡ NotFinite)
 
 abbrev pub Fits : Type 0
-Fits = (s out : List ℕ) → refine s out .length ≤ length out
+Fits = (s out : List ℕ) → refine s out .length ≤ length (refine s out .out)
