@@ -4,3 +4,4 @@ pub mod Steps
 pub mod FirstPoint
 pub mod Outputs
 pub mod Theorem
+pub mod Cases

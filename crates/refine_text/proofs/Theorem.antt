@@ -5,7 +5,7 @@ use mathlib.Core.Path.{_≡_, refl, sym, ap, _∙_}
 use mathlib.Core.Bool.{Bool, true, false}
 use mathlib.Core.List.{List, [], _∷_, _++_}
 use mathlib.Core.Logic.{_⊎_, inl, inr}
-use Prim.Native.Nat.{ℕ, zero, suc, _+_, _*_, _/_, _≤_, _<_, min}
+use Prim.Native.Nat.{ℕ, zero, suc, _+_, _≤_, _<_}
 use native.Mathlib.Decide.{ℕ-discrete}
 use native.Mathlib.Omega.{arith}
 use lib.Dec.{leb}
@@ -17,10 +17,10 @@ use Rattle.tables.specs.Mesh.{Mesh}
 use Rattle.tables.specs.Records.{positionAt}
 use Rattle.tables.specs.declared.Counts.{Counts}
 use Rattle.audited_meshes.specs.Folds.{distinct}
-use Rattle.audited_meshes.specs.Audit.{audit, pointRows, edgeRows, faceRows}
+use Rattle.audited_meshes.specs.Audit.{pointRows, edgeRows, faceRows}
 use Rattle.audited_meshes.proofs.Tests.{and-is, eqb-is, ltb-is, leb-is, not-is, self-is, every-is}
 use Rattle.text_numbers.specs.Form.{bytes}
-use Rattle.mesh_answers.specs.Lines.{meshLine, stepLine, atLine, refusedLine}
+use Rattle.mesh_answers.specs.Lines.{meshLine, stepLine}
 use Rattle.mesh_answers.proofs.Laws.{length-counts, length-at, length-refused}
 use Rattle.built_meshes.specs.Answers.{numberOf}
 use Rattle.building_tests.specs.declared.Bounds.the-variants.{Refine}
@@ -29,13 +29,13 @@ use Rattle.text_building.specs.Claims.{AsLong, Within-limits}
 use Rattle.text_building.specs.declared.TextBuilt.{TextBuilt}
 use Rattle.text_building.specs.declared.TextBuilt.the-variants.{Accepted, NotText, Refused}
 use Rattle.text_building.proofs.Theorem.{accepted-within}
-use Rattle.steps.specs.Step.{refinedCounts, eachFaceOnce, rowsFor, withinCeilings, roomFor, firstRows, Made, whole, notFinite, made, ended, stepIf, step}
+use Rattle.steps.specs.Step.{refinedCounts, eachFaceOnce, rowsFor, withinCeilings, roomFor, firstRows, Made, whole, notFinite, made, ended, stepIf}
 use Rattle.steps.specs.declared.Stepped.{Stepped}
 use Rattle.steps.specs.declared.Stepped.the-variants.{Refined, NotClosed, NotEachFaceOnce, NoRoom, NotFinite}
 use Rattle.steps.proofs.Grounds.{step-is}
 use Rattle.runs.specs.Runs.{numbered}
-use Rattle.refine_text.specs.Output.{lent, pointLines, stepLines, linesOf, numberedStep, outputIf, outputFrom, output, Writing, writingIf, refine}
-use Rattle.refine_text.specs.Claims.{Long-text, Step-of, Two-answers, Fits}
+use Rattle.refine_text.specs.Output.{lent, pointLines, stepLines, linesOf, numberedStep, outputIf, output, Writing, writingIf, refine}
+use Rattle.refine_text.specs.Claims.{Long-text, Two-answers, Fits}
 use Rattle.refine_text.proofs.Orders.{length-numbered}
 
 pub long-text : Long-text
@@ -62,13 +62,14 @@ numbered-once : (n : ℕ) → eachFaceOnce n (numbered n) ≡ true
 unfolding eachFaceOnce distinct
 numbered-once n =
     and-is (and-is (eqb-is (length (numbered n)) n) (every-is n (λ i. ltb-is (getD (numbered n) i 0) n)))
-    (every-is (length (numbered n)) (λ i. every-is i (λ j. not-is (eqb-is (getD (numbered n) i 0) (getD (numbered n) j 0))))) .1
-    ((length-numbered n, λ i h. rw (getD-numbered n i h) h),
-    λ i hi j hj e.
-    let l = length-numbered n in
-    let ei = getD-numbered n i (omega arith) in
-    let ej = getD-numbered n j (omega arith) in
-    omega arith)
+    (every-is (length (numbered n)) (λ i. every-is i (λ j. not-is (eqb-is (getD (numbered n) i 0) (getD (numbered n) j 0))))) .1 (
+      (length-numbered n, λ i h. rw (getD-numbered n i h) h),
+      λ i hi j hj e.
+          let l = length-numbered n in
+          let ei = getD-numbered n i (omega arith) in
+          let ej = getD-numbered n j (omega arith) in
+          omega arith,
+    )
 
 -- ---- the tables have room for the mesh after the step
 
