@@ -67,3 +67,12 @@ pub fn word(bytes: &[u8], at: usize, k: usize) -> u32
     }
     n as u32
 }
+
+// The same, at most so much.
+pub fn cut(bytes: &[u8], at: usize, k: usize, most: usize) -> usize
+    requires { ⌜ at ≤ 2147483648 ⌝ }
+    requires { ⌜ k ≤ 65536 ⌝ }
+    ensures { λ r. ⌜ r ≤ most ⌝ }
+{
+    least(field(bytes, at, k), most)
+}

@@ -173,6 +173,20 @@ fn put_mesh(
     put(s, b"[end]\n")
 }
 
+// The line before a stage.
+pub fn tell_stage(k: usize) {
+    io::write_all(STDOUT_FILENO, b"[stage ");
+    io::print_decimal(STDOUT_FILENO, k as u64);
+    io::write_all(STDOUT_FILENO, b"]\n");
+}
+
+// The line of a refusal.
+pub fn tell_refused(n: u32) {
+    io::write_all(STDOUT_FILENO, b"[refused ");
+    io::print_decimal(STDOUT_FILENO, n as u64);
+    io::write_all(STDOUT_FILENO, b"]\n");
+}
+
 // The line of a mesh that is not listed: how many points, edges and faces it has, and the remainder of its listing.
 fn tell_remainder(counts: Counts, remainder: u64) {
     let s = Sink {

@@ -4,9 +4,8 @@ ghost use Prim.Native.Nat.{_≤_, _<_};
 ghost use lib.ListN.{length};
 use crate::built::Answer;
 use crate::built::Lengths;
+use crate::built::build_bytes;
 use crate::built::build_lists;
-use crate::built::build_text;
-use crate::built::unchanged;
 use crate::fields::field;
 use crate::fields::least;
 use crate::fields::word;
@@ -28,9 +27,8 @@ fn unformed(
 ) -> usize
     ensures { λ r. ⌜ r ≤ 1 ⌝ }
 {
-    match build_text(
+    match build_bytes(
         text,
-        unchanged(),
         positions,
         points,
         edges,
