@@ -3,8 +3,8 @@
 --     point-ready             of a step with any answer
 use mathlib.Core.Path.{_≡_, refl, sym, ap, _∙_}
 use mathlib.Core.Bool.{true}
-use mathlib.Core.List.{List, _++_}
-use Prim.Native.Nat.{ℕ, _+_, _*_, _≤_, _<_}
+use mathlib.Core.List.{List}
+use Prim.Native.Nat.{ℕ, _*_, _≤_, _<_}
 use native.Mathlib.Omega.{arith}
 use lib.ListN.{length, getD, drop, List·getD-append}
 use lib.Seq.{take-all}
@@ -16,14 +16,13 @@ use Rattle.tables.specs.Records.{positionAt}
 use Rattle.tables.specs.declared.Counts.{Counts}
 use Rattle.tables.proofs.Laws.{length-over}
 use Rattle.refined_meshes.specs.State.{State}
-use Rattle.refined_meshes.specs.Visits.{refinedRows}
-use Rattle.steps.specs.Positions.{Placing, on, placed, placedAll, facePointRow, edgePointRow, facePointRule, edgePointRule, oldPointRule}
+use Rattle.steps.specs.Positions.{on, placed, placedAll, facePointRow, edgePointRow, facePointRule, edgePointRule, oldPointRule}
 use Rattle.steps.specs.Step.{refinedCounts, firstRows, overRows, step}
 use Rattle.steps.specs.declared.Stepped.{Stepped}
 use Rattle.steps.specs.declared.Stepped.the-variants.{Refined, NotClosed, NotEachFaceOnce, NoRoom, NotFinite}
 use Rattle.steps.proofs.Rows.{exact-firstRows}
-use Rattle.steps.proofs.Grounds.{Taken, taken, made-is}
-use Rattle.steps.proofs.Placing.{PutAt, placed-begun, length-placed, placed-at}
+use Rattle.steps.proofs.Grounds.{taken, made-is}
+use Rattle.steps.proofs.Placing.{placed-begun, length-placed, placed-at}
 use Rattle.refine_text.specs.Parts.{PointThere, PointReady}
 
 -- ---- point 0 in the table of positions that the rules fill

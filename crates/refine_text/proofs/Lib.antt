@@ -3,3 +3,5 @@ pub mod Lines
 pub mod Steps
 pub mod FirstPoint
 pub mod Outputs
+pub mod Theorem
+pub mod Cases

@@ -1,12 +1,12 @@
 -- The lines of a step, written one after the other. Assumes nothing.
---     written-refused         the line of a ground
 --     written-counts          the line of the counts after a step, where no point is told
 --     written-point           both lines
 --     point-room              room for the line of point 0
-use mathlib.Core.Path.{_≡_, refl, sym, ap, subst, _∙_}
-use mathlib.Core.Bool.{true, _&&_}
-use mathlib.Core.List.{List, [], _∷_, _++_, append-nil}
-use Prim.Native.Nat.{ℕ, zero, suc, _+_, _≤_, _<_}
+--     point-of-ready          point 0 is there where its line is written
+use mathlib.Core.Path.{_≡_, refl}
+use mathlib.Core.Bool.{true}
+use mathlib.Core.List.{List, append-nil}
+use Prim.Native.Nat.{ℕ, zero, suc, _+_, _≤_}
 use native.Mathlib.Omega.{arith}
 use lib.ListN.{length}
 use lib.Ieee.{Float}
@@ -15,7 +15,7 @@ use Rattle.positions.specs.declared.Position.{Position}
 use Rattle.positions.specs.Position.{finitePosition}
 use Rattle.tables.specs.declared.Counts.{Counts}
 use Rattle.steps.specs.declared.Stepped.{Stepped}
-use Rattle.steps.specs.declared.Stepped.the-variants.{Refined, NotClosed, NotEachFaceOnce, NoRoom, NotFinite}
+use Rattle.steps.specs.declared.Stepped.the-variants.{Refined}
 use Rattle.text_numbers.specs.Form.{bytes}
 use Rattle.text_numbers.proofs.Laws.{and-both}
 use Rattle.mesh_answers.specs.Lines.{stepLine, Written}
@@ -48,5 +48,5 @@ module _ (c : Counts) (a : Stepped) (ps : List Float) (c' : Counts) (e : a ≡ R
       let k = length-counts (bytes "[step") (c' .points) (c' .edges) (c' .faces) refl in
       omega arith
 
-  pub point-there : PointReady c a ps → (c .points ≡ 0 → ⊥) → PointThere ps
-  point-there h z = let h' = rw e at h in h' (omega arith)
+  pub point-of-ready : PointReady c a ps → (c .points ≡ 0 → ⊥) → PointThere ps
+  point-of-ready h z = let h' = rw e at h in h' (omega arith)

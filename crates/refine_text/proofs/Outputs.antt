@@ -1,6 +1,5 @@
 -- The output as its parts are written. Assumes nothing.
-use mathlib.Core.Path.{_≡_, refl, sym, ap, subst, _∙_}
-use mathlib.Core.Bool.{true, false}
+use mathlib.Core.Path.{_≡_, refl, sym, ap, _∙_}
 use mathlib.Core.List.{List, _++_}
 use Prim.Native.Nat.{ℕ, _+_, _≤_, _<_}
 use native.Mathlib.Nat.{zero-add}
@@ -17,14 +16,14 @@ use Rattle.text_building.specs.TextBuilding.{Outcome, buildText}
 use Rattle.text_building.specs.declared.TextBuilt.{TextBuilt}
 use Rattle.text_building.specs.declared.TextBuilt.the-variants.{Accepted, NotText, Refused}
 use Rattle.text_building.proofs.Theorem.{accepted-within}
-use Rattle.steps.specs.Step.{step, Outcome as StepOutcome}
+use Rattle.steps.specs.Step.{step}
 use Rattle.steps.specs.declared.Stepped.{Stepped}
 use Rattle.runs.specs.Runs.{numbered}
 use Rattle.visiting.specs.Visiting.{meshOf}
 use Rattle.text_numbers.specs.Form.{bytes}
 use Rattle.mesh_answers.specs.Lines.{meshLine, refusedLine, Written}
 use Rattle.mesh_answers.proofs.Laws.{written-append, length-counts}
-use Rattle.refine_text.specs.Output.{lent, stepLines, linesOf, numberedStep, outputIf, outputFrom, output, Writing, writingIf, refine}
+use Rattle.refine_text.specs.Output.{lent, stepLines, linesOf, numberedStep, outputIf, outputFrom, output, refine}
 use Rattle.refine_text.specs.Parts.{PointReady, SteppedTo}
 use Rattle.refine_text.proofs.Orders.{take-numbered}
 use Rattle.refine_text.proofs.FirstPoint.{point-ready}

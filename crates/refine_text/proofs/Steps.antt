@@ -1,5 +1,5 @@
 -- The step by scratch of zeros. Assumes nothing.
-use mathlib.Core.Path.{_≡_, refl, sym, ap, _∙_}
+use mathlib.Core.Path.{_≡_, ap}
 use mathlib.Core.List.{List}
 use lib.ListN.{replicate}
 use lib.Ieee.{ofBits, binary64}
