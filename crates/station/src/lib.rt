@@ -1,0 +1,131 @@
+// The library for stations: building, the audit and the step as C functions on pointers and lengths (station/lavyngo.h declares
+// them). Every answer is document 01's number: 0 for what is accepted, else that of the ground. Counts stand in an array of three
+// that the caller lends: points, edges, faces.
+// Not here: what the functions do (`building`, `audit`, `refining`).
+// Contracts: `lavyngo_build`, `lavyngo_audit`. Definitions: `specs/Station.antt`. Laws: `proofs/Laws.antt`.
+ghost use mathlib.Core.Path.{_≡_};
+ghost use Rattle.built_meshes.specs.Answers.{numberOf};
+ghost use Rattle.built_meshes.specs.Building.{build};
+ghost use Rattle.built_meshes.specs.Lists.{general};
+ghost use Rattle.building_tests.specs.Lent.{lists};
+ghost use Rattle.edge_search.specs.Places.{mesh};
+ghost use Rattle.audited_meshes.specs.Audit.{audit};
+ghost use Rattle.station.specs.Station.{Building, built, written, countsIn, audited};
+use audit::audit;
+use building::build;
+use building_tests::Bounds;
+use built_meshes::Built;
+use built_meshes::Ground;
+use tables::Counts;
+
+// Document 01's number of a ground of building.
+fn number_of(g: Ground) -> u32
+    ensures { λ r. ⌜ r ≡ numberOf g ⌝ }
+{
+    match g {
+        Ground::OverCounts => 2,
+        Ground::UnfitNumber => 3,
+        Ground::FewRows => 4,
+        Ground::FaceSize => 10,
+        Ground::OutOfRange => 11,
+        Ground::PointTwice => 12,
+        Ground::NonRectangularFace => 13,
+        Ground::EdgeTripleFace => 14,
+        Ground::SameWay => 15,
+        Ground::MissingFace => 20,
+        Ground::NoEdge => 21,
+        Ground::MissedEdge => 22,
+    }
+}
+
+// The counts that stand in an array.
+fn load_counts(counts: &[usize; 3]) -> Counts
+    ensures { λ r. ⌜ r ≡ countsIn (now (counts .entry)) ⌝ }
+{
+    Counts {
+        points: counts[0],
+        edges: counts[1],
+        faces: counts[2],
+    }
+}
+
+// Stores counts in an array.
+fn store_counts(counts: &mut [usize; 3], c: Counts)
+    ensures { λ _. ⌜ now (counts .exit) ≡ written (now (counts .entry)) c ⌝ }
+{
+    counts[0] = c.points;
+    counts[1] = c.edges;
+    counts[2] = c.faces;
+}
+
+// Builds a mesh from lists in the lent tables. The counts are written if it is accepted.
+#[no_mangle]
+pub extern "C" fn lavyngo_build(
+    coordinates: &[f64],
+    sides: &[u32],
+    listed: &[u32],
+    beside: &[f64],
+    positions: &mut [f64],
+    points: &mut [u32],
+    edges: &mut [u32],
+    intervals: &mut [f64],
+    faces: &mut [u32],
+    counts: &mut [usize; 3],
+) -> u32
+    ensures { λ r. ⌜
+        _≡_ {A = Building}
+        (record { answer = r; counts = now (counts .exit); tables = mesh (now (positions .exit)) (now (points .exit)) (now (edges .exit)) (now (intervals .exit)) (now (faces .exit)) })
+        (built (now (counts .entry))
+        (build general (lists (now (coordinates .entry)) (now (sides .entry)) (now (listed .entry)) (now (beside .entry)))
+        (mesh (now (positions .entry)) (now (points .entry)) (now (edges .entry)) (now (intervals .entry)) (now (faces .entry))))) ⌝ }
+{
+    let answer = build(
+        coordinates,
+        sides,
+        listed,
+        beside,
+        positions,
+        points,
+        edges,
+        intervals,
+        faces,
+        Bounds::General,
+    );
+    match answer {
+        Built::Accepted(c) => {
+            store_counts(counts, c);
+            0
+        }
+        Built::Refused(g) => number_of(g),
+    }
+}
+
+// Whether the tables are a closed mesh with these counts: 0, or 30 if they are not.
+#[no_mangle]
+pub extern "C" fn lavyngo_audit(
+    positions: &[f64],
+    points: &[u32],
+    edges: &[u32],
+    intervals: &[f64],
+    faces: &[u32],
+    counts: &[usize; 3],
+) -> u32
+    ensures { λ r. ⌜
+        r
+        ≡ audited
+        (mesh (now (positions .entry)) (now (points .entry)) (now (edges .entry)) (now (intervals .entry)) (now (faces .entry)))
+        (countsIn (now (counts .entry))) ⌝ }
+{
+    if audit(
+        positions,
+        points,
+        edges,
+        intervals,
+        faces,
+        load_counts(counts),
+    ) {
+        0
+    } else {
+        30
+    }
+}
