@@ -1,4 +1,4 @@
--- Building computed: the starred pieces of document 01, pieces of which two grounds hold (the first in document 01's order is
+-- Building computed: pieces of which two grounds hold (the first in document 01's order is
 -- answered), and the tables afterwards, word for word.
 use mathlib.Core.Path.{_≡_, refl}
 use mathlib.Core.Bool.{true, false}
@@ -10,13 +10,9 @@ use Rattle.t_spline.specs.Connect.{linksOf}
 use Rattle.tables.specs.Mesh.{Mesh, none}
 use Rattle.built_meshes.specs.Lists.{Lists, Limits, general, refine}
 use Rattle.built_meshes.specs.Building.{build}
-use Rattle.built_meshes.specs.Pieces.{unit, two, nought, backToBack, justEnough, Piece, piece, asExpected, allOf, Expected}
+use Rattle.built_meshes.specs.Pieces.{unit, two, nought, backToBack, justEnough, Piece, piece, asExpected, allOf}
 use Rattle.built_meshes.specs.declared.Ground.the-variants.{SameWay}
 use Rattle.built_meshes.specs.declared.Built.the-variants.{Accepted, Refused}
-
-pub pieces-as-expected : Expected
-unfolding asExpected ofBits neg add sub le lt linksOf
-pieces-as-expected = refl
 
 -- ---- the order of the grounds
 

@@ -1,9 +1,11 @@
--- The starred pieces of document 01 that speak of building: limits, lists, tables to build in, and the numbers that must be answered.
---     Piece                  one of them
+-- Lists to compute building on: limits, lists, tables to build in, and the numbers that must be answered.
+--     cube                   document 01's cube
+--     backToBack n ks ts     two faces back to back
+--     even n                 the same, with n points on the first and on the third side
+--     justEnough l           tables with just the rows that the lists need
+--     Piece                  lists with their limits, tables and numbers
 --     asExpected x           building answers the piece with its numbers
---     pieces                 their list, in document 01's order
---     Expected               every entry of the list is as expected
--- A piece that passes a ground is accepted. All intervals are 1 where nothing else is said.
+--     allOf xs               it does of each
 use mathlib.Core.Path.{_≡_}
 use mathlib.Core.Bool.{Bool, true, false, _&&_, cond}
 use mathlib.Core.List.{List, [], _∷_, _++_}
@@ -102,32 +104,7 @@ unfoldable pub asExpected : Piece → Bool
 unfolding build
 asExpected x = sameNumbers (numbersOf (build (x .limits) (x .lists) (x .tables) .answer)) (x .answer)
 
-abbrev pub pieces : List Piece
-pieces =
-    -- no points, no faces: accepted
-    piece (record { coordinates = []; sides = []; listed = []; intervals = [] }) (0 ∷ 0 ∷ 0 ∷ [])
-    -- n = 2: 10
-    ∷ piece (backToBack 2 (1 ∷ 0 ∷ 1 ∷ 0 ∷ []) (unit ∷ unit ∷ [])) (10 ∷ [])
-    -- n = 3 passes; two triangles back to back, sums 1, 1, 2, 0 each: 3, 3, 2
-    ∷ piece (backToBack 3 (1 ∷ 1 ∷ 1 ∷ 0 ∷ []) (unit ∷ unit ∷ two ∷ [])) (3 ∷ 3 ∷ 2 ∷ [])
-    -- n = 64 passes
-    ∷ piece (even 32) (64 ∷ 64 ∷ 2 ∷ [])
-    -- n = 65: 10
-    ∷ piece (backToBack 65 (33 ∷ 0 ∷ 32 ∷ 0 ∷ []) (nought ∷ replicate 64 unit)) (10 ∷ [])
-    -- sums 1, 2, 2, 1 pass 13
-    ∷ piece (backToBack 4 (1 ∷ 1 ∷ 1 ∷ 1 ∷ []) (unit ∷ two ∷ two ∷ unit ∷ [])) (4 ∷ 4 ∷ 2 ∷ [])
-    -- sums t, 0, 0, 0 pass
-    ∷ piece (backToBack 4 (1 ∷ 1 ∷ 1 ∷ 1 ∷ []) (tiny ∷ nought ∷ nought ∷ nought ∷ [])) (4 ∷ 4 ∷ 2 ∷ [])
-    -- the next binary64 above t: 13
-    ∷ piece (backToBack 4 (1 ∷ 1 ∷ 1 ∷ 1 ∷ []) (aboveTiny ∷ nought ∷ nought ∷ nought ∷ [])) (13 ∷ [])
-    -- the cube: 8, 12, 6
-    ∷ piece cube (8 ∷ 12 ∷ 6 ∷ [])
-    ∷ []
-
 abbrev pub allOf : List Piece → Bool
 unfolding asExpected
 allOf [] = true
 allOf (x ∷ xs) = asExpected x && allOf xs
-
-abbrev pub Expected : Type 0
-Expected = allOf pieces ≡ true

@@ -5,8 +5,8 @@
 // 13), `specs/Edges.antt` (one edge, grounds 14 and 15), `specs/Perimeters.antt` (one face), `specs/Whole.antt` (grounds 20 to
 // 22), `specs/Building.antt` (the whole), `specs/Answers.antt` (document 01's numbers).
 // Claims: `specs/Claims.antt`, over `specs/Grounds.antt` (when each ground holds, of the places of `specs/Places.antt`) and
-// `specs/Beyond.antt` (the rows that are never touched); proved in `proofs/Theorem.antt`. Document 01's pieces:
-// `specs/Pieces.antt`, computed in `proofs/Cases.antt`.
+// `specs/Beyond.antt` (the rows that are never touched); proved in `proofs/Theorem.antt`. Computed pieces:
+// `specs/Pieces.antt`, `proofs/Cases.antt`; document 01's own stand in `filed_pieces`.
 use tables::Counts;
 
 // Why building refuses. Document 01's number stands beside each.

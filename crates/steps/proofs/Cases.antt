@@ -1,7 +1,6 @@
--- The step computed on document 01's filed pieces, and on pieces that meet each ground.
+-- The step computed on the cube, refined and refused on each of the grounds 30 to 32. Document 01's own pieces: `filed_pieces`.
 --     Piece       a mesh in lent tables, an order, scratch tables, and what is to be answered
---     pieces      two triangles back to back; the cube, in two orders; the cube with all intervals 0; the cube with an interval, an
---                 order, scratch tables or tables that a ground refuses
+--     pieces      the cube; the cube with an interval, an order, scratch tables or tables that a ground refuses
 use mathlib.Core.Path.{_≡_, refl}
 use mathlib.Core.List.{List, [], _∷_, _++_, map}
 use Prim.Native.Nat.{ℕ, _*_}
@@ -17,23 +16,13 @@ use Rattle.refined_meshes.specs.State.{putEdge, putPoint, putStart, putFace, co
 use Rattle.refined_meshes.specs.Split.{split, splitWhole}
 use Rattle.refined_meshes.specs.Ring.{putJoin, putFirst, putSecond, putNewFace, putFacePoint}
 use Rattle.refined_meshes.specs.Visits.{splitAll, ringOf, putRing, visitAlong, visit, visits, refinedRows}
-use Rattle.refined_meshes.proofs.Records.{bits, cube, triangles}
+use Rattle.refined_meshes.proofs.Records.{bits, cube}
 use Rattle.position_rules.specs.Intervals.{acwAbout, cwAbout, threeTerms}
 use Rattle.position_rules.specs.Sums.{after}
 use Rattle.position_rules.specs.FacePoint.{sixTerms, windowWeight, windowSum, facePoint, facePointAbout, facePointOf}
 use Rattle.position_rules.specs.EdgePoint.{shares, edgeMiddle, edgePoint}
 use Rattle.position_rules.specs.OldPoint.{radialEdge, edgeWeight, faceWeight, radialTerms, radialSum, oldPoint}
-use Rattle.steps.specs.declared.Stepped.{Stepped}
-use Rattle.steps.specs.declared.Stepped.the-variants.{Refined, NotClosed, NotEachFaceOnce, NoRoom, NotFinite}
-use Rattle.steps.specs.Step.{step}
-
--- the counts after the step, or the ground's number
-abbrev answer : Stepped → List ℕ
-answer (Refined c) = c .points ∷ c .edges ∷ c .faces ∷ []
-answer NotClosed = 30 ∷ []
-answer NotEachFaceOnce = 31 ∷ []
-answer NoRoom = 32 ∷ []
-answer NotFinite = 33 ∷ []
+use Rattle.steps.specs.Step.{numbersOf, step}
 
 record Piece : Type 0 where
   mesh : Mesh
@@ -43,7 +32,7 @@ record Piece : Type 0 where
   expected : List ℕ
 
 abbrev answered : Piece → List ℕ
-answered p = answer (step (p .mesh) (p .counts) (p .order) (p .scratch) .answer)
+answered p = numbersOf (step (p .mesh) (p .counts) (p .order) (p .scratch) .answer)
 
 -- tables of np, ne and nf rows with other things in them
 abbrev used : ℕ → ℕ → ℕ → Mesh
@@ -66,11 +55,6 @@ inTables ps is m =
       intervals = is ++ replicate 40 nan;
       faces = m .faces ++ replicate 100 7;
     }
-
--- three points
-abbrev corners : List Float
-corners =
-    bits 0 ∷ bits 0 ∷ bits 0 ∷ bits 0x3ff0000000000000 ∷ bits 0 ∷ bits 0 ∷ bits 0 ∷ bits 0x3ff0000000000000 ∷ bits 0 ∷ []
 
 -- point k of the cube has x = 1 if bit 0 of k is set, else -1, y by bit 1, z by bit 2
 abbrev cubePoints : List Float
@@ -97,19 +81,8 @@ numbered = 0 ∷ 1 ∷ 2 ∷ 3 ∷ 4 ∷ 5 ∷ []
 
 pieces : List Piece
 pieces =
-    -- two triangles back to back
-    record {
-      mesh = inTables corners (triangles .intervals) triangles;
-      counts = record { points = 3; edges = 3; faces = 2 };
-      order = 0 ∷ 1 ∷ [];
-      scratch = used 9 12 6;
-      expected = 8 ∷ 12 ∷ 6 ∷ [];
-    }
-    -- the cube's counts
-    ∷ cubeWith (cubeOf (cube .intervals)) numbered (used 26 48 24) (26 ∷ 48 ∷ 24 ∷ [])
-    ∷ cubeWith (cubeOf (cube .intervals)) (3 ∷ 5 ∷ 0 ∷ 1 ∷ 4 ∷ 2 ∷ []) (used 27 48 24) (26 ∷ 48 ∷ 24 ∷ [])
-    -- the cube with all intervals 0
-    ∷ cubeWith (cubeOf (replicate 12 (bits 0))) numbered (used 26 48 24) (33 ∷ [])
+    -- the cube, not in numbered order
+    cubeWith (cubeOf (cube .intervals)) (3 ∷ 5 ∷ 0 ∷ 1 ∷ 4 ∷ 2 ∷ []) (used 27 48 24) (26 ∷ 48 ∷ 24 ∷ [])
     -- an interval with its sign bit set, whatever the order
     ∷ cubeWith (cubeOf (replicate 12 (bits 0x8000000000000000))) [] (used 0 0 0) (30 ∷ [])
     -- orders that are too short, too long, name a face twice, or name no face, whatever the rows

@@ -51,7 +51,7 @@ within-of-test c e =
     let h = and-is (and-is (leb-is (c .points) 65536) (leb-is (c .edges) 131072)) (leb-is (c .faces) 65536) .0 e in
     record { points = h .0 .0; edges = h .0 .1; faces = h .1 }
 
-rooms-of-test : (c : Counts) (m t : Mesh) → roomFor c m t ≡ true → (Room c m × Room c t) × Within c
+pub rooms-of-test : (c : Counts) (m t : Mesh) → roomFor c m t ≡ true → (Room c m × Room c t) × Within c
 unfolding roomFor
 rooms-of-test c m t e =
     let h = and-is (and-is (self-is (rowsFor c m)) (self-is (rowsFor c t))) (self-is (withinCeilings c)) .0 e in
@@ -75,7 +75,7 @@ module _ (m : Mesh) (c : Counts) (order : List ℕ) (t : Mesh) where
   begun = made (firstRows c m) c order (firstRows (refinedCounts c) t)
 
   -- The step by the answers of its tests.
-  step-is :
+  pub step-is :
       {a o r : Bool} → audit m (c .points) (c .edges) (c .faces) ≡ a → eachFaceOnce (c .faces) order ≡ o → roomFor (refinedCounts c) m t ≡ r →
       step m c order t ≡ stepIf a o r m c order t
   unfolding step

@@ -1,5 +1,6 @@
 -- One step of refining, for tables, counts, order and scratch of any content and any lengths, in document 01's words and order.
---     numberOf a               document 01's number of the ground that is answered
+--     numbersOf a              the answer in document 01's numbers: points, edges and faces, or the number of the ground
+--     numberOf a               the number of the ground that is answered
 --     refinedCounts c          V, E, F become V + E + F, 4 E, 2 E
 --     eachFaceOnce nf order    the order is each of nf faces once
 --     rowsFor c t              the tables t have the rows of a mesh with the counts c
@@ -13,7 +14,7 @@
 --     step m c order t         the step of the mesh in the tables m with the counts c, in the order handed in, by scratch t
 -- All further rows are untouched: `zeroedRows` and `overRows` leave them as they are.
 use mathlib.Core.Bool.{Bool, true, false, _&&_}
-use mathlib.Core.List.{List}
+use mathlib.Core.List.{List, [], _∷_}
 use mathlib.Core.Option.{Option, none, some}
 use Prim.Native.Nat.{ℕ, _+_, _*_}
 use lib.Dec.{eqb, ltb, leb}
@@ -30,12 +31,21 @@ use Rattle.steps.specs.declared.Stepped.{Stepped}
 use Rattle.steps.specs.declared.Stepped.the-variants.{Refined, NotClosed, NotEachFaceOnce, NoRoom, NotFinite}
 use Rattle.steps.specs.Positions.{Placing, on, stopped, placedAll}
 
+abbrev pub numbersOf : Stepped → List ℕ
+numbersOf (Refined c) = c .points ∷ c .edges ∷ c .faces ∷ []
+numbersOf NotClosed = 30 ∷ []
+numbersOf NotEachFaceOnce = 31 ∷ []
+numbersOf NoRoom = 32 ∷ []
+numbersOf NotFinite = 33 ∷ []
+
+-- one number is a ground's, three are counts
+abbrev ground : List ℕ → Option ℕ
+ground [] = none
+ground (g ∷ []) = some g
+ground (p ∷ e ∷ ns) = none
+
 abbrev pub numberOf : Stepped → Option ℕ
-numberOf (Refined c) = none
-numberOf NotClosed = some 30
-numberOf NotEachFaceOnce = some 31
-numberOf NoRoom = some 32
-numberOf NotFinite = some 33
+numberOf a = ground (numbersOf a)
 
 abbrev pub refinedCounts : Counts → Counts
 refinedCounts c =

@@ -1,0 +1,102 @@
+-- The starred pieces of document 01: lists to build from, whether they are refined too, and the numbers that must be answered.
+--     Piece                  one of them
+--     answers x              what building answers, and what the step in numbered order answers where the piece asks for it
+--     pieces                 their list, in document 01's order
+--     AsFiled                every piece is answered as document 01 says
+-- A piece that passes a ground is accepted. All intervals are 1 where nothing else is said.
+use mathlib.Core.Path.{_≡_}
+use mathlib.Core.List.{List, [], _∷_, _++_, map}
+use Prim.Native.Nat.{ℕ, _*_}
+use lib.ListN.{length, replicate}
+use Rattle.tables.specs.Mesh.{Mesh}
+use Rattle.tables.specs.declared.Counts.{Counts}
+use Rattle.built_meshes.specs.Lists.{Lists, general, pointsOf, facesOf}
+use Rattle.built_meshes.specs.Answers.{numbersOf}
+use Rattle.built_meshes.specs.Building.{Outcome, build}
+use Rattle.built_meshes.specs.Pieces.{unit, two, nought, tiny, aboveTiny, cube, backToBack, even}
+use Rattle.built_meshes.specs.declared.Built.{Built}
+use Rattle.built_meshes.specs.declared.Built.the-variants.{Accepted, Refused}
+use Rattle.steps.specs.Step.{numbersOf as stepNumbers, refinedCounts, step}
+use Rattle.runs.specs.Runs.{numbered}
+
+-- ---- pieces
+
+pub data Asked : Type 0 where
+  toBuild : Asked
+  toRefine : Asked
+
+pub record Piece : Type 0 where
+  pub lists : Lists
+  pub asked : Asked
+  pub expected : List (List ℕ)
+
+-- tables of so many rows, all words 7, all numbers 2
+abbrev pub used : Counts → Mesh
+used c =
+    record {
+      positions = replicate (c .points * 3) two;
+      points = replicate (c .points * 3) 7;
+      edges = replicate (c .edges * 8) 7;
+      intervals = replicate (c .edges) two;
+      faces = replicate (c .faces * 5) 7;
+    }
+
+-- the rows of the mesh that the lists give, and of the mesh after one step, if each edge is listed twice
+abbrev pub rowsOf : Lists → Counts
+rowsOf l = record { points = pointsOf l; edges = length (l .listed); faces = facesOf l }
+
+abbrev pub stepped : Outcome → Mesh → List (List ℕ)
+stepped o t = steppedIf (o .answer) (o .tables) t
+  where
+    steppedIf : Built → Mesh → Mesh → List (List ℕ)
+    steppedIf (Accepted c) m t = numbersOf (Accepted c) ∷ stepNumbers (step m c (numbered (c .faces)) t .answer) ∷ []
+    steppedIf (Refused g) m t = numbersOf (Refused g) ∷ []
+
+unfoldable pub answersTo : Asked → Lists → List (List ℕ)
+answersTo toBuild l = numbersOf (build general l (used (rowsOf l)) .answer) ∷ []
+answersTo toRefine l = stepped (build general l (used (refinedCounts (rowsOf l)))) (used (refinedCounts (rowsOf l)))
+
+abbrev pub answers : Piece → List (List ℕ)
+answers x = answersTo (x .asked) (x .lists)
+
+abbrev pub built : Lists → List ℕ → Piece
+built l ns = record { lists = l; asked = toBuild; expected = ns ∷ [] }
+
+abbrev pub refined : Lists → List ℕ → List ℕ → Piece
+refined l ns ks = record { lists = l; asked = toRefine; expected = ns ∷ ks ∷ [] }
+
+-- two triangles, side sums 1, 1, 2, 0 each
+abbrev pub triangles : Lists
+triangles = backToBack 3 (1 ∷ 1 ∷ 1 ∷ 0 ∷ []) (unit ∷ unit ∷ two ∷ [])
+
+abbrev pub cubeOfNoughts : Lists
+cubeOfNoughts =
+    record { coordinates = cube .coordinates; sides = cube .sides; listed = cube .listed; intervals = replicate 24 nought }
+
+unfoldable pub pieces : List Piece
+pieces =
+    -- no points, no faces: accepted
+    built (record { coordinates = []; sides = []; listed = []; intervals = [] }) (0 ∷ 0 ∷ 0 ∷ [])
+    -- n = 2: 10
+    ∷ built (backToBack 2 (1 ∷ 0 ∷ 1 ∷ 0 ∷ []) (unit ∷ unit ∷ [])) (10 ∷ [])
+    -- n = 3 and 64: pass
+    ∷ built triangles (3 ∷ 3 ∷ 2 ∷ [])
+    ∷ built (even 32) (64 ∷ 64 ∷ 2 ∷ [])
+    -- 65: 10
+    ∷ built (backToBack 65 (33 ∷ 0 ∷ 32 ∷ 0 ∷ []) (nought ∷ replicate 64 unit)) (10 ∷ [])
+    -- sums 1, 2, 2, 1 pass 13
+    ∷ built (backToBack 4 (1 ∷ 1 ∷ 1 ∷ 1 ∷ []) (unit ∷ two ∷ two ∷ unit ∷ [])) (4 ∷ 4 ∷ 2 ∷ [])
+    -- sums t, 0, 0, 0 pass
+    ∷ built (backToBack 4 (1 ∷ 1 ∷ 1 ∷ 1 ∷ []) (tiny ∷ nought ∷ nought ∷ nought ∷ [])) (4 ∷ 4 ∷ 2 ∷ [])
+    -- the next binary64 above t: 13
+    ∷ built (backToBack 4 (1 ∷ 1 ∷ 1 ∷ 1 ∷ []) (aboveTiny ∷ nought ∷ nought ∷ nought ∷ [])) (13 ∷ [])
+    -- two triangles back to back: 3, 3, 2 become 8, 12, 6
+    ∷ refined triangles (3 ∷ 3 ∷ 2 ∷ []) (8 ∷ 12 ∷ 6 ∷ [])
+    -- the cube's counts
+    ∷ refined cube (8 ∷ 12 ∷ 6 ∷ []) (26 ∷ 48 ∷ 24 ∷ [])
+    -- the cube with all intervals 0: 33
+    ∷ refined cubeOfNoughts (8 ∷ 12 ∷ 6 ∷ []) (33 ∷ [])
+    ∷ []
+
+abbrev pub AsFiled : Type 0
+AsFiled = map answers pieces ≡ map (λ x. x .expected) pieces

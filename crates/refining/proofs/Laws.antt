@@ -1,0 +1,210 @@
+-- The laws of a step: first rows worked on as parts of their own and put back, the tests in their order, the end. Assumes nothing.
+use mathlib.Core.Path.{_≡_, refl, sym, _∙_, ap, subst}
+use mathlib.Core.Logic.{_≢_}
+use mathlib.Core.Bool.{Bool, true, false, _&&_, cond}
+use mathlib.Core.List.{List, _++_}
+use Prim.Native.Nat.{ℕ, _+_, _*_, _<_}
+use lib.ListN.{length, getD, take, drop, replicate}
+use lib.Dec.{eqb, ltb}
+use native.Mathlib.Omega.{arith}
+use lib.Seq.{take-at, drop-at, take-take}
+use lib.Ieee.{Float}
+use native.Mathlib.Nat.{le-refl}
+use Rattle.tables.specs.Mesh.{Mesh}
+use Rattle.tables.specs.Rows.{over, zeroed}
+use Rattle.tables.specs.declared.Counts.{Counts}
+use Rattle.visiting.specs.Visiting.{meshOf}
+use Rattle.audited_meshes.specs.Audit.{audit}
+use Rattle.audited_meshes.specs.Folds.{every, distinct}
+use Rattle.audited_meshes.proofs.Audited.{audit-is-audited}
+use Rattle.steps.specs.declared.Stepped.the-variants.{Refined, NotClosed, NotEachFaceOnce, NoRoom, NotFinite}
+use Rattle.steps.specs.Step.{Made, whole, notFinite, Outcome, refusal, ended, firstRows, zeroedRows, overRows, refinedCounts, eachFaceOnce, rowsFor, withinCeilings, roomFor, stepIf, step}
+use Rattle.steps.specs.declared.Stepped.{Stepped}
+use Rattle.steps.proofs.Rows.{Room, room-of-holds, holds-firstRows, room-firstRows, points-fit, edges-fit, faces-fit}
+use Rattle.steps.proofs.Grounds.{eachFaceOnce-is, rooms-of-test, step-is}
+use Rattle.audited_meshes.proofs.Holds.{audit-is-closed}
+use Rattle.refining.specs.Refining.{Passed, tested}
+
+-- a part of n elements put back before the rest
+zeroed-back : {A : Type 0} (n : ℕ) (z : A) (part xs : List A) → length part ≡ n → zeroed n z (part ++ drop n xs) ≡ zeroed n z xs
+unfolding zeroed
+zeroed-back n z part xs l = ap (λ ys. replicate n z ++ ys) (drop-at part (drop n xs) n l)
+
+-- The tables t, with their first rows replaced by the parts.
+module _ (c : Counts) (t : Mesh) (ps : List Float) (ws es : List ℕ) (is : List Float) (fs : List ℕ)
+    (lp : length ps ≡ c .points * 3) (lw : length ws ≡ c .points * 3) (le : length es ≡ c .edges * 8) (li : length is ≡ c .edges)
+    (lf : length fs ≡ c .faces * 5) where
+  abbrev putBack : Mesh
+  putBack =
+      meshOf (ps ++ drop (c .points * 3) (t .positions)) (ws ++ drop (c .points * 3) (t .points)) (es ++ drop (c .edges * 8) (t .edges))
+      (is ++ drop (c .edges) (t .intervals)) (fs ++ drop (c .faces * 5) (t .faces))
+
+  pub first-rows-back : firstRows c putBack ≡ meshOf ps ws es is fs
+  unfolding firstRows
+  first-rows-back =
+      rw (
+        take-at ps (drop (c .points * 3) (t .positions)) (c .points * 3) lp,
+        take-at ws (drop (c .points * 3) (t .points)) (c .points * 3) lw,
+        take-at es (drop (c .edges * 8) (t .edges)) (c .edges * 8) le,
+        take-at is (drop (c .edges) (t .intervals)) (c .edges) li,
+        take-at fs (drop (c .faces * 5) (t .faces)) (c .faces * 5) lf,
+      )
+
+  pub zeroed-rows-back : zeroedRows c putBack ≡ zeroedRows c t
+  unfolding zeroedRows
+  zeroed-rows-back =
+      rw (
+        zeroed-back (c .points * 3) _ ps (t .positions) lp,
+        zeroed-back (c .points * 3) _ ws (t .points) lw,
+        zeroed-back (c .edges * 8) _ es (t .edges) le,
+        zeroed-back (c .edges) _ is (t .intervals) li,
+        zeroed-back (c .faces * 5) _ fs (t .faces) lf,
+      )
+
+over-first : {A : Type 0} (n : ℕ) (new xs : List A) → over n (take n new) xs ≡ over n new xs
+unfolding over
+over-first n new xs = ap (λ ys. ys ++ drop n xs) (take-take n n new (le-refl n))
+
+-- only the first rows are copied
+pub over-first-rows : (c : Counts) (new t : Mesh) → overRows c (firstRows c new) t ≡ overRows c new t
+unfolding overRows firstRows
+over-first-rows c new t =
+    rw (
+      over-first (c .points * 3) (new .positions) (t .positions),
+      over-first (c .points * 3) (new .points) (t .points),
+      over-first (c .edges * 8) (new .edges) (t .edges),
+      over-first (c .edges) (new .intervals) (t .intervals),
+      over-first (c .faces * 5) (new .faces) (t .faces),
+    )
+
+-- ---- the tests of a step, one after the other
+
+module _ (m : Mesh) (c : Counts) (order : List ℕ) (t : Mesh) where
+  abbrev Passes : Type 0
+  Passes = audit m (c .points) (c .edges) (c .faces) ≡ true
+
+  abbrev once : Bool
+  once = eqb (length order) (c .faces) && every (c .faces) (λ i. ltb (getD order i 0) (c .faces)) && distinct order
+
+  pub not-closed : audit m (c .points) (c .edges) (c .faces) ≡ false → NotClosed ≡ tested m c order t
+  not-closed a = rw a
+
+  pub not-once : Passes → once ≡ false → NotEachFaceOnce ≡ tested m c order t
+  unfolding eachFaceOnce
+  not-once a o = rw (a, o)
+
+  pub no-room-in-tables : Passes → once ≡ true → rowsFor (refinedCounts c) m ≡ false → NoRoom ≡ tested m c order t
+  unfolding eachFaceOnce roomFor
+  no-room-in-tables a o r = rw (a, o, r)
+
+  pub no-room-in-scratch : Passes → once ≡ true → rowsFor (refinedCounts c) m ≡ true → rowsFor (refinedCounts c) t ≡ false
+      → NoRoom ≡ tested m c order t
+  unfolding eachFaceOnce roomFor
+  no-room-in-scratch a o r s = rw (a, o, r, s)
+
+  pub over-ceilings : Passes → once ≡ true → rowsFor (refinedCounts c) m ≡ true → rowsFor (refinedCounts c) t ≡ true
+      → withinCeilings (refinedCounts c) ≡ false → NoRoom ≡ tested m c order t
+  unfolding eachFaceOnce roomFor
+  over-ceilings a o r s w = rw (a, o, r, s, w)
+
+  pub no-ground : Passes → once ≡ true → rowsFor (refinedCounts c) m ≡ true → rowsFor (refinedCounts c) t ≡ true
+      → withinCeilings (refinedCounts c) ≡ true → Refined (refinedCounts c) ≡ tested m c order t
+  unfolding eachFaceOnce roomFor
+  no-ground a o r s w = rw (a, o, r, s, w)
+
+  -- the counts of an audited mesh are far below what a number holds
+  pub counts-fit : Passes → length (m .positions) < 18446744073709551616 → length (m .edges) < 18446744073709551616
+      → length (m .faces) < 18446744073709551616
+      → (c .points + c .edges + c .faces < 18446744073709551616) × (4 * c .edges < 18446744073709551616)
+  counts-fit a lp le lf =
+      let h = audit-is-audited m (c .points) (c .edges) (c .faces) .0 a in
+      (omega (arith, h .points-fit, h .edges-fit, h .faces-fit), omega (arith, h .edges-fit))
+
+-- ---- the end of a step: t₁ is scratch once the refined mesh is made, or was tried
+
+module _ (m : Mesh) (c : Counts) (t t₁ : Mesh) (d : Made) (zeros : zeroedRows c t₁ ≡ zeroedRows c t) where
+  pub ended-whole : {m₂ t₂ : Mesh} → d ≡ whole (firstRows c t₁) → m₂ ≡ overRows c t₁ m → t₂ ≡ zeroedRows c t₁
+      → _≡_ {A = Outcome} (record { answer = Refined c; tables = m₂; scratch = t₂ }) (ended m c t d)
+  unfolding ended
+  ended-whole e copied zeroed = rw (e, copied, zeroed, zeros, over-first-rows c t₁ m)
+
+  pub ended-not-finite : {t₂ : Mesh} → d ≡ notFinite → t₂ ≡ zeroedRows c t₁
+      → _≡_ {A = Outcome} (record { answer = NotFinite; tables = m; scratch = t₂ }) (ended m c t d)
+  unfolding ended
+  ended-not-finite e zeroed = rw (e, zeroed, zeros)
+
+-- lengths after the refined mesh was made
+pub rooms-kept : (c : Counts) (t t₁ : Mesh) → length (t₁ .positions) ≡ length (t .positions) → length (t₁ .points) ≡ length (t .points)
+    → length (t₁ .edges) ≡ length (t .edges) → length (t₁ .intervals) ≡ length (t .intervals) → length (t₁ .faces) ≡ length (t .faces)
+    → Room c t → Room c t₁
+rooms-kept c t t₁ lp lw le li lf h =
+    record {
+      positions = omega (arith, h .positions);
+      points = omega (arith, h .points);
+      edges = omega (arith, h .edges);
+      intervals = omega (arith, h .intervals);
+      faces = omega (arith, h .faces);
+    }
+
+-- ---- from the tests to the step
+
+module _ (m : Mesh) (c : Counts) (order : List ℕ) (t : Mesh) where
+  tested-is :
+      {a o r : Bool} → audit m (c .points) (c .edges) (c .faces) ≡ a → eachFaceOnce (c .faces) order ≡ o → roomFor (refinedCounts c) m t ≡ r →
+      tested m c order t ≡ cond a (cond o (cond r (Refined (refinedCounts c)) NoRoom) NotEachFaceOnce) NotClosed
+  tested-is ha ho hr = rw (ha, ho, hr)
+
+  all-passed : audit m (c .points) (c .edges) (c .faces) ≡ true → eachFaceOnce (c .faces) order ≡ true
+      → roomFor (refinedCounts c) m t ≡ true → Passed m c order t (refinedCounts c)
+  unfolding stepIf
+  all-passed ha ho hr =
+      let h = audit-is-closed m (c .points) (c .edges) (c .faces) .0 ha in
+      let rooms = rooms-of-test (refinedCounts c) m t hr in
+      let r = room-firstRows (refinedCounts c) t (rooms .0 .1) in
+      record {
+        rows = room-of-holds h;
+        room = rooms .0 .0;
+        scratch = rooms .0 .1;
+        ready = record {
+          closed = audit-is-closed (firstRows c m) (c .points) (c .edges) (c .faces) .1 (holds-firstRows h);
+          once = eachFaceOnce-is (c .faces) order ho;
+          points-room = points-fit r;
+          edges-room = edges-fit r;
+          faces-room = faces-fit r;
+          ceilings = record { points = rooms .1 .points; edges = rooms .1 .edges; faces = rooms .1 .faces };
+        };
+        stepped = step-is m c order t ha ho hr;
+      }
+
+  pub passed : (c' : Counts) → Refined c' ≡ tested m c order t → Passed m c order t c'
+  passed c' e = go _ refl _ refl _ refl
+    where
+      go :
+          (a : Bool) → audit m (c .points) (c .edges) (c .faces) ≡ a → (o : Bool) → eachFaceOnce (c .faces) order ≡ o → (r : Bool) →
+          roomFor (refinedCounts c) m t ≡ r → Passed m c order t c'
+      go false ha o ho r hr =
+          let k : Refined c' ≡ NotClosed = e ∙ tested-is ha ho hr in
+          absurd (let z : _≡_ {A = ℕ} 0 1 = cc in omega arith)
+      go true ha false ho r hr =
+          let k : Refined c' ≡ NotEachFaceOnce = e ∙ tested-is ha ho hr in
+          absurd (let z : _≡_ {A = ℕ} 0 1 = cc in omega arith)
+      go true ha true ho false hr =
+          let k : Refined c' ≡ NoRoom = e ∙ tested-is ha ho hr in
+          absurd (let z : _≡_ {A = ℕ} 0 1 = cc in omega arith)
+      go true ha true ho true hr =
+          let k : Refined c' ≡ Refined (refinedCounts c) = e ∙ tested-is ha ho hr in
+          let q : refinedCounts c ≡ c' = cc in
+          subst (λ x. Passed m c order t x) q (all-passed ha ho hr)
+
+  -- A ground that is not the counts is answered with everything untouched.
+  pub refused : (g : Stepped) → g ≡ tested m c order t → ((c' : Counts) → g ≢ Refined c') → refusal g m t ≡ step m c order t
+  unfolding stepIf
+  refused g e n = go _ refl _ refl _ refl
+    where
+      go :
+          (a : Bool) → audit m (c .points) (c .edges) (c .faces) ≡ a → (o : Bool) → eachFaceOnce (c .faces) order ≡ o → (r : Bool) →
+          roomFor (refinedCounts c) m t ≡ r → refusal g m t ≡ step m c order t
+      go false ha o ho r hr = ap (λ x. refusal x m t) (e ∙ tested-is ha ho hr) ∙ sym (step-is m c order t ha ho hr)
+      go true ha false ho r hr = ap (λ x. refusal x m t) (e ∙ tested-is ha ho hr) ∙ sym (step-is m c order t ha ho hr)
+      go true ha true ho false hr = ap (λ x. refusal x m t) (e ∙ tested-is ha ho hr) ∙ sym (step-is m c order t ha ho hr)
+      go true ha true ho true hr = absurd (n (refinedCounts c) (e ∙ tested-is ha ho hr))

@@ -1,0 +1,28 @@
+-- commit meets its contract: the rows are copied, then made zero.
+
+use borrow.Author.Needs.{needs}
+use Rattle.refining.proofs.commit.Statement.{statement}
+use Rattle.refining.proofs.commit.Tie as tie
+
+zero-rows-requires : tie.Need-zero-rows-requires
+zero-rows-requires c κs =
+    let r = c .before .before .before .before .before .before .before .before .before .before .before .before .before .before .before .before .before .before .before .before .before .before .before .before .before .before .before .before .before .before .before .before .before .before .before .before .pre .0 in
+    (r .positions, (r .points, (r .edges, (r .intervals, r .faces))))
+
+pub commit-spec : {M : Type 1} → statement M
+commit-spec =
+    tie.close
+    (tie.spec
+    (λ c κs. search needs)
+    zero-rows-requires
+    (λ c. search needs)
+    (λ c. search needs)
+    (λ c. search needs)
+    (λ c. search needs)
+    (λ c. search needs)
+    (λ c. search needs)
+    (λ c. search needs)
+    (λ c. search needs)
+    (λ c. search needs)
+    (λ c. search needs)
+    (λ c. search needs))

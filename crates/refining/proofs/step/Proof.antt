@@ -1,0 +1,67 @@
+-- step meets its contract: the first ground is answered with everything untouched, else the step is made.
+use Rattle.refining.proofs.Laws.{passed, refused}
+use Rattle.visiting.specs.Visiting.{meshOf}
+use Rattle.tables.specs.Mesh.{Mesh}
+use mathlib.Core.Path.{sym, _∙_, subst}
+use mathlib.Core.List.{[], _∷_}
+use mathlib.Core.Logic.{inl, inr}
+use native.Mathlib.Omega.{arith}
+use types.Run.{OneOf}
+use denote.Enum.Declared.{tagOf}
+use Rattle.steps.specs.declared.Stepped.{Stepped}
+use Rattle.steps.proofs.Stepped.{the-type}
+use borrow.Author.Needs.{needs}
+use Rattle.refining.proofs.step.Statement.{statement}
+use Rattle.refining.proofs.step.Tie as tie
+
+-- the tag of the counts is 0
+not-one : OneOf (1 ∷ 2 ∷ 3 ∷ 4 ∷ []) 0 → ⊥
+not-one (inl e) = omega (arith, e)
+not-one (inr (inl e)) = omega (arith, e)
+not-one (inr (inr (inl e))) = omega (arith, e)
+not-one (inr (inr (inr e))) = omega (arith, e)
+
+returns : tie.Need-returns
+returns c =
+    let a = c .before .before .before .before .before .before .before .before .before .before .before .before .before .before .before .before .before .before .before .before .before .before .before .args in
+    let m : Mesh = meshOf (a .positions .now) (a .points .now) (a .edges .now) (a .intervals .now) (a .faces .now) in
+    let t : Mesh = meshOf (a .places .now) (a .rows .now) (a .halves .now) (a .lengths .now) (a .quads .now) in
+    refused m (a .counts) (a .order .now) t (c .before .first-ground .result) (c .before .first-ground .ensures)
+    (λ c' e. not-one (subst (λ (x : Stepped). OneOf (1 ∷ 2 ∷ 3 ∷ 4 ∷ []) (tagOf the-type x)) e (c .match .keys2)))
+
+finish-requires : tie.Need-finish-requires
+finish-requires c κs =
+    let a = c .before .before .before .before .before .before .before .before .before .before .before .before .before .before .before .before .before .before .before .before .before .before .before .before .before .before .before .before .before .before .before .before .before .before .before .args in
+    let m : Mesh = meshOf (a .positions .now) (a .points .now) (a .edges .now) (a .intervals .now) (a .faces .now) in
+    let t : Mesh = meshOf (a .places .now) (a .rows .now) (a .halves .now) (a .lengths .now) (a .quads .now) in
+    passed m (a .counts) (a .order .now) t _ (sym (c .before .before .before .before .before .before .before .before .before .before .before .ground .given .1) ∙ c .before .before .before .before .before .before .before .before .before .before .before .before .before .first-ground .ensures)
+
+pub step-spec : {M : Type 1} → statement M
+step-spec =
+    tie.close
+    (tie.spec
+    (λ c κs. search needs)
+    (λ c. search needs)
+    (λ c. search needs)
+    (λ c. search needs)
+    (λ c. search needs)
+    (λ c. search needs)
+    (λ c. search needs)
+    (λ c. search needs)
+    (λ c. search needs)
+    (λ c. search needs)
+    (λ c. search needs)
+    (λ c. search needs)
+    returns
+    finish-requires
+    (λ c. search needs)
+    (λ c. search needs)
+    (λ c. search needs)
+    (λ c. search needs)
+    (λ c. search needs)
+    (λ c. search needs)
+    (λ c. search needs)
+    (λ c. search needs)
+    (λ c. search needs)
+    (λ c. search needs)
+    (λ c. search needs))
