@@ -2,7 +2,7 @@
 // them). Every answer is document 01's number: 0 for what is accepted, else that of the ground. Counts stand in an array of three
 // that the caller lends: points, edges, faces.
 // Not here: what the functions do (`building`, `audit`, `refining`).
-// Contracts: `lavyngo_build`, `lavyngo_audit`. Definitions: `specs/Station.antt`. Laws: `proofs/Laws.antt`.
+// Contracts: `lavyngo_build`, `lavyngo_audit`, `lavyngo_step`. Definitions: `specs/Station.antt`. Laws: `proofs/Laws.antt`.
 ghost use mathlib.Core.Path.{_≡_};
 ghost use Rattle.built_meshes.specs.Answers.{numberOf};
 ghost use Rattle.built_meshes.specs.Building.{build};
@@ -10,12 +10,15 @@ ghost use Rattle.built_meshes.specs.Lists.{general};
 ghost use Rattle.building_tests.specs.Lent.{lists};
 ghost use Rattle.edge_search.specs.Places.{mesh};
 ghost use Rattle.audited_meshes.specs.Audit.{audit};
-ghost use Rattle.station.specs.Station.{Building, built, written, countsIn, audited};
+ghost use Rattle.steps.specs.Step.{step};
+ghost use Rattle.station.specs.Station.{Building, built, written, countsIn, audited, numbered, countsAfter, Step, stepped};
 use audit::audit;
 use building::build;
 use building_tests::Bounds;
 use built_meshes::Built;
 use built_meshes::Ground;
+use refining::step;
+use steps::Stepped;
 use tables::Counts;
 
 // Document 01's number of a ground of building.
@@ -128,4 +131,65 @@ pub extern "C" fn lavyngo_audit(
     } else {
         30
     }
+}
+
+// Document 01's number of a step's answer. The counts are written if the step is accepted.
+fn store_step(counts: &mut [usize; 3], answer: Stepped) -> u32
+    ensures { λ r. ⌜ r ≡ numbered answer ⌝ }
+    ensures { λ _. ⌜ now (counts .exit) ≡ countsAfter (now (counts .entry)) answer ⌝ }
+{
+    match answer {
+        Stepped::Refined(c) => {
+            store_counts(counts, c);
+            0
+        }
+        Stepped::NotClosed => 30,
+        Stepped::NotEachFaceOnce => 31,
+        Stepped::NoRoom => 32,
+        Stepped::NotFinite => 33,
+    }
+}
+
+// Refines the mesh in the tables once, visiting the faces in the order handed in. `places`, `rows`, `halves`, `lengths` and
+// `quads` are the scratch tables of positions, points, edges, intervals and faces. The counts are those before the step, and
+// become those after it if it is accepted.
+#[no_mangle]
+pub extern "C" fn lavyngo_step(
+    positions: &mut [f64],
+    points: &mut [u32],
+    edges: &mut [u32],
+    intervals: &mut [f64],
+    faces: &mut [u32],
+    counts: &mut [usize; 3],
+    order: &[u32],
+    places: &mut [f64],
+    rows: &mut [u32],
+    halves: &mut [u32],
+    lengths: &mut [f64],
+    quads: &mut [u32],
+) -> u32
+    ensures { λ r. ⌜
+        _≡_ {A = Step}
+        (record { answer = r; counts = now (counts .exit); tables = mesh (now (positions .exit)) (now (points .exit)) (now (edges .exit)) (now (intervals .exit)) (now (faces .exit)); scratch = mesh (now (places .exit)) (now (rows .exit)) (now (halves .exit)) (now (lengths .exit)) (now (quads .exit)) })
+        (stepped (now (counts .entry))
+        (step (mesh (now (positions .entry)) (now (points .entry)) (now (edges .entry)) (now (intervals .entry)) (now (faces .entry)))
+        (countsIn (now (counts .entry))) (now (order .entry))
+        (mesh (now (places .entry)) (now (rows .entry)) (now (halves .entry)) (now (lengths .entry)) (now (quads .entry))))) ⌝ }
+{
+    let c = load_counts(counts);
+    let answer = step(
+        positions,
+        points,
+        edges,
+        intervals,
+        faces,
+        c,
+        order,
+        places,
+        rows,
+        halves,
+        lengths,
+        quads,
+    );
+    store_step(counts, answer)
 }
