@@ -116,6 +116,11 @@ impl Gluing {
         }
     }
 
+    /// Whether no point has but one side: no cutting makes a closed mesh of such a point.
+    fn has_no_tip(&self) -> bool {
+        (0..self.next.len()).all(|side| self.next[self.twin[side]] != side)
+    }
+
     /// Each polygon cut into quadrilaterals about its middle. Side d becomes the four sides of its quadrilateral: from
     /// its start to its middle, to the polygon's middle, to the middle of the side before, to its start.
     fn cut(&self) -> Self {
@@ -165,6 +170,12 @@ fn glued(random: &mut Random) -> Shape {
         sizes[0] += 1;
     }
     let mut gluing = Gluing::random(random, &sizes);
+    for _ in 0..20 {
+        if gluing.has_no_tip() {
+            break;
+        }
+        gluing = Gluing::random(random, &sizes);
+    }
     for _ in 0..2 {
         if gluing.shape().is_closed() {
             break;
