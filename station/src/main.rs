@@ -1,12 +1,18 @@
 //! The library for stations against the original Rust, in one process.
 //!
 //!     station compare [MESHES [SEED]]    generated meshes, after building and after one and two steps
+//!     station fuzz [CASES [SEED]]        random and damaged lists and tables
+//!     station bench [FACES]              times; the Rust is run on meshes of up to so many faces
+//!     station profile [STEPS]            steps of the torus of 64 by 64, for a profiler
 //!     station tampered                   the same with a bit changed in what the library leaves: it must be found
 
+mod bench;
 mod compare;
+mod fuzz;
 mod grounds;
 mod library;
 mod lists;
+mod memory;
 mod names;
 mod numbers;
 mod random;
@@ -17,6 +23,10 @@ mod spoil;
 
 use compare::{Case, Tally, Tamper};
 use std::process::ExitCode;
+use std::sync::Mutex;
+
+#[global_allocator]
+static MEMORY: memory::Counting = memory::Counting;
 
 /// The first case that fails, made as small as it gets, or what was compared.
 fn run(meshes: u64, seed: u64, tamper: Option<Tamper>) -> Result<Tally, (u64, Case, String)> {
@@ -103,15 +113,51 @@ fn tampered() -> ExitCode {
     ExitCode::SUCCESS
 }
 
+fn fuzz(cases: u64, seed: u64) -> ExitCode {
+    match fuzz::run(cases, seed) {
+        Ok(f) => {
+            println!("seed {seed}: {} lists, {} tables", f.lists, f.tables);
+            println!("building answered, 0 for accepted: {}", listed(&f.building));
+            println!("{} audits: {} closed, {} not", f.audits[0] + f.audits[1], f.audits[1], f.audits[0]);
+            println!("{} steps answered: {}", f.steps, listed(&f.answers));
+            println!("every answer is document 01's, every row as its ground promises");
+            ExitCode::SUCCESS
+        }
+        Err((number, what)) => {
+            println!("WRONG in case {number} of seed {seed}: {what}");
+            ExitCode::FAILURE
+        }
+    }
+}
+
+/// Panics of the Rust become lines of the oracle; what was said last is kept, for a panic that is our own.
+static LAST_PANIC: Mutex<String> = Mutex::new(String::new());
+
 fn main() -> ExitCode {
-    oracle::answers::silence_panics();
+    std::panic::set_hook(Box::new(|info| *LAST_PANIC.lock().expect("one thread") = info.to_string()));
+    std::panic::catch_unwind(command).unwrap_or_else(|_| {
+        println!("{}", LAST_PANIC.lock().expect("one thread"));
+        ExitCode::FAILURE
+    })
+}
+
+fn command() -> ExitCode {
     let words: Vec<String> = std::env::args().skip(1).collect();
     let number = |at: usize, otherwise: u64| words.get(at).and_then(|word| word.parse().ok()).unwrap_or(otherwise);
     match words.first().map(String::as_str) {
         Some("compare") => compare(number(1, 20_000), number(2, 1)),
+        Some("fuzz") => fuzz(number(1, 50_000), number(2, 1)),
         Some("tampered") => tampered(),
+        Some("profile") => {
+            bench::profile(number(1, 1) as usize);
+            ExitCode::SUCCESS
+        }
+        Some("bench") => {
+            bench::run(number(1, 100_000) as usize);
+            ExitCode::SUCCESS
+        }
         _ => {
-            eprintln!("usage: station compare [MESHES [SEED]] | tampered");
+            eprintln!("usage: station compare [MESHES [SEED]] | fuzz [CASES [SEED]] | bench [FACES] | profile [STEPS] | tampered");
             ExitCode::from(2)
         }
     }

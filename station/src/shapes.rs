@@ -269,6 +269,15 @@ impl Shape {
         self.points += 1;
     }
 
+    /// The same if both faces stay at 8 points or less.
+    fn put_point_in_small(&mut self, random: &mut Random) {
+        let mut other = self.clone();
+        other.put_point(random);
+        if other.borders.iter().all(|b| b.len() <= 8) {
+            *self = other;
+        }
+    }
+
     /// A face cut in two between two of its points.
     fn put_chord(&mut self, random: &mut Random) {
         let face = random.below(self.borders.len());
@@ -435,5 +444,20 @@ pub fn closed(random: &mut Random) -> Shape {
     if !random.once_in(10) {
         shape.scramble(random);
     }
+    shape
+}
+
+/// A closed surface of about so many faces of 3 to 8 sides, with points of many valences, all numbered at random.
+pub fn extraordinary(random: &mut Random, faces: usize) -> Shape {
+    let n = (3..).find(|n| 2 * n * n >= faces).unwrap_or(3);
+    let mut shape = torus(n, n);
+    for _ in 0..faces {
+        match random.below(4) {
+            0 if shape.borders.len() < faces => shape.put_middle(random),
+            1 => shape.put_chord(random),
+            _ => shape.put_point_in_small(random),
+        }
+    }
+    shape.scramble(random);
     shape
 }

@@ -11,14 +11,15 @@ const NO_INTERVALS: [f64; 5] = [f64::NAN, f64::INFINITY, -1.0, -0.0, -5e-324];
 
 /// The lists with something wrong, as a rule: now and then the change does no harm.
 pub fn lists(random: &mut Random, lists: &mut Lists) {
-    let faces = lists.faces();
-    let places = lists.places();
-    if faces == 0 {
-        return lists.coordinates.push(1.0);
+    let Some(faces) = lists.faces().checked_sub(1) else {
+        return shorten(random, lists);
+    };
+    let face = random.between(0, faces);
+    let (begin, size) = lists.places()[face];
+    if size == 0 || lists.coordinates.is_empty() {
+        return shorten(random, lists);
     }
-    let face = random.below(faces);
-    let (begin, size) = places[face];
-    let entry = begin + random.below(size.max(1)).min(size.saturating_sub(1));
+    let entry = begin + random.below(size);
     match random.below(26) {
         0 => *random_of(random, &mut lists.coordinates) = random.of(&NO_NUMBERS),
         1 => *random_of(random, &mut lists.intervals) = random.of(&NO_INTERVALS),
