@@ -1,0 +1,196 @@
+-- The laws of building from a text: what the reader's answers say of it. Assumes nothing.
+--     too-long, not-too-long what is answered of a text that is too long, or is not
+--     not-text, over-limits  what is answered where the reader finds no text, or one that is over the limits
+--     fits                   the lists hold what was read
+--     first-entries          the first entries of the lists are the lists of the text
+use mathlib.Core.Path.{_≡_, refl, sym, ap, _∙_}
+use mathlib.Core.Bool.{Bool, true, false}
+use mathlib.Core.List.{List}
+use Prim.Native.Nat.{ℕ, _+_, _*_, _≤_}
+use native.Mathlib.Omega.{arith}
+use lib.Dec.{leb}
+use lib.ListN.{length, take, drop}
+use lib.Seq.{sets, length-sets, sets-eq, take-append-seam}
+use borrow.Author.Tests.{leb-true, le-leb}
+use Rattle.tables.specs.Mesh.{Mesh}
+use Rattle.text_numbers.specs.Form.{Found, found, none}
+use Rattle.text_numbers.proofs.Laws.{and-both}
+use Rattle.mesh_text.specs.Text.{text, Mesh as TextMesh}
+use Rattle.mesh_text.specs.Reading.{coordinates, lengths, listedPoints, intervals, counts, Lists, filled, within, Answer, readInto}
+use Rattle.mesh_text.specs.declared.Counts.{Counts}
+use Rattle.mesh_text.specs.declared.Reading.{Reading}
+use Rattle.mesh_text.specs.declared.Reading.the-variants as Reading
+use Rattle.mesh_text.proofs.Read.{ReadText, read-means, length-coordinates, length-lengths, length-intervals}
+use Rattle.built_meshes.specs.Lists.{countsFit}
+use Rattle.built_meshes.specs.Building.{build, Outcome as ListsOutcome}
+use Rattle.built_meshes.specs.declared.Ground.the-variants.{OverCounts}
+use Rattle.built_meshes.specs.declared.Built.{Built}
+use Rattle.built_meshes.proofs.Begin.{counts-is}
+use Rattle.building_tests.specs.Lent.{lists, limitsOf}
+use Rattle.building_tests.specs.declared.Bounds.{Bounds}
+use Rattle.building_tests.specs.declared.Bounds.the-variants.{General, Refine}
+use Rattle.text_building.specs.TextBuilding.{tooLong, listsOf, told, Outcome, toldOutcome, ofForm, buildTextIf, buildText}
+use Rattle.text_building.specs.Parts.{sizesOf}
+use Rattle.text_building.specs.declared.TextBuilt.{TextBuilt}
+use Rattle.text_building.specs.declared.TextBuilt.the-variants.{NotText, Refused}
+
+-- the limits of both kinds are within the general ones
+few : (b : Bounds) → (limitsOf b .points ≤ 4096) × (limitsOf b .faces ≤ 4096) × (limitsOf b .listed ≤ 16384)
+few General = omega arith
+few Refine = omega arith
+
+-- counts within the limits are within lists that have room for the general ones
+within-room : (b : Bounds) (c : Counts) (xs ls ps ds : ℕ) → c .points ≤ limitsOf b .points → c .faces ≤ limitsOf b .faces → c .listed ≤ limitsOf b .listed
+    → 12288 ≤ xs → 16384 ≤ ls → 16384 ≤ ps → 16384 ≤ ds → within c (sizesOf b) xs ls ps ds ≡ true
+unfolding within
+within-room b c xs ls ps ds hp hf hl rx rl rp rd =
+    let (kp, kf, kl) = few b in
+    rw (
+      le-leb (c .points) (limitsOf b .points) hp,
+      le-leb (c .faces) (limitsOf b .faces) hf,
+      le-leb (c .listed) (limitsOf b .listed) hl,
+      le-leb (c .listed) 4294967295 (omega arith),
+      le-leb (3 * c .points) xs (omega arith),
+      le-leb (4 * c .faces) ls (omega arith),
+      le-leb (c .listed) ps (omega arith),
+      le-leb (c .listed) ds (omega arith),
+    )
+
+-- a text over the limits has lists that are over them
+over-counts : (b : Bounds) (s : List ℕ) (t : TextMesh) (n : ℕ) → text s ≡ found t n → (xs ls ps ds : ℕ) → 12288 ≤ xs → 16384 ≤ ls → 16384 ≤ ps → 16384 ≤ ds
+    → within (counts t) (sizesOf b) xs ls ps ds ≡ false → countsFit (limitsOf b) (listsOf t) ≡ false
+over-counts b s t n e xs ls ps ds rx rl rp rd w = go (countsFit (limitsOf b) (listsOf t)) refl
+  where
+    go : (f : Bool) → countsFit (limitsOf b) (listsOf t) ≡ f → f ≡ false
+    go true h =
+        let k = counts-is (limitsOf b) (listsOf t) h in
+        let lc = length-coordinates s t n e in
+        let ll = length-lengths s t n e in
+        sym (within-room b (counts t) xs ls ps ds (omega (arith, k .points-few)) (omega (arith, k .faces-few)) (k .listed-few) rx rl rp rd) ∙ w
+    go false h = refl
+
+-- the lists hold as much as the counts say
+pub record Held (c : Counts) (l : Lists) : Type 0 where
+  pub coordinates : 3 * c .points ≤ length (l .coordinates)
+  pub lengths : 4 * c .faces ≤ length (l .lengths)
+  pub listed : c .listed ≤ length (l .listed)
+  pub intervals : c .listed ≤ length (l .intervals)
+
+held : (c limits : Counts) (l : Lists) → within c limits (length (l .coordinates)) (length (l .lengths)) (length (l .listed)) (length (l .intervals)) ≡ true → Held c l
+unfolding within
+held c limits l e =
+    let e1 = and-both (leb (c .points) (limits .points)) _ e .1 in
+    let e2 = and-both (leb (c .faces) (limits .faces)) _ e1 .1 in
+    let e3 = and-both (leb (c .listed) (limits .listed)) _ e2 .1 in
+    let e4 = and-both (leb (c .listed) 4294967295) _ e3 .1 in
+    let (ec, e5) = and-both (leb (3 * c .points) (length (l .coordinates))) _ e4 in
+    let (el, e6) = and-both (leb (4 * c .faces) (length (l .lengths))) _ e5 in
+    let (ep, ed) = and-both (leb (c .listed) (length (l .listed))) _ e6 in
+    record { coordinates = leb-true _ _ ec; lengths = leb-true _ _ el; listed = leb-true _ _ ep; intervals = leb-true _ _ ed }
+
+take-sets : {A : Type 0} (xs cs : List A) (n : ℕ) → length cs ≡ n → n ≤ length xs → take n (sets xs 0 cs) ≡ cs
+take-sets xs cs n e h =
+    rw (sets-eq cs xs 0 (omega arith), ← e) (take-append-seam cs (drop (0 + length cs) xs))
+
+-- the answer as one of building from a text, beside the tables
+pub same-told : {a : TextBuilt} {r : Built} {m : Mesh} {o : ListsOutcome} → a ≡ told r → record { answer = r; tables = m } ≡ o → record { answer = a; tables = m } ≡ toldOutcome o
+same-told {a} {r} {m} e h =
+    let f : (x : ListsOutcome) → Outcome = toldOutcome in
+    (λ i. record { answer = e i; tables = m }) ∙ ap f h
+
+module _ (b : Bounds) (s : List ℕ) (l : Lists) (m : Mesh) {r : Reading} {l′ : Lists} {limits : Counts} (eb : limits ≡ sizesOf b)
+    (e : record { reading = r; lists = l′ } ≡ readInto s limits l) where
+  answered : r ≡ readInto s (sizesOf b) l .reading
+  answered = ap (λ (x : Answer). x .reading) e ∙ ap (λ (v : Counts). readInto s v l .reading) eb
+
+  no-form : r ≡ Reading.NotText → text s ≡ none
+  unfolding readInto
+  no-form h = go (text s) refl
+    where
+      test : (t : TextMesh) (n : ℕ) → text s ≡ found t n → (w : Bool)
+          → within (counts t) (sizesOf b) (length (l .coordinates)) (length (l .lengths)) (length (l .listed)) (length (l .intervals)) ≡ w → found t n ≡ none
+      test t n et true ew =
+          let e′ = rw (et, ew) at answered in
+          cc
+      test t n et false ew =
+          let e′ = rw (et, ew) at answered in
+          cc
+
+      go : (x : Found TextMesh) → text s ≡ x → x ≡ none
+      go (found t n) et = test t n et _ refl
+      go none et = refl
+
+  pub not-text : r ≡ Reading.NotText → record { answer = NotText; tables = m } ≡ buildTextIf false b s m
+  unfolding buildTextIf
+  not-text h = rw (no-form h)
+
+  module _ (rx : 12288 ≤ length (l .coordinates)) (rl : 16384 ≤ length (l .lengths)) (rp : 16384 ≤ length (l .listed)) (rd : 16384 ≤ length (l .intervals)) where
+    pub over-limits : r ≡ Reading.OverLimits → record { answer = Refused OverCounts; tables = m } ≡ buildTextIf false b s m
+    unfolding readInto buildTextIf
+    over-limits h = go (text s) refl
+      where
+        test : (t : TextMesh) (n : ℕ) → text s ≡ found t n → (w : Bool)
+            → within (counts t) (sizesOf b) (length (l .coordinates)) (length (l .lengths)) (length (l .listed)) (length (l .intervals)) ≡ w
+            → record { answer = Refused OverCounts; tables = m } ≡ ofForm b m (text s)
+        test t n et true ew =
+            let e′ = rw (et, ew) at answered in
+            let z : _≡_ {A = ℕ} 0 1 = cc in
+            absurd (omega arith)
+        test t n et false ew = rw (et, over-counts b s t n et _ _ _ _ rx rl rp rd ew)
+
+        go : (x : Found TextMesh) → text s ≡ x → record { answer = Refused OverCounts; tables = m } ≡ ofForm b m (text s)
+        go (found t n) et = test t n et _ refl
+        go none et =
+            let e′ = rw et at answered in
+            let z : _≡_ {A = ℕ} 0 1 = cc in
+            absurd (omega arith)
+
+  module _ {c : Counts} (ec : r ≡ Reading.Read c) where
+    means : ReadText s (sizesOf b) l c
+    means = read-means s (sizesOf b) l c (sym answered ∙ ec)
+
+    read-lists : l′ ≡ filled (means .what) l
+    read-lists = ap (λ (v : Answer). v .lists) e ∙ ap (λ (v : Counts). readInto s v l .lists) eb ∙ means .lists
+
+    before : Held c l
+    before = held c (sizesOf b) l (means .fits)
+
+    pub fits : Held c l′
+    fits =
+        let t = means .what in
+        let h = before in
+        let lc = length-sets (l .coordinates) 0 (coordinates t) in
+        let ll = length-sets (l .lengths) 0 (lengths t) in
+        let lp = length-sets (l .listed) 0 (listedPoints t) in
+        let ld = length-sets (l .intervals) 0 (intervals t) in
+        rw read-lists (record { coordinates = omega (arith, h .coordinates); lengths = omega (arith, h .lengths); listed = omega (arith, h .listed); intervals = omega (arith, h .intervals) })
+
+    pub first-entries : (o : Outcome) → o ≡ toldOutcome (build (limitsOf b)
+        (lists (take (3 * c .points) (l′ .coordinates)) (take (4 * c .faces) (l′ .lengths)) (take (c .listed) (l′ .listed)) (take (c .listed) (l′ .intervals))) m)
+        → o ≡ buildTextIf false b s m
+    unfolding buildTextIf
+    first-entries o eo =
+        let x = means in
+        let t = x .what in
+        let h = before in
+        let ep : length (t .points) ≡ c .points = ap (λ (v : Counts). v .points) (x .counted) in
+        let ef : length (t .faces) ≡ c .faces = ap (λ (v : Counts). v .faces) (x .counted) in
+        let en : length (listedPoints t) ≡ c .listed = ap (λ (v : Counts). v .listed) (x .counted) in
+        let lc = length-coordinates s t (x .place) (x .form) in
+        let ll = length-lengths s t (x .place) (x .form) in
+        let li = length-intervals t in
+        let el : l′ ≡ filled t l = read-lists in
+        let tc = ap (λ (v : Lists). take (3 * c .points) (v .coordinates)) el ∙ take-sets (l .coordinates) (coordinates t) (3 * c .points) (omega arith) (h .coordinates) in
+        let tl = ap (λ (v : Lists). take (4 * c .faces) (v .lengths)) el ∙ take-sets (l .lengths) (lengths t) (4 * c .faces) (omega arith) (h .lengths) in
+        let tp = ap (λ (v : Lists). take (c .listed) (v .listed)) el ∙ take-sets (l .listed) (listedPoints t) (c .listed) (omega arith) (h .listed) in
+        let td = ap (λ (v : Lists). take (c .listed) (v .intervals)) el ∙ take-sets (l .intervals) (intervals t) (c .listed) (omega arith) (h .intervals) in
+        rw (x .form) (eo ∙ λ i. toldOutcome (build (limitsOf b) (lists (tc i) (tl i) (tp i) (td i)) m))
+
+module _ (b : Bounds) (s : List ℕ) (m : Mesh) {t : Bool} (e : t ≡ tooLong b (length s)) where
+  pub too-long : t ≡ true → record { answer = Refused OverCounts; tables = m } ≡ buildText b s m
+  unfolding buildText
+  too-long h = rw (sym e ∙ h)
+
+  pub not-too-long : t ≡ false → {o : Outcome} → o ≡ buildTextIf false b s m → o ≡ buildText b s m
+  unfolding buildText
+  not-too-long h eo = rw (sym e ∙ h) eo

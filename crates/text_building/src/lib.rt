@@ -1,0 +1,189 @@
+// A mesh built from a text of any bytes in the lent tables, in one call (document 01, "Mesh text" and grounds 1 to 22).
+// Not here: the grammar and the reader (`mesh_text`), the building from lists (`building`).
+// Contract: `build_text`. Definitions: `specs/TextBuilding.antt`. Claims: `specs/Claims.antt`, proved in `proofs/Theorem.antt`.
+// The four lists of a text are local arrays of the sizes that the general limits allow, below 400 KiB of stack.
+ghost use mathlib.Core.Path.{_≡_};
+ghost use mathlib.Core.Bool.{false};
+ghost use Prim.Native.Nat.{_*_, _≤_};
+ghost use lib.ListN.{length, take};
+ghost use Rattle.edge_search.specs.Places.{mesh};
+ghost use Rattle.building_tests.specs.Lent.{lists, limitsOf};
+ghost use Rattle.built_meshes.specs.Building.{build};
+ghost use Rattle.text_building.specs.TextBuilding.{tooLong, told, Outcome, toldOutcome, buildTextIf, buildText};
+ghost use Rattle.text_building.specs.Parts.{sizesOf};
+use building::build;
+use building_tests::Bounds;
+use built_meshes::Built;
+use built_meshes::Ground;
+use mesh_text::Reading;
+use mesh_text::read_text;
+use tables::Counts;
+
+// What building from a text answers: how many points, edges and faces the mesh has, or why there is none.
+pub enum TextBuilt {
+    Accepted(Counts),
+    // 1: not of the form
+    NotText,
+    // 2 and later
+    Refused(Ground),
+}
+
+// Whether a text of n bytes is over the limit of bytes, which `refine` alone has.
+fn is_too_long(bounds: Bounds, n: usize) -> bool
+    ensures { λ r. ⌜ r ≡ tooLong bounds n ⌝ }
+{
+    match bounds {
+        Bounds::General => false,
+        Bounds::Refine => 16384 < n,
+    }
+}
+
+// The most points, faces and listed points, as the reader takes them.
+fn sizes_of(bounds: Bounds) -> mesh_text::Counts
+    ensures { λ r. ⌜ r ≡ sizesOf bounds ⌝ }
+{
+    let most = bounds.most();
+    mesh_text::Counts {
+        points: most.points,
+        faces: most.faces,
+        listed: most.listed,
+    }
+}
+
+// The answer of building from lists, as one of building from a text.
+fn told(built: Built) -> TextBuilt
+    ensures { λ r. ⌜ r ≡ told built ⌝ }
+{
+    match built {
+        Built::Accepted(c) => TextBuilt::Accepted(c),
+        Built::Refused(g) => TextBuilt::Refused(g),
+    }
+}
+
+// Builds from the first entries of the lists: 3 for each of p points, 4 for each of f faces, n listed points and intervals.
+fn build_first(
+    coordinates: &[f64],
+    sides: &[u32],
+    listed: &[u32],
+    beside: &[f64],
+    p: usize,
+    f: usize,
+    n: usize,
+    positions: &mut [f64],
+    points: &mut [u32],
+    edges: &mut [u32],
+    intervals: &mut [f64],
+    faces: &mut [u32],
+    bounds: Bounds,
+) -> TextBuilt
+    requires { ⌜ 3 * p ≤ length (now coordinates) ⌝ }
+    requires { ⌜ 4 * f ≤ length (now sides) ⌝ }
+    requires { ⌜ n ≤ length (now listed) ⌝ }
+    requires { ⌜ n ≤ length (now beside) ⌝ }
+    ensures { λ r. ⌜
+        _≡_ {A = Outcome}
+        (record { answer = r; tables = mesh (now (positions .exit)) (now (points .exit)) (now (edges .exit)) (now (intervals .exit)) (now (faces .exit)) })
+        (toldOutcome
+        (build (limitsOf bounds)
+        (lists (take (3 * p) (now (coordinates .entry))) (take (4 * f) (now (sides .entry))) (take n (now (listed .entry))) (take n (now (beside .entry))))
+        (mesh (now (positions .entry)) (now (points .entry)) (now (edges .entry)) (now (intervals .entry)) (now (faces .entry))))) ⌝ }
+{
+    let a = 3 * p;
+    let b = 4 * f;
+    let built = build(
+        &coordinates[..a],
+        &sides[..b],
+        &listed[..n],
+        &beside[..n],
+        positions,
+        points,
+        edges,
+        intervals,
+        faces,
+        bounds,
+    );
+    told(built)
+}
+
+// Reads the text into the lists, which have room for the general limits, and builds from what was read.
+fn read_and_build(
+    text: &[u8],
+    bounds: Bounds,
+    coordinates: &mut [f64],
+    sides: &mut [u32],
+    listed: &mut [u32],
+    beside: &mut [f64],
+    positions: &mut [f64],
+    points: &mut [u32],
+    edges: &mut [u32],
+    intervals: &mut [f64],
+    faces: &mut [u32],
+) -> TextBuilt
+    requires { ⌜ 12288 ≤ length (now coordinates) ⌝ }
+    requires { ⌜ 16384 ≤ length (now sides) ⌝ }
+    requires { ⌜ 16384 ≤ length (now listed) ⌝ }
+    requires { ⌜ 16384 ≤ length (now beside) ⌝ }
+    ensures { λ r. ⌜
+        _≡_ {A = Outcome}
+        (record { answer = r; tables = mesh (now (positions .exit)) (now (points .exit)) (now (edges .exit)) (now (intervals .exit)) (now (faces .exit)) })
+        (buildTextIf false bounds (now (text .entry))
+        (mesh (now (positions .entry)) (now (points .entry)) (now (edges .entry)) (now (intervals .entry)) (now (faces .entry)))) ⌝ }
+{
+    match read_text(text, sizes_of(bounds), coordinates, sides, listed, beside) {
+        Reading::Read(c) => build_first(
+            coordinates,
+            sides,
+            listed,
+            beside,
+            c.points,
+            c.faces,
+            c.listed,
+            positions,
+            points,
+            edges,
+            intervals,
+            faces,
+            bounds,
+        ),
+        Reading::NotText => TextBuilt::NotText,
+        Reading::OverLimits => TextBuilt::Refused(Ground::OverCounts),
+    }
+}
+
+// Builds a mesh from a text of any bytes in the lent tables, within the bounds.
+pub fn build_text(
+    text: &[u8],
+    bounds: Bounds,
+    positions: &mut [f64],
+    points: &mut [u32],
+    edges: &mut [u32],
+    intervals: &mut [f64],
+    faces: &mut [u32],
+) -> TextBuilt
+    ensures { λ r. ⌜
+        _≡_ {A = Outcome}
+        (record { answer = r; tables = mesh (now (positions .exit)) (now (points .exit)) (now (edges .exit)) (now (intervals .exit)) (now (faces .exit)) })
+        (buildText bounds (now (text .entry))
+        (mesh (now (positions .entry)) (now (points .entry)) (now (edges .entry)) (now (intervals .entry)) (now (faces .entry)))) ⌝ }
+{
+    if is_too_long(bounds, text.len()) {
+        return TextBuilt::Refused(Ground::OverCounts);
+    }
+    let mut coordinates = [0.0; 12288];
+    let mut sides = [0u32; 16384];
+    let mut listed = [0u32; 16384];
+    let mut beside = [0.0; 16384];
+    read_and_build(
+        text,
+        bounds,
+        &mut coordinates,
+        &mut sides,
+        &mut listed,
+        &mut beside,
+        positions,
+        points,
+        edges,
+        intervals,
+        faces,
+    )
+}
