@@ -1,65 +1,56 @@
--- What the C functions answer and leave.
+-- What the C functions answer and leave. An answer of the library has its numbers (`numbersOf` of `built_meshes`, `text_building`
+-- and `steps`): three are the counts of an accepted mesh, one is that of a ground.
 --     countsIn xs             the counts that stand in an array of three words: points, edges, faces
---     written xs c            the array xs with the counts c written into it
+--     answerOf ns             the one number that is answered: 0 for counts, else that of the ground
+--     countsAfter xs ns       the array xs of counts afterwards: it is written only where the answer is 0
 --     Building                the answer of building, the array of counts and the tables afterwards
---     built xs o              the outcome o of building, if the array of counts was xs
+--     built xs o              the outcome o of building from lists, if the array of counts was xs
+--     textBuilt xs o          the outcome o of building from a text
 --     audited m c             0 if the tables m are a closed mesh with the counts c, else 30
---     numbered a              document 01's number of a step's answer, 0 for an accepted step
---     countsAfter xs a        the array of counts after a step that answers a, if it was xs
 --     Step                    the answer of a step, the array of counts, the tables and the scratch tables afterwards
---     stepped xs o            the outcome o of a step, if the array of counts was xs
--- An array of counts is written only where the answer is 0.
+--     stepped xs o            the outcome o of a step
 use mathlib.Core.Bool.{cond}
 use mathlib.Core.List.{List, [], _∷_}
-use mathlib.Core.Option.{Option, none, some}
 use Prim.Native.Nat.{ℕ}
 use lib.ListN.{getD}
 use Rattle.tables.specs.Mesh.{Mesh}
 use Rattle.tables.specs.Rows.{putRow}
 use Rattle.tables.specs.declared.Counts.{Counts}
 use Rattle.audited_meshes.specs.Audit.{audit}
-use Rattle.built_meshes.specs.Answers.{numberOf}
+use Rattle.built_meshes.specs.Answers as building
 use Rattle.built_meshes.specs.Building as building
-use Rattle.built_meshes.specs.declared.Built as declared
-use Rattle.built_meshes.specs.declared.Built.the-variants.{Accepted, Refused}
+use Rattle.text_building.specs.TextBuilding as text
 use Rattle.steps.specs.Step as steps
-use Rattle.steps.specs.declared.Stepped.{Stepped}
-use Rattle.steps.specs.declared.Stepped.the-variants.{Refined, NotClosed, NotEachFaceOnce, NoRoom, NotFinite}
 
 abbrev pub countsIn : List ℕ → Counts
 countsIn xs = record { points = getD xs 0 0; edges = getD xs 1 0; faces = getD xs 2 0 }
 
-abbrev pub written : List ℕ → Counts → List ℕ
-written xs c = putRow xs 0 (c .points ∷ c .edges ∷ c .faces ∷ [])
+abbrev pub answerOf : List ℕ → ℕ
+answerOf [] = 0
+answerOf (g ∷ []) = g
+answerOf (p ∷ e ∷ ns) = 0
+
+abbrev pub countsAfter : List ℕ → List ℕ → List ℕ
+countsAfter xs [] = xs
+countsAfter xs (g ∷ []) = xs
+countsAfter xs (p ∷ e ∷ ns) = putRow xs 0 (p ∷ e ∷ ns)
 
 pub record Building : Type 0 where
   pub answer : ℕ
   pub counts : List ℕ
   pub tables : Mesh
 
-abbrev pub builtAs : List ℕ → declared.Built → Mesh → Building
-builtAs xs (Accepted c) m = record { answer = 0; counts = written xs c; tables = m }
-builtAs xs (Refused g) m = record { answer = numberOf g; counts = xs; tables = m }
+abbrev pub buildingOf : List ℕ → List ℕ → Mesh → Building
+buildingOf xs ns m = record { answer = answerOf ns; counts = countsAfter xs ns; tables = m }
 
 abbrev pub built : List ℕ → building.Outcome → Building
-built xs o = builtAs xs (o .answer) (o .tables)
+built xs o = buildingOf xs (building.numbersOf (o .answer)) (o .tables)
+
+abbrev pub textBuilt : List ℕ → text.Outcome → Building
+textBuilt xs o = buildingOf xs (text.numbersOf (o .answer)) (o .tables)
 
 abbrev pub audited : Mesh → Counts → ℕ
 audited m c = cond (audit m (c .points) (c .edges) (c .faces)) 0 30
-
-abbrev pub orZero : Option ℕ → ℕ
-orZero none = 0
-orZero (some g) = g
-
-abbrev pub numbered : Stepped → ℕ
-numbered a = orZero (steps.numberOf a)
-
-abbrev pub countsAfter : List ℕ → Stepped → List ℕ
-countsAfter xs (Refined c) = written xs c
-countsAfter xs NotClosed = xs
-countsAfter xs NotEachFaceOnce = xs
-countsAfter xs NoRoom = xs
-countsAfter xs NotFinite = xs
 
 pub record Step : Type 0 where
   pub answer : ℕ
@@ -70,8 +61,8 @@ pub record Step : Type 0 where
 abbrev pub stepped : List ℕ → steps.Outcome → Step
 stepped xs o =
     record {
-      answer = numbered (o .answer);
-      counts = countsAfter xs (o .answer);
+      answer = answerOf (steps.numbersOf (o .answer));
+      counts = countsAfter xs (steps.numbersOf (o .answer));
       tables = o .tables;
       scratch = o .scratch;
     }

@@ -1,45 +1,30 @@
 // The library for stations: building, the audit and the step as C functions on pointers and lengths (station/lavyngo.h declares
 // them). Every answer is document 01's number: 0 for what is accepted, else that of the ground. Counts stand in an array of three
 // that the caller lends: points, edges, faces.
-// Not here: what the functions do (`building`, `audit`, `refining`).
-// Contracts: `lavyngo_build`, `lavyngo_audit`, `lavyngo_step`. Definitions: `specs/Station.antt`. Laws: `proofs/Laws.antt`.
+// Not here: what the functions do (`building`, `text_building`, `audit`, `refining`).
+// Contracts: `lavyngo_build`, `lavyngo_build_text`, `lavyngo_audit`, `lavyngo_step`. Definitions: `specs/Station.antt`. Laws: `proofs/Laws.antt`.
 ghost use mathlib.Core.Path.{_≡_};
-ghost use Rattle.built_meshes.specs.Answers.{numberOf};
 ghost use Rattle.built_meshes.specs.Building.{build};
 ghost use Rattle.built_meshes.specs.Lists.{general};
 ghost use Rattle.building_tests.specs.Lent.{lists};
+ghost use Rattle.building_tests.specs.declared.Bounds.the-variants.{General};
+ghost use Rattle.text_building.specs.TextBuilding.{buildText};
 ghost use Rattle.edge_search.specs.Places.{mesh};
-ghost use Rattle.audited_meshes.specs.Audit.{audit};
-ghost use Rattle.steps.specs.Step.{step};
-ghost use Rattle.station.specs.Station.{Building, built, written, countsIn, audited, numbered, countsAfter, Step, stepped};
+ghost use Rattle.steps.specs.Step.{numbersOf, step};
+ghost use Rattle.station.specs.Station.{Building, built, textBuilt, answerOf, countsAfter, countsIn, audited, Step, stepped};
+ghost use Rattle.tables.specs.Rows.{putRow};
+ghost use mathlib.Core.List.{[], _∷_};
+use answer_numbers::ground_number;
+use answer_numbers::step_number;
 use audit::audit;
 use building::build;
 use building_tests::Bounds;
 use built_meshes::Built;
-use built_meshes::Ground;
 use refining::step;
 use steps::Stepped;
 use tables::Counts;
-
-// Document 01's number of a ground of building.
-fn number_of(g: Ground) -> u32
-    ensures { λ r. ⌜ r ≡ numberOf g ⌝ }
-{
-    match g {
-        Ground::OverCounts => 2,
-        Ground::UnfitNumber => 3,
-        Ground::FewRows => 4,
-        Ground::FaceSize => 10,
-        Ground::OutOfRange => 11,
-        Ground::PointTwice => 12,
-        Ground::NonRectangularFace => 13,
-        Ground::EdgeTripleFace => 14,
-        Ground::SameWay => 15,
-        Ground::MissingFace => 20,
-        Ground::NoEdge => 21,
-        Ground::MissedEdge => 22,
-    }
-}
+use text_building::TextBuilt;
+use text_building::build_text;
 
 // The counts that stand in an array.
 fn load_counts(counts: &[usize; 3]) -> Counts
@@ -54,7 +39,7 @@ fn load_counts(counts: &[usize; 3]) -> Counts
 
 // Stores counts in an array.
 fn store_counts(counts: &mut [usize; 3], c: Counts)
-    ensures { λ _. ⌜ now (counts .exit) ≡ written (now (counts .entry)) c ⌝ }
+    ensures { λ _. ⌜ now (counts .exit) ≡ putRow (now (counts .entry)) 0 (c .points ∷ c .edges ∷ c .faces ∷ []) ⌝ }
 {
     counts[0] = c.points;
     counts[1] = c.edges;
@@ -99,7 +84,44 @@ pub extern "C" fn lavyngo_build(
             store_counts(counts, c);
             0
         }
-        Built::Refused(g) => number_of(g),
+        Built::Refused(g) => ground_number(g),
+    }
+}
+
+// Builds a mesh from a text in the lent tables. The counts are written if it is accepted.
+#[no_mangle]
+pub extern "C" fn lavyngo_build_text(
+    text: &[u8],
+    positions: &mut [f64],
+    points: &mut [u32],
+    edges: &mut [u32],
+    intervals: &mut [f64],
+    faces: &mut [u32],
+    counts: &mut [usize; 3],
+) -> u32
+    ensures { λ r. ⌜
+        _≡_ {A = Building}
+        (record { answer = r; counts = now (counts .exit); tables = mesh (now (positions .exit)) (now (points .exit)) (now (edges .exit)) (now (intervals .exit)) (now (faces .exit)) })
+        (textBuilt (now (counts .entry))
+        (buildText General (now (text .entry))
+        (mesh (now (positions .entry)) (now (points .entry)) (now (edges .entry)) (now (intervals .entry)) (now (faces .entry))))) ⌝ }
+{
+    let answer = build_text(
+        text,
+        Bounds::General,
+        positions,
+        points,
+        edges,
+        intervals,
+        faces,
+    );
+    match answer {
+        TextBuilt::Accepted(c) => {
+            store_counts(counts, c);
+            0
+        }
+        TextBuilt::NotText => 1,
+        TextBuilt::Refused(g) => ground_number(g),
     }
 }
 
@@ -133,20 +155,16 @@ pub extern "C" fn lavyngo_audit(
     }
 }
 
-// Document 01's number of a step's answer. The counts are written if the step is accepted.
-fn store_step(counts: &mut [usize; 3], answer: Stepped) -> u32
-    ensures { λ r. ⌜ r ≡ numbered answer ⌝ }
-    ensures { λ _. ⌜ now (counts .exit) ≡ countsAfter (now (counts .entry)) answer ⌝ }
+// Stores the counts after a step, if it is accepted.
+fn store_refined(counts: &mut [usize; 3], answer: Stepped)
+    ensures { λ _. ⌜ now (counts .exit) ≡ countsAfter (now (counts .entry)) (numbersOf answer) ⌝ }
 {
     match answer {
-        Stepped::Refined(c) => {
-            store_counts(counts, c);
-            0
-        }
-        Stepped::NotClosed => 30,
-        Stepped::NotEachFaceOnce => 31,
-        Stepped::NoRoom => 32,
-        Stepped::NotFinite => 33,
+        Stepped::Refined(c) => store_counts(counts, c),
+        Stepped::NotClosed => {}
+        Stepped::NotEachFaceOnce => {}
+        Stepped::NoRoom => {}
+        Stepped::NotFinite => {}
     }
 }
 
@@ -191,5 +209,6 @@ pub extern "C" fn lavyngo_step(
         lengths,
         quads,
     );
-    store_step(counts, answer)
+    store_refined(counts, answer);
+    step_number(answer)
 }
