@@ -32,6 +32,8 @@ pub struct Case {
 #[derive(Default)]
 pub struct Tally {
     pub meshes: u64,
+    /// How many of them were also built from their texts.
+    pub texts: u64,
     pub accepted: u64,
     pub refused: BTreeMap<u32, u64>,
     /// Refusals that were met by the Rust's own error.
@@ -140,6 +142,13 @@ pub fn build(case: &Case, tally: &mut Tally) -> Result<Option<(Tables, Counts)>,
     let expected = grounds::building(lists, tables.room());
     let answer = library::build(lists, &mut tables, &mut counts);
     demand(answer == expected, || format!("building answers {answer}, document 01 says {expected}"))?;
+    if let Some(text) = lists.text() {
+        let (mut read, mut read_counts) = (lent(case), untold);
+        let answer = library::build_text(text.as_bytes(), &mut read, &mut read_counts);
+        let same = answer == expected && read.same(&tables) && read_counts == counts;
+        demand(same, || format!("building from the text answers {answer}, or leaves other rows than from the lists"))?;
+        tally.texts += 1;
+    }
     tally.meshes += 1;
     let room = Counts { points: lists.points(), edges: lists.listed.len(), faces: lists.faces() };
     if expected == 0 {

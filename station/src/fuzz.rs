@@ -1,4 +1,4 @@
-//! Random and damaged lists and tables through the library. Each answer is the one that document 01 gives, and every row of
+//! Random and damaged lists, texts and tables through the library. Each answer is the one that document 01 gives, and every row of
 //! every table is what its ground promises.
 
 use crate::compare::{self, Case, Tally};
@@ -13,10 +13,12 @@ use std::collections::BTreeMap;
 #[derive(Default)]
 pub struct Fuzzed {
     pub lists: u64,
+    pub texts: u64,
     pub tables: u64,
     pub steps: u64,
-    /// How often each answer was given, by building and by the step.
+    /// How often each answer was given: by building from lists, from texts, and by the step.
     pub building: BTreeMap<u32, u64>,
+    pub reading: BTreeMap<u32, u64>,
     pub answers: BTreeMap<u32, u64>,
     pub audits: [u64; 2],
 }
@@ -192,6 +194,45 @@ fn damaged(random: &mut Random, fuzzed: &mut Fuzzed) -> Result<(), String> {
     through(tables, words, &order, scratch, fuzzed)
 }
 
+/// A text of any bytes, or one of a mesh with damage, through building. The oracle's reader says what is of the form.
+fn text(random: &mut Random, fuzzed: &mut Fuzzed) -> Result<(), String> {
+    let mut bytes: Vec<u8> = match random.below(8) {
+        0 => (0..random.below(60)).map(|_| random.word() as u8).collect(),
+        1 => (0..random.below(90)).map(|_| random.of(b"[] \n01af[mesh 1]\n[end]\n[point [face ")).collect(),
+        2 => any_lists(random).text().unwrap_or_default().into_bytes(),
+        _ => {
+            let shape = shapes::closed(random);
+            numbers::numbered(random, &shape).text().unwrap_or_default().into_bytes()
+        }
+    };
+    if !random.once_in(8) {
+        spoil::text(random, &mut bytes);
+    }
+    let lists = oracle::text::read(&bytes).map(|mesh| Lists::of_mesh(&mesh));
+    let listed = lists.clone().unwrap_or_default();
+    let room = Counts { points: listed.points(), edges: listed.listed.len(), faces: listed.faces() };
+    let mut tables = Tables::patterned(room, random.below(9));
+    if random.once_in(20) {
+        tables.edges.truncate(tables.edges.len() / 2);
+    }
+    let expected = lists.map_or(1, |lists| grounds::building(&lists, tables.room()));
+    let before = tables.clone();
+    let untold = [9, 8, 7];
+    let mut words = untold;
+    let answer = library::build_text(&bytes, &mut tables, &mut words);
+    demand(answer == expected, || {
+        format!("building answers {answer}, document 01 says {expected}, to the text\n{}", String::from_utf8_lossy(&bytes))
+    })?;
+    fuzzed.texts += 1;
+    *fuzzed.reading.entry(answer).or_default() += 1;
+    let left = match answer {
+        0 => library::audit(&tables, words) == 0 && tables.same_beyond(room, &before),
+        1..=4 => tables.same(&before) && words == untold,
+        _ => tables.is_zero(room) && tables.same_beyond(room, &before) && words == untold,
+    };
+    demand(left, || format!("building from a text answers {answer} and leaves other rows than that ground promises"))
+}
+
 /// One case of each kind.
 fn case(random: &mut Random, fuzzed: &mut Fuzzed) -> Result<(), String> {
     let lists = any_lists(random);
@@ -204,6 +245,7 @@ fn case(random: &mut Random, fuzzed: &mut Fuzzed) -> Result<(), String> {
     fuzzed.lists += 1;
     *fuzzed.building.entry(tally.refused.keys().next().copied().unwrap_or(0)).or_default() += 1;
 
+    text(random, fuzzed)?;
     let (tables, words) = any_tables(random);
     let order_length = random.below(6);
     let order = words_below(random, order_length);

@@ -12,6 +12,12 @@ unsafe extern "C" {
         edges: *mut u32, edges_length: usize, intervals: *mut f64, intervals_length: usize,
         faces: *mut u32, faces_length: usize, counts: *mut [usize; 3],
     ) -> u32;
+    fn lavyngo_build_text(
+        text: *const u8, text_length: usize,
+        positions: *mut f64, positions_length: usize, points: *mut u32, points_length: usize,
+        edges: *mut u32, edges_length: usize, intervals: *mut f64, intervals_length: usize,
+        faces: *mut u32, faces_length: usize, counts: *mut [usize; 3],
+    ) -> u32;
     fn lavyngo_audit(
         positions: *const f64, positions_length: usize, points: *const u32, points_length: usize,
         edges: *const u32, edges_length: usize, intervals: *const f64, intervals_length: usize,
@@ -179,6 +185,19 @@ pub fn build(lists: &Lists, tables: &mut Tables, counts: &mut [usize; 3]) -> u32
             l.coordinates.as_ptr(), l.coordinates.len(), l.sides.as_ptr(), l.sides.len(),
             l.listed.as_ptr(), l.listed.len(), l.intervals.as_ptr(), l.intervals.len(),
             t.positions.as_mut_ptr(), t.positions.len(), t.points.as_mut_ptr(), t.points.len(),
+            t.edges.as_mut_ptr(), t.edges.len(), t.intervals.as_mut_ptr(), t.intervals.len(),
+            t.faces.as_mut_ptr(), t.faces.len(), counts,
+        )
+    }
+}
+
+/// Builds from a text.
+pub fn build_text(text: &[u8], tables: &mut Tables, counts: &mut [usize; 3]) -> u32 {
+    let t = tables;
+    // SAFETY: as above.
+    unsafe {
+        lavyngo_build_text(
+            text.as_ptr(), text.len(), t.positions.as_mut_ptr(), t.positions.len(), t.points.as_mut_ptr(), t.points.len(),
             t.edges.as_mut_ptr(), t.edges.len(), t.intervals.as_mut_ptr(), t.intervals.len(),
             t.faces.as_mut_ptr(), t.faces.len(), counts,
         )

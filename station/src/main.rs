@@ -1,7 +1,7 @@
 //! The library for stations against the original Rust, in one process.
 //!
 //!     station compare [MESHES [SEED]]    generated meshes, after building and after one and two steps
-//!     station fuzz [CASES [SEED]]        random and damaged lists and tables
+//!     station fuzz [CASES [SEED]]        random and damaged lists, texts and tables
 //!     station bench [FACES]              times; the Rust is run on meshes of up to so many faces
 //!     station profile [STEPS]            steps of the torus of 64 by 64, for a profiler
 //!     station tampered                   the same with a bit changed in what the library leaves: it must be found
@@ -62,7 +62,10 @@ fn listed(counts: &std::collections::BTreeMap<u32, u64>) -> String {
 fn compare(meshes: u64, seed: u64) -> ExitCode {
     match run(meshes, seed, None) {
         Ok(t) => {
-            println!("seed {seed}: {} meshes, {} accepted, faces of up to {} sides", t.meshes, t.accepted, t.largest_face);
+            println!(
+                "seed {seed}: {} meshes, {} of them also as texts; {} accepted, faces of up to {} sides",
+                t.meshes, t.texts, t.accepted, t.largest_face
+            );
             println!("building refused, by ground: {}", listed(&t.refused));
             println!("of these also refused by the Rust, with its own error: {}", listed(&t.refused_by_both));
             println!(
@@ -116,8 +119,9 @@ fn tampered() -> ExitCode {
 fn fuzz(cases: u64, seed: u64) -> ExitCode {
     match fuzz::run(cases, seed) {
         Ok(f) => {
-            println!("seed {seed}: {} lists, {} tables", f.lists, f.tables);
-            println!("building answered, 0 for accepted: {}", listed(&f.building));
+            println!("seed {seed}: {} lists, {} texts, {} tables", f.lists, f.texts, f.tables);
+            println!("building from lists answered, 0 for accepted: {}", listed(&f.building));
+            println!("building from texts answered: {}", listed(&f.reading));
             println!("{} audits: {} closed, {} not", f.audits[0] + f.audits[1], f.audits[1], f.audits[0]);
             println!("{} steps answered: {}", f.steps, listed(&f.answers));
             println!("every answer is document 01's, every row as its ground promises");

@@ -67,6 +67,10 @@ step-number NotEachFaceOnce = refl
 step-number NoRoom = refl
 step-number NotFinite = refl
 
+pub counts-stored : (xs : List ℕ) {ys : List ℕ} {a : Stepped} {c : Counts} → a ≡ Refined c → ys ≡ written xs c
+    → ys ≡ countsAfter xs (numbersOf a)
+counts-stored xs p q = rw (p, q)
+
 -- the outcome of the step, from the counts k as the code loaded them
 pub step-stored : (xs : List ℕ) {k : Counts} (m : Mesh) {m' : Mesh} (t : Mesh) {t' : Mesh} (order : List ℕ) {ys : List ℕ} {a : Stepped}
     {n : ℕ} → k ≡ countsIn xs → _≡_ {A = StepOutcome} (record { answer = a; tables = m'; scratch = t' }) (step m k order t)

@@ -17,7 +17,7 @@ use Rattle.tables.specs.Mesh.{Mesh}
 use Rattle.tables.specs.Rows.{putRow}
 use Rattle.tables.specs.declared.Counts.{Counts}
 use Rattle.audited_meshes.specs.Audit.{audit}
-use Rattle.built_meshes.specs.Answers as building
+use Rattle.built_meshes.specs.Answers.{numbersOf}
 use Rattle.built_meshes.specs.Building as building
 use Rattle.text_building.specs.TextBuilding as text
 use Rattle.steps.specs.Step as steps
@@ -44,7 +44,7 @@ abbrev pub buildingOf : List ℕ → List ℕ → Mesh → Building
 buildingOf xs ns m = record { answer = answerOf ns; counts = countsAfter xs ns; tables = m }
 
 abbrev pub built : List ℕ → building.Outcome → Building
-built xs o = buildingOf xs (building.numbersOf (o .answer)) (o .tables)
+built xs o = buildingOf xs (numbersOf (o .answer)) (o .tables)
 
 abbrev pub textBuilt : List ℕ → text.Outcome → Building
 textBuilt xs o = buildingOf xs (text.numbersOf (o .answer)) (o .tables)

@@ -8,7 +8,7 @@ returns : tie.Need-returns
 returns c = built-accepted (c .before .before .before .before .before .before .before .before .before .before .before .before .before .before .before .before .before .before .before .before .before .before .before .before .before .before .before .before .before .before .args .counts .now) _ _ _ (c .before .before .before .before .before .before .before .before .before .before .before .before .before .before .before .build .ensures) (c .before .before .before .answer .given .1) (c .store-counts .ensures)
 
 returns-2 : tie.Need-returns-2
-returns-2 c = built-refused (c .before .before .before .before .before .before .before .before .before .before .before .before .before .before .before .before .before .before .before .before .before .before .before .before .before .before .before .before .before .args .counts .now) _ _ _ (c .before .before .before .before .before .before .before .before .before .before .before .before .before .before .build .ensures) (c .before .before .answer2 .given .1) (c .number-of .ensures)
+returns-2 c = built-refused (c .before .before .before .before .before .before .before .before .before .before .before .before .before .before .before .before .before .before .before .before .before .before .before .before .before .before .before .before .before .args .counts .now) _ _ _ (c .before .before .before .before .before .before .before .before .before .before .before .before .before .before .build .ensures) (c .before .before .answer2 .given .1) (c .ground-number .ensures)
 
 pub lavyngo-build-spec : {M : Type 1} → statement M
 lavyngo-build-spec =
