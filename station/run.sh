@@ -30,7 +30,7 @@ expected() {
     esac
 }
 
-(cd "$root" && rt staticlib station) | tail -1
+"$here/library.sh"
 mkdir -p "$out/records"
 python3 "$here/declarations.py" "$root/crates/station/src/lib.rt" "$here/lavyngo.h"
 

@@ -4,6 +4,7 @@
 //!     station fuzz [CASES [SEED]]        random and damaged lists, texts and tables
 //!     station bench [FACES]              times; the Rust is run on meshes of up to so many faces
 //!     station profile [STEPS]            steps of the torus of 64 by 64, for a profiler
+//!     station stack                      the stack that each function takes
 //!     station tampered                   the same with a bit changed in what the library leaves: it must be found
 
 mod bench;
@@ -20,6 +21,7 @@ mod rust;
 mod shapes;
 mod shrink;
 mod spoil;
+mod stack;
 
 use compare::{Case, Tally, Tamper};
 use std::process::ExitCode;
@@ -152,6 +154,14 @@ fn command() -> ExitCode {
         Some("compare") => compare(number(1, 20_000), number(2, 1)),
         Some("fuzz") => fuzz(number(1, 50_000), number(2, 1)),
         Some("tampered") => tampered(),
+        Some("stack") => {
+            stack::run();
+            ExitCode::SUCCESS
+        }
+        Some("stack-call") => {
+            stack::call(&words[1], number(2, 0) as usize);
+            ExitCode::SUCCESS
+        }
         Some("profile") => {
             bench::profile(number(1, 1) as usize);
             ExitCode::SUCCESS
@@ -161,7 +171,7 @@ fn command() -> ExitCode {
             ExitCode::SUCCESS
         }
         _ => {
-            eprintln!("usage: station compare [MESHES [SEED]] | fuzz [CASES [SEED]] | bench [FACES] | profile [STEPS] | tampered");
+            eprintln!("usage: station compare [MESHES [SEED]] | fuzz [CASES [SEED]] | bench [FACES] | profile [STEPS] | stack | tampered");
             ExitCode::from(2)
         }
     }

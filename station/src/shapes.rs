@@ -186,10 +186,6 @@ fn glued(random: &mut Random) -> Shape {
 }
 
 impl Shape {
-    pub fn listed(&self) -> usize {
-        self.borders.iter().map(Vec::len).sum()
-    }
-
     /// The face that runs from one point to the next, for each pair of neighbours; nothing if two faces do.
     fn sides(&self) -> Option<HashMap<(usize, usize), usize>> {
         let mut sides = HashMap::new();
@@ -247,35 +243,26 @@ impl Shape {
         self.borders.iter().any(|b| joins(b))
     }
 
-    /// A point put on a side of a face: a point of valence 2.
-    fn put_point(&mut self, random: &mut Random) {
+    /// A point put on a side of a face, if its two faces keep to so many points: a point of valence 2.
+    fn put_point(&mut self, random: &mut Random, most: usize) {
         let face = random.below(self.borders.len());
         let at = random.below(self.borders[face].len());
         let (p, q) = (self.borders[face][at], self.borders[face][(at + 1) % self.borders[face].len()]);
-        let new = self.points;
-        for border in &mut self.borders {
-            let n = border.len();
-            let found = (0..n).find(|&i| {
-                let ends = (border[i], border[(i + 1) % n]);
+        let side = |border: &Vec<usize>| {
+            (0..border.len()).find(|&i| {
+                let ends = (border[i], border[(i + 1) % border.len()]);
                 ends == (p, q) || ends == (q, p)
-            });
-            if let Some(i) = found {
-                if n == 64 {
-                    return;
-                }
-                border.insert(i + 1, new);
+            })
+        };
+        if self.borders.iter().any(|border| side(border).is_some() && border.len() >= most) {
+            return;
+        }
+        for border in &mut self.borders {
+            if let Some(i) = side(border) {
+                border.insert(i + 1, self.points);
             }
         }
         self.points += 1;
-    }
-
-    /// The same if both faces stay at 8 points or less.
-    fn put_point_in_small(&mut self, random: &mut Random) {
-        let mut other = self.clone();
-        other.put_point(random);
-        if other.borders.iter().all(|b| b.len() <= 8) {
-            *self = other;
-        }
     }
 
     /// A face cut in two between two of its points.
@@ -430,7 +417,7 @@ pub fn closed(random: &mut Random) -> Shape {
         let turns = if random.once_in(2) { random.below(12) } else { 0 };
         for _ in 0..turns {
             match random.below(7) {
-                0 | 1 => shape.put_point(random),
+                0 | 1 => shape.put_point(random, 64),
                 2 | 3 => shape.put_chord(random),
                 4 => shape.put_middle(random),
                 5 => shape.take_edge(random),
@@ -455,7 +442,7 @@ pub fn extraordinary(random: &mut Random, faces: usize) -> Shape {
         match random.below(4) {
             0 if shape.borders.len() < faces => shape.put_middle(random),
             1 => shape.put_chord(random),
-            _ => shape.put_point_in_small(random),
+            _ => shape.put_point(random, 8),
         }
     }
     shape.scramble(random);
