@@ -1,6 +1,6 @@
 -- The claims of building from a text. Assumes nothing.
 --     of-lists               a text that stands for t is answered as building from the lists of t is
---     accepts-exactly, not-text-exactly, over-exactly, untouched-early     the claims of `specs/Claims.antt`
+--     accepts-exactly, not-text-exactly, over-exactly, untouched-early, accepted-within     the claims of `specs/Claims.antt`
 use mathlib.Core.Path.{_≡_, refl, sym, ap, _∙_}
 use mathlib.Core.Bool.{Bool, true, false}
 use mathlib.Core.List.{List, [], _∷_}
@@ -23,13 +23,13 @@ use Rattle.built_meshes.specs.declared.Ground.{Ground}
 use Rattle.built_meshes.specs.declared.Ground.the-variants.{OverCounts}
 use Rattle.built_meshes.specs.declared.Built.{Built}
 use Rattle.built_meshes.specs.declared.Built.the-variants as Built
-use Rattle.built_meshes.proofs.Begin.{counts-is, counted-fits}
-use Rattle.built_meshes.proofs.Theorem.{refusals-hold, accepts-exactly as lists-accept-exactly}
+use Rattle.built_meshes.proofs.Begin.{Counted, counts-is, counts-fail, counted-fits}
+use Rattle.built_meshes.proofs.Theorem.{refusals-hold, accepts-exactly as lists-accept-exactly, accepted-audited, untouched-beyond}
 use Rattle.building_tests.specs.Lent.{limitsOf}
 use Rattle.building_tests.specs.declared.Bounds.{Bounds}
 use Rattle.building_tests.specs.declared.Bounds.the-variants.{General, Refine}
 use Rattle.text_building.specs.TextBuilding.{tooLong, listsOf, told, Outcome, toldOutcome, ofForm, buildTextIf, buildText}
-use Rattle.text_building.specs.Claims.{Stands-for, Over-text, many-bytes, Accepts-exactly, Not-text-exactly, Over-exactly, Untouched-early}
+use Rattle.text_building.specs.Claims.{Stands-for, Over-text, many-bytes, Accepts-exactly, Not-text-exactly, Over-exactly, Untouched-early, Within-limits, Accepted-within}
 use Rattle.text_building.specs.Claims as Claims
 use Rattle.text_building.specs.declared.TextBuilt.the-variants.{Accepted, NotText, Refused}
 
@@ -169,3 +169,41 @@ untouched-early b s m = go (buildText b s m) (came b s m)
     go o (formed {t = t} h) (inl a) = absurd (told-text (build (limitsOf b) (listsOf t) m .answer) a)
     go o (formed {t = t} h) (inr a) =
         refusals-hold (limitsOf b) (listsOf t) m (few-faces b) OverCounts (told-refused (build (limitsOf b) (listsOf t) m .answer) a) .untouched (omega arith)
+
+pub accepted-within : Accepted-within
+accepted-within b s m k answer = go (buildText b s m) (came b s m) answer
+  where
+    few : (t : TextMesh) → build (limitsOf b) (listsOf t) m .answer ≡ Built.Accepted k → (f : Bool) → countsFit (limitsOf b) (listsOf t) ≡ f
+        → Counted (limitsOf b) (listsOf t)
+    few t a true e = counts-is (limitsOf b) (listsOf t) e
+    few t a false e =
+        absurd (lists-accept-exactly (limitsOf b) (listsOf t) m (few-faces b) .0 (k, a) OverCounts (counts-fail (limitsOf b) (listsOf t) e))
+
+    go : (o : Outcome) → Came b s m o → o .answer ≡ Accepted k → Within-limits b m (o .tables) k
+    go o (bytes h) a = let z : _≡_ {A = ℕ} 0 1 = cc in absurd (omega arith)
+    go o (formless h e) a = let z : _≡_ {A = ℕ} 0 1 = cc in absurd (omega arith)
+    go o (formed {t = t} h) a =
+        let a' = told-accepted (build (limitsOf b) (listsOf t) m .answer) a in
+        let x = accepted-audited (limitsOf b) (listsOf t) m (few-faces b) k a' in
+        let w = untouched-beyond (limitsOf b) (listsOf t) m (few-faces b) in
+        let c = few t a' (countsFit (limitsOf b) (listsOf t)) refl in
+        let ep = x .all-points in
+        let ef = x .all-faces in
+        let ee = x .half-listed in
+        let hp = c .points-few in
+        let hf = c .faces-few in
+        let hl = c .listed-few in
+        record {
+          passes = x .passes;
+          few-points = omega arith;
+          few-edges = omega arith;
+          few-faces = omega arith;
+          as-long =
+              record {
+                positions = w .positions .0;
+                points = w .points .0;
+                edges = w .edges .0;
+                intervals = w .intervals .0;
+                faces = w .faces .0;
+              };
+        }

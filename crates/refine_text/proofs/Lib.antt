@@ -1,0 +1,5 @@
+pub mod Orders
+pub mod Lines
+pub mod Steps
+pub mod FirstPoint
+pub mod Outputs
