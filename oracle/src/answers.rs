@@ -4,7 +4,7 @@ use crate::errors::{Error, Result};
 use crate::monstertruck_core::Position;
 use crate::parking_lot::{self, Endless};
 use crate::t_spline::Tnurcc;
-use crate::text;
+use crate::text::{self, MeshText};
 use std::panic::{AssertUnwindSafe, catch_unwind};
 
 /// The order in which one step visits the faces.
@@ -44,12 +44,17 @@ fn build(text: &[u8]) -> std::result::Result<Tnurcc<Position>, String> {
     let Some(mesh) = text::read(text) else {
         return Err(String::from("[error 1]\n"));
     };
+    build_of(mesh)
+}
+
+/// The mesh that the Rust builds of points and faces, or the line of its refusal.
+pub fn build_of(mesh: MeshText) -> std::result::Result<Tnurcc<Position>, String> {
     let listed: usize = mesh.faces.iter().flatten().map(|side| side.1.len()).sum();
     watched(listed, || Tnurcc::try_new(mesh.points, mesh.faces))
 }
 
 /// One step of the Rust.
-fn refine(tnurcc: &mut Tnurcc<Position>, visit: &Visit) -> std::result::Result<(), String> {
+pub fn refine(tnurcc: &mut Tnurcc<Position>, visit: &Visit) -> std::result::Result<(), String> {
     let edges = tnurcc.edge_count();
     match visit {
         Visit::Numbered => watched(edges, || tnurcc.global_subdivide()),

@@ -6,21 +6,8 @@
 //! visited in numbered order. Lines `[order N N ..]` right after a text are its steps instead: each visits the faces in
 //! the order that it lists. The answers, as `answers` gives them, stand one after the other; each begins `[stage 0]`.
 
-mod answers;
-mod records;
-mod text;
-
-// What the six files lean on and is not among them.
-mod errors;
-mod monstertruck_core;
-mod parking_lot;
-mod prelude;
-
-// The six files, with stand-ins for the other modules of that folder.
-#[allow(dead_code, unused_imports)]
-mod t_spline;
-
-use answers::Visit;
+use oracle::answers::{self, Visit};
+use oracle::text;
 use std::io::{Read, Write};
 
 /// One text of the input and the steps to take with it.

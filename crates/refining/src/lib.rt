@@ -5,6 +5,7 @@
 ghost use mathlib.Core.Path.{_≡_};
 ghost use Rattle.visiting.specs.Visiting.{meshOf};
 ghost use Rattle.steps.specs.Step.{firstRows, zeroedRows, overRows, made, step, Outcome};
+ghost use Rattle.steps.specs.OneStep.{Binary64};
 ghost use Rattle.steps.proofs.Rows.{Room};
 ghost use Rattle.making.specs.Making.{Ready, madeAs};
 ghost use Rattle.refining.specs.Refining.{Passed, tested};
@@ -264,6 +265,7 @@ fn finish(
 }
 
 // One step of refining: the refined mesh, in the order handed in, or the first ground that holds.
+// `numbers` says what is true of every lent table of f64: it is the premise `Binary64` of `Demand3` (`runs`).
 pub fn step(
     positions: &mut [f64],
     points: &mut [u32],
@@ -278,12 +280,15 @@ pub fn step(
     lengths: &mut [f64],
     quads: &mut [u32],
 ) -> Stepped
-    ensures { λ r. ⌜
+    ensures outcome { λ r. ⌜
         _≡_ {A = Outcome}
         (record { answer = r; tables = meshOf (now (positions .exit)) (now (points .exit)) (now (edges .exit)) (now (intervals .exit)) (now (faces .exit)); scratch = meshOf (now (places .exit)) (now (rows .exit)) (now (halves .exit)) (now (lengths .exit)) (now (quads .exit)) })
         (step (meshOf (now (positions .entry)) (now (points .entry)) (now (edges .entry)) (now (intervals .entry)) (now (faces .entry)))
         counts (now (order .entry))
         (meshOf (now (places .entry)) (now (rows .entry)) (now (halves .entry)) (now (lengths .entry)) (now (quads .entry)))) ⌝ }
+    ensures numbers { λ _. ⌜
+        Binary64 counts
+        (meshOf (now (positions .entry)) (now (points .entry)) (now (edges .entry)) (now (intervals .entry)) (now (faces .entry))) ⌝ }
 {
     let ground = first_ground(
         positions,

@@ -56,6 +56,73 @@ impl Tnurcc<Position> {
         }
     }
 
+    /// The mesh whose records are these rows, each reference to a row of the listing or none. A mesh that was listed and
+    /// is made anew has the same records; the listing may also be of a mesh that was made in another way.
+    pub fn of_listing(listing: &Listing) -> Self {
+        let at = |row: Row| match row {
+            Row::At(row) => Some(row),
+            Row::None => None,
+            Row::Lost => unreachable!("a lost reference is of no closed mesh"),
+        };
+        let control_points: Vec<_> = (listing.points.iter().enumerate())
+            .map(|(index, row)| {
+                let mut point = TnurccControlPoint::new(index, row.position);
+                point.valence = row.valence;
+                Arc::new(RwLock::new(point))
+            })
+            .collect();
+        let new_face = |(index, row): (usize, &FaceRow)| {
+            let corners = row.corners.map(|corner| at(corner).map(|p| Arc::clone(&control_points[p])));
+            Arc::new(RwLock::new(TnurccFace { index, edge: None, corners }))
+        };
+        let faces: Vec<_> = listing.faces.iter().enumerate().map(new_face).collect();
+        let face_at = |row: Row| at(row).map(|f| Arc::clone(&faces[f]));
+        let point_at = |row: Row| Arc::clone(&control_points[at(row).expect("an edge has two ends")]);
+        let new_edge = |(index, row): (usize, &EdgeRow)| {
+            Arc::new(RwLock::new(TnurccEdge {
+                index,
+                connections: [const { None }; 4],
+                face_left: face_at(row.left),
+                face_right: face_at(row.right),
+                origin: point_at(row.origin),
+                dest: point_at(row.dest),
+                knot_interval: row.interval,
+            }))
+        };
+        let edges: Vec<_> = listing.edges.iter().enumerate().map(new_edge).collect();
+
+        let edge_at = |row: Row| at(row).map(|e| Arc::clone(&edges[e]));
+        for (edge, row) in edges.iter().zip(&listing.edges) {
+            edge.write().connections = row.neighbours.map(edge_at);
+        }
+        for (point, row) in control_points.iter().zip(&listing.points) {
+            point.write().incoming_edge = edge_at(row.start);
+        }
+        for (face, row) in faces.iter().zip(&listing.faces) {
+            face.write().edge = edge_at(row.start);
+        }
+        let extraordinary = control_points.iter().zip(&listing.points).filter(|(_, row)| row.extraordinary);
+        let extraordinary_control_points = extraordinary.map(|(point, _)| Arc::clone(point)).collect();
+        Tnurcc { extraordinary_control_points, control_points, faces, edges }
+    }
+
+    /// Takes the mesh apart. Its records hold each other, so that they would stay in memory for ever.
+    pub fn release(self) {
+        for edge in &self.edges {
+            let mut edge = edge.write();
+            edge.connections = [const { None }; 4];
+            edge.face_left = None;
+            edge.face_right = None;
+        }
+        for face in &self.faces {
+            face.write().edge = None;
+            face.write().corners = [const { None }; 4];
+        }
+        for point in &self.control_points {
+            point.write().incoming_edge = None;
+        }
+    }
+
     pub fn edge_count(&self) -> usize {
         self.edges.len()
     }

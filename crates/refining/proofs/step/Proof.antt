@@ -25,9 +25,11 @@ returns : tie.Need-returns
 returns c =
     let a = c .before .before .before .before .before .before .before .before .before .before .before .before .before .before .before .before .before .before .before .before .before .before .before .args in
     let m : Mesh = meshOf (a .positions .now) (a .points .now) (a .edges .now) (a .intervals .now) (a .faces .now) in
-    let t : Mesh = meshOf (a .places .now) (a .rows .now) (a .halves .now) (a .lengths .now) (a .quads .now) in
-    refused m (a .counts) (a .order .now) t (c .before .first-ground .result) (c .before .first-ground .ensures)
-    (λ c' e. not-one (subst (λ (x : Stepped). OneOf (1 ∷ 2 ∷ 3 ∷ 4 ∷ []) (tagOf the-type x)) e (c .match .keys2)))
+    let t : Mesh = meshOf (a .places .now) (a .rows .now) (a .halves .now) (a .lengths .now) (a .quads .now) in (
+      refused m (a .counts) (a .order .now) t (c .before .first-ground .result) (c .before .first-ground .ensures)
+          (λ c' e. not-one (subst (λ (x : Stepped). OneOf (1 ∷ 2 ∷ 3 ∷ 4 ∷ []) (tagOf the-type x)) e (c .match .keys2))),
+      λ e l. c .before .before .before .before .before .before .before .before .before .before .before .before .before .before .before .before .before .before .before .slice-known4 .given e,
+    )
 
 finish-requires : tie.Need-finish-requires
 finish-requires c κs =
@@ -35,6 +37,9 @@ finish-requires c κs =
     let m : Mesh = meshOf (a .positions .now) (a .points .now) (a .edges .now) (a .intervals .now) (a .faces .now) in
     let t : Mesh = meshOf (a .places .now) (a .rows .now) (a .halves .now) (a .lengths .now) (a .quads .now) in
     passed m (a .counts) (a .order .now) t _ (sym (c .before .before .before .before .before .before .before .before .before .before .before .ground .given .1) ∙ c .before .before .before .before .before .before .before .before .before .before .before .before .before .first-ground .ensures)
+
+returns-2 : tie.Need-returns-2
+returns-2 c = (c .before .before .before .before .before .before .before .before .before .before .before .before .before .before .before .before .before .before .before .before .finish .ensures, λ e l. c .before .before .before .before .before .before .before .before .before .before .before .before .before .before .before .before .before .before .before .before .before .before .before .before .before .before .before .before .before .before .before .before .before .before .before .before .before .before .before .before .before .before .before .before .before .before .before .before .before .before .before .before .slice-known4 .given e)
 
 pub step-spec : {M : Type 1} → statement M
 step-spec =
@@ -64,4 +69,4 @@ step-spec =
     (λ c. search needs)
     (λ c. search needs)
     (λ c. search needs)
-    (λ c. search needs))
+    returns-2)

@@ -1,0 +1,25 @@
+use lib.Seq.{length-take-le}
+use mathlib.Core.Path.{sym}
+use native.Mathlib.Omega.{arith}
+use borrow.Author.Needs.{needs}
+use Rattle.oracle_runs.proofs.trials.count_changes_of.Statement.{statement}
+use Rattle.oracle_runs.proofs.trials.count_changes_of.Tie as tie
+
+slice-aggregate-count-changes : tie.Need-slice-aggregate-count-changes
+slice-aggregate-count-changes c = sym (length-take-le _ (c .before .before .copy-bytes .last .1 .0) (omega (arith, c .before .before .copy-bytes .ensures)))
+
+pub count-changes-of-spec : {M : Type 1} → statement M
+count-changes-of-spec =
+    tie.close
+    (tie.spec
+    (λ c. search needs)
+    (λ c κs. search needs)
+    (λ c. search needs)
+    slice-aggregate-count-changes
+    (λ c κs. search needs)
+    (λ c. search needs)
+    (λ c. search needs)
+    (λ c. search needs)
+    (λ c. search needs)
+    (λ c. search needs)
+    (λ c. search needs))

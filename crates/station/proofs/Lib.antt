@@ -1,0 +1,2 @@
+-- The proofs of the library for stations.
+pub mod Laws

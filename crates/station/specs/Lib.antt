@@ -1,0 +1,2 @@
+-- Definitions of the library for stations.
+pub mod Station

@@ -1,0 +1,214 @@
+// The library for stations: building, the audit and the step as C functions on pointers and lengths (station/lavyngo.h declares
+// them). Every answer is document 01's number: 0 for what is accepted, else that of the ground. Counts stand in an array of three
+// that the caller lends: points, edges, faces.
+// Not here: what the functions do (`building`, `text_building`, `audit`, `refining`).
+// Contracts: `lavyngo_build`, `lavyngo_build_text`, `lavyngo_audit`, `lavyngo_step`. Definitions: `specs/Station.antt`. Laws: `proofs/Laws.antt`.
+ghost use mathlib.Core.Path.{_≡_};
+ghost use Rattle.built_meshes.specs.Building.{build};
+ghost use Rattle.built_meshes.specs.Lists.{general};
+ghost use Rattle.building_tests.specs.Lent.{lists};
+ghost use Rattle.building_tests.specs.declared.Bounds.the-variants.{General};
+ghost use Rattle.text_building.specs.TextBuilding.{buildText};
+ghost use Rattle.edge_search.specs.Places.{mesh};
+ghost use Rattle.steps.specs.Step.{numbersOf, step};
+ghost use Rattle.station.specs.Station.{Building, built, textBuilt, answerOf, countsAfter, countsIn, audited, Step, stepped};
+ghost use Rattle.tables.specs.Rows.{putRow};
+ghost use mathlib.Core.List.{[], _∷_};
+use answer_numbers::ground_number;
+use answer_numbers::step_number;
+use audit::audit;
+use building::build;
+use building_tests::Bounds;
+use built_meshes::Built;
+use refining::step;
+use steps::Stepped;
+use tables::Counts;
+use text_building::TextBuilt;
+use text_building::build_text;
+
+// The counts that stand in an array.
+fn load_counts(counts: &[usize; 3]) -> Counts
+    ensures { λ r. ⌜ r ≡ countsIn (now (counts .entry)) ⌝ }
+{
+    Counts {
+        points: counts[0],
+        edges: counts[1],
+        faces: counts[2],
+    }
+}
+
+// Stores counts in an array.
+fn store_counts(counts: &mut [usize; 3], c: Counts)
+    ensures { λ _. ⌜ now (counts .exit) ≡ putRow (now (counts .entry)) 0 (c .points ∷ c .edges ∷ c .faces ∷ []) ⌝ }
+{
+    counts[0] = c.points;
+    counts[1] = c.edges;
+    counts[2] = c.faces;
+}
+
+// Builds a mesh from lists in the lent tables. The counts are written if it is accepted.
+#[no_mangle]
+pub extern "C" fn lavyngo_build(
+    coordinates: &[f64],
+    sides: &[u32],
+    listed: &[u32],
+    beside: &[f64],
+    positions: &mut [f64],
+    points: &mut [u32],
+    edges: &mut [u32],
+    intervals: &mut [f64],
+    faces: &mut [u32],
+    counts: &mut [usize; 3],
+) -> u32
+    ensures { λ r. ⌜
+        _≡_ {A = Building}
+        (record { answer = r; counts = now (counts .exit); tables = mesh (now (positions .exit)) (now (points .exit)) (now (edges .exit)) (now (intervals .exit)) (now (faces .exit)) })
+        (built (now (counts .entry))
+        (build general (lists (now (coordinates .entry)) (now (sides .entry)) (now (listed .entry)) (now (beside .entry)))
+        (mesh (now (positions .entry)) (now (points .entry)) (now (edges .entry)) (now (intervals .entry)) (now (faces .entry))))) ⌝ }
+{
+    let answer = build(
+        coordinates,
+        sides,
+        listed,
+        beside,
+        positions,
+        points,
+        edges,
+        intervals,
+        faces,
+        Bounds::General,
+    );
+    match answer {
+        Built::Accepted(c) => {
+            store_counts(counts, c);
+            0
+        }
+        Built::Refused(g) => ground_number(g),
+    }
+}
+
+// Builds a mesh from a text in the lent tables. The counts are written if it is accepted.
+#[no_mangle]
+pub extern "C" fn lavyngo_build_text(
+    text: &[u8],
+    positions: &mut [f64],
+    points: &mut [u32],
+    edges: &mut [u32],
+    intervals: &mut [f64],
+    faces: &mut [u32],
+    counts: &mut [usize; 3],
+) -> u32
+    ensures { λ r. ⌜
+        _≡_ {A = Building}
+        (record { answer = r; counts = now (counts .exit); tables = mesh (now (positions .exit)) (now (points .exit)) (now (edges .exit)) (now (intervals .exit)) (now (faces .exit)) })
+        (textBuilt (now (counts .entry))
+        (buildText General (now (text .entry))
+        (mesh (now (positions .entry)) (now (points .entry)) (now (edges .entry)) (now (intervals .entry)) (now (faces .entry))))) ⌝ }
+{
+    let answer = build_text(
+        text,
+        Bounds::General,
+        positions,
+        points,
+        edges,
+        intervals,
+        faces,
+    );
+    match answer {
+        TextBuilt::Accepted(c) => {
+            store_counts(counts, c);
+            0
+        }
+        TextBuilt::NotText => 1,
+        TextBuilt::Refused(g) => ground_number(g),
+    }
+}
+
+// Whether the tables are a closed mesh with these counts: 0, or 30 if they are not.
+#[no_mangle]
+pub extern "C" fn lavyngo_audit(
+    positions: &[f64],
+    points: &[u32],
+    edges: &[u32],
+    intervals: &[f64],
+    faces: &[u32],
+    counts: &[usize; 3],
+) -> u32
+    ensures { λ r. ⌜
+        r
+        ≡ audited
+        (mesh (now (positions .entry)) (now (points .entry)) (now (edges .entry)) (now (intervals .entry)) (now (faces .entry)))
+        (countsIn (now (counts .entry))) ⌝ }
+{
+    if audit(
+        positions,
+        points,
+        edges,
+        intervals,
+        faces,
+        load_counts(counts),
+    ) {
+        0
+    } else {
+        30
+    }
+}
+
+// Stores the counts after a step, if it is accepted.
+fn store_refined(counts: &mut [usize; 3], answer: Stepped)
+    ensures { λ _. ⌜ now (counts .exit) ≡ countsAfter (now (counts .entry)) (numbersOf answer) ⌝ }
+{
+    match answer {
+        Stepped::Refined(c) => store_counts(counts, c),
+        Stepped::NotClosed => {}
+        Stepped::NotEachFaceOnce => {}
+        Stepped::NoRoom => {}
+        Stepped::NotFinite => {}
+    }
+}
+
+// Refines the mesh in the tables once, visiting the faces in the order handed in. `places`, `rows`, `halves`, `lengths` and
+// `quads` are the scratch tables of positions, points, edges, intervals and faces. The counts are those before the step, and
+// become those after it if it is accepted.
+#[no_mangle]
+pub extern "C" fn lavyngo_step(
+    positions: &mut [f64],
+    points: &mut [u32],
+    edges: &mut [u32],
+    intervals: &mut [f64],
+    faces: &mut [u32],
+    counts: &mut [usize; 3],
+    order: &[u32],
+    places: &mut [f64],
+    rows: &mut [u32],
+    halves: &mut [u32],
+    lengths: &mut [f64],
+    quads: &mut [u32],
+) -> u32
+    ensures { λ r. ⌜
+        _≡_ {A = Step}
+        (record { answer = r; counts = now (counts .exit); tables = mesh (now (positions .exit)) (now (points .exit)) (now (edges .exit)) (now (intervals .exit)) (now (faces .exit)); scratch = mesh (now (places .exit)) (now (rows .exit)) (now (halves .exit)) (now (lengths .exit)) (now (quads .exit)) })
+        (stepped (now (counts .entry))
+        (step (mesh (now (positions .entry)) (now (points .entry)) (now (edges .entry)) (now (intervals .entry)) (now (faces .entry)))
+        (countsIn (now (counts .entry))) (now (order .entry))
+        (mesh (now (places .entry)) (now (rows .entry)) (now (halves .entry)) (now (lengths .entry)) (now (quads .entry))))) ⌝ }
+{
+    let c = load_counts(counts);
+    let answer = step(
+        positions,
+        points,
+        edges,
+        intervals,
+        faces,
+        c,
+        order,
+        places,
+        rows,
+        halves,
+        lengths,
+        quads,
+    );
+    store_refined(counts, answer);
+    step_number(answer)
+}

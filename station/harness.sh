@@ -1,0 +1,28 @@
+#!/bin/sh
+# Makes the static library, the oracle and the program of src/ if they are not up to date, and runs it:
+#
+#     station/harness.sh compare [MESHES [SEED]]    the library against the Rust on generated meshes (20,000, seed 1)
+#     station/harness.sh fuzz [CASES [SEED]]        random and damaged lists, texts and tables (50,000, seed 1)
+#     station/harness.sh tampered                   changed bits in what the library leaves, which must be found
+#     station/harness.sh bench [FACES]              times; the Rust is run on meshes of up to so many faces (all)
+#     station/harness.sh profile [STEPS]            steps of the torus of 64 by 64, for a profiler
+#     station/harness.sh stack                      the stack that each function takes
+#
+# Needed: the Rattle kit, rustc, cc, and the six Rust files (oracle/README.md).
+set -eu
+here=$(cd "$(dirname "$0")" && pwd)
+root=$here/..
+out=$here/target
+library=$root/target/staticlib/libstation.a
+oracle=$root/oracle/target/liboracle.rlib
+
+"$here/library.sh"
+if [ ! -f "$oracle" ] || [ -n "$(find "$root/oracle/src" "$root/oracle/build.sh" -newer "$oracle" -type f)" ]; then
+    "$root/oracle/build.sh"
+fi
+mkdir -p "$out"
+if [ ! -f "$out/station" ] || [ -n "$(find "$here/src" "$library" "$oracle" -newer "$out/station" -type f)" ]; then
+    rustc --edition 2024 -O --crate-name station --extern oracle="$oracle" -C link-arg="$library" \
+        -o "$out/station" "$here/src/main.rs"
+fi
+exec "$out/station" "$@"

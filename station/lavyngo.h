@@ -1,0 +1,133 @@
+/* Lavyngo for stations: closed meshes of points, edges and faces in tables that the caller lends, built from lists or from
+   a text, audited, and refined. The functions are those of libstation.a (`rt staticlib station`), for x86-64 Linux.
+
+   Link with: cc program.c target/staticlib/libstation.a
+
+   TABLES
+   A mesh stands in five tables, each handed over as a pointer and its number of elements (not of bytes, not of rows).
+
+     positions   double     3 an element row of a point: x, y, z
+     points      uint32_t   3 words a point: valence, start edge, mark (1 for an extraordinary point, else 0)
+     edges       uint32_t   8 words an edge: origin, destination, left face, right face, and its four neighbours
+     intervals   double     1 an edge
+     faces       uint32_t   5 words a face: start edge, four corners (a point, or LAVYNGO_NONE)
+
+   Rows are numbered from 0. The rows of a kind are as many as all tables of that kind hold whole: 7 words of points are
+   2 rows. How many rows a mesh has stands in an array of three counts: points, edges, faces. Rows beyond the counts are
+   room, and are not looked at.
+
+   POINTERS
+   No pointer may be NULL, also where its number of elements is 0; each must be aligned for its type. Tables that a function
+   writes must not overlap each other or anything else that it is handed. Tables that it only reads may be the same.
+   The functions keep nothing between calls and may be called from several threads with tables of their own. Nothing is
+   allocated; the deepest call takes less than 640 KiB of stack.
+
+   ANSWERS
+   0 is accepted. Any other number is the ground of the refusal, the first that holds, in this order. "Untouched" and
+   "zeroed" say what the lent tables are then: "zeroed" is said of the rows that are counted (building: as many points,
+   listed points for edges, and faces as are handed in; scratch: the rows of the mesh after the step). All further rows are
+   never touched. The array of counts is written where the answer is 0, and nowhere else. */
+#ifndef LAVYNGO_H
+#define LAVYNGO_H
+
+#include <stddef.h>
+#include <stdint.h>
+
+#ifdef __cplusplus
+extern "C" {
+#endif
+
+enum lavyngo_answer {
+    LAVYNGO_ACCEPTED = 0,
+    /* building; tables untouched */
+    LAVYNGO_NOT_TEXT = 1,             /* the text is not of the form of mesh text 1 */
+    LAVYNGO_OVER_COUNTS = 2,          /* over 4,096 points, 4,096 faces or 16,384 listed points, or list lengths disagree */
+    LAVYNGO_UNFIT_NUMBER = 3,         /* a number is not finite, or the sign bit of an interval is set */
+    LAVYNGO_FEW_ROWS = 4,             /* fewer rows than points, faces, or listed points for edges */
+    /* building; tables zeroed */
+    LAVYNGO_FACE_SIZE = 10,           /* a face of fewer than 3 or more than 64 listed points */
+    LAVYNGO_OUT_OF_RANGE = 11,        /* a listed point that is no point */
+    LAVYNGO_POINT_TWICE = 12,         /* a point twice in a face */
+    LAVYNGO_NON_RECTANGULAR_FACE = 13, /* side sums s0 - s2 + s1 - s3 not from -0.000001 to 0.000001 */
+    LAVYNGO_EDGE_TRIPLE_FACE = 14,    /* an edge that has two faces already */
+    LAVYNGO_SAME_WAY = 15,            /* the second face of an edge runs the same way */
+    LAVYNGO_MISSING_FACE = 20,        /* an edge with one face */
+    LAVYNGO_NO_EDGE = 21,             /* a point with no edge */
+    LAVYNGO_MISSED_EDGE = 22,         /* the walk about a point misses an edge of it */
+    /* the audit and the step; tables and scratch untouched */
+    LAVYNGO_NOT_CLOSED = 30,          /* the tables with these counts are no closed mesh */
+    LAVYNGO_NOT_EACH_FACE_ONCE = 31,  /* the order is not each face once */
+    LAVYNGO_NO_ROOM = 32,             /* tables or scratch have fewer rows than the mesh after the step, or it is too large */
+    /* the step; tables untouched, scratch zeroed */
+    LAVYNGO_NOT_FINITE = 33           /* a number of the mesh after the step would not be finite */
+};
+
+/* Elements of a row, and the place of each in its row. */
+enum {
+    LAVYNGO_POSITION = 3, LAVYNGO_X = 0, LAVYNGO_Y = 1, LAVYNGO_Z = 2,
+    LAVYNGO_POINT = 3, LAVYNGO_VALENCE = 0, LAVYNGO_POINT_START = 1, LAVYNGO_MARK = 2,
+    LAVYNGO_EDGE = 8, LAVYNGO_ORIGIN = 0, LAVYNGO_DESTINATION = 1, LAVYNGO_LEFT_FACE = 2, LAVYNGO_RIGHT_FACE = 3,
+    LAVYNGO_LEFT_CW = 4, LAVYNGO_LEFT_ACW = 5, LAVYNGO_RIGHT_CW = 6, LAVYNGO_RIGHT_ACW = 7,
+    LAVYNGO_INTERVAL = 1,
+    LAVYNGO_FACE = 5, LAVYNGO_FACE_START = 0, LAVYNGO_CORNER = 1 /* corners 0 to 3 stand at 1 to 4 */
+};
+
+/* The places of the array of counts. */
+enum { LAVYNGO_POINTS = 0, LAVYNGO_EDGES = 1, LAVYNGO_FACES = 2 };
+
+/* A corner that is no point. */
+#define LAVYNGO_NONE UINT32_C(4294967295)
+
+/* The most that building takes, and the most that a step may leave. */
+enum {
+    LAVYNGO_MOST_POINTS = 4096, LAVYNGO_MOST_FACES = 4096, LAVYNGO_MOST_LISTED = 16384,
+    LAVYNGO_CEILING_POINTS = 65536, LAVYNGO_CEILING_EDGES = 131072, LAVYNGO_CEILING_FACES = 65536
+};
+
+/* Builds a mesh from lists, in tables with rows for as many points, faces and, for the edges, listed points.
+     coordinates  3 a point: x, y, z
+     sides        4 a face: how many listed points each of its four sides has
+     listed       the points of the faces in turn, side by side: edge i of a face goes from its point i to point i + 1,
+                  round to the start
+     beside       the interval beside each listed point: edge i takes the one beside point i; an edge that exists already
+                  keeps its own
+   Answers 0, 2 to 4, 10 to 22. A mesh that is accepted has half as many edges as listed points; the edge rows from there
+   to the number of listed points are zeroed. */
+uint32_t lavyngo_build(
+    const double *coordinates, size_t coordinates_length, const uint32_t *sides, size_t sides_length,
+    const uint32_t *listed, size_t listed_length, const double *beside, size_t beside_length,
+    double *positions, size_t positions_length, uint32_t *points, size_t points_length,
+    uint32_t *edges, size_t edges_length, double *intervals, size_t intervals_length,
+    uint32_t *faces, size_t faces_length, size_t counts[3]);
+
+/* Builds a mesh from mesh text 1, as lavyngo_build does from its lists. Answers 0, 1 to 4, 10 to 22. */
+uint32_t lavyngo_build_text(
+    const uint8_t *text, size_t text_length,
+    double *positions, size_t positions_length, uint32_t *points, size_t points_length,
+    uint32_t *edges, size_t edges_length, double *intervals, size_t intervals_length,
+    uint32_t *faces, size_t faces_length, size_t counts[3]);
+
+/* Whether tables of any content, with counts of any size, are a closed mesh: 0, or 30 if they are not. Writes nothing. */
+uint32_t lavyngo_audit(
+    const double *positions, size_t positions_length, const uint32_t *points, size_t points_length,
+    const uint32_t *edges, size_t edges_length, const double *intervals, size_t intervals_length,
+    const uint32_t *faces, size_t faces_length, const size_t counts[3]);
+
+/* Refines the mesh in the tables once. V, E, F become V + E + F, 4 E, 2 E; tables and scratch must have rows for these.
+     counts       those before the step; those after it, where it is accepted
+     order        the faces in the order in which they are visited, each once: 0, 1, 2, .. is numbered order
+     places, rows, halves, lengths, quads    scratch: tables of positions, points, edges, intervals and faces
+   Answers 0, 30 to 33. Scratch is zeroed after an accepted step and after 33. */
+uint32_t lavyngo_step(
+    double *positions, size_t positions_length, uint32_t *points, size_t points_length,
+    uint32_t *edges, size_t edges_length, double *intervals, size_t intervals_length,
+    uint32_t *faces, size_t faces_length, size_t counts[3], const uint32_t *order, size_t order_length,
+    double *places, size_t places_length, uint32_t *rows, size_t rows_length,
+    uint32_t *halves, size_t halves_length, double *lengths, size_t lengths_length,
+    uint32_t *quads, size_t quads_length);
+
+#ifdef __cplusplus
+}
+#endif
+
+#endif

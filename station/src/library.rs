@@ -1,0 +1,233 @@
+//! The static library, and tables to lend to it. The declarations are those of lavyngo.h.
+
+use crate::lists::Lists;
+
+pub const NONE: u32 = u32::MAX;
+
+unsafe extern "C" {
+    fn lavyngo_build(
+        coordinates: *const f64, coordinates_length: usize, sides: *const u32, sides_length: usize,
+        listed: *const u32, listed_length: usize, beside: *const f64, beside_length: usize,
+        positions: *mut f64, positions_length: usize, points: *mut u32, points_length: usize,
+        edges: *mut u32, edges_length: usize, intervals: *mut f64, intervals_length: usize,
+        faces: *mut u32, faces_length: usize, counts: *mut [usize; 3],
+    ) -> u32;
+    fn lavyngo_build_text(
+        text: *const u8, text_length: usize,
+        positions: *mut f64, positions_length: usize, points: *mut u32, points_length: usize,
+        edges: *mut u32, edges_length: usize, intervals: *mut f64, intervals_length: usize,
+        faces: *mut u32, faces_length: usize, counts: *mut [usize; 3],
+    ) -> u32;
+    fn lavyngo_audit(
+        positions: *const f64, positions_length: usize, points: *const u32, points_length: usize,
+        edges: *const u32, edges_length: usize, intervals: *const f64, intervals_length: usize,
+        faces: *const u32, faces_length: usize, counts: *const [usize; 3],
+    ) -> u32;
+    fn lavyngo_step(
+        positions: *mut f64, positions_length: usize, points: *mut u32, points_length: usize,
+        edges: *mut u32, edges_length: usize, intervals: *mut f64, intervals_length: usize,
+        faces: *mut u32, faces_length: usize, counts: *mut [usize; 3], order: *const u32, order_length: usize,
+        places: *mut f64, places_length: usize, rows: *mut u32, rows_length: usize,
+        halves: *mut u32, halves_length: usize, lengths: *mut f64, lengths_length: usize,
+        quads: *mut u32, quads_length: usize,
+    ) -> u32;
+}
+
+/// How many points, edges and faces.
+#[derive(Clone, Copy, PartialEq, Eq, Debug, Default)]
+pub struct Counts {
+    pub points: usize,
+    pub edges: usize,
+    pub faces: usize,
+}
+
+impl Counts {
+    pub fn of(counts: [usize; 3]) -> Self {
+        Counts { points: counts[0], edges: counts[1], faces: counts[2] }
+    }
+
+    pub fn array(self) -> [usize; 3] {
+        [self.points, self.edges, self.faces]
+    }
+
+    pub fn refined(self) -> Self {
+        Counts { points: self.points + self.edges + self.faces, edges: 4 * self.edges, faces: 2 * self.edges }
+    }
+
+    pub fn records(self) -> u64 {
+        (self.points + self.edges + self.faces) as u64
+    }
+}
+
+/// The five tables of a mesh.
+#[derive(Clone, Default)]
+pub struct Tables {
+    pub positions: Vec<f64>,
+    pub points: Vec<u32>,
+    pub edges: Vec<u32>,
+    pub intervals: Vec<f64>,
+    pub faces: Vec<u32>,
+}
+
+/// A word that no table would hold by chance, for each place.
+fn pattern_word(place: usize) -> u32 {
+    0xa5c3_0000 ^ (place as u32).wrapping_mul(0x0001_0021)
+}
+
+/// The same for numbers: finite, and none that a mesh has.
+fn pattern_number(place: usize) -> f64 {
+    f64::from_bits(0x3a5c_96e1_0000_0000 ^ place as u64)
+}
+
+fn same_numbers(a: &[f64], b: &[f64]) -> bool {
+    a.len() == b.len() && a.iter().zip(b).all(|(x, y)| x.to_bits() == y.to_bits())
+}
+
+fn all_zero(words: &[u32], numbers: &[f64]) -> bool {
+    words.iter().all(|&word| word == 0) && numbers.iter().all(|number| number.to_bits() == 0)
+}
+
+impl Tables {
+    /// Tables with the rows of these counts, and so many elements more in each, all filled with the pattern.
+    pub fn patterned(counts: Counts, spare: usize) -> Self {
+        let words = |length: usize| (0..length + spare).map(pattern_word).collect();
+        let numbers = |length: usize| (0..length + spare).map(pattern_number).collect();
+        Tables {
+            positions: numbers(3 * counts.points),
+            points: words(3 * counts.points),
+            edges: words(8 * counts.edges),
+            intervals: numbers(counts.edges),
+            faces: words(5 * counts.faces),
+        }
+    }
+
+    /// Tables with the rows of these counts, all zero.
+    pub fn zero(counts: Counts) -> Self {
+        Tables {
+            positions: vec![0.0; 3 * counts.points],
+            points: vec![0; 3 * counts.points],
+            edges: vec![0; 8 * counts.edges],
+            intervals: vec![0.0; counts.edges],
+            faces: vec![0; 5 * counts.faces],
+        }
+    }
+
+    /// The rows that the tables hold whole.
+    pub fn room(&self) -> Counts {
+        Counts {
+            points: (self.positions.len() / 3).min(self.points.len() / 3),
+            edges: (self.edges.len() / 8).min(self.intervals.len()),
+            faces: self.faces.len() / 5,
+        }
+    }
+
+    pub fn same(&self, other: &Tables) -> bool {
+        same_numbers(&self.positions, &other.positions)
+            && self.points == other.points
+            && self.edges == other.edges
+            && same_numbers(&self.intervals, &other.intervals)
+            && self.faces == other.faces
+    }
+
+    /// Whether the rows beyond these counts are those of the other tables.
+    pub fn same_beyond(&self, counts: Counts, other: &Tables) -> bool {
+        same_numbers(&self.positions[3 * counts.points..], &other.positions[3 * counts.points..])
+            && self.points[3 * counts.points..] == other.points[3 * counts.points..]
+            && self.edges[8 * counts.edges..] == other.edges[8 * counts.edges..]
+            && same_numbers(&self.intervals[counts.edges..], &other.intervals[counts.edges..])
+            && self.faces[5 * counts.faces..] == other.faces[5 * counts.faces..]
+    }
+
+    /// Whether the rows of these counts are zero.
+    pub fn is_zero(&self, counts: Counts) -> bool {
+        all_zero(&self.points[..3 * counts.points], &self.positions[..3 * counts.points])
+            && all_zero(&self.edges[..8 * counts.edges], &self.intervals[..counts.edges])
+            && all_zero(&self.faces[..5 * counts.faces], &[])
+    }
+
+    /// Whether the edge rows from one count to another are zero.
+    pub fn edges_zero(&self, from: usize, to: usize) -> bool {
+        all_zero(&self.edges[8 * from..8 * to], &self.intervals[from..to])
+    }
+
+    /// The first rows, of these counts.
+    pub fn first(&self, counts: Counts) -> Tables {
+        Tables {
+            positions: self.positions[..3 * counts.points].to_vec(),
+            points: self.points[..3 * counts.points].to_vec(),
+            edges: self.edges[..8 * counts.edges].to_vec(),
+            intervals: self.intervals[..counts.edges].to_vec(),
+            faces: self.faces[..5 * counts.faces].to_vec(),
+        }
+    }
+
+    /// These tables with the rows of others put at their front.
+    pub fn over(mut self, front: &Tables) -> Tables {
+        self.positions[..front.positions.len()].copy_from_slice(&front.positions);
+        self.points[..front.points.len()].copy_from_slice(&front.points);
+        self.edges[..front.edges.len()].copy_from_slice(&front.edges);
+        self.intervals[..front.intervals.len()].copy_from_slice(&front.intervals);
+        self.faces[..front.faces.len()].copy_from_slice(&front.faces);
+        self
+    }
+
+    pub fn bytes(&self) -> usize {
+        8 * (self.positions.len() + self.intervals.len()) + 4 * (self.points.len() + self.edges.len() + self.faces.len())
+    }
+}
+
+/// Builds from lists. The answer is document 01's number, 0 for accepted.
+pub fn build(lists: &Lists, tables: &mut Tables, counts: &mut [usize; 3]) -> u32 {
+    let (t, l) = (tables, lists);
+    // SAFETY: each pointer goes with its length, no table overlaps another, and the counts are three words.
+    unsafe {
+        lavyngo_build(
+            l.coordinates.as_ptr(), l.coordinates.len(), l.sides.as_ptr(), l.sides.len(),
+            l.listed.as_ptr(), l.listed.len(), l.intervals.as_ptr(), l.intervals.len(),
+            t.positions.as_mut_ptr(), t.positions.len(), t.points.as_mut_ptr(), t.points.len(),
+            t.edges.as_mut_ptr(), t.edges.len(), t.intervals.as_mut_ptr(), t.intervals.len(),
+            t.faces.as_mut_ptr(), t.faces.len(), counts,
+        )
+    }
+}
+
+/// Builds from a text.
+pub fn build_text(text: &[u8], tables: &mut Tables, counts: &mut [usize; 3]) -> u32 {
+    let t = tables;
+    // SAFETY: as above.
+    unsafe {
+        lavyngo_build_text(
+            text.as_ptr(), text.len(), t.positions.as_mut_ptr(), t.positions.len(), t.points.as_mut_ptr(), t.points.len(),
+            t.edges.as_mut_ptr(), t.edges.len(), t.intervals.as_mut_ptr(), t.intervals.len(),
+            t.faces.as_mut_ptr(), t.faces.len(), counts,
+        )
+    }
+}
+
+/// 0 for a closed mesh, else 30.
+pub fn audit(tables: &Tables, counts: [usize; 3]) -> u32 {
+    let t = tables;
+    // SAFETY: as above.
+    unsafe {
+        lavyngo_audit(
+            t.positions.as_ptr(), t.positions.len(), t.points.as_ptr(), t.points.len(), t.edges.as_ptr(), t.edges.len(),
+            t.intervals.as_ptr(), t.intervals.len(), t.faces.as_ptr(), t.faces.len(), &counts,
+        )
+    }
+}
+
+/// One step. The answer is document 01's number, 0 for accepted.
+pub fn step(tables: &mut Tables, counts: &mut [usize; 3], order: &[u32], scratch: &mut Tables) -> u32 {
+    let (t, s) = (tables, scratch);
+    // SAFETY: as above.
+    unsafe {
+        lavyngo_step(
+            t.positions.as_mut_ptr(), t.positions.len(), t.points.as_mut_ptr(), t.points.len(),
+            t.edges.as_mut_ptr(), t.edges.len(), t.intervals.as_mut_ptr(), t.intervals.len(),
+            t.faces.as_mut_ptr(), t.faces.len(), counts, order.as_ptr(), order.len(),
+            s.positions.as_mut_ptr(), s.positions.len(), s.points.as_mut_ptr(), s.points.len(),
+            s.edges.as_mut_ptr(), s.edges.len(), s.intervals.as_mut_ptr(), s.intervals.len(),
+            s.faces.as_mut_ptr(), s.faces.len(),
+        )
+    }
+}

@@ -1,0 +1,178 @@
+//! The library for stations against the original Rust, in one process.
+//!
+//!     station compare [MESHES [SEED]]    generated meshes, after building and after one and two steps
+//!     station fuzz [CASES [SEED]]        random and damaged lists, texts and tables
+//!     station bench [FACES]              times; the Rust is run on meshes of up to so many faces
+//!     station profile [STEPS]            steps of the torus of 64 by 64, for a profiler
+//!     station stack                      the stack that each function takes
+//!     station tampered                   the same with a bit changed in what the library leaves: it must be found
+
+mod bench;
+mod compare;
+mod fuzz;
+mod grounds;
+mod library;
+mod lists;
+mod memory;
+mod names;
+mod numbers;
+mod random;
+mod rust;
+mod shapes;
+mod shrink;
+mod spoil;
+mod stack;
+
+use compare::{Case, Tally, Tamper};
+use std::process::ExitCode;
+use std::sync::Mutex;
+
+#[global_allocator]
+static MEMORY: memory::Counting = memory::Counting;
+
+/// The first case that fails, made as small as it gets, or what was compared.
+fn run(meshes: u64, seed: u64, tamper: Option<Tamper>) -> Result<Tally, (u64, Case, String)> {
+    let mut tally = Tally::default();
+    for number in 0..meshes {
+        let case = Case::random(seed, number);
+        if let Err(what) = compare::check(&case, &mut tally, tamper) {
+            let fails = |case: &Case| compare::check(case, &mut Tally::default(), tamper).err();
+            let (case, what) = shrink::shrink(case, what, fails);
+            return Err((number, case, what));
+        }
+    }
+    Ok(tally)
+}
+
+fn show(number: u64, seed: u64, case: &Case, what: &str) {
+    println!("DIFFERENCE in mesh {number} of seed {seed}: {what}");
+    let order = |&numbered: &bool| if numbered { "numbered order" } else { "another order" };
+    let steps: Vec<&str> = case.numbered.iter().map(order).collect();
+    println!("steps: {}; scrambled: {}; two runs: {}", steps.join(", "), case.scrambled, case.two_runs);
+    println!("elements to spare in each table: {}; too few in a table: {:?}", case.spare, case.short);
+    match case.lists.text() {
+        Some(text) => print!("the smallest text that was found to show it:\n{text}"),
+        None => println!("lists whose lengths disagree: {:?} {:?}", case.lists.sides, case.lists.listed),
+    }
+}
+
+fn listed(counts: &std::collections::BTreeMap<u32, u64>) -> String {
+    let parts: Vec<String> = counts.iter().map(|(ground, n)| format!("{ground}: {n}")).collect();
+    if parts.is_empty() { String::from("none") } else { parts.join(", ") }
+}
+
+fn compare(meshes: u64, seed: u64) -> ExitCode {
+    match run(meshes, seed, None) {
+        Ok(t) => {
+            println!(
+                "seed {seed}: {} meshes, {} of them also as texts; {} accepted, faces of up to {} sides",
+                t.meshes, t.texts, t.accepted, t.largest_face
+            );
+            println!("building refused, by ground: {}", listed(&t.refused));
+            println!("of these also refused by the Rust, with its own error: {}", listed(&t.refused_by_both));
+            println!(
+                "{} steps, {} of them in other orders than the numbered one; refused, by ground: {}",
+                t.steps, t.steps_in_other_orders, listed(&t.refused_steps)
+            );
+            println!("{} records compared with the Rust's, every word and bit", t.records);
+            println!(
+                "{} second runs in other orders, {} records compared under the names",
+                t.runs_under_names, t.records_under_names
+            );
+            println!("none differed");
+            ExitCode::SUCCESS
+        }
+        Err((number, case, what)) => {
+            show(number, seed, &case, &what);
+            ExitCode::FAILURE
+        }
+    }
+}
+
+/// Three changes of one bit, in a position, in a link and in a corner. Each must be found.
+fn tampered() -> ExitCode {
+    let tampers: [(&str, Tamper); 3] = [
+        ("the last bit of the last coordinate but 40", |t| {
+            let at = t.positions.len().saturating_sub(41);
+            t.positions[at] = f64::from_bits(t.positions[at].to_bits() ^ 1);
+        }),
+        ("a link of edge 17", |t| {
+            if let Some(word) = t.edges.get_mut(8 * 17 + 6) {
+                *word ^= 1;
+            }
+        }),
+        ("a corner of face 5", |t| t.faces[5 * 5 + 2] ^= 1),
+    ];
+    for (what, tamper) in tampers {
+        match run(200, 1, Some(tamper)) {
+            Ok(_) => {
+                println!("NOT FOUND: {what}");
+                return ExitCode::FAILURE;
+            }
+            Err((_, case, said)) => {
+                let lines = case.lists.text().map_or(0, |text| text.lines().count());
+                println!("found: {what}; a text of {lines} lines; {said}");
+            }
+        }
+    }
+    ExitCode::SUCCESS
+}
+
+fn fuzz(cases: u64, seed: u64) -> ExitCode {
+    match fuzz::run(cases, seed) {
+        Ok(f) => {
+            println!("seed {seed}: {} lists, {} texts, {} tables", f.lists, f.texts, f.tables);
+            println!("building from lists answered, 0 for accepted: {}", listed(&f.building));
+            println!("building from texts answered: {}", listed(&f.reading));
+            println!("{} audits: {} closed, {} not", f.audits[0] + f.audits[1], f.audits[1], f.audits[0]);
+            println!("{} steps answered: {}", f.steps, listed(&f.answers));
+            println!("every answer is document 01's, every row as its ground promises");
+            ExitCode::SUCCESS
+        }
+        Err((number, what)) => {
+            println!("WRONG in case {number} of seed {seed}: {what}");
+            ExitCode::FAILURE
+        }
+    }
+}
+
+/// Panics of the Rust become lines of the oracle; what was said last is kept, for a panic that is our own.
+static LAST_PANIC: Mutex<String> = Mutex::new(String::new());
+
+fn main() -> ExitCode {
+    std::panic::set_hook(Box::new(|info| *LAST_PANIC.lock().expect("one thread") = info.to_string()));
+    std::panic::catch_unwind(command).unwrap_or_else(|_| {
+        println!("{}", LAST_PANIC.lock().expect("one thread"));
+        ExitCode::FAILURE
+    })
+}
+
+fn command() -> ExitCode {
+    let words: Vec<String> = std::env::args().skip(1).collect();
+    let number = |at: usize, otherwise: u64| words.get(at).and_then(|word| word.parse().ok()).unwrap_or(otherwise);
+    match words.first().map(String::as_str) {
+        Some("compare") => compare(number(1, 20_000), number(2, 1)),
+        Some("fuzz") => fuzz(number(1, 50_000), number(2, 1)),
+        Some("tampered") => tampered(),
+        Some("stack") => {
+            stack::run();
+            ExitCode::SUCCESS
+        }
+        Some("stack-call") => {
+            stack::call(&words[1], number(2, 0) as usize);
+            ExitCode::SUCCESS
+        }
+        Some("profile") => {
+            bench::profile(number(1, 1) as usize);
+            ExitCode::SUCCESS
+        }
+        Some("bench") => {
+            bench::run(number(1, 100_000) as usize);
+            ExitCode::SUCCESS
+        }
+        _ => {
+            eprintln!("usage: station compare [MESHES [SEED]] | fuzz [CASES [SEED]] | bench [FACES] | profile [STEPS] | stack | tampered");
+            ExitCode::from(2)
+        }
+    }
+}
