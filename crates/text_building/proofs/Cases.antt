@@ -2,7 +2,6 @@
 -- face, a number that is not finite, and the limit of bytes.
 use mathlib.Core.Path.{_≡_, refl}
 use mathlib.Core.List.{List, [], _∷_, map}
-use mathlib.Core.Option.{Option, none, some}
 use Prim.Native.Nat.{ℕ, _*_}
 use lib.Ieee.{ofBits, neg, add, sub, le, lt, binary64}
 use lib.ListN.{replicate}
@@ -14,9 +13,7 @@ use Rattle.mesh_text.specs.Text.{coordinate, point, listed, side, face, ends, m
 use Rattle.mesh_text.specs.Reading.{flat}
 use Rattle.building_tests.specs.declared.Bounds.{Bounds}
 use Rattle.building_tests.specs.declared.Bounds.the-variants.{General, Refine}
-use Rattle.text_building.specs.TextBuilding.{groundOf, buildText}
-use Rattle.text_building.specs.declared.TextBuilt.{TextBuilt}
-use Rattle.text_building.specs.declared.TextBuilt.the-variants.{Accepted, NotText, Refused}
+use Rattle.text_building.specs.TextBuilding.{numbersOf, buildText}
 
 -- zeros for so many rows
 abbrev rowsOf : ℕ → ℕ → ℕ → Mesh
@@ -28,16 +25,6 @@ rowsOf np ne nf =
       intervals = replicate ne (ofBits binary64 0);
       faces = replicate (nf * 5) 0;
     }
-
-abbrev toList : Option ℕ → List ℕ
-toList none = []
-toList (some n) = n ∷ []
-
--- the counts of a mesh that is accepted, or the number of the ground
-abbrev numbersOf : TextBuilt → List ℕ
-numbersOf (Accepted k) = k .points ∷ k .edges ∷ k .faces ∷ []
-numbersOf NotText = toList (groundOf NotText)
-numbersOf (Refused g) = toList (groundOf (Refused g))
 
 -- what is answered of a text for which there are no rows
 numbers : Bounds → List ℕ → List ℕ

@@ -3,13 +3,12 @@
 --     tooLong b n             n bytes are over the limit of bytes, which `refine` alone has
 --     listsOf t               the lists that a text stands for
 --     told a                  an answer of building from lists, as one of building from a text
---     groundOf a              document 01's number of the ground that is answered
+--     numbersOf a             the numbers of an answer: points, edges and faces, or that of the ground
 --     Outcome                 the answer, and the tables afterwards
 --     buildText b s m         building from the text s in the lent tables m, within the limits b
 -- Grounds 1 and 2 leave the tables as they are.
 use mathlib.Core.Bool.{Bool, true, false}
-use mathlib.Core.List.{List}
-use mathlib.Core.Option.{Option, none as nothing, some}
+use mathlib.Core.List.{List, [], _∷_}
 use Prim.Native.Nat.{ℕ}
 use lib.Dec.{ltb}
 use lib.ListN.{length}
@@ -40,10 +39,10 @@ abbrev pub told : Built → TextBuilt
 told (Built.Accepted k) = Accepted k
 told (Built.Refused g) = Refused g
 
-abbrev pub groundOf : TextBuilt → Option ℕ
-groundOf (Accepted k) = nothing
-groundOf NotText = some 1
-groundOf (Refused g) = some (numberOf g)
+abbrev pub numbersOf : TextBuilt → List ℕ
+numbersOf (Accepted k) = k .points ∷ k .edges ∷ k .faces ∷ []
+numbersOf NotText = 1 ∷ []
+numbersOf (Refused g) = numberOf g ∷ []
 
 pub record Outcome : Type 0 where
   pub answer : TextBuilt
