@@ -5,6 +5,7 @@
 --     Not-text-exactly        1 is answered exactly if it is not too long and not of the form
 --     Over-exactly            2 is answered exactly if it is over a limit
 --     Untouched-early         1 and 2 leave the tables as they are
+--     AsLong m t              the tables t are as long as the tables m
 --     Within-limits b m t k   the tables t, as long as m, hold a mesh with the counts k that passes the audit and is within the limits
 --     Accepted-within         what is accepted is such a mesh
 -- All further grounds are those of building from its lists (`built_meshes`): `of-lists` in `proofs/Theorem.antt`.
