@@ -10,8 +10,8 @@ use mathlib.Core.Bool.{true, not}
 use mathlib.Core.Path.{_≡_, sym, ap}
 use Rattle.audited_meshes.specs.Folds.{every}
 use Rattle.building_tests.proofs.Laws.{every-none, every-more, every-stop, whole}
-use Rattle.building.proofs.whole.every_edged.Statement.{statement}
-use Rattle.building.proofs.whole.every_edged.Tie as tie
+use Rattle.building_whole.proofs.whole.every_edged.Statement.{statement}
+use Rattle.building_whole.proofs.whole.every_edged.Tie as tie
 
 abbrev Inv-loop : tie.InvT-loop
 Inv-loop points np p₀ p = (p ≤ np) × (every p (λ i. not (eqb (getD points (i * 3) 0) 0)) ≡ true)

@@ -1,7 +1,7 @@
 -- mark_of meets its contract.
 use borrow.Author.Tests.{eq-eqb, ne-eqb}
-use Rattle.building.proofs.whole.mark_of.Statement.{statement}
-use Rattle.building.proofs.whole.mark_of.Tie as tie
+use Rattle.building_whole.proofs.whole.mark_of.Statement.{statement}
+use Rattle.building_whole.proofs.whole.mark_of.Tie as tie
 
 returns : tie.Need-returns
 returns c = rw (eq-eqb _ _ (c .if1 .taken))

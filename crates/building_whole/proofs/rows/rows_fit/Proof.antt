@@ -1,8 +1,8 @@
 -- rows_fit meets its contract: the tests in the definition's order.
 use borrow.Author.Tests.{le-leb, lt-leb}
 use borrow.Author.Needs.{needs}
-use Rattle.building.proofs.rows.rows_fit.Statement.{statement}
-use Rattle.building.proofs.rows.rows_fit.Tie as tie
+use Rattle.building_whole.proofs.rows.rows_fit.Statement.{statement}
+use Rattle.building_whole.proofs.rows.rows_fit.Tie as tie
 
 returns : tie.Need-returns
 returns c = rw (lt-leb _ _ (rw (c .before .point-rows .ensures) at (c .if1 .taken)))

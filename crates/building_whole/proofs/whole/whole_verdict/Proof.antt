@@ -1,10 +1,10 @@
 -- whole_verdict meets its contract: the tests in the definition's order.
 use borrow.Author.Tests.{not-true, not-false}
 use mathlib.Core.Path.{_∙_, sym}
-use Rattle.building.proofs.Laws.{whole-is}
+use Rattle.building_whole.proofs.Laws.{whole-is}
 use borrow.Author.Needs.{needs}
-use Rattle.building.proofs.whole.whole_verdict.Statement.{statement}
-use Rattle.building.proofs.whole.whole_verdict.Tie as tie
+use Rattle.building_whole.proofs.whole.whole_verdict.Statement.{statement}
+use Rattle.building_whole.proofs.whole.whole_verdict.Tie as tie
 
 returns : tie.Need-returns
 returns c = λ ps is fs. rw (whole-is ps (c .before .before .before .before .args .points .now) (c .before .before .before .before .args .edges .now) is fs (c .before .before .before .before .args .np) (c .before .before .before .before .args .ne), sym (c .before .no-missing-face .ensures) ∙ not-true _ (c .if1 .taken))

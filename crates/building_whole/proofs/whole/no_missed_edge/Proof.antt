@@ -13,8 +13,8 @@ use mathlib.Core.Bool.{Bool, true, not}
 use mathlib.Core.Path.{_≡_, _∙_, sym}
 use Rattle.audited_meshes.specs.Folds.{every}
 use Rattle.building_tests.proofs.Laws.{every-none, every-more, every-stop, whole}
-use Rattle.building.proofs.whole.no_missed_edge.Statement.{statement}
-use Rattle.building.proofs.whole.no_missed_edge.Tie as tie
+use Rattle.building_whole.proofs.whole.no_missed_edge.Statement.{statement}
+use Rattle.building_whole.proofs.whole.no_missed_edge.Tie as tie
 
 -- whether the walk about point p passes as many edges as its valence
 abbrev passes : List ℕ → List ℕ → ℕ → ℕ → Bool

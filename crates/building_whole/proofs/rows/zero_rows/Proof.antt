@@ -1,8 +1,8 @@
 -- zero_rows meets its contract.
-use Rattle.building.specs.Concluding.{zeroedTo}
+use Rattle.building_whole.specs.Zeroing.{zeroedTo}
 use borrow.Author.Needs.{needs}
-use Rattle.building.proofs.rows.zero_rows.Statement.{statement}
-use Rattle.building.proofs.rows.zero_rows.Tie as tie
+use Rattle.building_whole.proofs.rows.zero_rows.Statement.{statement}
+use Rattle.building_whole.proofs.rows.zero_rows.Tie as tie
 
 returns : tie.Need-returns
 unfolding zeroedTo

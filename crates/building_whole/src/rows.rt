@@ -7,7 +7,7 @@ ghost use lib.ListN.{length};
 ghost use Rattle.tables.specs.Mesh.{Mesh};
 ghost use Rattle.audited_meshes.specs.Audit.{pointRows, edgeRows, faceRows};
 ghost use Rattle.edge_search.specs.Places.{mesh};
-ghost use Rattle.building.specs.Concluding.{zeroedTo};
+ghost use Rattle.building_whole.specs.Zeroing.{zeroedTo};
 use tables::edge_rows;
 use tables::face_rows;
 use tables::point_rows;

@@ -10,8 +10,8 @@ use mathlib.Core.Bool.{true, not}
 use mathlib.Core.Path.{_≡_, sym, ap}
 use Rattle.audited_meshes.specs.Folds.{every}
 use Rattle.building_tests.proofs.Laws.{every-none, every-more, every-stop, whole}
-use Rattle.building.proofs.whole.no_missing_face.Statement.{statement}
-use Rattle.building.proofs.whole.no_missing_face.Tie as tie
+use Rattle.building_whole.proofs.whole.no_missing_face.Statement.{statement}
+use Rattle.building_whole.proofs.whole.no_missing_face.Tie as tie
 
 abbrev Inv-loop : tie.InvT-loop
 Inv-loop edges ne e₀ e = (e ≤ ne) × (every e (λ i. not (eqb (getD edges (i * 8 + 3) 0) 4294967295)) ≡ true)

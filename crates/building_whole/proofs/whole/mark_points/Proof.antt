@@ -6,9 +6,9 @@ use Prim.Native.Nat.{_≤_, _-_}
 use mathlib.Core.Path.{_≡_, refl, sym}
 use Rattle.built_meshes.specs.Whole.{marked}
 use Rattle.building_tests.proofs.Laws.{whole}
-use Rattle.building.proofs.Laws.{marked-none, marked-more}
-use Rattle.building.proofs.whole.mark_points.Statement.{statement}
-use Rattle.building.proofs.whole.mark_points.Tie as tie
+use Rattle.building_whole.proofs.Laws.{marked-none, marked-more}
+use Rattle.building_whole.proofs.whole.mark_points.Statement.{statement}
+use Rattle.building_whole.proofs.whole.mark_points.Tie as tie
 
 abbrev Inv-loop : tie.InvT-loop
 Inv-loop points₀ np p₀ points p = (p ≤ np) × (length points ≡ length points₀) × (points ≡ marked p points₀)

@@ -1,10 +1,10 @@
 -- walk_passes_all meets its contract.
 use mathlib.Core.Path.{_∙_, sym}
 use Rattle.walks.specs.Steps.{pointTables}
-use Rattle.building.proofs.Laws.{passes-back, passes-lost}
+use Rattle.building_whole.proofs.Laws.{passes-back, passes-lost}
 use borrow.Author.Needs.{needs}
-use Rattle.building.proofs.whole.walk_passes_all.Statement.{statement}
-use Rattle.building.proofs.whole.walk_passes_all.Tie as tie
+use Rattle.building_whole.proofs.whole.walk_passes_all.Statement.{statement}
+use Rattle.building_whole.proofs.whole.walk_passes_all.Tie as tie
 
 returns : tie.Need-returns
 returns c = passes-back (pointTables (c .before .before .before .before .before .before .before .before .args .points .now) (c .before .before .before .before .before .before .before .before .args .edges .now)) (c .before .before .before .before .before .before .before .before .args .ne) (c .before .before .before .before .index .result) _ (c .before .before .before .before .before .before .before .before .args .p) (c .before .before .before .before .index .ensures) (c .before .n .given .0 .0) (sym (c .before .before .before .point-walk .ensures) ∙ c .before .n .given .1)
