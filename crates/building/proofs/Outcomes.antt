@@ -35,7 +35,8 @@ use Rattle.building_tests.specs.declared.Bounds.the-variants.{General, Refine}
 use Rattle.edge_search.specs.Chains.{Newest, Standing}
 use Rattle.edge_search.specs.Places.{mesh}
 use Rattle.building_faces.specs.Rings.{stateAt, Lent}
-use Rattle.building.specs.Concluding.{zeroedTo, concluded, answeredFrom, Begun, Zeroed}
+use Rattle.building_whole.specs.Zeroing.{zeroedTo}
+use Rattle.building.specs.Concluding.{concluded, answeredFrom, Begun, Zeroed}
 
 -- ---- the ends of `conclude`
 

@@ -1,5 +1,4 @@
 -- How building ends, over the numbers np, nl and nf of points, listed points and faces.
---     zeroedTo                the tables with the rows that ground 4 counts made zero
 --     concluded               the answer and the tables, by the verdict on the whole, when k edges stand in the tables m
 --     answeredFrom            what is answered when all faces were tried
 --     Begun                   no ground up to 4 holds
@@ -8,28 +7,18 @@ use mathlib.Core.Path.{_≡_}
 use mathlib.Core.Bool.{true}
 use mathlib.Core.List.{List}
 use Prim.Native.Nat.{ℕ, _*_}
-use lib.Ieee.{Float, ofBits, binary64}
+use lib.Ieee.{Float}
 use Rattle.tables.specs.Mesh.{Mesh}
-use Rattle.tables.specs.Rows.{over, zeroed}
+use Rattle.tables.specs.Rows.{over}
 use Rattle.built_meshes.specs.Lists.{Lists, countsFit, numbersFit, rowsFit}
 use Rattle.built_meshes.specs.Building.{Outcome, refusal, zeroedRows, answered, allFaces}
 use Rattle.built_meshes.specs.Whole.{marked}
 use Rattle.built_meshes.specs.declared.Verdict.{Verdict}
 use Rattle.built_meshes.specs.declared.Verdict.the-variants.{Fit, Unfit}
 use Rattle.built_meshes.specs.declared.Built.the-variants.{Accepted}
+use Rattle.building_whole.specs.Zeroing.{zeroedTo}
 use Rattle.building_tests.specs.Lent.{limitsOf}
 use Rattle.building_tests.specs.declared.Bounds.{Bounds}
-
-unfoldable pub zeroedTo : ℕ → ℕ → ℕ → Mesh → Mesh
-unfolding zeroed
-zeroedTo np nl nf m =
-    record {
-      positions = zeroed (np * 3) (ofBits binary64 0) (m .positions);
-      points = zeroed (np * 3) 0 (m .points);
-      edges = zeroed (nl * 8) 0 (m .edges);
-      intervals = zeroed nl (ofBits binary64 0) (m .intervals);
-      faces = zeroed (nf * 5) 0 (m .faces);
-    }
 
 unfoldable pub concluded : List Float → ℕ → ℕ → ℕ → Mesh → ℕ → Verdict → Outcome
 unfolding over marked zeroedTo

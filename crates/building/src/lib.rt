@@ -11,15 +11,15 @@ ghost use Rattle.built_meshes.specs.Whole.{wholeVerdict};
 ghost use Rattle.building_tests.specs.Lent.{lists, limitsOf};
 ghost use Rattle.edge_search.specs.Places.{mesh};
 ghost use Rattle.building.specs.Concluding.{concluded, answeredFrom, Begun, Zeroed};
-use crate::rows::rows_fit;
-use crate::rows::zero_rows;
-use crate::whole::mark_points;
-use crate::whole::whole_verdict;
 use building_faces::Faced;
 use building_faces::enter_faces;
 use building_tests::Bounds;
 use building_tests::lists::counts_fit;
 use building_tests::lists::numbers_fit;
+use building_whole::rows::rows_fit;
+use building_whole::rows::zero_rows;
+use building_whole::whole::mark_points;
+use building_whole::whole::whole_verdict;
 use built_meshes::Built;
 use built_meshes::Ground;
 use built_meshes::Verdict;
@@ -27,9 +27,6 @@ use tables::Counts;
 use tables::copy_numbers;
 use tables::index;
 use tables::zero_words;
-
-pub mod rows;
-pub mod whole;
 
 // The verdict on the whole when k edges stand, and the tables by it: finished, or their counted rows made zero.
 fn conclude(

@@ -1,7 +1,7 @@
 // The positions of the points after a step, put into their rows of the scratch tables: the face points, then the edge points,
 // then the old points. Each loop ends at the first position that is not finite.
 // Names: `halves` and `quads` are the tables of edges and faces of the refined mesh, `places` its table of positions.
-// Not here: the rules (`position_rules`), the rows (`visiting`).
+// Not here: the rules (`face_points`, `edge_points`, `old_points`), the rows (`visiting`).
 // Definitions: `steps`, specs/Positions.antt; what the loops ask: specs/Placing.antt.
 ghost use mathlib.Core.Path.{_≡_};
 ghost use Prim.Native.Nat.{_+_, _*_};
@@ -12,9 +12,9 @@ ghost use Rattle.position_rules.specs.OldPoint.{oldPoint};
 ghost use Rattle.position_rules.specs.Places.{edgePointAt, facePointAt};
 ghost use Rattle.steps.specs.Positions.{on, placed, placedAll};
 ghost use Rattle.placing.specs.Placing.{came, FacesFit, EdgesFit, PointsFit, rowsOf};
-use position_rules::edge_point::edge_point;
-use position_rules::face_point::face_point;
-use position_rules::old_point::old_point;
+use edge_points::edge_point;
+use face_points::face_point;
+use old_points::old_point;
 use positions::Placed;
 use positions::Position;
 use tables::Counts;

@@ -1,18 +1,14 @@
-// The position rules of one refinement (document 01, "One refinement"): face point, edge point, old point.
-// Carries over the first three loops of `global_subdivide` in t_nurcc/mod.rs, one point at a time, each operation rounded in
-// the Rust's order. Each rule answers three finite coordinates or the word that one is not finite.
-// Not here: the rows of the new points, the loops over all faces, edges and points, and the step.
-// Contracts: `face_point::face_point`, `edge_point::edge_point`, `old_point::old_point`. Definitions: `specs/FacePoint.antt`,
-// `specs/EdgePoint.antt`, `specs/OldPoint.antt`, and `specs/Rules.antt` for all three over a mesh. What is proved of them:
-// `specs/Claims.antt`. What the contracts require (`specs/Fits.antt`) holds on an audited mesh: `proofs/Audited.antt`.
+// The position rules of one refinement (document 01, "One refinement") as definitions, and the code that all three share: the
+// intervals about the ends of an edge, weighted sums, the places of the new points.
+// Not here: the code of the rules (`face_points`, `edge_points`, `old_points`), the rows of the new points, and the step.
+// Definitions: `specs/FacePoint.antt`, `specs/EdgePoint.antt`, `specs/OldPoint.antt`, and `specs/Rules.antt` for all three over a
+// mesh. What is proved of them: `specs/Claims.antt`. What the contracts require (`specs/Fits.antt`) holds on an audited mesh:
+// `proofs/Audited.antt`.
 ghost use mathlib.Core.Path.{_≡_};
 ghost use Rattle.position_rules.specs.Sums.{withTerm};
 use positions::Position;
 
-pub mod edge_point;
-pub mod face_point;
 pub mod intervals;
-pub mod old_point;
 pub mod places;
 
 // A sum of weighted positions, and the sum of their weights.

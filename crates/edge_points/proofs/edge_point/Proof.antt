@@ -1,0 +1,39 @@
+-- edge_point meets its contract: the middle, the shares and the two face points are those of the definition.
+use Rattle.position_rules.proofs.Fits.{neighbours-fit}
+use Rattle.position_rules.specs.EdgePoint.{edgePoint}
+use borrow.Author.Needs.{needs}
+use Rattle.edge_points.proofs.edge_point.Statement.{statement}
+use Rattle.edge_points.proofs.edge_point.Tie as tie
+
+edge-middle-requires : tie.Need-edge-middle-requires
+edge-middle-requires c κs = (rw (c .before .index .ensures, c .before .before .load-edge .ensures) (c .before .before .before .before .before .before .before .before .pre .origin-there), (rw (c .index2 .ensures, c .before .before .load-edge .ensures) (c .before .before .before .before .before .before .before .before .pre .dest-there), c .before .before .before .before .before .before .before .before .pre .edge-fits))
+
+load-face-point-requires : tie.Need-load-face-point-requires
+load-face-point-requires c κs = rw (c .index3 .ensures, c .before .before .before .before .load-edge .ensures) (c .before .before .before .before .before .before .before .before .before .before .pre .left-row, c .before .before .before .before .before .before .before .before .before .before .pre .left-place)
+
+load-face-point-requires-2 : tie.Need-load-face-point-requires-2
+load-face-point-requires-2 c κs = rw (c .index4 .ensures, c .before .before .before .before .before .before .load-edge .ensures) (c .before .before .before .before .before .before .before .before .before .before .before .before .pre .right-row, c .before .before .before .before .before .before .before .before .before .before .before .before .pre .right-place)
+
+shares-requires : tie.Need-shares-requires
+shares-requires c κs = rw (c .before .before .before .before .before .before .before .load-edge .ensures) (neighbours-fit _ _ _ (c .before .before .before .before .before .before .before .before .before .before .before .before .before .pre .edge-fits))
+
+returns : tie.Need-returns
+unfolding edgePoint
+returns c = rw (c .placed .ensures, c .before .blend .ensures, c .before .before .before .before .before .before .before .edge-middle .ensures, c .before .before .shares .ensures, c .before .before .before .before .before .load-face-point .ensures, c .before .before .before .load-face-point2 .ensures, c .before .before .before .before .before .before .before .before .before .index .ensures, c .before .before .before .before .before .before .before .before .index2 .ensures, c .before .before .before .before .before .before .index3 .ensures, c .before .before .before .before .index4 .ensures, c .before .before .before .before .before .before .before .before .before .before .load-edge .ensures)
+
+pub edge-point-spec : {M : Type 1} → statement M
+edge-point-spec =
+    tie.close
+    (tie.spec
+    (λ c κs. search needs)
+    (λ c κs. search needs)
+    (λ c κs. search needs)
+    edge-middle-requires
+    (λ c κs. search needs)
+    load-face-point-requires
+    (λ c κs. search needs)
+    load-face-point-requires-2
+    shares-requires
+    (λ c κs. search needs)
+    (λ c κs. search needs)
+    returns)

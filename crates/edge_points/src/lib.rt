@@ -1,0 +1,125 @@
+// The edge point (document 01, "One refinement"): equations 13 to 15.
+// Carries over the second loop of `global_subdivide` in t_nurcc/mod.rs, one edge at a time, each operation rounded in the Rust's order.
+// Not here: face points (`face_points`), old points (`old_points`), the rows of the new points (`placing`).
+// Contract: `edge_point`. Definitions: `position_rules`, specs/EdgePoint.antt.
+ghost use mathlib.Core.Path.{_≡_};
+ghost use Prim.Native.Nat.{_+_, _*_, _≤_, _<_};
+ghost use lib.ListN.{length};
+ghost use Rattle.positions.specs.Position.{placedAt};
+ghost use Rattle.t_spline.specs.Edge.{connectionOf};
+ghost use Rattle.position_rules.specs.EdgePoint.{share, shares, neighbour, middle, edgeMiddle, blend, edgePoint};
+ghost use Rattle.position_rules.specs.Places.{facePointAt};
+ghost use Rattle.position_rules.specs.Fits.{EdgeFits, EdgePointFits, NeighboursFit};
+use position_rules::Shares;
+use position_rules::intervals::three_terms;
+use position_rules::places::load_face_point;
+use positions::Placed;
+use positions::Position;
+use positions::is_small;
+use t_spline::TnurccConnection;
+use t_spline::TnurccEdge;
+use tables::index;
+use tables::load_edge;
+use tables::load_position;
+
+// A part of a denominator, 0 if the denominator is small.
+fn share(a: f64, den: f64) -> f64
+    ensures { λ r. ⌜ r ≡ share a den ⌝ }
+{
+    if is_small(den) {
+        return 0.0;
+    }
+    a / den
+}
+
+// The interval of a neighbour.
+fn neighbour(intervals: &[f64], edge: TnurccEdge, con: TnurccConnection) -> f64
+    requires { ⌜ connectionOf edge con < length (now intervals) ⌝ }
+    ensures { λ r. ⌜ r ≡ neighbour (now (intervals .entry)) edge con ⌝ }
+{
+    let e = index(edge.connection(con));
+    intervals[e]
+}
+
+// The shares of the two face points, by the intervals of the neighbours.
+fn shares(intervals: &[f64], edge: TnurccEdge) -> Shares
+    requires { ⌜ NeighboursFit (now intervals) edge ⌝ }
+    ensures { λ r. ⌜ r ≡ shares (now (intervals .entry)) edge ⌝ }
+{
+    let left_cw = neighbour(intervals, edge, TnurccConnection::LeftCw);
+    let left_acw = neighbour(intervals, edge, TnurccConnection::LeftAcw);
+    let right_cw = neighbour(intervals, edge, TnurccConnection::RightCw);
+    let right_acw = neighbour(intervals, edge, TnurccConnection::RightAcw);
+    let den = (left_cw + left_acw + right_cw + right_acw) * 2.0;
+    Shares {
+        left: share(left_acw + left_cw, den),
+        right: share(right_acw + right_cw, den),
+    }
+}
+
+// Both ends weighted, or the midpoint if the denominator is small.
+fn middle(o: Position, wo: f64, t: Position, wt: f64) -> Position
+    ensures { λ r. ⌜ r ≡ middle o wo t wt ⌝ }
+{
+    let den = wo + wt;
+    if is_small(den) {
+        return o.plus(t).times(0.5);
+    }
+    o.times(wo).plus(t.times(wt)).over(den)
+}
+
+// The edge from o to t, each end weighted by d + A2 + C2 about that end.
+fn edge_middle(
+    positions: &[f64],
+    edges: &[u32],
+    intervals: &[f64],
+    o: usize,
+    t: usize,
+    e: usize,
+) -> Position
+    requires { ⌜ o * 3 + 3 ≤ length (now positions) ⌝ }
+    requires { ⌜ t * 3 + 3 ≤ length (now positions) ⌝ }
+    requires { ⌜ EdgeFits (now edges) (now intervals) e ⌝ }
+    ensures { λ r. ⌜ r ≡ edgeMiddle (now (positions .entry)) (now (edges .entry)) (now (intervals .entry)) o t e ⌝ }
+{
+    let wo = three_terms(edges, intervals, o, e);
+    let wt = three_terms(edges, intervals, t, e);
+    let from = load_position(positions, o);
+    let to = load_position(positions, t);
+    middle(from, wo, to, wt)
+}
+
+// m (1 - aR - aL) + aL times the left face point + aR times the right one.
+fn blend(m: Position, a: Shares, left: Position, right: Position) -> Position
+    ensures { λ r. ⌜ r ≡ blend m a left right ⌝ }
+{
+    m.times(1.0 - a.right - a.left)
+        .plus(left.times(a.left))
+        .plus(right.times(a.right))
+}
+
+// The edge point of edge e, from the face points that stand in the new table of positions.
+pub fn edge_point(
+    positions: &[f64],
+    edges: &[u32],
+    intervals: &[f64],
+    places: &[f64],
+    quads: &[u32],
+    e: usize,
+) -> Placed
+    requires { ⌜ EdgePointFits (now positions) (now edges) (now intervals) (now places) (now quads) e ⌝ }
+    ensures { λ r. ⌜ r ≡ placedAt (edgePoint (now (positions .entry)) (now (edges .entry)) (now (intervals .entry)) (facePointAt (now (places .entry)) (now (quads .entry))) e) ⌝ }
+{
+    let edge = load_edge(edges, intervals, e);
+    let m = edge_middle(
+        positions,
+        edges,
+        intervals,
+        index(edge.origin),
+        index(edge.dest),
+        e,
+    );
+    let left = load_face_point(places, quads, index(edge.face_left));
+    let right = load_face_point(places, quads, index(edge.face_right));
+    blend(m, shares(intervals, edge), left, right).placed()
+}

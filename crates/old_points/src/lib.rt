@@ -1,0 +1,157 @@
+// The old point (document 01, "One refinement"): equations 16 to 19.
+// Carries over the third loop of `global_subdivide` in t_nurcc/mod.rs, one point at a time, each operation rounded in the Rust's order.
+// Not here: face points (`face_points`), edge points (`edge_points`), the rows of the new points (`placing`).
+// Contract: `old_point`. Definitions: `position_rules`, specs/OldPoint.antt.
+ghost use mathlib.Core.Path.{_≡_};
+ghost use lib.IntN.{pos};
+ghost use lib.Ieee.{ofInt, binary64};
+ghost use Rattle.positions.specs.Position.{placedAt};
+ghost use Rattle.t_spline.specs.Edge.{commonFace};
+ghost use Rattle.tables.specs.Records.{edgeAt};
+ghost use Rattle.position_rules.specs.OldPoint.{edgeWeight, faceWeight, radialTerms, radialSum, moved, oldPoint};
+ghost use Rattle.position_rules.specs.Places.{edgePointAt, facePointAt};
+ghost use Rattle.position_rules.specs.Fits.{EdgeFits, RadialFits, OldPointFits};
+use position_rules::WeightedSum;
+use position_rules::intervals::a1;
+use position_rules::intervals::a2;
+use position_rules::intervals::acw_about;
+use position_rules::intervals::c1;
+use position_rules::intervals::c2;
+use position_rules::places::load_edge_point;
+use position_rules::places::load_face_point;
+use positions::Placed;
+use positions::Position;
+use positions::is_small;
+use tables::index;
+use tables::load_edge;
+use tables::load_point;
+
+// 0.5 (A1 + C1) (A2 + C2) of edge r about p.
+fn edge_weight(edges: &[u32], intervals: &[f64], p: usize, r: usize) -> f64
+    requires { ⌜ EdgeFits (now edges) (now intervals) r ⌝ }
+    ensures { λ w. ⌜ w ≡ edgeWeight (now (edges .entry)) (now (intervals .entry)) p r ⌝ }
+{
+    0.5
+        * (a1(edges, intervals, p, r) + c1(edges, intervals, p, r))
+        * (a2(edges, intervals, p, r) + c2(edges, intervals, p, r))
+}
+
+// A1 of edge r about p, times C1 of the next edge.
+fn face_weight(edges: &[u32], intervals: &[f64], p: usize, r: usize, next: usize) -> f64
+    requires { ⌜ EdgeFits (now edges) (now intervals) r ⌝ }
+    requires { ⌜ EdgeFits (now edges) (now intervals) next ⌝ }
+    ensures { λ w. ⌜ w ≡ faceWeight (now (edges .entry)) (now (intervals .entry)) p r next ⌝ }
+{
+    a1(edges, intervals, p, r) * c1(edges, intervals, p, next)
+}
+
+// The face that edge r has in common with the next edge.
+fn face_between(edges: &[u32], intervals: &[f64], r: usize, next: usize) -> usize
+    requires { ⌜ EdgeFits (now edges) (now intervals) r ⌝ }
+    requires { ⌜ EdgeFits (now edges) (now intervals) next ⌝ }
+    ensures { λ f. ⌜ f ≡ commonFace (edgeAt (now (edges .entry)) (now (intervals .entry)) r) (edgeAt (now (edges .entry)) (now (intervals .entry)) next) ⌝ }
+{
+    index(load_edge(edges, intervals, r).common_face(load_edge(edges, intervals, next)))
+}
+
+// The sum s with the terms of edge r and of the face between it and the next edge anticlockwise about p.
+fn radial_terms(
+    edges: &[u32],
+    intervals: &[f64],
+    places: &[f64],
+    halves: &[u32],
+    quads: &[u32],
+    p: usize,
+    r: usize,
+    s: WeightedSum,
+) -> WeightedSum
+    requires { ⌜ RadialFits (now edges) (now intervals) r (now places) (now halves) (now quads) ⌝ }
+    ensures { λ t. ⌜ t ≡ radialTerms (now (edges .entry)) (now (intervals .entry)) (edgePointAt (now (places .entry)) (now (halves .entry))) (facePointAt (now (places .entry)) (now (quads .entry))) p r s ⌝ }
+{
+    let next = acw_about(edges, p, r);
+    let f = face_between(edges, intervals, r, next);
+    let edge_term = s.with_term(
+        load_edge_point(places, halves, r),
+        edge_weight(edges, intervals, p, r),
+    );
+    edge_term.with_term(
+        load_face_point(places, quads, f),
+        face_weight(edges, intervals, p, r, next),
+    )
+}
+
+// The terms of n edges about p, anticlockwise from the start edge.
+fn radial_sum(
+    edges: &[u32],
+    intervals: &[f64],
+    places: &[f64],
+    halves: &[u32],
+    quads: &[u32],
+    p: usize,
+    start: usize,
+    n: usize,
+) -> WeightedSum
+    requires { ⌜ RadialFits (now edges) (now intervals) start (now places) (now halves) (now quads) ⌝ }
+    ensures { λ t. ⌜ t ≡ radialSum (now (edges .entry)) (now (intervals .entry)) (edgePointAt (now (places .entry)) (now (halves .entry))) (facePointAt (now (places .entry)) (now (quads .entry))) p start n ⌝ }
+{
+    let mut s = WeightedSum {
+        sum: Position::origin(),
+        weight: 0.0,
+    };
+    let mut r = start;
+    let mut i = 0;
+    while i < n {
+        s = radial_terms(edges, intervals, places, halves, quads, p, r, s);
+        r = acw_about(edges, p, r);
+        i += 1;
+    }
+    s
+}
+
+// The old place times (v - 3) / v, plus S times 3 over v times W; the old place if W is small.
+fn moved(place: Position, v: f64, s: WeightedSum) -> Position
+    ensures { λ r. ⌜ r ≡ moved place v s ⌝ }
+{
+    if is_small(s.weight) {
+        return place;
+    }
+    place
+        .times((v - 3.0) / v)
+        .plus(s.sum.times(3.0).over(v * s.weight))
+}
+
+// A valence as a number.
+fn number(v: u32) -> f64
+    ensures { λ r. ⌜ r ≡ ofInt binary64 (pos v) ⌝ }
+{
+    v as f64
+}
+
+// Where the point p goes, from the edge points and face points that stand in the new table of positions.
+pub fn old_point(
+    positions: &[f64],
+    points: &[u32],
+    edges: &[u32],
+    intervals: &[f64],
+    places: &[f64],
+    halves: &[u32],
+    quads: &[u32],
+    p: usize,
+) -> Placed
+    requires { ⌜ OldPointFits (now positions) (now points) (now edges) (now intervals) (now places) (now halves) (now quads) p ⌝ }
+    ensures { λ r. ⌜ r ≡ placedAt (oldPoint (now (positions .entry)) (now (points .entry)) (now (edges .entry)) (now (intervals .entry)) (edgePointAt (now (places .entry)) (now (halves .entry))) (facePointAt (now (places .entry)) (now (quads .entry))) p) ⌝ }
+{
+    let point = load_point(positions, points, p);
+    let start = index(point.incoming_edge);
+    let s = radial_sum(
+        edges,
+        intervals,
+        places,
+        halves,
+        quads,
+        p,
+        start,
+        index(point.valence),
+    );
+    moved(point.point, number(point.valence), s).placed()
+}
