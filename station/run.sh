@@ -1,5 +1,6 @@
 #!/bin/sh
-# Makes the static library, compiles and runs the two examples, and tests the header against the library: station/run.sh
+# Makes the static library, compiles and runs the two examples and those of the manual, and tests the header against the
+# library: station/run.sh
 # Needed: the Rattle kit, cc, rustc, python3.
 set -eu
 here=$(cd "$(dirname "$0")" && pwd)
@@ -48,6 +49,8 @@ while read -r name steps _; do
     "$out/records_c" "$steps" <"$samples/$name.mesh" >"$out/records/$name.out"
     expect "$name" "$out/records/$name.expected" "$out/records/$name.out"
 done <"$samples/INDEX"
+
+python3 "$here/manual.py" "$root/docs/MANUAL.md" "$library" "$out"
 
 echo "station: $passed passed, $failed failed"
 [ "$failed" = 0 ]
