@@ -4,6 +4,7 @@ ghost use mathlib.Core.Path.{_≡_};
 ghost use Prim.Native.Nat.{_≤_, _<_};
 use crate::fields::least;
 use crate::fields::wide;
+use crate::held::Tables;
 use libc::STDOUT_FILENO;
 use positions::is_finite;
 use tables::Counts;
@@ -202,17 +203,14 @@ fn tell_remainder(counts: Counts, remainder: u64) {
 }
 
 // Writes the listing of a mesh, or its remainder.
-pub fn tell_mesh(
-    positions: &[f64],
-    points: &[u32],
-    edges: &[u32],
-    intervals: &[f64],
-    faces: &[u32],
-    counts: Counts,
-    told: bool,
-) {
+pub fn tell_mesh(t: Tables, counts: Counts, told: bool) {
+    let positions = t.positions;
+    let points = t.points;
+    let edges = t.edges;
+    let intervals = t.intervals;
+    let faces = t.faces;
     let s = Sink { told, remainder: 0 };
-    let s = put_mesh(s, positions, points, edges, intervals, faces, counts);
+    let s = put_mesh(s, &positions, &points, &edges, &intervals, &faces, counts);
     if !told {
         tell_remainder(counts, s.remainder);
     }

@@ -17,307 +17,112 @@ ghost use mathlib.Core.Path.{_≡_};
 ghost use Prim.Native.Nat.{_≤_, _+_};
 ghost use lib.ListN.{length};
 use crate::built::Answer;
+use crate::built::Start;
 use crate::built::build_bytes;
 use crate::built::build_changed;
 use crate::built::put_word;
-use crate::fields::cut;
 use crate::fields::field;
 use crate::fields::least;
 use crate::fields::word;
 use crate::heads::bounds;
 use crate::heads::change;
+use crate::held::Tables;
+use crate::held::lent_by;
 use crate::listing::tell_mesh;
 use crate::listing::tell_refused;
 use crate::listing::tell_stage;
-use crate::rows::NUMBER;
-use crate::rows::WORD;
 use crate::rows::none;
 use crate::rows::tell_rows;
+use crate::stepped::Stage;
 use crate::stepped::tell_steps;
-use crate::trials::build_zeros;
-use crate::trials::tell_changes;
-use crate::trials::tell_cuts;
+use crate::trials::count_changes;
+use crate::trials::count_cuts;
+use crate::trials::tell_tried;
+use crate::trials::tell_zeros;
 use libc::STDOUT_FILENO;
-use tables::Counts;
 
 mod built;
 mod fields;
 mod heads;
+mod held;
 mod listing;
 mod rows;
 mod stepped;
 mod trials;
 
-// Writes what building answered, and what stands in the rows that hold no mesh.
-fn tell_built(
-    answer: Answer,
-    told: bool,
-    positions: &[f64],
-    points: &[u32],
-    edges: &[u32],
-    intervals: &[f64],
-    faces: &[u32],
-) {
-    tell_stage(0);
-    match answer {
-        Answer::Accepted(counts) => {
-            tell_mesh(positions, points, edges, intervals, faces, counts, told);
-            tell_rows(b"[zero", positions, points, edges, intervals, faces, counts);
-        }
-        Answer::Refused(n) => {
-            tell_refused(n);
-            tell_rows(b"[zero", positions, points, edges, intervals, faces, none());
-        }
+// The tables with a word of the points, edges or faces changed.
+fn spoilt(t: Tables, table: usize, place: usize, word: u32) -> Tables {
+    let mut points = t.points;
+    let mut edges = t.edges;
+    let mut faces = t.faces;
+    if table == 1 {
+        put_word(&mut points, place, word);
     }
-}
-
-// Builds a text, its lists changed if the record is of kind 1.
-fn build_kind(
-    bytes: &[u8],
-    head: usize,
-    text: &[u8],
-    more: usize,
-    positions: &mut [f64],
-    points: &mut [u32],
-    edges: &mut [u32],
-    intervals: &mut [f64],
-    faces: &mut [u32],
-) -> Answer
-    requires { ⌜ head ≤ 16777216 ⌝ }
-    requires { ⌜ more ≤ 8388608 ⌝ }
-{
-    if field(bytes, head, 0) == 1 {
-        return build_changed(
-            text,
-            change(bytes, more),
-            positions,
-            points,
-            edges,
-            intervals,
-            faces,
-            bounds(bytes, head),
-        );
+    if table == 2 {
+        put_word(&mut edges, place, word);
     }
-    build_bytes(
-        text,
+    if table == 3 {
+        put_word(&mut faces, place, word);
+    }
+    let positions = t.positions;
+    let intervals = t.intervals;
+    Tables {
         positions,
         points,
         edges,
         intervals,
         faces,
-        bounds(bytes, head),
-    )
+    }
 }
 
-// Changes a word of the tables if the record is of kind 6.
-fn spoil(
-    bytes: &[u8],
-    head: usize,
-    more: usize,
-    points: &mut [u32],
-    edges: &mut [u32],
-    faces: &mut [u32],
-)
+// The tables in which the steps of a record begin: changed if it is of kind 6.
+fn begun(bytes: &[u8], head: usize, more: usize, t: Tables) -> Tables
     requires { ⌜ head ≤ 16777216 ⌝ }
     requires { ⌜ more ≤ 8388608 ⌝ }
 {
     if field(bytes, head, 0) != 6 {
-        return;
+        return t;
     }
-    let place = field(bytes, more, 1);
-    let word = word(bytes, more, 2);
-    match field(bytes, more, 0) {
-        1 => put_word(points, place, word),
-        2 => put_word(edges, place, word),
-        _ => put_word(faces, place, word),
+    spoilt(
+        t,
+        field(bytes, more, 0),
+        field(bytes, more, 1),
+        word(bytes, more, 2),
+    )
+}
+
+// Builds a text, its lists changed if the record is of kind 1.
+fn build_kind(bytes: &[u8], head: usize, text: &[u8], more: usize) -> Start
+    requires { ⌜ head ≤ 16777216 ⌝ }
+    requires { ⌜ more ≤ 8388608 ⌝ }
+{
+    if field(bytes, head, 0) == 1 {
+        return build_changed(text, bounds(bytes, head), change(bytes, more));
     }
+    build_bytes(text, bounds(bytes, head), lent_by(bytes, head, 6))
 }
 
-// Makes the steps of a record in a mesh of these counts.
-fn go_on(
-    bytes: &[u8],
-    head: usize,
-    more: usize,
-    counts: Counts,
-    positions: &mut [f64],
-    points: &mut [u32],
-    edges: &mut [u32],
-    intervals: &mut [f64],
-    faces: &mut [u32],
-)
-    requires { ⌜ head ≤ 16777216 ⌝ }
-    requires { ⌜ more ≤ 8388608 ⌝ }
-{
-    spoil(bytes, head, more, points, edges, faces);
-    tell_steps(
-        bytes,
-        head,
-        more,
-        counts,
-        positions,
-        points,
-        edges,
-        intervals,
-        faces,
-    );
-}
-
-// Builds a text, and writes what was answered.
-fn build_told(
-    bytes: &[u8],
-    head: usize,
-    text: &[u8],
-    more: usize,
-    positions: &mut [f64],
-    points: &mut [u32],
-    edges: &mut [u32],
-    intervals: &mut [f64],
-    faces: &mut [u32],
-) -> Answer
-    requires { ⌜ head ≤ 16777216 ⌝ }
-    requires { ⌜ more ≤ 8388608 ⌝ }
-{
-    let answer = build_kind(
-        bytes,
-        head,
-        text,
-        more,
-        positions,
-        points,
-        edges,
-        intervals,
-        faces,
-    );
-    let told = 0 < field(bytes, head, 5);
-    tell_built(answer, told, positions, points, edges, intervals, faces);
-    answer
-}
-
-// Builds a text, and makes the steps of the record if that is accepted.
-fn run(
-    bytes: &[u8],
-    head: usize,
-    text: &[u8],
-    more: usize,
-    positions: &mut [f64],
-    points: &mut [u32],
-    edges: &mut [u32],
-    intervals: &mut [f64],
-    faces: &mut [u32],
-)
-    requires { ⌜ head ≤ 16777216 ⌝ }
-    requires { ⌜ more ≤ 8388608 ⌝ }
-{
-    let answer = build_told(
-        bytes,
-        head,
-        text,
-        more,
-        positions,
-        points,
-        edges,
-        intervals,
-        faces,
-    );
-    let Answer::Accepted(counts) = answer else {
-        return;
-    };
-    go_on(
-        bytes,
-        head,
-        more,
-        counts,
-        positions,
-        points,
-        edges,
-        intervals,
-        faces,
-    );
-}
-
-// The same in the first words of the tables.
-fn run_lent(
-    bytes: &[u8],
-    head: usize,
-    text: &[u8],
-    more: usize,
-    positions: &mut [f64],
-    points: &mut [u32],
-    edges: &mut [u32],
-    intervals: &mut [f64],
-    faces: &mut [u32],
-)
-    requires { ⌜ head ≤ 16777216 ⌝ }
-    requires { ⌜ more ≤ 8388608 ⌝ }
-{
-    let a = cut(bytes, head, 6, positions.len());
-    let b = cut(bytes, head, 7, points.len());
-    let c = cut(bytes, head, 8, edges.len());
-    let d = cut(bytes, head, 9, intervals.len());
-    let e = cut(bytes, head, 10, faces.len());
-    run(
-        bytes,
-        head,
-        text,
-        more,
-        &mut positions[..a],
-        &mut points[..b],
-        &mut edges[..c],
-        &mut intervals[..d],
-        &mut faces[..e],
-    );
-}
-
-// Kinds 0, 1, 5 and 6.
+// Kinds 0, 1, 5 and 6: builds a text, and makes the steps of the record if that is accepted.
 fn tell_text(bytes: &[u8], head: usize, text: &[u8], more: usize)
     requires { ⌜ head ≤ 16777216 ⌝ }
     requires { ⌜ more ≤ 8388608 ⌝ }
 {
-    let mut positions = [NUMBER; 1200];
-    let mut points = [WORD; 1200];
-    let mut edges = [WORD; 6400];
-    let mut intervals = [NUMBER; 800];
-    let mut faces = [WORD; 2000];
-    run_lent(
-        bytes,
-        head,
-        text,
-        more,
-        &mut positions,
-        &mut points,
-        &mut edges,
-        &mut intervals,
-        &mut faces,
-    );
-}
-
-// Kind 4.
-fn tell_zeros(bytes: &[u8], more: usize)
-    requires { ⌜ more ≤ 8388608 ⌝ }
-{
-    let mut positions = [NUMBER; 12300];
-    let mut points = [WORD; 12300];
-    let mut edges = [WORD; 131200];
-    let mut intervals = [NUMBER; 16400];
-    let mut faces = [WORD; 20500];
-    let answer = build_zeros(
-        bytes,
-        more,
-        &mut positions,
-        &mut points,
-        &mut edges,
-        &mut intervals,
-        &mut faces,
-    );
-    tell_built(
-        answer,
-        false,
-        &positions,
-        &points,
-        &edges,
-        &intervals,
-        &faces,
-    );
+    let start = build_kind(bytes, head, text, more);
+    let t = start.tables;
+    let answer = start.answer;
+    tell_stage(0);
+    match answer {
+        Answer::Accepted(counts) => {
+            tell_mesh(t, counts, 0 < field(bytes, head, 5));
+            tell_rows(b"[zero", t, counts);
+            let tables = begun(bytes, head, more, t);
+            tell_steps(bytes, head, more, Stage { counts, tables });
+        }
+        Answer::Refused(n) => {
+            tell_refused(n);
+            tell_rows(b"[zero", t, none());
+        }
+    }
 }
 
 // Tells of a record by its kind.
@@ -326,9 +131,16 @@ fn tell_kind(bytes: &[u8], head: usize, text: &[u8], more: usize)
     requires { ⌜ more ≤ 8388608 ⌝ }
 {
     match field(bytes, head, 0) {
-        2 => tell_cuts(text),
-        3 => tell_changes(text, (field(bytes, more, 0) % 256) as u8),
-        4 => tell_zeros(bytes, more),
+        2 => tell_tried(text.len(), count_cuts(text)),
+        3 => tell_tried(
+            text.len(),
+            count_changes(text, (field(bytes, more, 0) % 256) as u8),
+        ),
+        4 => tell_zeros(
+            field(bytes, more, 0),
+            field(bytes, more, 1),
+            word(bytes, more, 2),
+        ),
         _ => tell_text(bytes, head, text, more),
     }
 }

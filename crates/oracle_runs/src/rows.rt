@@ -1,17 +1,14 @@
-// What stands in the rows of lent tables that hold no mesh. The tables are filled before they are lent: a row that still has the
-// filling was not touched.
+// What stands in the rows of lent tables that hold no mesh. A row that still has the filling was not touched.
 ghost use mathlib.Core.Path.{_≡_};
 ghost use Prim.Native.Nat.{_≤_, _-_};
 ghost use lib.ListN.{length};
 use crate::fields::least;
+use crate::held::NUMBER;
+use crate::held::Tables;
+use crate::held::WORD;
 use crate::listing::bits_of;
 use libc::STDOUT_FILENO;
 use tables::Counts;
-
-// The filling of words and of numbers.
-pub const WORD: u32 = 2779096485;
-
-pub const NUMBER: f64 = 1234.5;
 
 // The counts of no rows.
 pub fn none() -> Counts {
@@ -94,9 +91,8 @@ fn tell_numbers(numbers: &[f64], from: usize) -> bool
     kept_numbers(numbers, from + n)
 }
 
-// Writes of the rows after the mesh of these counts, table by table, how many words or numbers are zero, and whether all that
-// follow are as filled.
-pub fn tell_rows(
+// Writes of the rows after so many words of the tables how many words or numbers are zero, and whether all that follow are as filled.
+pub fn tell_slices(
     head: &[u8],
     positions: &[f64],
     points: &[u32],
@@ -119,4 +115,36 @@ pub fn tell_rows(
     } else {
         io::write_all(STDOUT_FILENO, b" spoilt]\n");
     }
+}
+
+// The same of the tables that the program holds.
+pub fn tell_rows(head: &[u8], t: Tables, counts: Counts) {
+    let positions = t.positions;
+    let points = t.points;
+    let edges = t.edges;
+    let intervals = t.intervals;
+    let faces = t.faces;
+    tell_slices(
+        head,
+        &positions,
+        &points,
+        &edges,
+        &intervals,
+        &faces,
+        counts,
+    );
+}
+
+// Whether all of the tables is as filled.
+pub fn is_kept(t: Tables) -> bool {
+    let positions = t.positions;
+    let points = t.points;
+    let edges = t.edges;
+    let intervals = t.intervals;
+    let faces = t.faces;
+    kept_numbers(&positions, 0)
+        && kept_words(&points, 0)
+        && kept_words(&edges, 0)
+        && kept_numbers(&intervals, 0)
+        && kept_words(&faces, 0)
 }

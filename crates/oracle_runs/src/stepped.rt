@@ -6,17 +6,32 @@ use crate::fields::cut;
 use crate::fields::field;
 use crate::fields::least;
 use crate::fields::word;
+use crate::held::Lent;
+use crate::held::Tables;
+use crate::held::filled;
+use crate::held::lent_by;
 use crate::listing::tell_mesh;
 use crate::listing::tell_refused;
 use crate::listing::tell_stage;
-use crate::rows::NUMBER;
-use crate::rows::WORD;
 use crate::rows::none;
 use crate::rows::tell_rows;
 use answer_numbers::step_number;
 use refining::step;
 use steps::Stepped;
 use tables::Counts;
+
+// What a step answered, and the tables and the scratch tables after it.
+pub struct Made {
+    pub answer: Stepped,
+    pub tables: Tables,
+    pub scratch: Tables,
+}
+
+// A mesh in tables.
+pub struct Stage {
+    pub counts: Counts,
+    pub tables: Tables,
+}
 
 // Fills an order: the faces in numbered order.
 fn fill_numbered(order: &mut [u32])
@@ -45,37 +60,25 @@ fn fill_listed(bytes: &[u8], at: usize, order: &mut [u32])
     }
 }
 
-// Writes what a step answered, the mesh, and what stands in the rows that hold no mesh; gives the counts of the mesh.
-fn tell_stepped(
-    answer: Stepped,
-    told: bool,
-    counts: Counts,
-    positions: &[f64],
-    points: &[u32],
-    edges: &[u32],
-    intervals: &[f64],
-    faces: &[u32],
-) -> Counts {
-    match answer {
-        Stepped::Refined(c) => {
-            tell_mesh(positions, points, edges, intervals, faces, c, told);
-            tell_rows(b"[zero", positions, points, edges, intervals, faces, c);
-            c
-        }
-        _ => {
-            tell_refused(step_number(answer));
-            tell_mesh(positions, points, edges, intervals, faces, counts, false);
-            tell_rows(b"[zero", positions, points, edges, intervals, faces, counts);
-            counts
-        }
+// Fills an order with the faces in numbered order, or, if it is listed, from the numbers at a place.
+fn fill_order(bytes: &[u8], listed: bool, at: usize, order: &mut [u32])
+    requires { ⌜ at ≤ 16777216 ⌝ }
+    requires { ⌜ length (now order) ≤ 65535 ⌝ }
+    ensures { λ _. ⌜ length (now (order .exit)) ≡ length (now (order .entry)) ⌝ }
+{
+    if listed {
+        fill_listed(bytes, at, order);
+        return;
     }
+    fill_numbered(order);
 }
 
-// Makes a step, and writes what it answered and left in the tables.
-fn tell_made(
-    told: bool,
-    order: &[u32],
+// Makes a step in as much of the tables and of the scratch tables as is lent.
+fn step_lent(
+    held: Lent,
+    scratch: Lent,
     counts: Counts,
+    order: &[u32],
     positions: &mut [f64],
     points: &mut [u32],
     edges: &mut [u32],
@@ -86,229 +89,136 @@ fn tell_made(
     halves: &mut [u32],
     lengths: &mut [f64],
     quads: &mut [u32],
-) -> Counts {
-    let answer = step(
-        positions,
-        points,
-        edges,
-        intervals,
-        faces,
+) -> Stepped {
+    let a = least(held.positions, positions.len());
+    let b = least(held.points, points.len());
+    let c = least(held.edges, edges.len());
+    let d = least(held.intervals, intervals.len());
+    let e = least(held.faces, faces.len());
+    let f = least(scratch.positions, places.len());
+    let g = least(scratch.points, rows.len());
+    let h = least(scratch.edges, halves.len());
+    let i = least(scratch.intervals, lengths.len());
+    let j = least(scratch.faces, quads.len());
+    step(
+        &mut positions[..a],
+        &mut points[..b],
+        &mut edges[..c],
+        &mut intervals[..d],
+        &mut faces[..e],
         counts,
         order,
-        places,
-        rows,
-        halves,
-        lengths,
-        quads,
-    );
-    tell_stepped(
-        answer,
-        told,
-        counts,
-        positions,
-        points,
-        edges,
-        intervals,
-        faces,
+        &mut places[..f],
+        &mut rows[..g],
+        &mut halves[..h],
+        &mut lengths[..i],
+        &mut quads[..j],
     )
 }
 
-// The same in the first words of the scratch tables.
-fn tell_lent(
-    bytes: &[u8],
-    head: usize,
-    told: bool,
-    order: &[u32],
-    counts: Counts,
-    positions: &mut [f64],
-    points: &mut [u32],
-    edges: &mut [u32],
-    intervals: &mut [f64],
-    faces: &mut [u32],
-    places: &mut [f64],
-    rows: &mut [u32],
-    halves: &mut [u32],
-    lengths: &mut [f64],
-    quads: &mut [u32],
-) -> Counts
-    requires { ⌜ head ≤ 16777216 ⌝ }
-{
-    let a = cut(bytes, head, 11, places.len());
-    let b = cut(bytes, head, 12, rows.len());
-    let c = cut(bytes, head, 13, halves.len());
-    let d = cut(bytes, head, 14, lengths.len());
-    let e = cut(bytes, head, 15, quads.len());
-    tell_made(
-        told,
-        order,
+// Makes a step in the tables t with the scratch tables s, in as much of them as is lent.
+fn make(t: Tables, s: Tables, counts: Counts, order: &[u32], held: Lent, scratch: Lent) -> Made {
+    let mut positions = t.positions;
+    let mut points = t.points;
+    let mut edges = t.edges;
+    let mut intervals = t.intervals;
+    let mut faces = t.faces;
+    let mut places = s.positions;
+    let mut rows = s.points;
+    let mut halves = s.edges;
+    let mut lengths = s.intervals;
+    let mut quads = s.faces;
+    let answer = step_lent(
+        held,
+        scratch,
         counts,
-        positions,
-        points,
-        edges,
-        intervals,
-        faces,
-        &mut places[..a],
-        &mut rows[..b],
-        &mut halves[..c],
-        &mut lengths[..d],
-        &mut quads[..e],
-    )
-}
-
-// Makes a step in this order, with scratch tables that are filled anew, and writes what it answered and left.
-fn tell_step(
-    bytes: &[u8],
-    head: usize,
-    told: bool,
-    order: &[u32],
-    counts: Counts,
-    positions: &mut [f64],
-    points: &mut [u32],
-    edges: &mut [u32],
-    intervals: &mut [f64],
-    faces: &mut [u32],
-) -> Counts
-    requires { ⌜ head ≤ 16777216 ⌝ }
-{
-    let mut places = [NUMBER; 1200];
-    let mut rows = [WORD; 1200];
-    let mut halves = [WORD; 6400];
-    let mut lengths = [NUMBER; 800];
-    let mut quads = [WORD; 2000];
-    let c = tell_lent(
-        bytes,
-        head,
-        told,
         order,
-        counts,
-        positions,
-        points,
-        edges,
-        intervals,
-        faces,
+        &mut positions,
+        &mut points,
+        &mut edges,
+        &mut intervals,
+        &mut faces,
         &mut places,
         &mut rows,
         &mut halves,
         &mut lengths,
         &mut quads,
     );
-    tell_rows(
-        b"[scratch",
-        &places,
-        &rows,
-        &halves,
-        &lengths,
-        &quads,
-        none(),
-    );
-    c
-}
-
-// Makes a step in numbered order.
-fn tell_numbered(
-    bytes: &[u8],
-    head: usize,
-    told: bool,
-    counts: Counts,
-    positions: &mut [f64],
-    points: &mut [u32],
-    edges: &mut [u32],
-    intervals: &mut [f64],
-    faces: &mut [u32],
-) -> Counts
-    requires { ⌜ head ≤ 16777216 ⌝ }
-{
-    let mut order = [0u32; 400];
-    let n = least(counts.faces, 400);
-    fill_numbered(&mut order);
-    tell_step(
-        bytes,
-        head,
-        told,
-        &order[..n],
-        counts,
+    let tables = Tables {
         positions,
         points,
         edges,
         intervals,
         faces,
-    )
-}
-
-// Makes a step in the order that stands at a place.
-fn tell_listed(
-    bytes: &[u8],
-    head: usize,
-    at: usize,
-    told: bool,
-    counts: Counts,
-    positions: &mut [f64],
-    points: &mut [u32],
-    edges: &mut [u32],
-    intervals: &mut [f64],
-    faces: &mut [u32],
-) -> Counts
-    requires { ⌜ head ≤ 16777216 ⌝ }
-    requires { ⌜ at ≤ 16777216 ⌝ }
-{
-    let mut order = [0u32; 400];
-    let n = cut(bytes, at, 0, 400);
-    fill_listed(bytes, at, &mut order);
-    tell_step(
-        bytes,
-        head,
-        told,
-        &order[..n],
-        counts,
-        positions,
-        points,
-        edges,
-        intervals,
-        faces,
-    )
-}
-
-// Makes a step, in numbered order unless the kind of the record says that its order is listed.
-fn tell_next(
-    bytes: &[u8],
-    head: usize,
-    at: usize,
-    told: bool,
-    counts: Counts,
-    positions: &mut [f64],
-    points: &mut [u32],
-    edges: &mut [u32],
-    intervals: &mut [f64],
-    faces: &mut [u32],
-) -> Counts
-    requires { ⌜ head ≤ 16777216 ⌝ }
-    requires { ⌜ at ≤ 16777216 ⌝ }
-{
-    if field(bytes, head, 0) == 5 {
-        return tell_listed(
-            bytes,
-            head,
-            at,
-            told,
-            counts,
-            positions,
-            points,
-            edges,
-            intervals,
-            faces,
-        );
+    };
+    let scratch = Tables {
+        positions: places,
+        points: rows,
+        edges: halves,
+        intervals: lengths,
+        faces: quads,
+    };
+    Made {
+        answer,
+        tables,
+        scratch,
     }
-    tell_numbered(
-        bytes,
-        head,
-        told,
-        counts,
-        positions,
-        points,
-        edges,
-        intervals,
-        faces,
-    )
+}
+
+// Writes what a step answered, the mesh, and what stands in the rows that hold no mesh; gives the mesh.
+fn tell_made(made: Made, told: bool, counts: Counts) -> Stage {
+    let t = made.tables;
+    let answer = made.answer;
+    match answer {
+        Stepped::Refined(c) => {
+            tell_mesh(t, c, told);
+            tell_rows(b"[zero", t, c);
+            tell_rows(b"[scratch", made.scratch, none());
+            Stage {
+                counts: c,
+                tables: t,
+            }
+        }
+        _ => {
+            tell_refused(step_number(answer));
+            tell_mesh(t, counts, false);
+            tell_rows(b"[zero", t, counts);
+            tell_rows(b"[scratch", made.scratch, none());
+            Stage { counts, tables: t }
+        }
+    }
+}
+
+// How many faces the order of the next step names: those of the mesh, or, if orders are listed, the number at a place.
+fn order_length(bytes: &[u8], listed: bool, at: usize, faces: usize) -> usize
+    requires { ⌜ at ≤ 16777216 ⌝ }
+    ensures { λ r. ⌜ r ≤ 400 ⌝ }
+{
+    if listed {
+        return cut(bytes, at, 0, 400);
+    }
+    least(faces, 400)
+}
+
+// Makes a step in numbered order or in the order that is listed at a place, and writes what it answered and left.
+fn tell_step(bytes: &[u8], head: usize, at: usize, told: bool, stage: Stage) -> Stage
+    requires { ⌜ head ≤ 16777216 ⌝ }
+    requires { ⌜ at ≤ 16777216 ⌝ }
+{
+    let listed = field(bytes, head, 0) == 5;
+    let c = stage.counts;
+    let n = order_length(bytes, listed, at, c.faces);
+    let mut order = [0u32; 400];
+    fill_order(bytes, listed, at, &mut order);
+    let made = make(
+        stage.tables,
+        filled(),
+        c,
+        &order[..n],
+        lent_by(bytes, head, 6),
+        lent_by(bytes, head, 11),
+    );
+    tell_made(made, told, c)
 }
 
 // The place after the order that stands at a place.
@@ -320,40 +230,19 @@ fn after_order(bytes: &[u8], at: usize) -> usize
 }
 
 // Makes the steps of a record, each in the mesh that the last one left.
-pub fn tell_steps(
-    bytes: &[u8],
-    head: usize,
-    more: usize,
-    counts: Counts,
-    positions: &mut [f64],
-    points: &mut [u32],
-    edges: &mut [u32],
-    intervals: &mut [f64],
-    faces: &mut [u32],
-)
+pub fn tell_steps(bytes: &[u8], head: usize, more: usize, first: Stage)
     requires { ⌜ head ≤ 16777216 ⌝ }
     requires { ⌜ more ≤ 8388608 ⌝ }
 {
     let steps = cut(bytes, head, 4, 8);
     let told = field(bytes, head, 5);
-    let mut c = counts;
+    let mut stage = first;
     let mut at = more;
     let mut k = 0;
     while k < steps {
         k += 1;
         tell_stage(k);
-        c = tell_next(
-            bytes,
-            head,
-            at,
-            k < told,
-            c,
-            positions,
-            points,
-            edges,
-            intervals,
-            faces,
-        );
+        stage = tell_step(bytes, head, at, k < told, stage);
         at = after_order(bytes, at);
     }
 }

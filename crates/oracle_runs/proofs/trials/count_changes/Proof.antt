@@ -1,35 +1,20 @@
-use Prim.Native.Nat.{_≤_, _<_, _-_, _+_, _*_}
-use mathlib.Core.Path.{_≡_}
-use lib.ListN.{length}
+use lib.Seq.{length-take-le}
+use mathlib.Core.Path.{sym}
 use native.Mathlib.Omega.{arith}
 use borrow.Author.Needs.{needs}
 use Rattle.oracle_runs.proofs.trials.count_changes.Statement.{statement}
 use Rattle.oracle_runs.proofs.trials.count_changes.Tie as tie
 
-abbrev Inv-loop : tie.InvT-loop
-Inv-loop text₀ byte positions₀ points₀ edges₀ intervals₀ faces₀ n₀ k₀ text positions points edges intervals faces n k =
-    (k ≤ length text) × (n ≤ k) × (length text ≡ length text₀) × (length positions ≡ length positions₀) × (length points ≡ length points₀) × (length edges ≡ length edges₀) × (length intervals ≡ length intervals₀) × (length faces ≡ length faces₀)
-
-abbrev μ-loop : tie.MeasureT-loop
-μ-loop text₀ byte positions₀ points₀ edges₀ intervals₀ faces₀ n₀ k₀ text positions points edges intervals faces n k =
-    length text - k
+slice-aggregate-count-changes-in : tie.Need-slice-aggregate-count-changes-in
+slice-aggregate-count-changes-in c = sym (length-take-le _ (c .before .before .copy-bytes .last .1 .0) (omega (arith, c .before .before .copy-bytes .ensures)))
 
 pub count-changes-spec : {M : Type 1} → statement M
 count-changes-spec =
     tie.close
     (tie.spec
-    Inv-loop
-    μ-loop
     (λ c. search needs)
     (λ c κs. search needs)
     (λ c. search needs)
-    (λ c. search needs)
-    (λ c. search needs)
-    (λ c. search needs)
-    (λ c. search needs)
-    (λ c. search needs)
-    (λ c. search needs)
-    (λ c. search needs)
-    (λ c. search needs)
-    (λ c. search needs)
+    slice-aggregate-count-changes-in
+    (λ c κs. search needs)
     (λ c. search needs))

@@ -7,12 +7,10 @@ use Rattle.oracle_runs.proofs.trials.count_cuts.Statement.{statement}
 use Rattle.oracle_runs.proofs.trials.count_cuts.Tie as tie
 
 abbrev Inv-loop : tie.InvT-loop
-Inv-loop text positions₀ points₀ edges₀ intervals₀ faces₀ n₀ k₀ positions points edges intervals faces n k =
-    (k ≤ length text) × (n ≤ k) × (length positions ≡ length positions₀) × (length points ≡ length points₀) × (length edges ≡ length edges₀) × (length intervals ≡ length intervals₀) × (length faces ≡ length faces₀)
+Inv-loop text n₀ k₀ n k = (k ≤ length text) × (n ≤ k)
 
 abbrev μ-loop : tie.MeasureT-loop
-μ-loop text positions₀ points₀ edges₀ intervals₀ faces₀ n₀ k₀ positions points edges intervals faces n k =
-    length text - k
+μ-loop text n₀ k₀ n k = length text - k
 
 pub count-cuts-spec : {M : Type 1} → statement M
 count-cuts-spec =
@@ -22,11 +20,6 @@ count-cuts-spec =
     μ-loop
     (λ c. search needs)
     (λ c κs. search needs)
-    (λ c. search needs)
-    (λ c. search needs)
-    (λ c. search needs)
-    (λ c. search needs)
-    (λ c. search needs)
     (λ c. search needs)
     (λ c. search needs)
     (λ c. search needs)
