@@ -1,7 +1,8 @@
 #!/bin/sh
 # Makes the static library, the oracle and the program of src/ if they are not up to date, and runs it:
 #
-#     station/harness.sh compare [MESHES [SEED]]    the library against the Rust on generated meshes (20,000, seed 1)
+#     station/harness.sh compare [MESHES [SEED]]    the library against the Rust on generated meshes (20,000, seed 1);
+#                                                   with 0, or 20,000 and more, also the largest mesh, up to the ceilings
 #     station/harness.sh fuzz [CASES [SEED]]        random and damaged lists, texts and tables (50,000, seed 1)
 #     station/harness.sh tampered                   changed bits in what the library leaves, which must be found
 #     station/harness.sh bench [FACES]              times; the Rust is run on meshes of up to so many faces (all)

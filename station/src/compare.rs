@@ -285,6 +285,44 @@ fn second_run(
     Ok(())
 }
 
+/// The largest: a torus of as many points, faces and listed points as building takes, refined up to the ceilings, and the
+/// step beyond them, which is refused and touches nothing.
+pub fn largest(tally: &mut Tally) -> Result<(), String> {
+    let mut random = Random::new(64);
+    let mut shape = shapes::torus(64, 64);
+    shape.scramble(&mut random);
+    let lists = numbers::ordinary(&mut random, &shape);
+    let case = Case {
+        lists, seed: 1, spare: 1, short: None, scrambled: false, numbered: vec![true, false], two_runs: false,
+    };
+    let Some((tables, counts)) = build(&case, tally)? else {
+        return Err(String::from("the largest mesh is not built"));
+    };
+    let rust = Mesh::build(&case.lists).map_err(|line| format!("the Rust answers {line}"))?;
+    let (theirs, _) = rust.tables().ok_or("the Rust leaves a reference to no row")?;
+    if let Some(row) = difference(&tables, &theirs, counts) {
+        return Err(format!("building: {row}"));
+    }
+    tally.records += counts.records();
+    let (mut mesh, mut counts, mut rust) = (theirs, counts, rust);
+    for numbered in &case.numbered {
+        let order = random.order(counts.faces);
+        let order = (!numbered).then_some(&order[..]);
+        let refined = step(&case, &mut mesh, &mut counts, order, &mut rust, tally, None)?;
+        demand(refined, || String::from("the largest mesh is not refined"))?;
+    }
+    demand(counts == CEILINGS, || format!("the largest mesh has {counts:?}"))?;
+    let after = counts.refined();
+    let (mut tables, mut scratch) = (Tables::patterned(after, 0).over(&mesh), Tables::patterned(after, 0));
+    let (before, before_scratch, mut words) = (tables.clone(), scratch.clone(), counts.array());
+    let answer = library::step(&mut tables, &mut words, &random.order(counts.faces), &mut scratch);
+    demand(answer == 32, || format!("the step beyond the ceilings answers {answer}"))?;
+    *tally.refused_steps.entry(32).or_default() += 1;
+    tally.steps += 1;
+    let same = tables.same(&before) && scratch.same(&before_scratch) && words == counts.array();
+    demand(same, || String::from("32 and something is touched"))
+}
+
 /// All that is asked of a case. The error says what differs.
 pub fn check(case: &Case, tally: &mut Tally, tamper: Option<Tamper>) -> Result<(), String> {
     let built = build(case, tally).map_err(|what| format!("building: {what}"))?;

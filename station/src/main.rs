@@ -1,6 +1,7 @@
 //! The library for stations against the original Rust, in one process.
 //!
-//!     station compare [MESHES [SEED]]    generated meshes, after building and after one and two steps
+//!     station compare [MESHES [SEED]]    generated meshes, after building and after one and two steps; with 0 meshes, or
+//!                                        20,000 and more, also the largest mesh, up to the ceilings
 //!     station fuzz [CASES [SEED]]        random and damaged lists, texts and tables
 //!     station bench [FACES]              times; the Rust is run on meshes of up to so many faces
 //!     station profile [STEPS]            steps of the torus of 64 by 64, for a profiler
@@ -63,7 +64,11 @@ fn listed(counts: &std::collections::BTreeMap<u32, u64>) -> String {
 
 fn compare(meshes: u64, seed: u64) -> ExitCode {
     match run(meshes, seed, None) {
-        Ok(t) => {
+        Ok(mut t) => {
+            if (meshes == 0 || meshes >= 20_000) && let Err(what) = compare::largest(&mut t) {
+                println!("DIFFERENCE in the torus of 64 by 64: {what}");
+                return ExitCode::FAILURE;
+            }
             println!(
                 "seed {seed}: {} meshes, {} of them also as texts; {} accepted, faces of up to {} sides",
                 t.meshes, t.texts, t.accepted, t.largest_face

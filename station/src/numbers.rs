@@ -132,7 +132,12 @@ fn face(random: &mut Random, n: usize, kind: Intervals) -> (Vec<f64>, [usize; 4]
     (intervals, lengths(random, n, first))
 }
 
-/// The shape with numbers.
+/// The shape with numbers of no extreme.
+pub fn ordinary(random: &mut Random, shape: &Shape) -> Lists {
+    lists(random, shape, Intervals::Full, Coordinates::Full)
+}
+
+/// The shape with numbers of some kind.
 pub fn numbered(random: &mut Random, shape: &Shape) -> Lists {
     let intervals = match random.below(16) {
         0..=2 => Intervals::Ones,
@@ -152,6 +157,10 @@ pub fn numbered(random: &mut Random, shape: &Shape) -> Lists {
         8 => Coordinates::Subnormal,
         _ => Coordinates::Mixed,
     };
+    lists(random, shape, intervals, coordinates)
+}
+
+fn lists(random: &mut Random, shape: &Shape, intervals: Intervals, coordinates: Coordinates) -> Lists {
     let mut lists = Lists::default();
     lists.coordinates.extend((0..3 * shape.points).map(|_| coordinate(random, coordinates)));
     for border in &shape.borders {

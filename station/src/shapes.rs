@@ -373,7 +373,7 @@ impl Shape {
 
     /// Other names for the points, another order of the faces, other beginnings of the borders, and perhaps the other
     /// side of the surface.
-    fn scramble(&mut self, random: &mut Random) {
+    pub fn scramble(&mut self, random: &mut Random) {
         let names = random.order(self.points);
         let mirrored = random.once_in(3);
         for border in &mut self.borders {
@@ -410,6 +410,9 @@ fn component(random: &mut Random) -> Shape {
 
 /// A closed surface, or, where gluing at random left none, something near one.
 pub fn closed(random: &mut Random) -> Shape {
+    if random.once_in(500) {
+        return Shape { points: 0, borders: Vec::new() };
+    }
     let components = if random.once_in(6) { random.between(2, 4) } else { 1 };
     let parts: Vec<Shape> = (0..components).map(|_| component(random)).collect();
     let mut shape = together(&parts);
