@@ -12,7 +12,7 @@ ghost use Rattle.walks.specs.Steps.{faceTables};
 ghost use Rattle.audit.specs.Parts.{apart, faceSize, facesWalked};
 use t_spline::NONE;
 use tables::index;
-use walks::t_nurcc_face::border;
+use walks::t_nurcc_face::put_border;
 
 // Whether a corner is a point number or the none mark.
 pub fn corner_fit(word: u32, np: usize) -> bool
@@ -97,12 +97,12 @@ pub fn face_size(edges: &[u32], faces: &[u32], ne: usize, f: usize) -> usize
     requires { ⌜ f * 5 + 5 ≤ length (now faces) ⌝ }
     ensures { λ r. ⌜ r ≡ faceSize (faceTables (now (edges .entry)) (now (faces .entry))) ne f ⌝ }
 {
-    let b = border(edges, faces, ne, f);
-    let n = b.n;
+    let mut perimeter = [0u32; 64];
+    let mut points = [0u32; 68];
+    let n = put_border(edges, faces, ne, f, &mut perimeter, &mut points);
     if n < 3 {
         return 0;
     }
-    let points = b.points;
     if are_distinct(&points, n) { n } else { 0 }
 }
 

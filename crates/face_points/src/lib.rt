@@ -1,33 +1,50 @@
 // The face point (document 01, "One refinement"): over the border of a face, windows of five points.
 // Carries over the first loop of `global_subdivide` in t_nurcc/mod.rs, one face at a time, each operation rounded in the Rust's order.
 // Not here: edge points (`edge_points`), old points (`old_points`), the rows of the new points (`placing`).
-// Contract: `face_point`. Definitions: `position_rules`, specs/FacePoint.antt.
+// Contract: `face_point`. Definitions: `position_rules`, specs/FacePoint.antt; `specs/Terms.antt`
+// for the terms that the code keeps from one window to the next.
 ghost use mathlib.Core.Path.{_≡_};
-ghost use Prim.Native.Nat.{_<_};
+ghost use Prim.Native.Nat.{_+_, _<_};
 ghost use lib.ListN.{getD};
 ghost use Rattle.positions.specs.Position.{placedAt};
-ghost use Rattle.position_rules.specs.FacePoint.{sixTerms, windowWeight, windowSum, around, facePointOf, faceMesh};
+ghost use Rattle.position_rules.specs.FacePoint.{windowSum, around, facePointOf, faceMesh};
 ghost use Rattle.position_rules.specs.Fits.{EdgeFits, BorderFits, PointsFit, FacePointFits};
+ghost use Rattle.face_points.specs.Terms.{termsAbout, six};
 use position_rules::WeightedSum;
 use position_rules::intervals::a2;
 use position_rules::intervals::c2;
-use position_rules::intervals::three_terms;
 use positions::Placed;
 use positions::Position;
 use tables::index;
 use tables::load_position;
-use walks::t_nurcc_face::border;
+use walks::t_nurcc_face::put_border;
 
-// d, A2 and C2 of edge e about p, then those of edge g about q.
-fn six_terms(edges: &[u32], intervals: &[f64], p: usize, e: usize, q: usize, g: usize) -> f64
+// The interval of an edge, and those after two steps anticlockwise and two steps clockwise about one of its points.
+struct Terms {
+    d: f64,
+    a2: f64,
+    c2: f64,
+}
+
+// The terms of edge e about p.
+fn terms_about(edges: &[u32], intervals: &[f64], p: usize, e: usize) -> Terms
     requires { ⌜ EdgeFits (now edges) (now intervals) e ⌝ }
-    requires { ⌜ EdgeFits (now edges) (now intervals) g ⌝ }
-    ensures { λ r. ⌜ r ≡ sixTerms (now (edges .entry)) (now (intervals .entry)) p e q g ⌝ }
+    ensures { λ r. ⌜ r ≡ termsAbout (now (edges .entry)) (now (intervals .entry)) p e ⌝ }
 {
-    let three = three_terms(edges, intervals, p, e);
-    let a = a2(edges, intervals, q, g);
-    let c = c2(edges, intervals, q, g);
-    three + intervals[g] + a + c
+    let a = a2(edges, intervals, p, e);
+    let c = c2(edges, intervals, p, e);
+    Terms {
+        d: intervals[e],
+        a2: a,
+        c2: c,
+    }
+}
+
+// The terms of one edge, then those of another.
+fn six_terms(s: Terms, t: Terms) -> f64
+    ensures { λ r. ⌜ r ≡ six s t ⌝ }
+{
+    s.d + s.a2 + s.c2 + t.d + t.a2 + t.c2
 }
 
 // The place j, counted round n places.
@@ -37,53 +54,27 @@ fn around(n: usize, j: usize) -> usize
     if j < n { j } else { j - n }
 }
 
-// The edge of a border at the place j, counted round.
-fn border_edge(border: &[u32; 64], n: usize, j: usize) -> usize
-    requires { ⌜ around n j < 64 ⌝ }
-    ensures { λ r. ⌜ r ≡ getD (now (border .entry)) (around n j) 0 ⌝ }
-{
-    let i = around(n, j);
-    index(border[i])
-}
-
-// The weight of the window that begins at the place i: p2p3 about p3, then p0p1 about p0; times p1p2 about p1, then p3p4
-// about p4.
-fn window_weight(
+// The terms of the edge at the place j of a border, counted round, about p.
+fn terms_at(
     edges: &[u32],
     intervals: &[f64],
-    points: &[u32; 68],
     border: &[u32; 64],
     n: usize,
-    i: usize,
-) -> f64
+    p: u32,
+    j: usize,
+) -> Terms
     requires { ⌜ BorderFits (now edges) (now intervals) (now border) n ⌝ }
-    requires { ⌜ i < n ⌝ }
-    ensures { λ r. ⌜ r ≡ windowWeight (now (edges .entry)) (now (intervals .entry)) (λ j. getD (now (points .entry)) j 0) (λ j. getD (now (border .entry)) (around n j) 0) i ⌝ }
+    requires { ⌜ j < n + n ⌝ }
+    ensures { λ r. ⌜ r ≡ termsAbout (now (edges .entry)) (now (intervals .entry)) p (getD (now (border .entry)) (around n j) 0) ⌝ }
 {
-    let e0 = border_edge(border, n, i);
-    let e1 = border_edge(border, n, i + 1);
-    let e2 = border_edge(border, n, i + 2);
-    let e3 = border_edge(border, n, i + 3);
-    let first = six_terms(
-        edges,
-        intervals,
-        index(points[i + 3]),
-        e2,
-        index(points[i]),
-        e0,
-    );
-    let second = six_terms(
-        edges,
-        intervals,
-        index(points[i + 1]),
-        e1,
-        index(points[i + 4]),
-        e3,
-    );
-    first * second
+    let i = around(n, j);
+    let e = index(border[i]);
+    terms_about(edges, intervals, index(p), e)
 }
 
-// The sum of the middle points of n windows at their weights. The Rust sums the weights from -0.
+// The sum of the middle points of n windows at their weights. The weight of the window p0 .. p4 is p2p3 about p3, then p0p1
+// about p0; times p1p2 about p1, then p3p4 about p4. Two of these four are those of the window before it: p0p1 about p0 was its
+// p1p2 about p1, and p2p3 about p3 its p3p4 about p4. The Rust sums the weights from -0.
 fn window_sum(
     positions: &[f64],
     edges: &[u32],
@@ -100,11 +91,17 @@ fn window_sum(
         sum: Position::origin(),
         weight: -0.0,
     };
+    let mut first = terms_at(edges, intervals, border, n, points[0], 0);
+    let mut third = terms_at(edges, intervals, border, n, points[3], 2);
     let mut i = 0;
     while i < n {
-        let w = window_weight(edges, intervals, points, border, n, i);
+        let second = terms_at(edges, intervals, border, n, points[i + 1], i + 1);
+        let fourth = terms_at(edges, intervals, border, n, points[i + 4], i + 3);
+        let w = six_terms(third, first) * six_terms(second, fourth);
         let p = load_position(positions, index(points[i + 2]));
         s = s.with_term(p, w);
+        first = second;
+        third = fourth;
         i += 1;
     }
     s
@@ -122,9 +119,9 @@ pub fn face_point(
     requires { ⌜ FacePointFits (now positions) (now edges) (now intervals) (now faces) ne f ⌝ }
     ensures { λ r. ⌜ r ≡ placedAt (facePointOf (faceMesh (now (positions .entry)) (now (edges .entry)) (now (intervals .entry)) (now (faces .entry))) ne f) ⌝ }
 {
-    let border = border(edges, faces, ne, f);
-    let bp = border.points;
-    let be = border.edges;
-    let s = window_sum(positions, edges, intervals, &bp, &be, border.n);
+    let mut perimeter = [0u32; 64];
+    let mut points = [0u32; 68];
+    let n = put_border(edges, faces, ne, f, &mut perimeter, &mut points);
+    let s = window_sum(positions, edges, intervals, &points, &perimeter, n);
     s.sum.over(s.weight).placed()
 }

@@ -31,7 +31,7 @@ use tables::Counts;
 use tables::copy_numbers;
 use tables::copy_words;
 use tables::index;
-use walks::t_nurcc_face::border;
+use walks::t_nurcc_face::put_border;
 
 // Stores the edges of a ring: the joining edges, then the halves on the side of the face.
 fn put_ring_edges(
@@ -189,8 +189,9 @@ pub fn visit(
         (visit (faceTables (now (oldedges .entry)) (now (oldfaces .entry))) (old .points) (old .edges) f
         (tablesOf (now (points .entry)) (now (edges .entry)) (now (intervals .entry)) (now (faces .entry)) taken)) ⌝ }
 {
-    let about = border(oldedges, oldfaces, old.edges, f);
-    let perimeter = about.edges;
+    let mut perimeter = [0u32; 64];
+    let mut about = [0u32; 68];
+    let n = put_border(oldedges, oldfaces, old.edges, f, &mut perimeter, &mut about);
     visit_along(
         oldedges,
         points,
@@ -200,7 +201,7 @@ pub fn visit(
         old.points,
         f,
         &perimeter,
-        about.n,
+        n,
         taken,
     )
 }

@@ -1,4 +1,4 @@
--- The loop of `border`, over plain variables. The walk about face f of the mesh m, along the edges below ne, has passed n edges
+-- The loop of `put_border`, over plain variables. The walk about face f of the mesh m, along the edges below ne, has passed n edges
 -- and come to e; es and ps are the arrays. Assumes nothing.
 use mathlib.Core.Path.{_≡_, refl, sym, _∙_, ap, subst}
 use mathlib.Core.Bool.{Bool, true, _&&_}
@@ -7,7 +7,8 @@ use mathlib.Core.Logic.{_≢_}
 use Prim.Native.Nat.{ℕ, _+_, _<_, _≤_}
 use native.Mathlib.Omega.{arith}
 use lib.Dec.{ltb}
-use lib.ListN.{length, set, length-append, length-map}
+use borrow.Author.Tests.{lt-ltb}
+use lib.ListN.{length, set, replicate, length-append, length-map}
 use Rattle.tables.specs.Mesh.{Mesh, faceStart}
 use Rattle.audited_meshes.specs.Walks.{back, lost, borders, acwOfFace, firstPoint, faceWalk}
 use Rattle.walks.specs.declared.Step.the-variants.{To, Lost}
@@ -40,6 +41,12 @@ module _ (m : Mesh) (ne f : ℕ) where
     pub way : Way passed n e
     pub edges-stand : es ≡ padded 64 passed
     pub points-stand : ps ≡ padded 68 (map (firstPoint m f) passed)
+
+  -- arrays of 0 are the border of a walk that is lost
+  pub cleared : (es ps : List ℕ) → es ≡ replicate 64 0 → ps ≡ replicate 68 0 → border m ne f ≡ borderOf m f lost
+      → _≡_ {A = FaceBorder} (record { back = ltb 0 0; n = 0; edges = es; points = ps }) (border m ne f)
+  unfolding padded
+  cleared es ps a b h = rw (a, b) (sym h)
 
   pub border-start : (es ps : List ℕ) → es ≡ padded 64 [] → ps ≡ padded 68 [] → Bordering es ps 0 (faceStart m f)
   unfolding faceWalk
@@ -75,14 +82,14 @@ module _ (m : Mesh) (ne f : ℕ) where
 
       pub border-last : (qs : List ℕ) → next ≡ faceStart m f
           → ((xs : List ℕ) → length xs ≡ n + 1 → set ps n p ≡ padded 68 xs → qs ≡ padded 68 (again 4 xs))
-          → _≡_ {A = FaceBorder} (record { back = true; n = n + 1; edges = set es n e; points = qs }) (border m ne f)
+          → _≡_ {A = FaceBorder} (record { back = ltb 0 (n + 1); n = n + 1; edges = set es n e; points = qs }) (border m ne f)
       unfolding border
       border-last qs b four =
           let t = to-is (on e) (firstPoint m f e) (acwOfFace m f e) p next to in
           let whole : List ℕ = h .passed ++ e ∷ [] in
           let w = walking-last (acwOfFace m f) on (faceStart m f) 64 (faceWalk m ne f) (h .passed) n e (h .way) l (t .0) (t .2 ∙ b) in
           let long : length whole ≡ n + 1 = length-append (h .passed) (e ∷ []) ∙ ap (λ (i : ℕ). i + 1) (h .way .count) in
-          rw (w, edges-longer l, four (map (firstPoint m f) whole) (length-map whole (firstPoint m f) ∙ long) (points-longer p (t .1) l), ← long)
+          rw (w, lt-ltb 0 (n + 1) (omega arith), edges-longer l, four (map (firstPoint m f) whole) (length-map whole (firstPoint m f) ∙ long) (points-longer p (t .1) l), ← long)
 
     pub border-lost : Lost ≡ toIf (on e) (firstPoint m f e) (acwOfFace m f e) → n < 64 → border m ne f ≡ borderOf m f lost
     unfolding border

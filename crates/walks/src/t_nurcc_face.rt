@@ -2,7 +2,9 @@
 ghost use mathlib.Core.Path.{_≡_};
 ghost use mathlib.Core.List.{List};
 ghost use Prim.Native.Nat.{ℕ, _+_, _*_, _≤_};
-ghost use lib.ListN.{length};
+ghost use lib.Dec.{ltb};
+ghost use lib.ListN.{length, replicate};
+ghost use Rattle.walks.specs.declared.FaceBorder.{FaceBorder};
 ghost use Rattle.walks.specs.Steps.{faceTables};
 ghost use Rattle.walks.specs.Border.{padded, again, border};
 use crate::FaceBorder;
@@ -10,17 +12,64 @@ use crate::Step;
 use crate::t_nurcc_iter::face_step;
 use tables::index;
 
-// The first n points followed by the first four of them again.
-pub fn first_four_again(points: [u32; 68], n: usize) -> [u32; 68]
+// Stores the first four points once more behind the first n.
+fn put_first_four(points: &mut [u32; 68], n: usize)
     requires { ⌜ n ≤ 64 ⌝ }
-    ensures { λ r. ⌜ ((ps : List ℕ) → length ps ≡ n → points ≡ padded 68 ps → r ≡ padded 68 (again 4 ps)) ⌝ }
+    ensures { λ _. ⌜ ((ps : List ℕ) → length ps ≡ n → now (points .entry) ≡ padded 68 ps → now (points .exit) ≡ padded 68 (again 4 ps)) ⌝ }
 {
-    let mut ps = points;
-    ps[n] = ps[0];
-    ps[n + 1] = ps[1];
-    ps[n + 2] = ps[2];
-    ps[n + 3] = ps[3];
-    ps
+    points[n] = points[0];
+    points[n + 1] = points[1];
+    points[n + 2] = points[2];
+    points[n + 3] = points[3];
+}
+
+// Makes the arrays of a border 0, for a walk that is lost.
+fn clear(perimeter: &mut [u32; 64], points: &mut [u32; 68])
+    ensures { λ _. ⌜ now (perimeter .exit) ≡ replicate 64 0 ⌝ }
+    ensures { λ _. ⌜ now (points .exit) ≡ replicate 68 0 ⌝ }
+{
+    *perimeter = [0; 64];
+    *points = [0; 68];
+}
+
+// Stores the border of face f, from its start edge along the edges below ne, in arrays of 0: its edges, and its points with the
+// first four again. Answers the number of its edges, 0 if the walk is lost; then the arrays are 0.
+pub fn put_border(
+    edges: &[u32],
+    faces: &[u32],
+    ne: usize,
+    f: usize,
+    perimeter: &mut [u32; 64],
+    points: &mut [u32; 68],
+) -> usize
+    requires { ⌜ ne * 8 ≤ length (now edges) ⌝ }
+    requires { ⌜ f * 5 + 5 ≤ length (now faces) ⌝ }
+    requires { ⌜ now perimeter ≡ replicate 64 0 ⌝ }
+    requires { ⌜ now points ≡ replicate 68 0 ⌝ }
+    ensures { λ r. ⌜
+        _≡_ {A = FaceBorder}
+        (record { back = ltb 0 r; n = r; edges = now (perimeter .exit); points = now (points .exit) })
+        (border (faceTables (now (edges .entry)) (now (faces .entry))) ne f) ⌝ }
+{
+    let start = faces[f * 5];
+    let mut n = 0;
+    let mut e = start;
+    while n < 64 {
+        let Step::To { point, next } = face_step(edges, ne, f, index(e)) else {
+            clear(perimeter, points);
+            return 0;
+        };
+        perimeter[n] = e;
+        points[n] = point;
+        n += 1;
+        if next == start {
+            put_first_four(points, n);
+            return n;
+        }
+        e = next;
+    }
+    clear(perimeter, points);
+    0
 }
 
 // The border of face f, from its start edge, along the edges below ne.
@@ -29,37 +78,13 @@ pub fn border(edges: &[u32], faces: &[u32], ne: usize, f: usize) -> FaceBorder
     requires { ⌜ f * 5 + 5 ≤ length (now faces) ⌝ }
     ensures { λ r. ⌜ r ≡ border (faceTables (now (edges .entry)) (now (faces .entry))) ne f ⌝ }
 {
-    let start = faces[f * 5];
-    let mut es = [0u32; 64];
-    let mut ps = [0u32; 68];
-    let mut n = 0;
-    let mut e = start;
-    while n < 64 {
-        let Step::To { point, next } = face_step(edges, ne, f, index(e)) else {
-            return FaceBorder {
-                back: false,
-                n: 0,
-                edges: [0; 64],
-                points: [0; 68],
-            };
-        };
-        es[n] = e;
-        ps[n] = point;
-        n += 1;
-        if next == start {
-            return FaceBorder {
-                back: true,
-                n,
-                edges: es,
-                points: first_four_again(ps, n),
-            };
-        }
-        e = next;
-    }
+    let mut perimeter = [0u32; 64];
+    let mut points = [0u32; 68];
+    let n = put_border(edges, faces, ne, f, &mut perimeter, &mut points);
     FaceBorder {
-        back: false,
-        n: 0,
-        edges: [0; 64],
-        points: [0; 68],
+        back: 0 < n,
+        n,
+        edges: perimeter,
+        points,
     }
 }

@@ -7,11 +7,12 @@ use Rattle.face_points.proofs.face_point.Statement.{statement}
 use Rattle.face_points.proofs.face_point.Tie as tie
 
 window-sum-requires : tie.Need-window-sum-requires
-window-sum-requires c κs = (border-edges-fit _ _ _ _ _ _ (c .before .before .before .before .before .before .before .before .before .pre) _ (c .before .before .before .before .border .ensures), border-points-fit _ _ _ _ _ _ (c .before .before .before .before .before .before .before .before .before .pre) _ (c .before .before .before .before .border .ensures))
+window-sum-requires c κs = (border-edges-fit _ _ _ _ _ _ (c .before .before .before .before .before .before .before .before .before .pre) _ (c .before .before .put-border .ensures), border-points-fit _ _ _ _ _ _ (c .before .before .before .before .before .before .before .before .before .pre) _ (c .before .before .put-border .ensures))
 
 returns : tie.Need-returns
-returns c = rw (c .placed .ensures, c .before .over .ensures) (ap placedAt (facePoint-of-border _ _ _ _ _ _ (c .before .before .before .before .before .before .before .before .before .before .before .before .pre) _ _ (c .before .before .before .before .before .before .before .border .ensures) (c .before .before .window-sum .ensures)))
+returns c = rw (c .placed .ensures, c .before .over .ensures) (ap placedAt (facePoint-of-border _ _ _ _ _ _ (c .before .before .before .before .before .before .before .before .before .before .before .before .pre) _ _ (c .before .before .before .before .before .put-border .ensures) (c .before .before .window-sum .ensures)))
 
 pub face-point-spec : {M : Type 1} → statement M
 face-point-spec =
-    tie.close (tie.spec (λ c κs. search needs) window-sum-requires (λ c κs. search needs) (λ c κs. search needs) returns)
+    tie.close
+    (tie.spec (λ c κs. search needs) window-sum-requires (λ c κs. search needs) (λ c κs. search needs) returns)

@@ -1,31 +1,75 @@
--- window_sum meets its contract. The invariant: the sum is that of the first i windows; the measure is what is left of n.
-use Rattle.position_rules.proofs.Sums.{windowSum-none, windowSum-more}
-use Rattle.position_rules.specs.FacePoint.{windowSum, around}
-use borrow.Author.Needs.{needs}
-use lib.ListN.{getD}
+-- window_sum meets its contract. The invariant: the sum is that of the first i windows, and the terms that the window i shares
+-- with the one before it are kept; the measure is what is left of n.
+use mathlib.Core.Path.{_∙_, ap}
+use Prim.Native.Nat.{ℕ, _-_}
 use native.Mathlib.Omega.{arith}
-use Prim.Native.Nat.{ℕ, _≤_, _-_}
-use mathlib.Core.Path.{_≡_, sym, _∙_, ap}
+use lib.ListN.{getD}
+use borrow.Author.Needs.{needs}
+use Rattle.position_rules.specs.FacePoint.{windowSum, around}
+use Rattle.face_points.proofs.Windows.{Summed, summed-start, summed-more}
 use Rattle.face_points.proofs.window_sum.Statement.{statement}
 use Rattle.face_points.proofs.window_sum.Tie as tie
 
 abbrev Inv-loop : tie.InvT-loop
-Inv-loop positions edges intervals points border n s₀ i₀ s i = (i ≤ n) × (s ≡ windowSum positions edges intervals (λ j. getD points j 0) (λ j. getD border (around n j) 0) i)
+Inv-loop positions edges intervals points border n s₀ first₀ third₀ i₀ s first third i = Summed positions edges intervals points border n s first third i
 
 abbrev μ-loop : tie.MeasureT-loop
-μ-loop positions edges intervals points border n s₀ i₀ s i = n - i
+μ-loop positions edges intervals points border n s₀ first₀ third₀ i₀ s first third i = n - i
+
+terms-at-requires : tie.Need-terms-at-requires Inv-loop μ-loop
+terms-at-requires c κs = (c .before .before .before .before .before .pre .0, omega (arith, c .before .before .before .before .before .pre .0 .at-least-3))
+
+terms-at-requires-2 : tie.Need-terms-at-requires-2 Inv-loop μ-loop
+terms-at-requires-2 c κs = (c .before .before .before .before .before .before .before .pre .0, omega (arith, c .before .before .before .before .before .before .before .pre .0 .at-least-3))
 
 loop-holds : tie.Need-loop-holds Inv-loop μ-loop
-loop-holds c = (search needs, rw (c .origin .ensures) (sym (windowSum-none _ _ _ _ _)))
+loop-holds c =
+    let a = c .before .before .before .before .before .before .before .before .args in
+    summed-start (a .positions .now) (a .edges .now) (a .intervals .now) (a .points .now) (a .border .now) (a .n) _ _ _ (rw (c .before .before .before .before .origin .ensures)) (c .before .before .terms-at .ensures) (c .terms-at2 .ensures)
+
+terms-at-requires-3 : tie.Need-terms-at-requires-3 Inv-loop μ-loop
+terms-at-requires-3 c κs = (c .before .before .before .before .before .before .before .before .before .before .before .pre .0, omega (arith, c .before .before .before .before .before .before .before .before .before .before .before .pre .0 .at-least-3, c .before .loop-test .taken))
+
+add-terms-at-3 : tie.Need-add-terms-at-3 Inv-loop μ-loop
+add-terms-at-3 c = omega (arith, c .before .before .loop-test .taken, c .before .before .before .before .before .before .before .before .before .before .before .before .pre .0 .at-most-64)
+
+mul-terms-at-2 : tie.Need-mul-terms-at-2 Inv-loop μ-loop
+mul-terms-at-2 c = omega (arith, c .before .before .loop-test .taken, c .before .before .before .before .before .before .before .before .before .before .before .before .pre .0 .at-most-64)
+
+element-copy-out-terms-at-4 : tie.Need-element-copy-out-terms-at-4 Inv-loop μ-loop
+element-copy-out-terms-at-4 c = omega (arith, c .before .before .loop-test .taken, c .before .before .before .before .before .before .before .before .before .before .before .before .pre .0 .at-most-64)
+
+add-terms-at-4 : tie.Need-add-terms-at-4 Inv-loop μ-loop
+add-terms-at-4 c = omega (arith, c .before .before .before .loop-test .taken, c .before .before .before .before .before .before .before .before .before .before .before .before .before .pre .0 .at-most-64)
+
+terms-at-requires-4 : tie.Need-terms-at-requires-4 Inv-loop μ-loop
+terms-at-requires-4 c κs = (c .before .before .before .before .before .before .before .before .before .before .before .before .before .pre .0, omega (arith, c .before .before .before .before .before .before .before .before .before .before .before .before .before .pre .0 .at-least-3, c .before .before .before .loop-test .taken))
+
+add-index : tie.Need-add-index Inv-loop μ-loop
+add-index c = omega (arith, c .before .before .before .before .before .before .loop-test .taken, c .before .before .before .before .before .before .before .before .before .before .before .before .before .before .before .before .pre .0 .at-most-64)
+
+mul-index : tie.Need-mul-index Inv-loop μ-loop
+mul-index c = omega (arith, c .before .before .before .before .before .before .loop-test .taken, c .before .before .before .before .before .before .before .before .before .before .before .before .before .before .before .before .pre .0 .at-most-64)
+
+element-copy-out-index : tie.Need-element-copy-out-index Inv-loop μ-loop
+element-copy-out-index c = omega (arith, c .before .before .before .before .before .before .loop-test .taken, c .before .before .before .before .before .before .before .before .before .before .before .before .before .before .before .before .pre .0 .at-most-64)
 
 load-position-requires : tie.Need-load-position-requires Inv-loop μ-loop
-load-position-requires c κs = rw (c .index .ensures) (c .before .before .before .before .before .before .before .before .before .pre .1 .points-there _ (omega arith))
+load-position-requires c κs = rw (c .index .ensures) (c .before .before .before .before .before .before .before .before .before .before .before .before .before .before .before .before .before .before .pre .1 .points-there _ (omega (arith, c .before .before .before .before .before .before .before .before .loop-test .taken)))
+
+add-i : tie.Need-add-i Inv-loop μ-loop
+add-i c = omega (arith, c .before .before .before .before .before .before .before .before .before .before .loop-test .taken, c .before .before .before .before .before .before .before .before .before .before .before .before .before .before .before .before .before .before .before .before .pre .0 .at-most-64)
 
 loop-again : tie.Need-loop-again Inv-loop μ-loop
-loop-again c = (omega arith, c .with-term .ensures ∙ rw (c .before .before .before .before .before .before .loop .inv .1, c .before .load-position .ensures, c .before .before .index .ensures, c .before .before .before .before .window-weight .ensures) (sym (windowSum-more _ _ _ _ _ _)))
+loop-again c =
+    let a = c .before .before .before .before .before .before .before .before .before .before .before .before .before .before .before .before .before .before .before .before .args in
+    summed-more (a .positions .now) (a .edges .now) (a .intervals .now) (a .points .now) (a .border .now) (a .n) _ _ _ _ (c .before .before .before .before .before .before .before .before .before .before .before .loop .inv) (c .before .before .before .before .before .before .before .before .before .before .loop-test .taken) _ _ (c .before .before .before .before .before .before .before .before .terms-at3 .ensures) (c .before .before .before .before .before .before .terms-at4 .ensures) _ _ (c .before .before .before .before .before .six-terms .ensures) (c .before .before .before .before .six-terms2 .ensures) _ _ (c .before .before .index .ensures) (c .before .load-position .ensures) _ (c .with-term .ensures)
 
 returns : tie.Need-returns Inv-loop μ-loop
-returns c = c .before .loop .inv .1 ∙ ap (λ (k : ℕ). windowSum (c .before .before .before .before .before .before .args .positions .now) (c .before .before .before .before .before .before .args .edges .now) (c .before .before .before .before .before .before .args .intervals .now) (λ j. getD (c .before .before .before .before .before .before .args .points .now) j 0) (λ j. getD (c .before .before .before .before .before .before .args .border .now) (around (c .before .before .before .before .before .before .args .n) j) 0) k) (omega arith)
+returns c =
+    let a = c .before .before .before .before .before .before .before .before .before .before .args in
+    c .before .loop .inv .sum-is
+    ∙ ap (λ (k : ℕ). windowSum (a .positions .now) (a .edges .now) (a .intervals .now) (λ j. getD (a .points .now) j 0) (λ j. getD (a .border .now) (around (a .n) j) 0) k) (omega (arith, c .before .loop .inv .within, c .loop-test .left))
 
 pub window-sum-spec : {M : Type 1} → statement M
 window-sum-spec =
@@ -34,15 +78,30 @@ window-sum-spec =
     Inv-loop
     μ-loop
     (λ c κs. search needs)
+    (λ c. search needs)
+    terms-at-requires
+    (λ c. search needs)
+    terms-at-requires-2
     loop-holds
+    (λ c. search needs)
+    (λ c. search needs)
+    (λ c. search needs)
+    (λ c. search needs)
+    terms-at-requires-3
+    add-terms-at-3
+    mul-terms-at-2
+    element-copy-out-terms-at-4
+    add-terms-at-4
+    terms-at-requires-4
     (λ c κs. search needs)
-    (λ c. search needs)
-    (λ c. search needs)
-    (λ c. search needs)
+    (λ c κs. search needs)
+    add-index
+    mul-index
+    element-copy-out-index
     (λ c κs. search needs)
     load-position-requires
     (λ c κs. search needs)
-    (λ c. search needs)
+    add-i
     (λ c. search needs)
     loop-again
     returns)

@@ -1,73 +1,10 @@
--- border meets its contract. The invariant: the walk has passed the edges and points that stand in the arrays; the measure is
--- what is left of 64.
-use mathlib.Core.Path.{refl, sym, _∙_, ap}
-use Prim.Native.Nat.{_-_}
+-- border meets its contract, by the arrays that put_border fills.
 use borrow.Author.Needs.{needs}
-use Rattle.walks.specs.Steps.{faceTables, faceStep}
-use Rattle.walks.specs.Border.{padded}
-use Rattle.walks.proofs.Border.{Bordering, border-start, border-more, border-last, border-lost, border-out}
 use Rattle.walks.proofs.t_nurcc_face.border.Statement.{statement}
 use Rattle.walks.proofs.t_nurcc_face.border.Tie as tie
 
-abbrev Inv-loop : tie.InvT-loop
-Inv-loop edges faces ne f start es₀ ps₀ n₀ e₀ es ps n e = Bordering (faceTables edges faces) ne f es ps n e
-
-abbrev μ-loop : tie.MeasureT-loop
-μ-loop edges faces ne f start es₀ ps₀ n₀ e₀ es ps n e = 64 - n
-
-loop-holds : tie.Need-loop-holds Inv-loop μ-loop
-unfolding padded
-loop-holds c =
-    let a = c .before .before .before .args in
-    border-start (faceTables (a .edges .now) (a .faces .now)) (a .ne) (a .f) _ _ refl refl
-
-returns : tie.Need-returns Inv-loop μ-loop
-unfolding padded
-returns c =
-    let a = c .before .before .before .before .before .before .before .before .before .args in
-    let lost = sym (c .enum-told .given .1) ∙ c .before .before .face-step .ensures ∙ ap (faceStep (a .edges .now) (a .ne) (a .f)) (c .before .before .before .index .ensures) in
-    sym (border-lost (faceTables (a .edges .now) (a .faces .now)) (a .ne) (a .f) _ _ _ _ (c .before .before .before .before .before .loop .inv) lost (search needs))
-
-returns-2 : tie.Need-returns-2 Inv-loop μ-loop
-returns-2 c =
-    let a = c .before .before .before .before .before .before .before .before .before .before .before .before .args in
-    let to = sym (c .before .before .before .point .given .1) ∙ c .before .before .before .before .before .face-step .ensures ∙ ap (faceStep (a .edges .now) (a .ne) (a .f)) (c .before .before .before .before .before .before .index .ensures) in
-    border-last (faceTables (a .edges .now) (a .faces .now)) (a .ne) (a .f) _ _ _ _ (c .before .before .before .before .before .before .before .before .loop .inv) _ _ to (c .before .before .before .before .before .before .before .loop-test .taken) _ (c .before .if1 .taken) (c .first-four-again .ensures)
-
-loop-again : tie.Need-loop-again Inv-loop μ-loop
-loop-again c =
-    let a = c .before .before .before .before .before .before .before .before .before .before .before .args in
-    let to = sym (c .before .before .point .given .1) ∙ c .before .before .before .before .face-step .ensures ∙ ap (faceStep (a .edges .now) (a .ne) (a .f)) (c .before .before .before .before .before .index .ensures) in
-    border-more (faceTables (a .edges .now) (a .faces .now)) (a .ne) (a .f) _ _ _ _ (c .before .before .before .before .before .before .before .loop .inv) _ _ to (c .before .before .before .before .before .before .loop-test .taken) (c .if1 .left)
-
-returns-3 : tie.Need-returns-3 Inv-loop μ-loop
-unfolding padded
-returns-3 c =
-    let a = c .before .before .before .before .before .args in
-    sym (border-out (faceTables (a .edges .now) (a .faces .now)) (a .ne) (a .f) _ _ _ _ (c .before .loop .inv) (search needs))
+returns : tie.Need-returns
+returns c = c .put-border .ensures
 
 pub border-spec : {M : Type 1} → statement M
-border-spec =
-    tie.close
-    (tie.spec
-    Inv-loop
-    μ-loop
-    (λ c. search needs)
-    (λ c. search needs)
-    (λ c. search needs)
-    loop-holds
-    (λ c κs. search needs)
-    (λ c κs. search needs)
-    (λ c. search needs)
-    (λ c. search needs)
-    returns
-    (λ c. search needs)
-    (λ c. search needs)
-    (λ c. search needs)
-    (λ c. search needs)
-    (λ c. search needs)
-    (λ c κs. search needs)
-    returns-2
-    (λ c. search needs)
-    loop-again
-    returns-3)
+border-spec = tie.close (tie.spec (λ c κs. search needs) returns)
