@@ -8,8 +8,8 @@ ghost use mathlib.Core.Bool.{cond};
 ghost use mathlib.Core.List.{List, []};
 ghost use Prim.Native.Nat.{ℕ, _+_, _-_, _*_, _≤_, _<_};
 ghost use lib.Dec.{eqb};
-ghost use lib.ListN.{length, getD, replicate};
-ghost use lib.Ieee.{Float, nan, ofBits, binary64};
+ghost use lib.ListN.{length, getD};
+ghost use lib.Ieee.{Float, nan};
 ghost use Rattle.tables.specs.declared.Counts.{Counts};
 ghost use Rattle.audited_meshes.specs.Walks.{firstPoint};
 ghost use Rattle.walks.specs.Steps.{faceTables};
@@ -31,13 +31,6 @@ pub struct RingRows {
     pub centre: usize,
     pub joins: usize,
     pub faces: usize,
-}
-
-// What stands at the places of a split perimeter: the half of the edge at its first point, the half at its second, the midpoint.
-pub struct RingPlaces {
-    pub firsts: [u32; 64],
-    pub seconds: [u32; 64],
-    pub mids: [u32; 64],
 }
 
 // The place after i on a perimeter of n.
@@ -94,41 +87,45 @@ fn second_half(edges: &[u32], left: bool, e: u32) -> u32
     e
 }
 
-// The intervals of the first n edges of a perimeter.
-pub fn found_on(intervals: &[f64], perimeter: &[u32; 64], n: usize) -> [f64; 64]
+// Stores the intervals of the first n edges of a perimeter.
+pub fn put_found(intervals: &[f64], perimeter: &[u32; 64], n: usize, found: &mut [f64; 64])
     requires { ⌜ n ≤ 64 ⌝ }
     requires { ⌜ ((i : ℕ) → i < n → getD (now perimeter) i 0 < length (now intervals)) ⌝ }
-    ensures { λ r. ⌜
-        r ≡ filled n (λ i. getD (now (intervals .entry)) (getD (now (perimeter .entry)) i 0) nan) (replicate 64 (ofBits binary64 0)) ⌝ }
+    ensures { λ _. ⌜
+        now (found .exit) ≡ filled n (λ i. getD (now (intervals .entry)) (getD (now (perimeter .entry)) i 0) nan) (now (found .entry)) ⌝ }
 {
-    let mut found = [0.0; 64];
     let mut i = 0;
     while i < n {
         let e = index(perimeter[i]);
         found[i] = intervals[e];
         i += 1;
     }
-    found
 }
 
-// What stands at the places of the perimeter of face f, once it is split.
-pub fn places(
+// Stores what stands at the places of the perimeter of face f, once it is split: the half of the edge at its first point, the half
+// at its second, the midpoint.
+pub fn put_places(
     oldedges: &[u32],
     edges: &[u32],
     perimeter: &[u32; 64],
     f: usize,
     n: usize,
-) -> RingPlaces
+    firsts: &mut [u32; 64],
+    seconds: &mut [u32; 64],
+    mids: &mut [u32; 64],
+)
     requires { ⌜ n ≤ 64 ⌝ }
     requires { ⌜ Rows (now oldedges) (now perimeter) n ⌝ }
     requires { ⌜ Rows (now edges) (now perimeter) n ⌝ }
-    ensures { λ r. ⌜ r .firsts ≡ filled n (λ i. firstOf (now (oldedges .entry)) (now (edges .entry)) f (getD (now (perimeter .entry)) i 0)) (replicate 64 0) ⌝ }
-    ensures { λ r. ⌜ r .seconds ≡ filled n (λ i. secondOf (now (oldedges .entry)) (now (edges .entry)) f (getD (now (perimeter .entry)) i 0)) (replicate 64 0) ⌝ }
-    ensures { λ r. ⌜ r .mids ≡ filled n (λ i. getD (now (edges .entry)) (getD (now (perimeter .entry)) i 0 * 8 + 1) 0) (replicate 64 0) ⌝ }
+    ensures { λ _. ⌜
+        now (firsts .exit) ≡
+        filled n (λ i. firstOf (now (oldedges .entry)) (now (edges .entry)) f (getD (now (perimeter .entry)) i 0)) (now (firsts .entry)) ⌝ }
+    ensures { λ _. ⌜
+        now (seconds .exit) ≡
+        filled n (λ i. secondOf (now (oldedges .entry)) (now (edges .entry)) f (getD (now (perimeter .entry)) i 0)) (now (seconds .entry)) ⌝ }
+    ensures { λ _. ⌜
+        now (mids .exit) ≡ filled n (λ i. getD (now (edges .entry)) (getD (now (perimeter .entry)) i 0 * 8 + 1) 0) (now (mids .entry)) ⌝ }
 {
-    let mut firsts = [0u32; 64];
-    let mut seconds = [0u32; 64];
-    let mut mids = [0u32; 64];
     let mut i = 0;
     while i < n {
         let e = perimeter[i];
@@ -138,11 +135,6 @@ pub fn places(
         seconds[i] = second_half(edges, left, e);
         mids[i] = edges[row * 8 + 1];
         i += 1;
-    }
-    RingPlaces {
-        firsts,
-        seconds,
-        mids,
     }
 }
 

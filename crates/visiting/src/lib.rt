@@ -19,12 +19,12 @@ ghost use Rattle.splitting.specs.Scratch.{tablesOf};
 ghost use Rattle.rings.specs.Rings.{ring, Small, Rows};
 ghost use Rattle.visiting.specs.Visiting.{meshOf, Holds, Ceilings, RingFits, AlongFits, Fits};
 use rings::RingRows;
-use rings::found_on;
-use rings::places;
 use rings::put_face_point;
 use rings::put_firsts;
+use rings::put_found;
 use rings::put_joins;
 use rings::put_new_faces;
+use rings::put_places;
 use rings::put_seconds;
 use splitting::split_all;
 use tables::Counts;
@@ -95,10 +95,19 @@ fn put_ring(
         (tablesOf (now (points .entry)) (now (edges .entry)) (now (intervals .entry)) (now (faces .entry))
         (record { points = p; edges = rows .joins; faces = rows .faces })))) ⌝ }
 {
-    let at = places(oldedges, edges, perimeter, rows.face, rows.size);
-    let firsts = at.firsts;
-    let seconds = at.seconds;
-    let mids = at.mids;
+    let mut firsts = [0u32; 64];
+    let mut seconds = [0u32; 64];
+    let mut mids = [0u32; 64];
+    put_places(
+        oldedges,
+        edges,
+        perimeter,
+        rows.face,
+        rows.size,
+        &mut firsts,
+        &mut seconds,
+        &mut mids,
+    );
     put_ring_edges(
         oldedges,
         edges,
@@ -134,7 +143,8 @@ fn visit_along(
         (visitAlong (faceTables (now (oldedges .entry)) []) np f (now (perimeter .entry)) n
         (tablesOf (now (points .entry)) (now (edges .entry)) (now (intervals .entry)) (now (faces .entry)) taken)) ⌝ }
 {
-    let found = found_on(intervals, perimeter, n);
+    let mut found = [0.0; 64];
+    put_found(intervals, perimeter, n, &mut found);
     let first = Counts {
         points: taken.points + 1,
         edges: taken.edges,

@@ -1,5 +1,5 @@
+-- put_ring meets its contract: the places are stored, then the edges, the faces and the point are written.
 use Rattle.tables.specs.declared.Counts.{Counts}
--- put_ring meets its contract: the places are read, then the edges, the faces and the point are written.
 use Rattle.visiting.proofs.Room.{halves-rows}
 use Rattle.visiting.proofs.Along.{ring-written}
 use borrow.Author.Needs.{needs}
@@ -8,7 +8,7 @@ use Rattle.visiting.proofs.put_ring.Tie as tie
 
 put-ring-edges-requires : tie.Need-put-ring-edges-requires
 put-ring-edges-requires c κs =
-    let places = c .before .before .before .before .before .before .before .before .places in
+    let put-places = c .before .before .before .before .before .put-places in
     let p = c .before .before .before .before .before .before .before .before .before .before .before .before .before .before .before .pre in
     let es = c .before .before .before .before .before .before .before .before .before .before .before .before .before .before .before .args .edges .now in (
       p .small,
@@ -19,8 +19,8 @@ put-ring-edges-requires c κs =
           (
             p .mesh-rows,
             (
-              halves-rows es _ _ _ (p .small .few-places) (places .ensures .0) (p .firsts),
-              halves-rows es _ _ _ (p .small .few-places) (places .ensures .1 .0) (p .seconds),
+              halves-rows es _ _ _ (p .small .few-places) (put-places .ensures .0) (p .firsts),
+              halves-rows es _ _ _ (p .small .few-places) (put-places .ensures .1 .0) (p .seconds),
             ),
           ),
         ),
@@ -39,21 +39,23 @@ put-face-point-requires c κs =
 
 returns : tie.Need-returns
 returns c =
-    let places = c .before .before .before .before .before .before .before .before .before .before .before .before .before .before .before .before .before .before .before .before .before .before .before .places in
+    let put-places = c .before .before .before .before .before .before .before .before .before .before .before .before .before .before .before .before .before .before .before .before .put-places in
     let put-new-faces = c .before .before .before .before .before .before .put-new-faces in
     let put-ring-edges = c .before .before .before .before .before .before .before .before .before .before .before .before .before .before .put-ring-edges in
     λ p.
     let a = c .before .before .before .before .before .before .before .before .before .before .before .before .before .before .before .before .before .before .before .before .before .before .before .before .before .before .before .before .before .before .args in
-    let h = places .result in
+    let hs = put-places .last .1 .1 .1 .1 .1 .0 in
+    let gs = put-places .last .1 .1 .1 .1 .1 .1 .0 in
+    let ms = put-places .last .1 .1 .1 .1 .1 .1 .1 .0 in
     let es = put-ring-edges .last .1 .0 in
     let is = put-ring-edges .last .1 .1 .0 in
     let fs = put-new-faces .last .1 .0 in
     let k : Counts = record { points = p; edges = a .rows .joins; faces = a .rows .faces } in
-    ring-written (a .oldedges .now) (a .points .now) _ (a .edges .now) es (a .faces .now) fs (a .perimeter .now) (h .firsts) (h .seconds) (h .mids)
-    (a .intervals .now) is (a .found .now) (a .rows) p (places .ensures .0) (places .ensures .1 .0) (places .ensures .1 .1)
+    ring-written (a .oldedges .now) (a .points .now) _ (a .edges .now) es (a .faces .now) fs (a .perimeter .now) hs gs ms
+    (a .intervals .now) is (a .found .now) (a .rows) p (put-places .ensures .0) (put-places .ensures .1 .0) (put-places .ensures .1 .1)
     (put-ring-edges .ensures (a .points .now) (a .faces .now) k)
-    (put-new-faces .ensures (h .seconds) (a .points .now) es (a .found .now) is k)
-    (c .before .before .put-face-point .ensures (a .perimeter .now) (h .firsts) (h .seconds) (h .mids) es fs (a .found .now) is k)
+    (put-new-faces .ensures gs (a .points .now) es (a .found .now) is k)
+    (c .before .before .put-face-point .ensures (a .perimeter .now) hs gs ms es fs (a .found .now) is k)
 
 pub put-ring-spec : {M : Type 1} → statement M
 put-ring-spec =

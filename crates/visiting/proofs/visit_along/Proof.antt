@@ -1,4 +1,4 @@
--- visit_along meets its contract: the intervals are found, the perimeter is split, the ring is written.
+-- visit_along meets its contract: the intervals are stored, the perimeter is split, the ring is written.
 use Rattle.visiting.proofs.Room.{split-room, ring-fits}
 use Rattle.visiting.proofs.Along.{along-split, along-visited}
 use native.Mathlib.Omega.{arith}
@@ -6,30 +6,30 @@ use borrow.Author.Needs.{needs}
 use Rattle.visiting.proofs.visit_along.Statement.{statement}
 use Rattle.visiting.proofs.visit_along.Tie as tie
 
-found-on-requires : tie.Need-found-on-requires
-found-on-requires c κs = let p = c .before .before .before .before .before .before .pre in (p .few-places, λ i l. p .rows i l .number)
+put-found-requires : tie.Need-put-found-requires
+put-found-requires c κs = let p = c .before .before .before .before .before .before .before .pre in (p .few-places, λ i l. p .rows i l .number)
 
 split-all-requires : tie.Need-split-all-requires
 split-all-requires c κs =
-    let p = c .before .before .before .before .before .before .before .before .before .before .before .pre in
-    let a = c .before .before .before .before .before .before .before .before .before .before .before .args in
+    let p = c .before .before .before .before .before .before .before .before .before .before .before .before .pre in
+    let a = c .before .before .before .before .before .before .before .before .before .before .before .before .args in
     (p .few-places, (p .rows, (p .old-points, split-room (a .oldedges .now) (a .points .now) (a .edges .now) (a .faces .now) (a .perimeter .now) (a .intervals .now) (a .np) (a .f) (a .n) (a .taken) p)))
 
 put-ring-requires : tie.Need-put-ring-requires
 put-ring-requires c κs =
     let split-all = c .before .before .before .before .before .before .before .before .before .before .before .split-all in
-    let p = c .before .before .before .before .before .before .before .before .before .before .before .before .before .before .before .before .before .before .before .before .before .before .before .pre in
-    let a = c .before .before .before .before .before .before .before .before .before .before .before .before .before .before .before .before .before .before .before .before .before .before .before .args in
+    let p = c .before .before .before .before .before .before .before .before .before .before .before .before .before .before .before .before .before .before .before .before .before .before .before .before .pre in
+    let a = c .before .before .before .before .before .before .before .before .before .before .before .before .before .before .before .before .before .before .before .before .before .before .before .before .args in
     let all = split-all .result in
     let split = along-split (a .points .now) _ (a .edges .now) _ (a .faces .now) (a .perimeter .now) (a .intervals .now) _ (a .np) (a .n) (a .taken) all (split-all .ensures) in
     ring-fits (a .oldedges .now) (a .points .now) (a .edges .now) (a .faces .now) (a .perimeter .now) (a .intervals .now) (a .np) (a .f) (a .n) (a .taken) p
     _ _ _ all split (split-all .kept .0) (split-all .kept .1 .0) (split-all .kept .1 .1 .0)
 
-add-t18-2 : tie.Need-add-t18-2
-add-t18-2 c =
+add-t19-2 : tie.Need-add-t19-2
+add-t19-2 c =
     let split-all = c .before .before .before .before .before .before .before .before .before .before .before .before .before .before .before .before .before .before .before .before .before .split-all in
-    let p = c .before .before .before .before .before .before .before .before .before .before .before .before .before .before .before .before .before .before .before .before .before .before .before .before .before .before .before .before .before .before .before .before .before .pre in
-    let a = c .before .before .before .before .before .before .before .before .before .before .before .before .before .before .before .before .before .before .before .before .before .before .before .before .before .before .before .before .before .before .before .before .before .args in
+    let p = c .before .before .before .before .before .before .before .before .before .before .before .before .before .before .before .before .before .before .before .before .before .before .before .before .before .before .before .before .before .before .before .before .before .before .pre in
+    let a = c .before .before .before .before .before .before .before .before .before .before .before .before .before .before .before .before .before .before .before .before .before .before .before .before .before .before .before .before .before .before .before .before .before .before .args in
     let all = split-all .result in
     let split = along-split (a .points .now) _ (a .edges .now) _ (a .faces .now) (a .perimeter .now) (a .intervals .now) _ (a .np) (a .n) (a .taken) all (split-all .ensures) in
     let small = ring-fits (a .oldedges .now) (a .points .now) (a .edges .now) (a .faces .now) (a .perimeter .now) (a .intervals .now) (a .np) (a .f) (a .n) (a .taken) p
@@ -38,14 +38,14 @@ add-t18-2 c =
 
 sub-t35 : tie.Need-sub-t35
 sub-t35 c =
-    let p = c .before .before .before .before .before .before .before .before .before .before .before .before .before .before .before .before .before .before .before .before .before .before .before .before .before .before .before .before .before .before .before .before .before .pre in
+    let p = c .before .before .before .before .before .before .before .before .before .before .before .before .before .before .before .before .before .before .before .before .before .before .before .before .before .before .before .before .before .before .before .before .before .before .pre in
     omega (arith, p .some-places)
 
 add-t36 : tie.Need-add-t36
 add-t36 c =
     let split-all = c .before .before .before .before .before .before .before .before .before .before .before .before .before .before .before .before .before .before .before .before .before .before .split-all in
-    let p = c .before .before .before .before .before .before .before .before .before .before .before .before .before .before .before .before .before .before .before .before .before .before .before .before .before .before .before .before .before .before .before .before .before .before .pre in
-    let a = c .before .before .before .before .before .before .before .before .before .before .before .before .before .before .before .before .before .before .before .before .before .before .before .before .before .before .before .before .before .before .before .before .before .before .args in
+    let p = c .before .before .before .before .before .before .before .before .before .before .before .before .before .before .before .before .before .before .before .before .before .before .before .before .before .before .before .before .before .before .before .before .before .before .before .pre in
+    let a = c .before .before .before .before .before .before .before .before .before .before .before .before .before .before .before .before .before .before .before .before .before .before .before .before .before .before .before .before .before .before .before .before .before .before .before .args in
     let all = split-all .result in
     let split = along-split (a .points .now) _ (a .edges .now) _ (a .faces .now) (a .perimeter .now) (a .intervals .now) _ (a .np) (a .n) (a .taken) all (split-all .ensures) in
     let small = ring-fits (a .oldedges .now) (a .points .now) (a .edges .now) (a .faces .now) (a .perimeter .now) (a .intervals .now) (a .np) (a .f) (a .n) (a .taken) p
@@ -55,21 +55,21 @@ add-t36 c =
 returns : tie.Need-returns
 returns c =
     let split-all = c .before .before .before .before .before .before .before .before .before .before .before .before .before .before .before .before .before .before .before .before .before .before .split-all in
-    let a = c .before .before .before .before .before .before .before .before .before .before .before .before .before .before .before .before .before .before .before .before .before .before .before .before .before .before .before .before .before .before .before .before .before .before .args in
+    let a = c .before .before .before .before .before .before .before .before .before .before .before .before .before .before .before .before .before .before .before .before .before .before .before .before .before .before .before .before .before .before .before .before .before .before .before .args in
     let all = split-all .result in
     let split = along-split (a .points .now) _ (a .edges .now) _ (a .faces .now) (a .perimeter .now) (a .intervals .now) _ (a .np) (a .n) (a .taken) all (split-all .ensures) in
     along-visited (a .oldedges .now) (a .points .now) _ _ (a .edges .now) _ _ (a .faces .now) _ (a .perimeter .now) (a .intervals .now) _ _ _ (a .np) (a .f) (a .n) (a .taken) all
-    (c .before .before .before .before .before .before .before .before .before .before .before .before .before .before .before .before .before .before .before .before .before .before .before .before .before .before .before .found-on .ensures) split (c .before .before .before .before .before .before .before .before .before .before .put-ring .ensures (all .points))
+    (c .before .before .before .before .before .before .before .before .before .before .before .before .before .before .before .before .before .before .before .before .before .before .before .before .before .before .before .put-found .ensures) split (c .before .before .before .before .before .before .before .before .before .before .put-ring .ensures (all .points))
 
 pub visit-along-spec : {M : Type 1} → statement M
 visit-along-spec =
     tie.close
     (tie.spec
-    found-on-requires
+    put-found-requires
     (λ c. search needs)
     split-all-requires
     put-ring-requires
-    add-t18-2
+    add-t19-2
     sub-t35
     add-t36
     (λ c. search needs)

@@ -1,19 +1,19 @@
--- places meets its contract. The invariant: the three arrays are filled up to i; the measure is what is left of n.
+-- put_places meets its contract. The invariant: the three arrays are filled up to i; the measure is what is left of n.
 use Rattle.rings.proofs.Filling.{Filled, filled-start, filled-place, filled-whole}
 use Prim.Native.Nat.{_-_}
 use native.Mathlib.Omega.{arith}
 use borrow.Author.Needs.{needs}
-use Rattle.rings.proofs.places.Statement.{statement}
-use Rattle.rings.proofs.places.Tie as tie
+use Rattle.rings.proofs.put_places.Statement.{statement}
+use Rattle.rings.proofs.put_places.Tie as tie
 
 abbrev Inv-loop : tie.InvT-loop
-Inv-loop oldedges edges perimeter f n firsts₀ seconds₀ mids₀ i₀ firsts seconds mids i = Filled oldedges edges perimeter f n firsts seconds mids i
+Inv-loop oldedges edges perimeter f n firsts₀ seconds₀ mids₀ i₀ firsts seconds mids i = Filled oldedges edges perimeter f n firsts₀ seconds₀ mids₀ firsts seconds mids i
 
 abbrev μ-loop : tie.MeasureT-loop
 μ-loop oldedges edges perimeter f n firsts₀ seconds₀ mids₀ i₀ firsts seconds mids i = n - i
 
 loop-holds : tie.Need-loop-holds Inv-loop μ-loop
-loop-holds c = let a = c .before .before .args in filled-start (a .oldedges .now) (a .edges .now) (a .perimeter .now) (a .f) (a .n)
+loop-holds c = let a = c .before .before .args in filled-start (a .oldedges .now) (a .edges .now) (a .perimeter .now) (a .f) (a .n) (a .firsts .now) (a .seconds .now) (a .mids .now)
 
 on-left-requires : tie.Need-on-left-requires Inv-loop μ-loop
 on-left-requires c κs =
@@ -49,15 +49,15 @@ shared-slice-read-mids c =
 loop-again : tie.Need-loop-again Inv-loop μ-loop
 loop-again c =
     let a = c .before .before .before .before .before .before .before .before .before .before .args in
-    filled-place (a .oldedges .now) (a .edges .now) (a .perimeter .now) (a .f) (a .n) _ _ _ _ (c .before .before .before .before .before .before .before .loop .inv) _ _ _ _ (c .before .before .before .before .before .before .loop-test .taken) (c .before .before .before .before .index .ensures) (c .before .before .before .on-left .ensures) (c .before .before .first-half .ensures) (c .before .second-half .ensures)
+    filled-place (a .oldedges .now) (a .edges .now) (a .perimeter .now) (a .f) (a .n) (a .firsts .now) (a .seconds .now) (a .mids .now) _ _ _ _ (c .before .before .before .before .before .before .before .loop .inv) _ _ _ _ (c .before .before .before .before .before .before .loop-test .taken) (c .before .before .before .before .index .ensures) (c .before .before .before .on-left .ensures) (c .before .before .first-half .ensures) (c .before .second-half .ensures)
 
 returns : tie.Need-returns Inv-loop μ-loop
 returns c =
     let a = c .before .before .before .before .args in
-    filled-whole (a .oldedges .now) (a .edges .now) (a .perimeter .now) (a .f) (a .n) _ _ _ _ (c .before .loop .inv) (c .loop-test .left)
+    filled-whole (a .oldedges .now) (a .edges .now) (a .perimeter .now) (a .f) (a .n) (a .firsts .now) (a .seconds .now) (a .mids .now) _ _ _ _ (c .before .loop .inv) (c .loop-test .left)
 
-pub places-spec : {M : Type 1} → statement M
-places-spec =
+pub put-places-spec : {M : Type 1} → statement M
+put-places-spec =
     tie.close
     (tie.spec
     Inv-loop
