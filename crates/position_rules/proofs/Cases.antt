@@ -15,7 +15,7 @@ use Rattle.tables.specs.Mesh.{Mesh}
 use Rattle.audited_meshes.specs.Walks.{faceWalk}
 use Rattle.walks.specs.Border.{again}
 use Rattle.position_rules.specs.Intervals.{acwAbout, cwAbout, threeTerms}
-use Rattle.position_rules.specs.Sums.{after}
+use Rattle.refined_meshes.specs.Turns.{turns}
 use Rattle.position_rules.specs.FacePoint.{sixTerms, windowWeight, windowSum, facePoint, facePointAbout, facePointOf}
 use Rattle.position_rules.specs.EdgePoint.{shares, edgeMiddle, edgePoint}
 use Rattle.position_rules.specs.OldPoint.{radialEdge, edgeWeight, faceWeight, radialTerms, radialSum, oldPoint}
@@ -118,7 +118,7 @@ cube-oldPoints =
     ∷ []
 
 cube-faces : answers (facePointOf cube 12) 0 6 ≡ cube-facePoints
-unfolding facePointOf facePointAbout facePoint windowSum windowWeight sixTerms threeTerms acwAbout cwAbout after again faceWalk add sub mul div neg ofBits
+unfolding facePointOf facePointAbout facePoint windowSum windowWeight sixTerms threeTerms acwAbout cwAbout turns again faceWalk add sub mul div neg ofBits
 cube-faces = refl
 
 cube-edges : answers (edgeRule cube cube-facePoints) 0 12 ≡ cube-edgePoints
@@ -126,12 +126,12 @@ unfolding edgePoint edgeMiddle shares threeTerms acwAbout cwAbout add sub mul di
 cube-edges = refl
 
 cube-olds : answers (oldRule cube cube-edgePoints cube-facePoints) 0 8 ≡ cube-oldPoints
-unfolding oldPoint radialSum radialTerms radialEdge edgeWeight faceWeight acwAbout cwAbout after add sub mul div neg le ofBits ofInt
+unfolding oldPoint radialSum radialTerms radialEdge edgeWeight faceWeight acwAbout cwAbout turns add sub mul div neg le ofBits ofInt
 cube-olds = refl
 
 -- all of it at once
 cube-point-0 : placedAt (oldPointOf cube 12 0) ≡ at 0xbfdc71c71c71c71c 0xbfdc71c71c71c71c 0xbfdc71c71c71c71c
-unfolding oldPointOf edgePointOf oldPoint radialSum radialTerms radialEdge edgeWeight faceWeight edgePoint edgeMiddle shares facePointOf facePointAbout facePoint windowSum windowWeight sixTerms threeTerms acwAbout cwAbout after again faceWalk add sub mul div neg ofBits le ofInt
+unfolding oldPointOf edgePointOf oldPoint radialSum radialTerms radialEdge edgeWeight faceWeight edgePoint edgeMiddle shares facePointOf facePointAbout facePoint windowSum windowWeight sixTerms threeTerms acwAbout cwAbout turns again faceWalk add sub mul div neg ofBits le ofInt
 cube-point-0 = refl
 
 -- all intervals 0
@@ -146,7 +146,7 @@ zeroCube =
     }
 
 zeroCube-faces : answers (facePointOf zeroCube 12) 0 6 ≡ replicate 6 NotFinite
-unfolding facePointOf facePointAbout facePoint windowSum windowWeight sixTerms threeTerms acwAbout cwAbout after again faceWalk add sub mul div neg ofBits
+unfolding facePointOf facePointAbout facePoint windowSum windowWeight sixTerms threeTerms acwAbout cwAbout turns again faceWalk add sub mul div neg ofBits
 zeroCube-faces = refl
 
 -- ---- the cube, random intervals
@@ -218,7 +218,7 @@ uneven-oldPoints =
     ∷ []
 
 uneven-faces : answers (facePointOf uneven 12) 0 6 ≡ uneven-facePoints
-unfolding facePointOf facePointAbout facePoint windowSum windowWeight sixTerms threeTerms acwAbout cwAbout after again faceWalk add sub mul div neg ofBits
+unfolding facePointOf facePointAbout facePoint windowSum windowWeight sixTerms threeTerms acwAbout cwAbout turns again faceWalk add sub mul div neg ofBits
 uneven-faces = refl
 
 uneven-edges : answers (edgeRule uneven uneven-facePoints) 0 12 ≡ uneven-edgePoints
@@ -226,7 +226,7 @@ unfolding edgePoint edgeMiddle shares threeTerms acwAbout cwAbout add sub mul di
 uneven-edges = refl
 
 uneven-olds : answers (oldRule uneven uneven-edgePoints uneven-facePoints) 0 8 ≡ uneven-oldPoints
-unfolding oldPoint radialSum radialTerms radialEdge edgeWeight faceWeight acwAbout cwAbout after add sub mul div neg le ofBits ofInt
+unfolding oldPoint radialSum radialTerms radialEdge edgeWeight faceWeight acwAbout cwAbout turns add sub mul div neg le ofBits ofInt
 uneven-olds = refl
 
 -- ---- document 01's two triangles
@@ -271,7 +271,7 @@ triangles-oldPoints =
     ∷ []
 
 triangles-faces : answers (facePointOf triangles 3) 0 2 ≡ triangles-facePoints
-unfolding facePointOf facePointAbout facePoint windowSum windowWeight sixTerms threeTerms acwAbout cwAbout after again faceWalk add sub mul div neg ofBits
+unfolding facePointOf facePointAbout facePoint windowSum windowWeight sixTerms threeTerms acwAbout cwAbout turns again faceWalk add sub mul div neg ofBits
 triangles-faces = refl
 
 triangles-edges : answers (edgeRule triangles triangles-facePoints) 0 3 ≡ triangles-edgePoints
@@ -279,7 +279,7 @@ unfolding edgePoint edgeMiddle shares threeTerms acwAbout cwAbout add sub mul di
 triangles-edges = refl
 
 triangles-olds : answers (oldRule triangles triangles-edgePoints triangles-facePoints) 0 3 ≡ triangles-oldPoints
-unfolding oldPoint radialSum radialTerms radialEdge edgeWeight faceWeight acwAbout cwAbout after add sub mul div neg le ofBits ofInt
+unfolding oldPoint radialSum radialTerms radialEdge edgeWeight faceWeight acwAbout cwAbout turns add sub mul div neg le ofBits ofInt
 triangles-olds = refl
 
 -- ---- the cube, intervals t/16 and t/8: some denominators are small
@@ -351,7 +351,7 @@ small-oldPoints =
     ∷ []
 
 small-faces : answers (facePointOf small 12) 0 6 ≡ small-facePoints
-unfolding facePointOf facePointAbout facePoint windowSum windowWeight sixTerms threeTerms acwAbout cwAbout after again faceWalk add sub mul div neg ofBits
+unfolding facePointOf facePointAbout facePoint windowSum windowWeight sixTerms threeTerms acwAbout cwAbout turns again faceWalk add sub mul div neg ofBits
 small-faces = refl
 
 small-edges : answers (edgeRule small small-facePoints) 0 12 ≡ small-edgePoints
@@ -359,5 +359,5 @@ unfolding edgePoint edgeMiddle shares threeTerms acwAbout cwAbout add sub mul di
 small-edges = refl
 
 small-olds : answers (oldRule small small-edgePoints small-facePoints) 0 8 ≡ small-oldPoints
-unfolding oldPoint radialSum radialTerms radialEdge edgeWeight faceWeight acwAbout cwAbout after add sub mul div neg le ofBits ofInt
+unfolding oldPoint radialSum radialTerms radialEdge edgeWeight faceWeight acwAbout cwAbout turns add sub mul div neg le ofBits ofInt
 small-olds = refl

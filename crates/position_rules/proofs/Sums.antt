@@ -2,44 +2,41 @@
 use mathlib.Core.Path.{_≡_, refl}
 use mathlib.Core.List.{List}
 use Prim.Native.Nat.{ℕ, _+_}
-use native.Mathlib.Numerals.{add-one}
 use lib.Ieee.{Float}
 use Rattle.positions.specs.declared.Position.{Position}
 use Rattle.tables.specs.Records.{positionAt}
 use Rattle.position_rules.specs.Intervals.{acwAbout}
-use Rattle.position_rules.specs.Sums.{withTerm, after}
+use Rattle.refined_meshes.specs.Turns.{turns}
+use Rattle.refined_meshes.proofs.Turns.{turns-more}
+use Rattle.position_rules.specs.Sums.{withTerm}
 use Rattle.position_rules.specs.FacePoint.{noWindows, windowWeight, windowSum}
 use Rattle.position_rules.specs.OldPoint.{noEdges, radialEdge, radialTerms, radialSum}
 
-after-more : {A : Type 0} (turn : ℕ → A → A) (s : A) (i : ℕ) → after turn s (i + 1) ≡ turn i (after turn s i)
-unfolding after
-after-more turn s i = rw add-one
-
 module _ (ps : List Float) (es : List ℕ) (is : List Float) (pt ed : ℕ → ℕ) where
   pub windowSum-none : windowSum ps es is pt ed 0 ≡ noWindows
-  unfolding windowSum after
+  unfolding windowSum turns
   windowSum-none = refl
 
   pub windowSum-more : (i : ℕ)
       → windowSum ps es is pt ed (i + 1) ≡ withTerm (windowSum ps es is pt ed i) (positionAt ps (pt (i + 2))) (windowWeight es is pt ed i)
   unfolding windowSum
-  windowSum-more i = after-more (λ k s. withTerm s (positionAt ps (pt (k + 2))) (windowWeight es is pt ed k)) noWindows i
+  windowSum-more i = turns-more i (λ k s. withTerm s (positionAt ps (pt (k + 2))) (windowWeight es is pt ed k)) noWindows
 
 module _ (es : List ℕ) (p s : ℕ) where
   pub radialEdge-none : radialEdge es p s 0 ≡ s
-  unfolding radialEdge after
+  unfolding radialEdge turns
   radialEdge-none = refl
 
   pub radialEdge-more : (i : ℕ) → radialEdge es p s (i + 1) ≡ acwAbout es p (radialEdge es p s i)
   unfolding radialEdge
-  radialEdge-more i = after-more (λ _ e. acwAbout es p e) s i
+  radialEdge-more i = turns-more i (λ _ e. acwAbout es p e) s
 
 module _ (es : List ℕ) (is : List Float) (ep fp : ℕ → Position) (p s : ℕ) where
   pub radialSum-none : radialSum es is ep fp p s 0 ≡ noEdges
-  unfolding radialSum after
+  unfolding radialSum turns
   radialSum-none = refl
 
   pub radialSum-more : (i : ℕ)
       → radialSum es is ep fp p s (i + 1) ≡ radialTerms es is ep fp p (radialEdge es p s i) (radialSum es is ep fp p s i)
   unfolding radialSum
-  radialSum-more i = after-more (λ k t. radialTerms es is ep fp p (radialEdge es p s k) t) noEdges i
+  radialSum-more i = turns-more i (λ k t. radialTerms es is ep fp p (radialEdge es p s k) t) noEdges

@@ -19,9 +19,10 @@ use Rattle.tables.specs.Mesh.{Mesh}
 use Rattle.tables.specs.Records.{positionAt}
 use Rattle.audited_meshes.specs.Walks.{faceWalk, edgesOf, firstPoint}
 use Rattle.walks.specs.Border.{again}
+use Rattle.refined_meshes.specs.Turns.{turns}
 use Rattle.position_rules.specs.declared.WeightedSum.{WeightedSum}
 use Rattle.position_rules.specs.Intervals.{A2, C2, threeTerms}
-use Rattle.position_rules.specs.Sums.{withTerm, after}
+use Rattle.position_rules.specs.Sums.{withTerm}
 
 unfoldable pub sixTerms : List ℕ → List Float → ℕ → ℕ → ℕ → ℕ → Float
 sixTerms es is p e q g =
@@ -39,7 +40,7 @@ abbrev pub noWindows : WeightedSum
 noWindows = record { sum = zeros; weight = neg (ofBits binary64 0) }
 
 unfoldable pub windowSum : List Float → List ℕ → List Float → (ℕ → ℕ) → (ℕ → ℕ) → ℕ → WeightedSum
-windowSum ps es is pt ed n = after (λ i s. withTerm s (positionAt ps (pt (i + 2))) (windowWeight es is pt ed i)) noWindows n
+windowSum ps es is pt ed n = turns n (λ i s. withTerm s (positionAt ps (pt (i + 2))) (windowWeight es is pt ed i)) noWindows
 
 abbrev pub overWeight : WeightedSum → Position
 overWeight s = quotient (s .sum) (s .weight)

@@ -16,12 +16,13 @@ use Rattle.positions.specs.declared.Position.{Position}
 use Rattle.positions.specs.Position.{zeros, sum, product, quotient, small}
 use Rattle.t_spline.specs.Edge.{commonFace}
 use Rattle.tables.specs.Records.{positionAt, edgeAt}
+use Rattle.refined_meshes.specs.Turns.{turns}
 use Rattle.position_rules.specs.declared.WeightedSum.{WeightedSum}
 use Rattle.position_rules.specs.Intervals.{acwAbout, A1, A2, C1, C2}
-use Rattle.position_rules.specs.Sums.{withTerm, after}
+use Rattle.position_rules.specs.Sums.{withTerm}
 
 unfoldable pub radialEdge : List ℕ → ℕ → ℕ → ℕ → ℕ
-radialEdge es p s i = after (λ _ e. acwAbout es p e) s i
+radialEdge es p s i = turns i (λ _ e. acwAbout es p e) s
 
 unfoldable pub edgeWeight : List ℕ → List Float → ℕ → ℕ → Float
 edgeWeight es is p r =
@@ -42,7 +43,7 @@ abbrev pub noEdges : WeightedSum
 noEdges = record { sum = zeros; weight = ofBits binary64 0 }
 
 unfoldable pub radialSum : List ℕ → List Float → (ℕ → Position) → (ℕ → Position) → ℕ → ℕ → ℕ → WeightedSum
-radialSum es is ep fp p start n = after (λ i s. radialTerms es is ep fp p (radialEdge es p start i) s) noEdges n
+radialSum es is ep fp p start n = turns n (λ i s. radialTerms es is ep fp p (radialEdge es p start i) s) noEdges
 
 -- the old place times (v - 3) / v, plus S times 3 over v times W; the old place if W is small
 abbrev pub moved : Position → Float → WeightedSum → Position
