@@ -7,7 +7,7 @@ work=$(mktemp -d)
 trap 'rm -rf "$work"' EXIT
 cp -r "$here/../crates" "$here/../crates.txt" "$work/"
 mkdir -p "$work/crates/bench/src"
-echo 'bench: positions t_spline tables closed_meshes audited_meshes walks intervals audit' >>"$work/crates.txt"
+echo 'bench: positions t_spline tables closed_meshes audited_meshes walks intervals audit_tests audit' >>"$work/crates.txt"
 cat >"$work/crates/bench/src/lib.rt" <<'RATTLE'
 // The audit, for C.
 use tables::Counts;

@@ -1,6 +1,1 @@
-pub mod Laws
-pub mod PointTests
-pub mod FaceTests
-pub mod EdgeTests
-pub mod Alone
 pub mod Whole

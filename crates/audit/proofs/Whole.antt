@@ -23,8 +23,9 @@ use Rattle.audited_meshes.proofs.Tests.{and-is, every-is, self-is}
 use Rattle.audited_meshes.proofs.Audited.{countsFit-is, edgeInRange-is}
 use Rattle.audited_meshes.proofs.Quick.{quick-is-audit}
 use Rattle.walks.specs.Steps.{faceTables, pointTables}
-use Rattle.audit.specs.Parts.{meshOf, pointRows, edgeRows, walkFits, facesWalked, rowsFit, walksFit}
-use Rattle.audit.proofs.Laws.{and-false, every-cong, first-of-three, second-of-three, third-of-three, first-of-four, second-of-four, third-of-four, fourth-of-four}
+use Rattle.audit.specs.Parts.{meshOf, rowsFit, walksFit}
+use Rattle.audit_tests.specs.Parts.{pointRows, edgeRows, walkFits, facesWalked}
+use Rattle.audit_tests.proofs.Laws.{and-false, every-cong, first-of-three, second-of-three, third-of-three, first-of-four, second-of-four, third-of-four, fourth-of-four}
 
 module _ (m : Mesh) (np ne nf : ℕ) where
   pub counts-points : (r : ℕ) → r ≡ pointsOf m → r < np → false ≡ countsFit m np ne nf

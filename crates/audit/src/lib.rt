@@ -1,8 +1,8 @@
 // Whether tables of any content, with counts of any size, are a closed mesh (document 01, "Audit").
-// It is near linear in the mesh, has no memory but locals and writes nothing. `points` holds the tests about points, `edges` those
-// about edges, `faces` those about faces; each file has the test of one row and the loops over the rows.
-// Not here: what is asked (`audited_meshes`: `audit`, and its quick form, which this code follows), the walks (`walks`).
-// Contract: `audit`. Definitions: `specs/Parts.antt`. Laws: `proofs/Laws.antt`.
+// It is near linear in the mesh, has no memory but locals and writes nothing.
+// Not here: what is asked (`audited_meshes`: `audit`, and its quick form, which this code follows), the tests of its rows and
+// walks (`audit_tests`).
+// Contract: `audit`. Definitions: `specs/Parts.antt`. Laws: `proofs/Whole.antt`.
 ghost use mathlib.Core.Path.{_≡_};
 ghost use mathlib.Core.List.{[]};
 ghost use Prim.Native.Nat.{ℕ, _*_, _≤_, _<_};
@@ -11,21 +11,17 @@ ghost use Rattle.tables.specs.Mesh.{origin, dest};
 ghost use Rattle.audited_meshes.specs.Audit.{countsFit, audit};
 ghost use Rattle.walks.specs.Steps.{faceTables};
 ghost use Rattle.audit.specs.Parts.{meshOf, rowsFit, walksFit};
-use edges::are_one_edges;
-use edges::edges_fit;
-use faces::face_walks_fit;
-use faces::faces_fit;
-use points::point_walks_fit;
-use points::points_fit;
-use points::valences_fit;
+use audit_tests::edges::are_one_edges;
+use audit_tests::edges::edges_fit;
+use audit_tests::faces::face_walks_fit;
+use audit_tests::faces::faces_fit;
+use audit_tests::points::point_walks_fit;
+use audit_tests::points::points_fit;
+use audit_tests::points::valences_fit;
 use tables::Counts;
 use tables::edge_rows;
 use tables::face_rows;
 use tables::point_rows;
-
-mod edges;
-mod faces;
-mod points;
 
 // Whether the counts fit the lent rows.
 pub fn counts_fit(

@@ -1,0 +1,5 @@
+pub mod Laws
+pub mod PointTests
+pub mod FaceTests
+pub mod EdgeTests
+pub mod Alone

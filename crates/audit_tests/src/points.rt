@@ -1,0 +1,101 @@
+// The tests about points.
+ghost use mathlib.Core.Path.{_≡_};
+ghost use mathlib.Core.List.{[]};
+ghost use Prim.Native.Nat.{ℕ, _+_, _*_, _≤_};
+ghost use lib.Dec.{eqb};
+ghost use lib.ListN.{length};
+ghost use Rattle.closed_meshes.specs.Renumbering.{sumTo};
+ghost use Rattle.tables.specs.Mesh.{valence};
+ghost use Rattle.audited_meshes.specs.Folds.{every};
+ghost use Rattle.audited_meshes.specs.Quick.{pointFit};
+ghost use Rattle.walks.specs.Steps.{pointTables};
+ghost use Rattle.audit_tests.specs.Parts.{pointRows, walkFits};
+use tables::index;
+use tables::load_position;
+use walks::Passed;
+use walks::t_nurcc_iter::point_walk;
+
+// The test of point p.
+pub fn point_fit(positions: &[f64], points: &[u32], ne: usize, p: usize) -> bool
+    requires { ⌜ p * 3 + 3 ≤ length (now positions) ⌝ }
+    requires { ⌜ p * 3 + 3 ≤ length (now points) ⌝ }
+    ensures { λ r. ⌜ r ≡ pointFit (pointRows (now (positions .entry)) (now (points .entry))) ne p ⌝ }
+{
+    let b = p * 3;
+    if ne <= index(points[b + 1]) {
+        return false;
+    }
+    if !load_position(positions, p).is_finite() {
+        return false;
+    }
+    if points[b] < 2 {
+        return false;
+    }
+    if points[b + 2] == 0 {
+        return true;
+    }
+    points[b + 2] == 1
+}
+
+// The test of the first np points.
+pub fn points_fit(positions: &[f64], points: &[u32], ne: usize, np: usize) -> bool
+    requires { ⌜ np * 3 ≤ length (now positions) ⌝ }
+    requires { ⌜ np * 3 ≤ length (now points) ⌝ }
+    ensures { λ r. ⌜ r ≡ every np (λ p. pointFit (pointRows (now (positions .entry)) (now (points .entry))) ne p) ⌝ }
+{
+    let mut p = 0;
+    while p < np {
+        if !point_fit(positions, points, ne, p) {
+            return false;
+        }
+        p += 1;
+    }
+    true
+}
+
+// Whether the valences of the first np points add up to a total. The sum stops where it is past the total.
+pub fn valences_fit(points: &[u32], np: usize, total: usize) -> bool
+    requires { ⌜ np * 3 ≤ length (now points) ⌝ }
+    requires { ⌜ total * 4 ≤ 18446744073709551615 ⌝ }
+    ensures { λ r. ⌜ r ≡ eqb (sumTo np (λ p. valence (pointTables (now (points .entry)) []) p)) total ⌝ }
+{
+    let mut sum = 0;
+    let mut p = 0;
+    while p < np {
+        sum += index(points[p * 3]);
+        if total < sum {
+            return false;
+        }
+        p += 1;
+    }
+    sum == total
+}
+
+// Whether the walk about each of the first np points comes back after its valence.
+pub fn point_walks_fit(points: &[u32], edges: &[u32], ne: usize, np: usize) -> bool
+    requires { ⌜ np * 3 ≤ length (now points) ⌝ }
+    requires { ⌜ ne * 8 ≤ length (now edges) ⌝ }
+    ensures { λ r. ⌜ r ≡ every np (λ p. walkFits (pointTables (now (points .entry)) (now (edges .entry))) ne p) ⌝ }
+{
+    let mut p = 0;
+    while p < np {
+        if !point_walk_fits(points, edges, ne, p) {
+            return false;
+        }
+        p += 1;
+    }
+    true
+}
+
+// Whether the walk about point p comes back after its valence.
+pub fn point_walk_fits(points: &[u32], edges: &[u32], ne: usize, p: usize) -> bool
+    requires { ⌜ p * 3 + 3 ≤ length (now points) ⌝ }
+    requires { ⌜ ne * 8 ≤ length (now edges) ⌝ }
+    ensures { λ r. ⌜ r ≡ walkFits (pointTables (now (points .entry)) (now (edges .entry))) ne p ⌝ }
+{
+    let v = index(points[p * 3]);
+    match point_walk(edges, points, ne, v, p) {
+        Passed::Back(n) => n == v,
+        Passed::Lost => false,
+    }
+}
