@@ -12,8 +12,8 @@ use building_tests::Bounds;
 use built_meshes::Built;
 use mesh_text::read_text;
 use tables::Counts;
-use text_building::TextBuilt;
 use text_building::build_text;
+use text_meshes::TextBuilt;
 
 // How many points, edges and faces a mesh has, or document 01's number of the ground on which it is refused.
 pub enum Answer {

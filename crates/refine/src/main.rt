@@ -1,11 +1,11 @@
 // The program `refine` (document 01, "Mesh text"): reads a mesh text from standard input, builds the mesh and refines it once, and
 // writes its lines to standard output.
-// What is written is `output` of `refine_text`, specs/Output.antt. No contract can say what is read and written.
+// What is written is `output` of `refine_outputs`, specs/Output.antt. No contract can say what is read and written.
 use libc::STDOUT_FILENO;
 use refine_text::refine;
 
 fn main() {
-    // One byte more than the limit. More need not be read: the output for every longer text is the same (`Long-text` of `refine_text`).
+    // One byte more than the limit. More need not be read: the output for every longer text is the same (`Long-text` of `refine_outputs`).
     let mut text = [0u8; 16385];
     let n = io::read_full(0, &mut text);
     let mut out = [0u8; 256];

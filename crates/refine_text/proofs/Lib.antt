@@ -1,7 +1,2 @@
-pub mod Orders
-pub mod Lines
 pub mod Steps
-pub mod FirstPoint
 pub mod Outputs
-pub mod Theorem
-pub mod Cases

@@ -12,10 +12,10 @@ use Rattle.tables.specs.declared.Counts.{Counts}
 use Rattle.built_meshes.specs.Answers.{numberOf}
 use Rattle.built_meshes.specs.declared.Ground.{Ground}
 use Rattle.building_tests.specs.declared.Bounds.the-variants.{Refine}
-use Rattle.text_building.specs.TextBuilding.{Outcome, buildText}
-use Rattle.text_building.specs.declared.TextBuilt.{TextBuilt}
-use Rattle.text_building.specs.declared.TextBuilt.the-variants.{Accepted, NotText, Refused}
-use Rattle.text_building.proofs.Theorem.{accepted-within}
+use Rattle.text_meshes.specs.TextBuilding.{Outcome, buildText}
+use Rattle.text_meshes.specs.declared.TextBuilt.{TextBuilt}
+use Rattle.text_meshes.specs.declared.TextBuilt.the-variants.{Accepted, NotText, Refused}
+use Rattle.text_meshes.proofs.Theorem.{accepted-within}
 use Rattle.steps.specs.Step.{step}
 use Rattle.steps.specs.declared.Stepped.{Stepped}
 use Rattle.runs.specs.Runs.{numbered}
@@ -23,10 +23,11 @@ use Rattle.visiting.specs.Visiting.{meshOf}
 use Rattle.text_numbers.specs.Form.{bytes}
 use Rattle.mesh_answers.specs.Lines.{meshLine, refusedLine, Written}
 use Rattle.mesh_answers.proofs.Laws.{written-append, length-counts}
-use Rattle.refine_text.specs.Output.{lent, stepLines, linesOf, numberedStep, outputIf, outputFrom, output, refine}
-use Rattle.refine_text.specs.Parts.{PointReady, SteppedTo}
-use Rattle.refine_text.proofs.Orders.{take-numbered}
-use Rattle.refine_text.proofs.FirstPoint.{point-ready}
+use Rattle.refine_outputs.specs.Output.{lent, stepLines, linesOf, numberedStep, outputIf, outputFrom, output, refine}
+use Rattle.refine_outputs.specs.FirstPoint.{PointReady}
+use Rattle.refine_outputs.proofs.Orders.{take-numbered}
+use Rattle.refine_outputs.proofs.FirstPoint.{point-ready}
+use Rattle.refine_text.specs.Parts.{SteppedTo}
 
 -- ---- the step
 

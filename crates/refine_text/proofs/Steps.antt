@@ -9,7 +9,7 @@ use Rattle.tables.specs.declared.Counts.{Counts}
 use Rattle.steps.specs.Step.{Outcome, step}
 use Rattle.steps.specs.declared.Stepped.{Stepped}
 use Rattle.visiting.specs.Visiting.{meshOf}
-use Rattle.refine_text.specs.Output.{lent}
+use Rattle.refine_outputs.specs.Output.{lent}
 use Rattle.refine_text.specs.Parts.{SteppedTo}
 
 pub stepped-to : (m : Mesh) (c : Counts) (order : List ℕ) {a : Stepped} {m' t' : Mesh} → record { answer = a; tables = m'; scratch = t' }

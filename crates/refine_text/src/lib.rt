@@ -1,102 +1,29 @@
 // What the program `refine` writes for the bytes that it reads (document 01, "Mesh text"): the mesh is built from the text, then
 // refined once in numbered order.
-// Not here: reading and writing (`refine`).
-// Contract: `refine`. Definitions: `specs/Output.antt`. Claims: `specs/Claims.antt`, proved in `proofs/Theorem.antt`.
+// Not here: reading and writing (`refine`), the definition and its claims (`refine_outputs`), the lines of a step and the numbered
+// order (`refine_parts`).
+// Contract: `refine`. Definitions: `Output` of `refine_outputs`; `specs/Parts.antt`. Laws: `proofs/Steps.antt`, `proofs/Outputs.antt`.
 // Names: `places`, `rows`, `halves`, `lengths` and `quads` are the scratch tables of positions, points, edges, intervals, faces.
 ghost use mathlib.Core.Path.{_≡_};
 ghost use mathlib.Core.List.{_++_};
-ghost use Prim.Native.Nat.{_+_, _≤_};
+ghost use Prim.Native.Nat.{_≤_};
 ghost use lib.ListN.{length};
-ghost use Rattle.built_meshes.specs.Answers.{numberOf};
 ghost use Rattle.visiting.specs.Visiting.{meshOf};
 ghost use Rattle.steps.specs.Step.{step};
-ghost use Rattle.runs.specs.Runs.{numbered};
 ghost use Rattle.mesh_answers.specs.Lines.{meshLine, Written};
-ghost use Rattle.refine_text.specs.Output.{lent, pointLine, stepLines, linesOf, numberedStep, outputFrom, Writing, refine};
-ghost use Rattle.refine_text.specs.Parts.{PointThere, PointReady, SteppedTo};
+ghost use Rattle.refine_outputs.specs.Output.{lent, linesOf, numberedStep, outputFrom, Writing, refine};
+ghost use Rattle.refine_text.specs.Parts.{SteppedTo};
+use answer_numbers::ground_number;
 use building_tests::Bounds;
-use built_meshes::Ground;
-use mesh_answers::write_at;
 use mesh_answers::write_mesh;
 use mesh_answers::write_refused;
-use mesh_answers::write_step;
+use refine_parts::number_faces;
+use refine_parts::write_stepped;
 use refining::step;
 use steps::Stepped;
 use tables::Counts;
-use text_building::TextBuilt;
 use text_building::build_text;
-
-// Document 01's number of a ground of building.
-fn number_of(g: Ground) -> u64
-    ensures { λ r. ⌜ r ≡ numberOf g ⌝ }
-{
-    match g {
-        Ground::OverCounts => 2,
-        Ground::UnfitNumber => 3,
-        Ground::FewRows => 4,
-        Ground::FaceSize => 10,
-        Ground::OutOfRange => 11,
-        Ground::PointTwice => 12,
-        Ground::NonRectangularFace => 13,
-        Ground::EdgeTripleFace => 14,
-        Ground::SameWay => 15,
-        Ground::MissingFace => 20,
-        Ground::NoEdge => 21,
-        Ground::MissedEdge => 22,
-    }
-}
-
-// Writes where point 0 is.
-fn write_point(out: &mut [u8], at: usize, positions: &[f64]) -> usize
-    requires { ⌜ at + 58 ≤ length (now out) ⌝ }
-    requires { ⌜ PointThere (now positions) ⌝ }
-    ensures { λ r. ⌜ Written (now (out .entry)) at (pointLine (now (positions .entry))) r (now (out .exit)) ⌝ }
-{
-    let x = f64::to_bits(positions[0]);
-    let y = f64::to_bits(positions[1]);
-    let z = f64::to_bits(positions[2]);
-    write_at(out, at, x, y, z)
-}
-
-// Writes the lines after a step of a mesh with these counts, by its answer and the positions that it left.
-fn write_stepped(
-    out: &mut [u8],
-    at: usize,
-    counts: Counts,
-    answer: Stepped,
-    positions: &[f64],
-) -> usize
-    requires { ⌜ at + 128 ≤ length (now out) ⌝ }
-    requires { ⌜ PointReady counts answer (now positions) ⌝ }
-    ensures { λ r. ⌜ Written (now (out .entry)) at (stepLines counts answer (now (positions .entry))) r (now (out .exit)) ⌝ }
-{
-    match answer {
-        Stepped::Refined(c) => {
-            let i = write_step(out, at, c.points as u64, c.edges as u64, c.faces as u64);
-            if counts.points == 0 {
-                return i;
-            }
-            write_point(out, i, positions)
-        }
-        Stepped::NotClosed => write_refused(out, at, 30),
-        Stepped::NotEachFaceOnce => write_refused(out, at, 31),
-        Stepped::NoRoom => write_refused(out, at, 32),
-        Stepped::NotFinite => write_refused(out, at, 33),
-    }
-}
-
-// Fills an order with 0, 1, 2, ..
-fn number_faces(order: &mut [u32])
-    requires { ⌜ length (now order) ≤ 65536 ⌝ }
-    ensures { λ _. ⌜ now (order .exit) ≡ numbered (length (now (order .entry))) ⌝ }
-{
-    let n = order.len();
-    let mut i = 0;
-    while i < n {
-        order[i] = i as u32;
-        i += 1;
-    }
-}
+use text_meshes::TextBuilt;
 
 // The step of a mesh in the order handed in, by scratch of zeros.
 fn step_by_zeros(
@@ -224,7 +151,7 @@ fn write_output(
             write_built(out, positions, points, edges, intervals, faces, counts)
         }
         TextBuilt::NotText => write_refused(out, 0, 1),
-        TextBuilt::Refused(g) => write_refused(out, 0, number_of(g)),
+        TextBuilt::Refused(g) => write_refused(out, 0, ground_number(g) as u64),
     }
 }
 

@@ -12,9 +12,9 @@ use Rattle.built_meshes.specs.Building.{Outcome}
 use Rattle.built_meshes.specs.declared.Ground.{Ground}
 use Rattle.built_meshes.specs.declared.Built.{Built}
 use Rattle.built_meshes.specs.declared.Built.the-variants as Built
-use Rattle.text_building.specs.TextBuilding.{Outcome as TextOutcome}
-use Rattle.text_building.specs.declared.TextBuilt.{TextBuilt}
-use Rattle.text_building.specs.declared.TextBuilt.the-variants as TextBuilt
+use Rattle.text_meshes.specs.TextBuilding.{Outcome as TextOutcome}
+use Rattle.text_meshes.specs.declared.TextBuilt.{TextBuilt}
+use Rattle.text_meshes.specs.declared.TextBuilt.the-variants as TextBuilt
 use Rattle.steps.specs.Step.{Outcome as StepOutcome, numbersOf, step}
 use Rattle.steps.specs.declared.Stepped.{Stepped}
 use Rattle.steps.specs.declared.Stepped.the-variants.{Refined, NotClosed, NotEachFaceOnce, NoRoom, NotFinite}

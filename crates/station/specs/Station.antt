@@ -1,4 +1,4 @@
--- What the C functions answer and leave. An answer of the library has its numbers (`numbersOf` of `built_meshes`, `text_building`
+-- What the C functions answer and leave. An answer of the library has its numbers (`numbersOf` of `built_meshes`, `text_meshes`
 -- and `steps`): three are the counts of an accepted mesh, one is that of a ground.
 --     countsIn xs             the counts that stand in an array of three words: points, edges, faces
 --     answerOf ns             the one number that is answered: 0 for counts, else that of the ground
@@ -19,7 +19,7 @@ use Rattle.tables.specs.declared.Counts.{Counts}
 use Rattle.audited_meshes.specs.Audit.{audit}
 use Rattle.built_meshes.specs.Answers.{numbersOf}
 use Rattle.built_meshes.specs.Building as building
-use Rattle.text_building.specs.TextBuilding as text
+use Rattle.text_meshes.specs.TextBuilding as text
 use Rattle.steps.specs.Step as steps
 
 abbrev pub countsIn : List ℕ → Counts

@@ -8,7 +8,7 @@ ghost use Rattle.built_meshes.specs.Building.{build};
 ghost use Rattle.built_meshes.specs.Lists.{general};
 ghost use Rattle.building_tests.specs.Lent.{lists};
 ghost use Rattle.building_tests.specs.declared.Bounds.the-variants.{General};
-ghost use Rattle.text_building.specs.TextBuilding.{buildText};
+ghost use Rattle.text_meshes.specs.TextBuilding.{buildText};
 ghost use Rattle.edge_search.specs.Places.{mesh};
 ghost use Rattle.steps.specs.Step.{numbersOf, step};
 ghost use Rattle.station.specs.Station.{Building, built, textBuilt, answerOf, countsAfter, countsIn, audited, Step, stepped};
@@ -23,8 +23,8 @@ use built_meshes::Built;
 use refining::step;
 use steps::Stepped;
 use tables::Counts;
-use text_building::TextBuilt;
 use text_building::build_text;
+use text_meshes::TextBuilt;
 
 // The counts that stand in an array.
 fn load_counts(counts: &[usize; 3]) -> Counts

@@ -29,10 +29,10 @@ use Rattle.built_meshes.proofs.Begin.{counts-is}
 use Rattle.building_tests.specs.Lent.{lists, limitsOf}
 use Rattle.building_tests.specs.declared.Bounds.{Bounds}
 use Rattle.building_tests.specs.declared.Bounds.the-variants.{General, Refine}
-use Rattle.text_building.specs.TextBuilding.{tooLong, listsOf, told, Outcome, toldOutcome, ofForm, buildTextIf, buildText}
-use Rattle.text_building.specs.Parts.{sizesOf}
-use Rattle.text_building.specs.declared.TextBuilt.{TextBuilt}
-use Rattle.text_building.specs.declared.TextBuilt.the-variants.{NotText, Refused}
+use Rattle.text_meshes.specs.TextBuilding.{tooLong, listsOf, told, Outcome, toldOutcome, ofForm, buildTextIf, buildText}
+use Rattle.text_answers.specs.Sizes.{sizesOf}
+use Rattle.text_meshes.specs.declared.TextBuilt.{TextBuilt}
+use Rattle.text_meshes.specs.declared.TextBuilt.the-variants.{NotText, Refused}
 
 -- the limits of both kinds are within the general ones
 few : (b : Bounds) → (limitsOf b .points ≤ 4096) × (limitsOf b .faces ≤ 4096) × (limitsOf b .listed ≤ 16384)

@@ -1,6 +1,7 @@
 // A mesh built from a text of any bytes in the lent tables, in one call (document 01, "Mesh text" and grounds 1 to 22).
-// Not here: the grammar and the reader (`mesh_text`), the building from lists (`building`).
-// Contract: `build_text`. Definitions: `specs/TextBuilding.antt`. Claims: `specs/Claims.antt`, proved in `proofs/Theorem.antt`.
+// Not here: the grammar and the reader (`mesh_text`), the building from lists (`building`), the definition and its claims
+// (`text_meshes`).
+// Contract: `build_text`. Definitions: `TextBuilding` of `text_meshes`. Laws: `proofs/Laws.antt`.
 // The four lists of a text are local arrays of the sizes that the general limits allow, below 400 KiB of stack.
 ghost use mathlib.Core.Path.{_≡_};
 ghost use mathlib.Core.Bool.{false};
@@ -9,56 +10,16 @@ ghost use lib.ListN.{length, take};
 ghost use Rattle.edge_search.specs.Places.{mesh};
 ghost use Rattle.building_tests.specs.Lent.{lists, limitsOf};
 ghost use Rattle.built_meshes.specs.Building.{build};
-ghost use Rattle.text_building.specs.TextBuilding.{tooLong, told, Outcome, toldOutcome, buildTextIf, buildText};
-ghost use Rattle.text_building.specs.Parts.{sizesOf};
+ghost use Rattle.text_meshes.specs.TextBuilding.{Outcome, toldOutcome, buildTextIf, buildText};
 use building::build;
 use building_tests::Bounds;
-use built_meshes::Built;
 use built_meshes::Ground;
 use mesh_text::Reading;
 use mesh_text::read_text;
-use tables::Counts;
-
-// What building from a text answers: how many points, edges and faces the mesh has, or why there is none.
-pub enum TextBuilt {
-    Accepted(Counts),
-    // 1: not of the form
-    NotText,
-    // 2 and later
-    Refused(Ground),
-}
-
-// Whether a text of n bytes is over the limit of bytes, which `refine` alone has.
-fn is_too_long(bounds: Bounds, n: usize) -> bool
-    ensures { λ r. ⌜ r ≡ tooLong bounds n ⌝ }
-{
-    match bounds {
-        Bounds::General => false,
-        Bounds::Refine => 16384 < n,
-    }
-}
-
-// The most points, faces and listed points, as the reader takes them.
-fn sizes_of(bounds: Bounds) -> mesh_text::Counts
-    ensures { λ r. ⌜ r ≡ sizesOf bounds ⌝ }
-{
-    let most = bounds.most();
-    mesh_text::Counts {
-        points: most.points,
-        faces: most.faces,
-        listed: most.listed,
-    }
-}
-
-// The answer of building from lists, as one of building from a text.
-fn told(built: Built) -> TextBuilt
-    ensures { λ r. ⌜ r ≡ told built ⌝ }
-{
-    match built {
-        Built::Accepted(c) => TextBuilt::Accepted(c),
-        Built::Refused(g) => TextBuilt::Refused(g),
-    }
-}
+use text_answers::is_too_long;
+use text_answers::sizes_of;
+use text_answers::told;
+use text_meshes::TextBuilt;
 
 // Builds from the first entries of the lists: 3 for each of p points, 4 for each of f faces, n listed points and intervals.
 fn build_first(

@@ -1,7 +1,7 @@
 -- main meets its contract: the bytes that are written are there.
 use mathlib.Core.Path.{sym}
 use lib.Seq.{length-take-le}
-use Rattle.refine_text.proofs.Theorem.{answer-fits}
+use Rattle.refine_outputs.proofs.Theorem.{answer-fits}
 use borrow.Author.Needs.{needs}
 use Rattle.refine.proofs.main.Statement.{statement}
 use Rattle.refine.proofs.main.Tie as tie

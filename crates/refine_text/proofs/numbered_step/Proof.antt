@@ -4,7 +4,7 @@ use native.Mathlib.Omega.{arith}
 use lib.ListN.{length}
 use lib.Seq.{length-take-le}
 use Rattle.visiting.specs.Visiting.{meshOf}
-use Rattle.refine_text.proofs.Orders.{length-numbered}
+use Rattle.refine_outputs.proofs.Orders.{length-numbered}
 use Rattle.refine_text.proofs.Outputs.{in-numbered-order}
 use borrow.Author.Needs.{needs}
 use Rattle.refine_text.proofs.numbered_step.Statement.{statement}

@@ -1,0 +1,4 @@
+pub mod Orders
+pub mod FirstPoint
+pub mod Theorem
+pub mod Cases

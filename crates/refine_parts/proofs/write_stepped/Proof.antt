@@ -1,0 +1,54 @@
+-- write_stepped meets its contract: one line after the other.
+use Rattle.refine_parts.proofs.Lines.{written-counts, written-point, point-room, point-of-ready}
+use borrow.Author.Needs.{needs}
+use Rattle.refine_parts.proofs.write_stepped.Statement.{statement}
+use Rattle.refine_parts.proofs.write_stepped.Tie as tie
+
+returns : tie.Need-returns
+returns c = written-counts (c .before .before .before .before .before .before .before .before .before .before .before .args .counts) (c .before .before .before .before .before .before .before .before .before .before .before .args .answer) (c .before .before .before .before .before .before .before .before .before .before .before .args .positions .now) _ (c .before .before .before .before .before .before .before .answer .given .1) (c .before .before .before .before .write-step .ensures) (c .if1 .taken)
+
+write-point-requires : tie.Need-write-point-requires
+write-point-requires c κs = (point-room (c .before .before .before .before .before .before .before .before .before .before .before .before .args .counts) (c .before .before .before .before .before .before .before .before .before .before .before .before .args .answer) (c .before .before .before .before .before .before .before .before .before .before .before .before .args .positions .now) _ (c .before .before .before .before .before .before .before .before .answer .given .1) (c .before .before .before .before .before .write-step .ensures) (c .before .before .before .before .before .before .before .before .before .before .before .before .pre .0) (c .before .before .before .before .before .write-step .kept .0), point-of-ready (c .before .before .before .before .before .before .before .before .before .before .before .before .args .counts) (c .before .before .before .before .before .before .before .before .before .before .before .before .args .answer) (c .before .before .before .before .before .before .before .before .before .before .before .before .args .positions .now) _ (c .before .before .before .before .before .before .before .before .answer .given .1) (c .before .before .before .before .before .write-step .ensures) (c .before .before .before .before .before .before .before .before .before .before .before .before .pre .1) (c .before .if1 .left))
+
+returns-2 : tie.Need-returns-2
+returns-2 c = written-point (c .before .before .before .before .before .before .before .before .before .before .before .before .before .before .before .args .counts) (c .before .before .before .before .before .before .before .before .before .before .before .before .before .before .before .args .answer) (c .before .before .before .before .before .before .before .before .before .before .before .before .before .before .before .args .positions .now) _ (c .before .before .before .before .before .before .before .before .before .before .before .answer .given .1) (c .before .before .before .before .before .before .before .before .write-step .ensures) (c .before .before .before .before .if1 .left) (c .before .before .write-point .ensures)
+
+returns-3 : tie.Need-returns-3
+returns-3 c = rw (c .before .before .before .before .enum-told .given .1) (c .before .before .write-refused .ensures)
+
+returns-4 : tie.Need-returns-4
+returns-4 c = rw (c .before .before .before .before .enum-told2 .given .1) (c .before .before .write-refused2 .ensures)
+
+returns-5 : tie.Need-returns-5
+returns-5 c = rw (c .before .before .before .before .enum-told3 .given .1) (c .before .before .write-refused3 .ensures)
+
+returns-6 : tie.Need-returns-6
+returns-6 c = rw (c .before .before .before .before .enum-told4 .given .1) (c .before .before .write-refused4 .ensures)
+
+pub write-stepped-spec : {M : Type 1} → statement M
+write-stepped-spec =
+    tie.close
+    (tie.spec
+    (λ c. search needs)
+    (λ c κs. search needs)
+    (λ c. search needs)
+    returns
+    write-point-requires
+    (λ c. search needs)
+    (λ c κs. search needs)
+    (λ c. search needs)
+    (λ c κs. search needs)
+    (λ c. search needs)
+    (λ c κs. search needs)
+    (λ c. search needs)
+    (λ c κs. search needs)
+    (λ c. search needs)
+    returns-2
+    (λ c. search needs)
+    returns-3
+    (λ c. search needs)
+    returns-4
+    (λ c. search needs)
+    returns-5
+    (λ c. search needs)
+    returns-6)

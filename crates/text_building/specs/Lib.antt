@@ -1,3 +1,0 @@
-pub mod TextBuilding
-pub mod Claims
-pub mod Parts

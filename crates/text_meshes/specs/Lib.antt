@@ -1,0 +1,2 @@
+pub mod TextBuilding
+pub mod Claims

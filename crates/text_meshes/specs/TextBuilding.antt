@@ -1,0 +1,67 @@
+-- Building from a text, in the order of document 01's grounds: the bytes that `refine` allows, the form, and then the building from
+-- the lists that the text stands for, whose first ground is that of the counts.
+--     tooLong b n             n bytes are over the limit of bytes, which `refine` alone has
+--     listsOf t               the lists that a text stands for
+--     told a                  an answer of building from lists, as one of building from a text
+--     numbersOf a             the numbers of an answer: points, edges and faces, or that of the ground
+--     Outcome                 the answer, and the tables afterwards
+--     buildText b s m         building from the text s in the lent tables m, within the limits b
+-- Grounds 1 and 2 leave the tables as they are.
+use mathlib.Core.Bool.{Bool, true, false}
+use mathlib.Core.List.{List, [], _∷_}
+use Prim.Native.Nat.{ℕ}
+use lib.Dec.{ltb}
+use lib.ListN.{length}
+use Rattle.tables.specs.Mesh.{Mesh}
+use Rattle.text_numbers.specs.Form.{Found, found, none}
+use Rattle.mesh_text.specs.Text.{text, Mesh as TextMesh}
+use Rattle.mesh_text.specs.Reading.{coordinates, lengths, listedPoints, intervals}
+use Rattle.built_meshes.specs.Lists.{Lists}
+use Rattle.built_meshes.specs.Answers.{numberOf}
+use Rattle.built_meshes.specs.Building.{build, Outcome as ListsOutcome}
+use Rattle.built_meshes.specs.declared.Ground.the-variants.{OverCounts}
+use Rattle.built_meshes.specs.declared.Built.{Built}
+use Rattle.built_meshes.specs.declared.Built.the-variants as Built
+use Rattle.building_tests.specs.Lent.{lists, limitsOf}
+use Rattle.building_tests.specs.declared.Bounds.{Bounds}
+use Rattle.building_tests.specs.declared.Bounds.the-variants.{General, Refine}
+use Rattle.text_meshes.specs.declared.TextBuilt.{TextBuilt}
+use Rattle.text_meshes.specs.declared.TextBuilt.the-variants.{Accepted, NotText, Refused}
+
+abbrev pub tooLong : Bounds → ℕ → Bool
+tooLong General n = false
+tooLong Refine n = ltb 16384 n
+
+abbrev pub listsOf : TextMesh → Lists
+listsOf t = lists (coordinates t) (lengths t) (listedPoints t) (intervals t)
+
+abbrev pub told : Built → TextBuilt
+told (Built.Accepted k) = Accepted k
+told (Built.Refused g) = Refused g
+
+abbrev pub numbersOf : TextBuilt → List ℕ
+numbersOf (Accepted k) = k .points ∷ k .edges ∷ k .faces ∷ []
+numbersOf NotText = 1 ∷ []
+numbersOf (Refused g) = numberOf g ∷ []
+
+pub record Outcome : Type 0 where
+  pub answer : TextBuilt
+  pub tables : Mesh
+
+abbrev pub toldOutcome : ListsOutcome → Outcome
+toldOutcome x = record { answer = told (x .answer); tables = x .tables }
+
+-- what is answered of a text that is of the form, or is not
+unfoldable pub ofForm : Bounds → Mesh → Found TextMesh → Outcome
+unfolding build
+ofForm b m (found t n) = toldOutcome (build (limitsOf b) (listsOf t) m)
+ofForm b m none = record { answer = NotText; tables = m }
+
+unfoldable pub buildTextIf : Bool → Bounds → List ℕ → Mesh → Outcome
+unfolding ofForm text
+buildTextIf true b s m = record { answer = Refused OverCounts; tables = m }
+buildTextIf false b s m = ofForm b m (text s)
+
+unfoldable pub buildText : Bounds → List ℕ → Mesh → Outcome
+unfolding buildTextIf
+buildText b s m = buildTextIf (tooLong b (length s)) b s m
