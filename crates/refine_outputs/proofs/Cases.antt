@@ -18,7 +18,6 @@ use Rattle.refined_meshes.specs.Split.{split, splitWhole}
 use Rattle.refined_meshes.specs.Ring.{putFacePoint, putFirst, putJoin, putNewFace, putSecond}
 use Rattle.refined_meshes.specs.Visits.{putRing, refinedRows, ringOf, splitAll, visit, visitAlong, visits}
 use Rattle.position_rules.specs.Intervals.{acwAbout, cwAbout, threeTerms}
-use Rattle.position_rules.specs.Sums.{after}
 use Rattle.position_rules.specs.FacePoint.{facePoint, facePointAbout, facePointOf, sixTerms, windowSum, windowWeight}
 use Rattle.position_rules.specs.EdgePoint.{edgeMiddle, edgePoint, shares}
 use Rattle.position_rules.specs.OldPoint.{edgeWeight, faceWeight, oldPoint, radialEdge, radialSum, radialTerms}
@@ -29,7 +28,7 @@ use Rattle.runs.specs.Runs.{numbered}
 
 pub cube : output (bytes "[mesh 1]\n[point bff0000000000000 bff0000000000000 bff0000000000000]\n[point 3ff0000000000000 bff0000000000000 bff0000000000000]\n[point bff0000000000000 3ff0000000000000 bff0000000000000]\n[point 3ff0000000000000 3ff0000000000000 bff0000000000000]\n[point bff0000000000000 bff0000000000000 3ff0000000000000]\n[point 3ff0000000000000 bff0000000000000 3ff0000000000000]\n[point bff0000000000000 3ff0000000000000 3ff0000000000000]\n[point 3ff0000000000000 3ff0000000000000 3ff0000000000000]\n[face [0 [2 3ff0000000000000]] [2 [3 3ff0000000000000]] [3 [1 3ff0000000000000]] [1 [0 3ff0000000000000]]]\n[face [4 [5 3ff0000000000000]] [5 [7 3ff0000000000000]] [7 [6 3ff0000000000000]] [6 [4 3ff0000000000000]]]\n[face [0 [1 3ff0000000000000]] [1 [5 3ff0000000000000]] [5 [4 3ff0000000000000]] [4 [0 3ff0000000000000]]]\n[face [2 [6 3ff0000000000000]] [6 [7 3ff0000000000000]] [7 [3 3ff0000000000000]] [3 [2 3ff0000000000000]]]\n[face [0 [4 3ff0000000000000]] [4 [6 3ff0000000000000]] [6 [2 3ff0000000000000]] [2 [0 3ff0000000000000]]]\n[face [1 [3 3ff0000000000000]] [3 [7 3ff0000000000000]] [7 [5 3ff0000000000000]] [5 [1 3ff0000000000000]]]\n[end]\n")
     ≡ bytes "[mesh 8 12 6]\n[step 26 48 24]\n[at 0 bfdc71c71c71c71c bfdc71c71c71c71c bfdc71c71c71c71c]\n"
-unfolding output digitValue value stands literal digit bits digits decimalFrom decimal many coordinate point listed side face ends mesh text times flat toBits decimalDigits hexByte hexBytes build step numbered linksOf lt over zeroed refinedRows copied visits visit faceWalk turns filled visitAlong splitAll splitWhole split ringOf putRing putJoin putFirst putSecond putNewFace putFacePoint putEdge putPoint putStart putFace facePointOf facePointAbout facePoint windowSum windowWeight sixTerms threeTerms acwAbout cwAbout after again edgePoint edgeMiddle shares oldPoint radialSum radialTerms radialEdge edgeWeight faceWeight add sub mul div neg le ofBits ofInt
+unfolding output digitValue value stands literal digit bits digits decimalFrom decimal many coordinate point listed side face ends mesh text times flat toBits decimalDigits hexByte hexBytes build step numbered linksOf lt over zeroed refinedRows copied visits visit faceWalk turns filled visitAlong splitAll splitWhole split ringOf putRing putJoin putFirst putSecond putNewFace putFacePoint putEdge putPoint putStart putFace facePointOf facePointAbout facePoint windowSum windowWeight sixTerms threeTerms acwAbout cwAbout again edgePoint edgeMiddle shares oldPoint radialSum radialTerms radialEdge edgeWeight faceWeight add sub mul div neg le ofBits ofInt
 cube = refl
 
 texts : map (λ t. output (bytes t)) (
