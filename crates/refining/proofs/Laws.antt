@@ -20,7 +20,8 @@ use Rattle.audited_meshes.proofs.Audited.{audit-is-audited}
 use Rattle.steps.specs.declared.Stepped.the-variants.{Refined, NotClosed, NotEachFaceOnce, NoRoom, NotFinite}
 use Rattle.steps.specs.Step.{Made, whole, notFinite, Outcome, refusal, ended, firstRows, zeroedRows, overRows, refinedCounts, eachFaceOnce, rowsFor, withinCeilings, roomFor, stepIf, step}
 use Rattle.steps.specs.declared.Stepped.{Stepped}
-use Rattle.steps.proofs.Rows.{Room, room-of-holds, holds-firstRows, room-firstRows, points-fit, edges-fit, faces-fit}
+use Rattle.steps.specs.Rows.{Room}
+use Rattle.steps.proofs.Rows.{room-of-holds, holds-firstRows, room-firstRows, points-fit, edges-fit, faces-fit}
 use Rattle.steps.proofs.Grounds.{eachFaceOnce-is, rooms-of-test, step-is}
 use Rattle.audited_meshes.proofs.Holds.{audit-is-closed}
 use Rattle.refining.specs.Refining.{Passed, tested}

@@ -11,7 +11,7 @@ use Rattle.audited_meshes.specs.Audit.{audit}
 use Rattle.steps.specs.declared.Stepped.{Stepped}
 use Rattle.steps.specs.declared.Stepped.the-variants.{Refined, NotClosed, NotEachFaceOnce, NoRoom}
 use Rattle.steps.specs.Step.{refinedCounts, eachFaceOnce, roomFor, firstRows, made, ended, step}
-use Rattle.steps.proofs.Rows.{Room}
+use Rattle.steps.specs.Rows.{Room}
 use Rattle.making.specs.Making.{Ready}
 
 abbrev pub tested : Mesh → Counts → List ℕ → Mesh → Stepped

@@ -6,7 +6,7 @@ ghost use mathlib.Core.Path.{_≡_};
 ghost use Rattle.visiting.specs.Visiting.{meshOf};
 ghost use Rattle.steps.specs.Step.{firstRows, zeroedRows, overRows, made, step, Outcome};
 ghost use Rattle.steps.specs.OneStep.{Binary64};
-ghost use Rattle.steps.proofs.Rows.{Room};
+ghost use Rattle.steps.specs.Rows.{Room};
 ghost use Rattle.making.specs.Making.{Ready, madeAs};
 ghost use Rattle.refining.specs.Refining.{Passed, tested};
 use audit::audit;

@@ -25,7 +25,8 @@ use Rattle.steps.specs.declared.Stepped.{Stepped}
 use Rattle.steps.specs.declared.Stepped.the-variants.{Refined, NotClosed, NotEachFaceOnce, NoRoom, NotFinite}
 use Rattle.steps.specs.Positions.{Placing, on, stopped, placedAll}
 use Rattle.steps.specs.Step.{numberOf, refinedCounts, eachFaceOnce, rowsFor, withinCeilings, roomFor, firstRows, zeroedRows, overRows, Made, whole, notFinite, madeOf, placedRows, made, refusal, ended, stepIf, step}
-use Rattle.steps.proofs.Rows.{Room, room-of-rows}
+use Rattle.steps.specs.Rows.{Room}
+use Rattle.steps.proofs.Rows.{room-of-rows}
 
 pub eachFaceOnce-is : (nf : ℕ) (order : List ℕ) → eachFaceOnce nf order ≡ true → EachOnce nf order
 unfolding eachFaceOnce distinct

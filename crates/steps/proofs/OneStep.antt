@@ -43,7 +43,8 @@ use Rattle.steps.specs.declared.Stepped.the-variants.{Refined}
 use Rattle.steps.specs.Positions.{on, facePointRow, edgePointRow, placedAll}
 use Rattle.steps.specs.Step.{refinedCounts, firstRows, overRows, whole, made, step}
 use Rattle.steps.specs.OneStep.{Refinement, Binary64, OneStep}
-use Rattle.steps.proofs.Rows.{Room, points-fit, edges-fit, faces-fit, Exact, exact-firstRows, room-firstRows, room-of-exact, room-of-holds, holds-same, holds-firstRows, SameRows, firstRows-overRows, same-overRows, room-overRows, position-same}
+use Rattle.steps.specs.Rows.{Room}
+use Rattle.steps.proofs.Rows.{points-fit, edges-fit, faces-fit, Exact, exact-firstRows, room-firstRows, room-of-exact, room-of-holds, holds-same, holds-firstRows, SameRows, firstRows-overRows, same-overRows, room-overRows, position-same}
 use Rattle.steps.proofs.NewPositions.{PointRows, AllPlaced, placed-all, length-all}
 use Rattle.steps.proofs.Lengths.{AsLong, long-refinedRows}
 use Rattle.steps.proofs.Joining.{joining-fit, binary64-firstRows}

@@ -1,5 +1,4 @@
 -- The rows that counts count: what stands in them, and that an audit looks at nothing else. Assumes nothing.
---     Room c t              the tables t have the rows that the counts c count, as lengths of their lists
 --     SameRows c m m'       the words and numbers of these rows are the same in both tables
 --     holds-same            what holds of the mesh in the one holds of the mesh in the other
 use mathlib.Core.Path.{_≡_, refl, sym, _∙_, ap, subst}
@@ -21,13 +20,7 @@ use Rattle.audited_meshes.specs.Audit.{pointRows, edgeRows, faceRows, audit}
 use Rattle.audited_meshes.specs.Rows.{place, Stands, Fit, HoldsClosed}
 use Rattle.audited_meshes.proofs.Rows.{place-below}
 use Rattle.steps.specs.Step.{firstRows, overRows}
-
-pub record Room (c : Counts) (t : Mesh) : Type 0 where
-  pub positions : c .points * 3 ≤ length (t .positions)
-  pub points : c .points * 3 ≤ length (t .points)
-  pub edges : c .edges * 8 ≤ length (t .edges)
-  pub intervals : c .edges ≤ length (t .intervals)
-  pub faces : c .faces * 5 ≤ length (t .faces)
+use Rattle.steps.specs.Rows.{Room}
 
 pub room-of-rows : (c : Counts) (t : Mesh) → c .points ≤ pointRows t → c .edges ≤ edgeRows t → c .faces ≤ faceRows t → Room c t
 room-of-rows c t hp he hf =

@@ -1,3 +1,4 @@
 pub mod Positions
 pub mod Step
+pub mod Rows
 pub mod OneStep
