@@ -1,17 +1,66 @@
 // Connecting two edges in the tables of a mesh.
 // Carries over `connect` of t_nurcc_edge/mod.rs; what looks at no table stands in `t_spline`.
-// Contract cites `specs/Connected.antt`.
+// Contract: `connect`. Definitions: `specs/Connected.antt`. Laws: `proofs/Laws.antt`, `proofs/Links.antt`.
 ghost use mathlib.Core.Path.{_≡_};
-ghost use Prim.Native.Nat.{_+_, _*_, _≤_, _<_};
+ghost use mathlib.Core.List.{List};
+ghost use mathlib.Core.Logic.{_≢_};
+ghost use Prim.Native.Nat.{ℕ, _+_, _*_, _≤_, _<_};
 ghost use lib.ListN.{length};
-ghost use Rattle.t_nurcc_edge.specs.Connected.{connectedRows, joinableRows};
+ghost use Rattle.t_spline.specs.Connect.{served};
+ghost use Rattle.t_spline.specs.declared.Pair.{Pair};
+ghost use Rattle.t_nurcc_edge.specs.Connected.{paired, connectedRows, joinableRows, Linkable};
+use t_spline::Links;
 use t_spline::Pair;
+use t_spline::connect::link_directions;
+use t_spline::t_nurcc_edge::same_face;
 use tables::index;
 use tables::load_edge;
 use tables::store_edge_words;
 
-// Connects the edges i and j to each other, and says whether they share a face and a point.
-pub fn connect(edges: &mut [u32], intervals: &[f64], i: u32, j: u32) -> bool
+// Serves one face state of the edges i and j, if it holds: each gets the other as one of its neighbours.
+fn put_links(edges: &mut [u32], holds: bool, face: usize, vert: usize, i: u32, j: u32)
+    requires { ⌜ i * 8 + 8 ≤ length (now edges) ⌝ }
+    requires { ⌜ j * 8 + 8 ≤ length (now edges) ⌝ }
+    requires { ⌜ i ≢ j ⌝ }
+    ensures { λ _. ⌜ ((es : List ℕ) (p : Pair) → Linkable p → now (edges .entry) ≡ paired es i j p → now (edges .exit) ≡ paired es i j (served holds face vert i j p)) ⌝ }
+    ensures { λ _. ⌜ length (now (edges .exit)) ≡ length (now (edges .entry)) ⌝ }
+{
+    if !holds {
+        return;
+    }
+    match link_directions(face, vert) {
+        Links::Both(own, other) => {
+            let c = own.index();
+            let d = other.index();
+            edges[index(i) * 8 + 4 + c] = j;
+            edges[index(j) * 8 + 4 + d] = i;
+        }
+        Links::Mismatch => {}
+    }
+}
+
+// Connects two edges that stand in different rows, by the words that change.
+fn connect_rows(edges: &mut [u32], intervals: &[f64], i: u32, j: u32) -> bool
+    requires { ⌜ i * 8 + 8 ≤ length (now edges) ⌝ }
+    requires { ⌜ j * 8 + 8 ≤ length (now edges) ⌝ }
+    requires { ⌜ i < length (now intervals) ⌝ }
+    requires { ⌜ j < length (now intervals) ⌝ }
+    requires { ⌜ i ≢ j ⌝ }
+    ensures { λ r. ⌜ r ≡ joinableRows (now (edges .entry)) (now (intervals .entry)) i j ⌝ }
+    ensures { λ _. ⌜ now (edges .exit) ≡ connectedRows (now (edges .entry)) (now (intervals .entry)) i j ⌝ }
+{
+    let e = load_edge(edges, intervals, index(i));
+    let o = load_edge(edges, intervals, index(j));
+    let v = e.vert_state(o);
+    put_links(edges, same_face(e.face_left, o.face_left), 0, v, i, j);
+    put_links(edges, same_face(e.face_left, o.face_right), 2, v, i, j);
+    put_links(edges, same_face(e.face_right, o.face_left), 3, v, i, j);
+    put_links(edges, same_face(e.face_right, o.face_right), 1, v, i, j);
+    e.can_connect(o)
+}
+
+// Connects two edges by value, as the definition does: both are stored whole, the other last.
+fn connect_values(edges: &mut [u32], intervals: &[f64], i: u32, j: u32) -> bool
     requires { ⌜ i * 8 + 8 ≤ length (now edges) ⌝ }
     requires { ⌜ j * 8 + 8 ≤ length (now edges) ⌝ }
     requires { ⌜ i < length (now intervals) ⌝ }
@@ -29,4 +78,20 @@ pub fn connect(edges: &mut [u32], intervals: &[f64], i: u32, j: u32) -> bool
     store_edge_words(edges, a, first);
     store_edge_words(edges, b, other);
     e.can_connect(o)
+}
+
+// Connects the edges i and j to each other, and says whether they share a face and a point. An edge with itself, which no
+// perimeter asks for, is connected by value: the words of one row would be stored for both.
+pub fn connect(edges: &mut [u32], intervals: &[f64], i: u32, j: u32) -> bool
+    requires { ⌜ i * 8 + 8 ≤ length (now edges) ⌝ }
+    requires { ⌜ j * 8 + 8 ≤ length (now edges) ⌝ }
+    requires { ⌜ i < length (now intervals) ⌝ }
+    requires { ⌜ j < length (now intervals) ⌝ }
+    ensures { λ r. ⌜ r ≡ joinableRows (now (edges .entry)) (now (intervals .entry)) i j ⌝ }
+    ensures { λ _. ⌜ now (edges .exit) ≡ connectedRows (now (edges .entry)) (now (intervals .entry)) i j ⌝ }
+{
+    if i == j {
+        return connect_values(edges, intervals, i, j);
+    }
+    connect_rows(edges, intervals, i, j)
 }

@@ -6,8 +6,8 @@ ghost use mathlib.Core.Path.{_≡_};
 ghost use Rattle.t_spline.specs.Connection.{indexOf, connectionAt};
 use positions::Position;
 
-mod connect;
-mod t_nurcc_edge;
+pub mod connect;
+pub mod t_nurcc_edge;
 
 // The mark for no row, which stands where the Rust has `None`.
 pub const NONE: u32 = 4294967295;
