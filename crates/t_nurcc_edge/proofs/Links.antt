@@ -14,7 +14,7 @@ use native.Mathlib.Nat.{le-of-suc-le-suc}
 use native.Mathlib.Omega.{arith}
 use lib.Ieee.{Float}
 use lib.ListN.{length, getD, set, length-set}
-use lib.Seq.{set-getD}
+use lib.Seq.{set-getD, set-set, set-comm}
 use Rattle.t_spline.specs.Connection.{indexOf}
 use Rattle.t_spline.specs.Edge.{withConnection, sameFace}
 use Rattle.t_spline.specs.Connect.{vertexState, linked, linksOf, served, connected}
@@ -30,24 +30,12 @@ use Rattle.tables.specs.Records.{edgeAt, edgeWords}
 use Rattle.t_nurcc_edge.specs.Connected.{paired, connectedRows, Linkable}
 
 module _ {A : Type 0} where
-  set-set : (l : List A) (i : ℕ) (a b : A) → set (set l i a) i b ≡ set l i b
-  set-set [] i a b = refl
-  set-set (x ∷ xs) zero a b = refl
-  set-set (x ∷ xs) (suc i) a b = ap (λ (t : List A). x ∷ t) (set-set xs i a b)
-
-  set-comm : (l : List A) (i j : ℕ) (a b : A) → j ≢ i → set (set l i a) j b ≡ set (set l j b) i a
-  set-comm [] i j a b h = refl
-  set-comm (x ∷ xs) zero zero a b h = absurd (h refl)
-  set-comm (x ∷ xs) zero (suc j) a b h = refl
-  set-comm (x ∷ xs) (suc i) zero a b h = refl
-  set-comm (x ∷ xs) (suc i) (suc j) a b h = ap (λ (t : List A). x ∷ t) (set-comm xs i j a b (λ e. h (ap suc e)))
-
   set-putFrom-other : (vs xs : List A) (b k n : ℕ) (v : A) → ((s : ℕ) → s < length vs → n ≢ b + (k + s))
       → set (putFrom xs b k vs) n v ≡ putFrom (set xs n v) b k vs
   set-putFrom-other [] xs b k n v h = refl
   set-putFrom-other (w ∷ vs) xs b k n v h =
       set-putFrom-other vs (set xs (b + k) w) b (suc k) n v (λ s l e. h (suc s) (further s l) (e ∙ place s))
-      ∙ ap (λ (t : List A). putFrom t b (suc k) vs) (set-comm xs (b + k) n w v (λ e. h 0 (omega arith) (e ∙ first)))
+      ∙ ap (λ (t : List A). putFrom t b (suc k) vs) (set-comm xs (b + k) n w v (λ e. h 0 (omega arith) (sym e ∙ first)))
     where
       first : b + k ≡ b + (k + 0)
       first = omega arith
@@ -93,7 +81,7 @@ module _ {A : Type 0} where
   set-putRow-other [] xs b n v h = refl
   set-putRow-other (w ∷ vs) xs b n v h =
       set-putFrom-other vs (set xs b w) b 1 n v (λ s l e. h (suc s) (further s l) (e ∙ place s))
-      ∙ ap (λ (t : List A). putFrom t b 1 vs) (set-comm xs b n w v (λ e. h 0 (omega arith) (e ∙ first)))
+      ∙ ap (λ (t : List A). putFrom t b 1 vs) (set-comm xs b n w v (λ e. h 0 (omega arith) (sym e ∙ first)))
     where
       first : b ≡ b + 0
       first = omega arith
