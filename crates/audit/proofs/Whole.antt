@@ -14,7 +14,7 @@ use lib.ListN.{length}
 use lib.Ieee.{Float}
 use borrow.Author.Tests.{le-leb, lt-leb}
 use Rattle.closed_meshes.specs.Renumbering.{sumTo}
-use Rattle.tables.specs.Mesh.{Mesh, valence, start, origin, dest, leftFace, rightFace, interval}
+use Rattle.tables.specs.Mesh.{Mesh, valence, start, origin, dest, leftFace, rightFace, interval, meshOf}
 use Rattle.audited_meshes.specs.Folds.{every}
 use Rattle.audited_meshes.specs.Walks.{Walk, back, lost, passed, acwOfPoint, faceWalk, pointWalk}
 use Rattle.audited_meshes.specs.Audit.{pointRows as pointsOf, edgeRows as edgesOf, faceRows as facesOf, countsFit, edgeInRange, intervalFit, linked, audit}
@@ -23,7 +23,7 @@ use Rattle.audited_meshes.proofs.Tests.{and-is, every-is, self-is}
 use Rattle.audited_meshes.proofs.Audited.{countsFit-is, edgeInRange-is}
 use Rattle.audited_meshes.proofs.Quick.{quick-is-audit}
 use Rattle.walks.specs.Steps.{faceTables, pointTables}
-use Rattle.audit.specs.Parts.{meshOf, rowsFit, walksFit}
+use Rattle.audit.specs.Parts.{rowsFit, walksFit}
 use Rattle.audit_tests.specs.Parts.{pointRows, edgeRows, walkFits, facesWalked}
 use Rattle.audit_tests.proofs.Laws.{and-false, every-cong, first-of-three, second-of-three, third-of-three, first-of-four, second-of-four, third-of-four, fourth-of-four}
 

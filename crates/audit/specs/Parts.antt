@@ -1,5 +1,4 @@
 -- The tests of a mesh, put together from their parts (`audit_tests`).
---     meshOf xs ps es is fs   the mesh of the five tables
 --     rowsFit ..              the tests of single rows
 --     walksFit ..             the sums and the walks
 use mathlib.Core.Bool.{Bool, _&&_}
@@ -14,9 +13,6 @@ use Rattle.audited_meshes.specs.Walks.{faceWalk, pointWalk}
 use Rattle.audited_meshes.specs.Quick.{pointFit, edgeFit, faceFit, faceBack, pointBack, oneEdge}
 use Rattle.walks.specs.Steps.{faceTables, pointTables}
 use Rattle.audit_tests.specs.Parts.{pointRows, edgeRows, walkFits, facesWalked}
-
-abbrev pub meshOf : List Float → List ℕ → List ℕ → List Float → List ℕ → Mesh
-meshOf xs ps es is fs = record { positions = xs; points = ps; edges = es; intervals = is; faces = fs }
 
 unfoldable pub rowsFit : List Float → List ℕ → List ℕ → List Float → List ℕ → ℕ → ℕ → ℕ → Bool
 unfolding every pointFit edgeFit faceFit

@@ -10,8 +10,8 @@ ghost use Rattle.audited_meshes.specs.Folds.{every};
 ghost use Rattle.audited_meshes.specs.Quick.{pointFit};
 ghost use Rattle.walks.specs.Steps.{pointTables};
 ghost use Rattle.audit_tests.specs.Parts.{pointRows, walkFits};
+use records::load_position;
 use tables::index;
-use tables::load_position;
 use walks::Passed;
 use walks::t_nurcc_iter::point_walk;
 

@@ -14,7 +14,7 @@ use native.Mathlib.Omega.{arith}
 use lib.Dec.{leb}
 use lib.Ieee.{Float, ofBits, binary64}
 use lib.ListN.{length, getD, drop, replicate, List·getD-append, getD-replicate, length-replicate}
-use Rattle.tables.specs.Mesh.{Mesh, none}
+use Rattle.tables.specs.Mesh.{Mesh, none, meshOf}
 use Rattle.tables.specs.Rows.{over, zeroed}
 use Rattle.tables.proofs.Laws.{length-zeroed}
 use Rattle.audited_meshes.specs.Audit.{pointRows, edgeRows, faceRows}
@@ -33,7 +33,6 @@ use Rattle.building_tests.specs.Lent.{lists, limitsOf}
 use Rattle.building_tests.specs.declared.Bounds.{Bounds}
 use Rattle.building_tests.specs.declared.Bounds.the-variants.{General, Refine}
 use Rattle.edge_search.specs.Chains.{Newest, Standing}
-use Rattle.edge_search.specs.Places.{mesh}
 use Rattle.building_faces.specs.Rings.{stateAt, Lent}
 use Rattle.building_whole.specs.Zeroing.{zeroedTo}
 use Rattle.building.specs.Concluding.{concluded, answeredFrom, Begun, Zeroed}
@@ -46,7 +45,7 @@ module _ (cs : List Float) (np nl nf : ℕ) (m : Mesh) (k : ℕ) (v : Verdict) w
       → _≡_ {A = Outcome}
       (record {
         answer = Accepted (record { points = np; edges = row; faces = nf });
-        tables = mesh ps pts (m .edges) (m .intervals) (m .faces);
+        tables = meshOf ps pts (m .edges) (m .intervals) (m .faces);
       })
       (concluded cs np nl nf m k v)
   unfolding concluded

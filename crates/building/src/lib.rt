@@ -5,11 +5,10 @@
 ghost use mathlib.Core.Path.{_≡_};
 ghost use Prim.Native.Nat.{_*_, _/_, _≤_};
 ghost use lib.ListN.{length};
-ghost use Rattle.tables.specs.Mesh.{Mesh};
+ghost use Rattle.tables.specs.Mesh.{Mesh, meshOf};
 ghost use Rattle.built_meshes.specs.Building.{Outcome, zeroedRows, build};
 ghost use Rattle.built_meshes.specs.Whole.{wholeVerdict};
 ghost use Rattle.building_tests.specs.Lent.{lists, limitsOf};
-ghost use Rattle.edge_search.specs.Places.{mesh};
 ghost use Rattle.building.specs.Concluding.{concluded, answeredFrom, Begun, Zeroed};
 use building_faces::Faced;
 use building_faces::enter_faces;
@@ -46,7 +45,7 @@ fn conclude(
     requires { ⌜ nl ≤ length (now intervals) ⌝ }
     requires { ⌜ nf * 5 ≤ length (now faces) ⌝ }
     requires { ⌜ k ≤ nl ⌝ }
-    ensures { λ r. ⌜ _≡_ {A = Outcome} (record { answer = r; tables = mesh (now (positions .exit)) (now (points .exit)) (now (edges .exit)) (now (intervals .exit)) (now (faces .exit)) }) (concluded (now (coordinates .entry)) (length (now (coordinates .entry)) / 3) nl nf (mesh (now (positions .entry)) (now (points .entry)) (now (edges .entry)) (now (intervals .entry)) (now (faces .entry))) k (wholeVerdict (mesh (now (positions .entry)) (now (points .entry)) (now (edges .entry)) (now (intervals .entry)) (now (faces .entry))) (length (now (coordinates .entry)) / 3) k)) ⌝ }
+    ensures { λ r. ⌜ _≡_ {A = Outcome} (record { answer = r; tables = meshOf (now (positions .exit)) (now (points .exit)) (now (edges .exit)) (now (intervals .exit)) (now (faces .exit)) }) (concluded (now (coordinates .entry)) (length (now (coordinates .entry)) / 3) nl nf (meshOf (now (positions .entry)) (now (points .entry)) (now (edges .entry)) (now (intervals .entry)) (now (faces .entry))) k (wholeVerdict (meshOf (now (positions .entry)) (now (points .entry)) (now (edges .entry)) (now (intervals .entry)) (now (faces .entry))) (length (now (coordinates .entry)) / 3) k)) ⌝ }
 {
     let np = coordinates.len() / 3;
     let ne = index(k);
@@ -80,9 +79,9 @@ fn build_zeroed(
     faces: &mut [u32],
     chain: &mut [u32],
 ) -> Built
-    requires { ⌜ Zeroed (lists (now coordinates) (now sides) (now listed) (now beside)) (mesh (now positions) (now points) (now edges) (now intervals) (now faces)) ⌝ }
+    requires { ⌜ Zeroed (lists (now coordinates) (now sides) (now listed) (now beside)) (meshOf (now positions) (now points) (now edges) (now intervals) (now faces)) ⌝ }
     requires { ⌜ 36864 ≤ length (now chain) ⌝ }
-    ensures { λ r. ⌜ ((m : Mesh) → Begun (lists (now (coordinates .entry)) (now (sides .entry)) (now (listed .entry)) (now (beside .entry))) m → (mesh (now (positions .entry)) (now (points .entry)) (now (edges .entry)) (now (intervals .entry)) (now (faces .entry))) ≡ zeroedRows (lists (now (coordinates .entry)) (now (sides .entry)) (now (listed .entry)) (now (beside .entry))) m → _≡_ {A = Outcome} (record { answer = r; tables = mesh (now (positions .exit)) (now (points .exit)) (now (edges .exit)) (now (intervals .exit)) (now (faces .exit)) }) (answeredFrom (lists (now (coordinates .entry)) (now (sides .entry)) (now (listed .entry)) (now (beside .entry))) m)) ⌝ }
+    ensures { λ r. ⌜ ((m : Mesh) → Begun (lists (now (coordinates .entry)) (now (sides .entry)) (now (listed .entry)) (now (beside .entry))) m → (meshOf (now (positions .entry)) (now (points .entry)) (now (edges .entry)) (now (intervals .entry)) (now (faces .entry))) ≡ zeroedRows (lists (now (coordinates .entry)) (now (sides .entry)) (now (listed .entry)) (now (beside .entry))) m → _≡_ {A = Outcome} (record { answer = r; tables = meshOf (now (positions .exit)) (now (points .exit)) (now (edges .exit)) (now (intervals .exit)) (now (faces .exit)) }) (answeredFrom (lists (now (coordinates .entry)) (now (sides .entry)) (now (listed .entry)) (now (beside .entry))) m)) ⌝ }
 {
     let np = coordinates.len() / 3;
     let nl = listed.len();
@@ -129,8 +128,8 @@ fn build_begun(
     intervals: &mut [f64],
     faces: &mut [u32],
 ) -> Built
-    requires { ⌜ Begun (lists (now coordinates) (now sides) (now listed) (now beside)) (mesh (now positions) (now points) (now edges) (now intervals) (now faces)) ⌝ }
-    ensures { λ r. ⌜ _≡_ {A = Outcome} (record { answer = r; tables = mesh (now (positions .exit)) (now (points .exit)) (now (edges .exit)) (now (intervals .exit)) (now (faces .exit)) }) (answeredFrom (lists (now (coordinates .entry)) (now (sides .entry)) (now (listed .entry)) (now (beside .entry))) (mesh (now (positions .entry)) (now (points .entry)) (now (edges .entry)) (now (intervals .entry)) (now (faces .entry)))) ⌝ }
+    requires { ⌜ Begun (lists (now coordinates) (now sides) (now listed) (now beside)) (meshOf (now positions) (now points) (now edges) (now intervals) (now faces)) ⌝ }
+    ensures { λ r. ⌜ _≡_ {A = Outcome} (record { answer = r; tables = meshOf (now (positions .exit)) (now (points .exit)) (now (edges .exit)) (now (intervals .exit)) (now (faces .exit)) }) (answeredFrom (lists (now (coordinates .entry)) (now (sides .entry)) (now (listed .entry)) (now (beside .entry))) (meshOf (now (positions .entry)) (now (points .entry)) (now (edges .entry)) (now (intervals .entry)) (now (faces .entry)))) ⌝ }
 {
     zero_rows(
         positions,
@@ -170,7 +169,7 @@ pub fn build(
     faces: &mut [u32],
     bounds: Bounds,
 ) -> Built
-    ensures { λ r. ⌜ _≡_ {A = Outcome} (record { answer = r; tables = mesh (now (positions .exit)) (now (points .exit)) (now (edges .exit)) (now (intervals .exit)) (now (faces .exit)) }) (build (limitsOf bounds) (lists (now (coordinates .entry)) (now (sides .entry)) (now (listed .entry)) (now (beside .entry))) (mesh (now (positions .entry)) (now (points .entry)) (now (edges .entry)) (now (intervals .entry)) (now (faces .entry)))) ⌝ }
+    ensures { λ r. ⌜ _≡_ {A = Outcome} (record { answer = r; tables = meshOf (now (positions .exit)) (now (points .exit)) (now (edges .exit)) (now (intervals .exit)) (now (faces .exit)) }) (build (limitsOf bounds) (lists (now (coordinates .entry)) (now (sides .entry)) (now (listed .entry)) (now (beside .entry))) (meshOf (now (positions .entry)) (now (points .entry)) (now (edges .entry)) (now (intervals .entry)) (now (faces .entry)))) ⌝ }
 {
     if !counts_fit(coordinates, sides, listed, beside, bounds) {
         return Built::Refused(Ground::OverCounts);

@@ -9,7 +9,7 @@ use native.Mathlib.Omega.{arith}
 use native.Mathlib.Decide.{decLe}
 use lib.Ieee.{Float}
 use lib.ListN.{length}
-use Rattle.tables.specs.Mesh.{Mesh}
+use Rattle.tables.specs.Mesh.{Mesh, meshOf}
 use Rattle.audited_meshes.proofs.Tests.{and-is, leb-is}
 use Rattle.built_meshes.specs.Lists.{Lists, size, offset}
 use Rattle.built_meshes.specs.Faces.{sizeFit, inRange, noPointTwice, sumsFit, faceVerdict}
@@ -21,7 +21,6 @@ use Rattle.built_meshes.proofs.Perimeter.{offset-suc}
 use Rattle.building_tests.specs.Lent.{lists}
 use Rattle.building_tests.proofs.Laws.{verdictBy, verdict-is}
 use Rattle.edge_search.specs.Chains.{Standing}
-use Rattle.edge_search.specs.Places.{mesh}
 use Rattle.building_faces.specs.Rings.{ringAt, stateAt, Placed, Sided, FaceStands}
 use Rattle.building_faces.specs.declared.Faced.the-variants as Faces
 
@@ -90,8 +89,8 @@ module _ (np : ℕ) (ss ls : List ℕ) (be : List Float) (pts₀ es₀ : List �
     pub begins : a ≡ offset (lists [] ss [] []) f
     pub rest :
         (cs ps : List Float) → length cs / 3 ≡ np
-        → facesFrom (length ss / 4 - f) (lists cs ss ls be) f a (on (stateAt (mesh ps pts es is fs) k))
-        ≡ facesFrom (length ss / 4) (lists cs ss ls be) 0 0 (on (stateAt (mesh ps pts₀ es₀ is₀ fs₀) 0))
+        → facesFrom (length ss / 4 - f) (lists cs ss ls be) f a (on (stateAt (meshOf ps pts es is fs) k))
+        ≡ facesFrom (length ss / 4) (lists cs ss ls be) 0 0 (on (stateAt (meshOf ps pts₀ es₀ is₀ fs₀) 0))
 
   pub face-start : Standing np pts₀ es₀ ch₀ 0 → FacePassing pts₀ es₀ is₀ fs₀ ch₀ 0 0 0
   unfolding offset
@@ -106,7 +105,7 @@ module _ (np : ℕ) (ss ls : List ℕ) (be : List Float) (pts₀ es₀ : List �
         standing = h;
         count = omega arith;
         begins = refl;
-        rest = λ cs ps e. ap (λ (j : ℕ). facesFrom j (lists cs ss ls be) 0 0 (on (stateAt (mesh ps pts₀ es₀ is₀ fs₀) 0))) (none (length ss / 4));
+        rest = λ cs ps e. ap (λ (j : ℕ). facesFrom j (lists cs ss ls be) 0 0 (on (stateAt (meshOf ps pts₀ es₀ is₀ fs₀) 0))) (none (length ss / 4));
       }
     where
       none : (n : ℕ) → n - 0 ≡ n
@@ -123,7 +122,7 @@ module _ (np : ℕ) (ss ls : List ℕ) (be : List Float) (pts₀ es₀ : List �
     module _ (pts' es' : List ℕ) (is' : List Float) (fs' ch' : List ℕ) where
       pub face-more : (c : ℕ)
           → ((cs ps : List Float) → length cs / 3 ≡ np
-          → on (stateAt (mesh ps pts' es' is' fs') c) ≡ facePassed (lists cs ss ls be) f a (stateAt (mesh ps pts es is fs) k))
+          → on (stateAt (meshOf ps pts' es' is' fs') c) ≡ facePassed (lists cs ss ls be) f a (stateAt (meshOf ps pts es is fs) k))
           → FaceStands np pts' es' ch' (a + n) (Faces.On c)
           → length pts' ≡ length pts → length es' ≡ length es → length is' ≡ length is → length fs' ≡ length fs → length ch' ≡ length ch
           → FacePassing pts' es' is' fs' ch' c (a + n) (f + 1)
@@ -139,22 +138,22 @@ module _ (np : ℕ) (ss ls : List ℕ) (be : List Float) (pts₀ es₀ : List �
             count = s .1;
             begins = rw (add-one f, offset-suc (lists [] ss [] []) f) (let b = h .begins in omega arith);
             rest = λ cs ps z.
-                from-turn (lists cs ss ls be) (length ss / 4) f a n (stateAt (mesh ps pts es is fs) k) (on (stateAt (mesh ps pts' es' is' fs') c)) l
+                from-turn (lists cs ss ls be) (length ss / 4) f a n (stateAt (meshOf ps pts es is fs) k) (on (stateAt (meshOf ps pts' es' is' fs') c)) l
                 e (passes cs ps z)
                 ∙ h .rest cs ps z;
           }
 
       pub face-stop : (g : Ground) (cs ps : List Float) → length cs / 3 ≡ np
-          → stopped g (mesh ps pts' es' is' fs') ≡ facePassed (lists cs ss ls be) f a (stateAt (mesh ps pts es is fs) k)
-          → stopped g (mesh ps pts' es' is' fs') ≡ facesFrom (length ss / 4) (lists cs ss ls be) 0 0 (on (stateAt (mesh ps pts₀ es₀ is₀ fs₀) 0))
+          → stopped g (meshOf ps pts' es' is' fs') ≡ facePassed (lists cs ss ls be) f a (stateAt (meshOf ps pts es is fs) k)
+          → stopped g (meshOf ps pts' es' is' fs') ≡ facesFrom (length ss / 4) (lists cs ss ls be) 0 0 (on (stateAt (meshOf ps pts₀ es₀ is₀ fs₀) 0))
       face-stop g cs ps z passes =
-          sym (from-stopped (length ss / 4 - (f + 1)) (lists cs ss ls be) (f + 1) (a + n) g (mesh ps pts' es' is' fs'))
-          ∙ from-turn (lists cs ss ls be) (length ss / 4) f a n (stateAt (mesh ps pts es is fs) k) (stopped g (mesh ps pts' es' is' fs')) l e passes
+          sym (from-stopped (length ss / 4 - (f + 1)) (lists cs ss ls be) (f + 1) (a + n) g (meshOf ps pts' es' is' fs'))
+          ∙ from-turn (lists cs ss ls be) (length ss / 4) f a n (stateAt (meshOf ps pts es is fs) k) (stopped g (meshOf ps pts' es' is' fs')) l e passes
           ∙ h .rest cs ps z
 
   module _ (pts es : List ℕ) (is : List Float) (fs ch : List ℕ) (k a f : ℕ) (h : FacePassing pts es is fs ch k a f) (l : length ss / 4 ≤ f) where
     pub face-end : (cs ps : List Float) → length cs / 3 ≡ np
-        → on (stateAt (mesh ps pts es is fs) k) ≡ facesFrom (length ss / 4) (lists cs ss ls be) 0 0 (on (stateAt (mesh ps pts₀ es₀ is₀ fs₀) 0))
+        → on (stateAt (meshOf ps pts es is fs) k) ≡ facesFrom (length ss / 4) (lists cs ss ls be) 0 0 (on (stateAt (meshOf ps pts₀ es₀ is₀ fs₀) 0))
     unfolding facesFrom
     face-end cs ps z = rw (none (h .within) l) at (h .rest cs ps z)
       where

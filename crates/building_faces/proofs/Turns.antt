@@ -8,7 +8,7 @@ use lib.Dec.{eqb, ltb}
 use lib.Ieee.{Float, nan}
 use lib.ListN.{length, getD}
 use borrow.Author.Tests.{ltb-true, eqb-false}
-use Rattle.tables.specs.Mesh.{Mesh, none, origin, rightFace}
+use Rattle.tables.specs.Mesh.{Mesh, none, origin, rightFace, meshOf}
 use Rattle.tables.specs.Rows.{putRow}
 use Rattle.tables.specs.Records.{faceWords}
 use Rattle.t_nurcc_edge.specs.Connected.{connectedRows}
@@ -23,7 +23,7 @@ use Rattle.built_meshes.specs.declared.Found.{Found}
 use Rattle.built_meshes.specs.declared.Found.the-variants as Founds
 use Rattle.building_tests.specs.Lent.{lists}
 use Rattle.edge_search.specs.Chains.{Standing, Room}
-use Rattle.edge_search.specs.Places.{mesh, Place, placeOf, entering, EnteredBy}
+use Rattle.edge_search.specs.Places.{Place, placeOf, entering, EnteredBy}
 use Rattle.edge_search.specs.declared.Entry.the-variants.{Made, Refused}
 use Rattle.edge_search.proofs.Chains.{edgeBetween-below, standing-ends}
 use Rattle.building_faces.specs.Rings.{ringOf, Lent, Placed, Closing, TurnStands, FaceStands}
@@ -170,7 +170,7 @@ module _ (np : ℕ) (pts es ch : List ℕ) (k c e most : ℕ) (h : Standing np p
 pub closed-on : (f row : ℕ) (x : Step Ring) (ring : RingEdges) (m : Mesh) (es fs : List ℕ) → on (ringOf m ring) ≡ x
     → es ≡ connectedRows (m .edges) (m .intervals) (ring .first) (ring .before) → row ≡ f
     → fs ≡ putRow (m .faces) (row * 5) (faceWords (faceOf (ring .first)))
-    → _≡_ {A = Step State} (on (record { mesh = mesh (m .positions) (m .points) es (m .intervals) fs; edges = ring .edges })) (closedUp f x)
+    → _≡_ {A = Step State} (on (record { mesh = meshOf (m .positions) (m .points) es (m .intervals) fs; edges = ring .edges })) (closedUp f x)
 unfolding closedUp joined
 closed-on f row x ring m es fs h a b c = rw (← h, a, c, b)
 

@@ -13,7 +13,7 @@ ghost use Rattle.built_meshes.specs.Perimeters.{Ring, State, Step, on, nextPlac
 ghost use Rattle.built_meshes.specs.Building.{facePassed, facesFrom};
 ghost use Rattle.building_tests.specs.Lent.{lists};
 ghost use Rattle.edge_search.specs.Chains.{Standing};
-ghost use Rattle.edge_search.specs.Places.{mesh};
+ghost use Rattle.tables.specs.Mesh.{meshOf};
 ghost use Rattle.building_faces.specs.Rings.{ringOf, ringAt, turnOf, stateAt, stateOf, Lent, Placed, Sided, Closing, TurnStands, FaceStands};
 use building_tests::faces::face_size;
 use building_tests::faces::face_verdict;
@@ -21,11 +21,11 @@ use built_meshes::Ground;
 use built_meshes::Verdict;
 use edge_search::Entry;
 use edge_search::enter;
+use records::store_face;
 use t_nurcc_edge::connect;
 use t_spline::NONE;
 use t_spline::TnurccFace;
 use tables::index;
-use tables::store_face;
 
 // A perimeter under way: how many edges there are, the perimeter's first edge and the one of the place before.
 pub struct RingEdges {
@@ -75,7 +75,7 @@ fn turn_place(
     requires { ⌜ i < n ⌝ }
     requires { ⌜ ring .edges ≤ a + i ⌝ }
     requires { ⌜ (0 < i → Closing ring) ⌝ }
-    ensures { λ r. ⌜ ((cs : List Float) (ss : List ℕ) (ps : List Float) (fs : List ℕ) → _≡_ {A = Step Ring} (turnOf (mesh ps (now (points .exit)) (now (edges .exit)) (now (intervals .exit)) fs) r) (turn (lists cs ss (now (listed .entry)) (now (beside .entry))) f a n i (ringOf (mesh ps (now (points .entry)) (now (edges .entry)) (now (intervals .entry)) fs) ring))) ⌝ }
+    ensures { λ r. ⌜ ((cs : List Float) (ss : List ℕ) (ps : List Float) (fs : List ℕ) → _≡_ {A = Step Ring} (turnOf (meshOf ps (now (points .exit)) (now (edges .exit)) (now (intervals .exit)) fs) r) (turn (lists cs ss (now (listed .entry)) (now (beside .entry))) f a n i (ringOf (meshOf ps (now (points .entry)) (now (edges .entry)) (now (intervals .entry)) fs) ring))) ⌝ }
     ensures { λ r. ⌜ TurnStands np (now (points .exit)) (now (edges .exit)) (now (chain .exit)) (a + i + 1) r ⌝ }
 {
     let p = listed[a + i];
@@ -121,7 +121,7 @@ fn enter_places(
     requires { ⌜ Placed np (now listed) a n ⌝ }
     requires { ⌜ 0 < n ⌝ }
     requires { ⌜ k ≤ a ⌝ }
-    ensures { λ r. ⌜ ((cs : List Float) (ss : List ℕ) (ps : List Float) (fs : List ℕ) → _≡_ {A = Step Ring} (turnOf (mesh ps (now (points .exit)) (now (edges .exit)) (now (intervals .exit)) fs) r) (places n (lists cs ss (now (listed .entry)) (now (beside .entry))) f a n 0 (on (ringAt (mesh ps (now (points .entry)) (now (edges .entry)) (now (intervals .entry)) fs) k)))) ⌝ }
+    ensures { λ r. ⌜ ((cs : List Float) (ss : List ℕ) (ps : List Float) (fs : List ℕ) → _≡_ {A = Step Ring} (turnOf (meshOf ps (now (points .exit)) (now (edges .exit)) (now (intervals .exit)) fs) r) (places n (lists cs ss (now (listed .entry)) (now (beside .entry))) f a n 0 (on (ringAt (meshOf ps (now (points .entry)) (now (edges .entry)) (now (intervals .entry)) fs) k)))) ⌝ }
     ensures { λ r. ⌜ TurnStands np (now (points .exit)) (now (edges .exit)) (now (chain .exit)) (a + n) r ⌝ }
 {
     let mut ring = RingEdges {
@@ -178,7 +178,7 @@ fn enter_perimeter(
     requires { ⌜ 0 < n ⌝ }
     requires { ⌜ k ≤ a ⌝ }
     requires { ⌜ f * 5 + 5 ≤ length (now faces) ⌝ }
-    ensures { λ r. ⌜ ((cs : List Float) (ss : List ℕ) (ps : List Float) → _≡_ {A = Step State} (stateOf (mesh ps (now (points .exit)) (now (edges .exit)) (now (intervals .exit)) (now (faces .exit))) r) (closedUp f (places n (lists cs ss (now (listed .entry)) (now (beside .entry))) f a n 0 (on (ringAt (mesh ps (now (points .entry)) (now (edges .entry)) (now (intervals .entry)) (now (faces .entry))) k))))) ⌝ }
+    ensures { λ r. ⌜ ((cs : List Float) (ss : List ℕ) (ps : List Float) → _≡_ {A = Step State} (stateOf (meshOf ps (now (points .exit)) (now (edges .exit)) (now (intervals .exit)) (now (faces .exit))) r) (closedUp f (places n (lists cs ss (now (listed .entry)) (now (beside .entry))) f a n 0 (on (ringAt (meshOf ps (now (points .entry)) (now (edges .entry)) (now (intervals .entry)) (now (faces .entry))) k))))) ⌝ }
     ensures { λ r. ⌜ FaceStands np (now (points .exit)) (now (edges .exit)) (now (chain .exit)) (a + n) r ⌝ }
 {
     match enter_places(
@@ -231,7 +231,7 @@ fn enter_face(
     requires { ⌜ Sided (now sides) (now listed) f a n ⌝ }
     requires { ⌜ k ≤ a ⌝ }
     requires { ⌜ f * 5 + 5 ≤ length (now faces) ⌝ }
-    ensures { λ r. ⌜ ((cs : List Float) (ps : List Float) → length cs / 3 ≡ np → _≡_ {A = Step State} (stateOf (mesh ps (now (points .exit)) (now (edges .exit)) (now (intervals .exit)) (now (faces .exit))) r) (facePassed (lists cs (now (sides .entry)) (now (listed .entry)) (now (beside .entry))) f a (stateAt (mesh ps (now (points .entry)) (now (edges .entry)) (now (intervals .entry)) (now (faces .entry))) k))) ⌝ }
+    ensures { λ r. ⌜ ((cs : List Float) (ps : List Float) → length cs / 3 ≡ np → _≡_ {A = Step State} (stateOf (meshOf ps (now (points .exit)) (now (edges .exit)) (now (intervals .exit)) (now (faces .exit))) r) (facePassed (lists cs (now (sides .entry)) (now (listed .entry)) (now (beside .entry))) f a (stateAt (meshOf ps (now (points .entry)) (now (edges .entry)) (now (intervals .entry)) (now (faces .entry))) k))) ⌝ }
     ensures { λ r. ⌜ FaceStands np (now (points .exit)) (now (edges .exit)) (now (chain .exit)) (a + n) r ⌝ }
 {
     match face_verdict(sides, listed, beside, np, index(f), a, n) {
@@ -270,7 +270,7 @@ pub fn enter_faces(
     requires { ⌜ length (now sides) / 4 ≤ 4096 ⌝ }
     requires { ⌜ length (now sides) / 4 * 5 ≤ length (now faces) ⌝ }
     requires { ⌜ offset (lists [] (now sides) [] []) (length (now sides) / 4) ≡ length (now listed) ⌝ }
-    ensures { λ r. ⌜ ((cs : List Float) (ps : List Float) → length cs / 3 ≡ np → _≡_ {A = Step State} (stateOf (mesh ps (now (points .exit)) (now (edges .exit)) (now (intervals .exit)) (now (faces .exit))) r) (facesFrom (length (now (sides .entry)) / 4) (lists cs (now (sides .entry)) (now (listed .entry)) (now (beside .entry))) 0 0 (on (stateAt (mesh ps (now (points .entry)) (now (edges .entry)) (now (intervals .entry)) (now (faces .entry))) 0)))) ⌝ }
+    ensures { λ r. ⌜ ((cs : List Float) (ps : List Float) → length cs / 3 ≡ np → _≡_ {A = Step State} (stateOf (meshOf ps (now (points .exit)) (now (edges .exit)) (now (intervals .exit)) (now (faces .exit))) r) (facesFrom (length (now (sides .entry)) / 4) (lists cs (now (sides .entry)) (now (listed .entry)) (now (beside .entry))) 0 0 (on (stateAt (meshOf ps (now (points .entry)) (now (edges .entry)) (now (intervals .entry)) (now (faces .entry))) 0)))) ⌝ }
     ensures { λ r. ⌜ FaceStands np (now (points .exit)) (now (edges .exit)) (now (chain .exit)) (length (now (listed .entry))) r ⌝ }
 {
     let nf = sides.len() / 4;

@@ -11,7 +11,7 @@ use native.Mathlib.Omega.{arith}
 use lib.Dec.{ltb}
 use lib.Ieee.{Float}
 use lib.ListN.{getD, set}
-use Rattle.tables.specs.Mesh.{Mesh}
+use Rattle.tables.specs.Mesh.{Mesh, meshOf}
 use Rattle.audited_meshes.specs.Walks.{Walk, back, lost, passed, pointWalk}
 use Rattle.walks.specs.Steps.{pointTables, passedBy}
 use Rattle.walks.specs.declared.Passed.the-variants as Answers
@@ -19,7 +19,6 @@ use Rattle.built_meshes.specs.Whole.{noMissingFace, everyEdged, noMissedEdge, w
 use Rattle.built_meshes.specs.declared.Verdict.{Verdict}
 use Rattle.built_meshes.specs.declared.Verdict.the-variants.{Fit, Unfit}
 use Rattle.built_meshes.specs.declared.Ground.the-variants.{MissingFace, NoEdge, MissedEdge}
-use Rattle.edge_search.specs.Places.{mesh}
 
 passed-back : (w : Walk) (n : ℕ) → passedBy w ≡ Answers.Back n → passed w ≡ n
 passed-back (back es) n h = cc
@@ -52,7 +51,7 @@ wholeBy faces edged walks =
     cond (not faces) (Unfit MissingFace) (cond (not edged) (Unfit NoEdge) (cond (not walks) (Unfit MissedEdge) Fit))
 
 pub whole-is : (ps : List Float) (pts es : List ℕ) (is : List Float) (fs : List ℕ) (np ne : ℕ)
-    → wholeVerdict (mesh ps pts es is fs) np ne
+    → wholeVerdict (meshOf ps pts es is fs) np ne
     ≡ wholeBy (noMissingFace (pointTables [] es) ne) (everyEdged (pointTables pts []) np) (noMissedEdge (pointTables pts es) np ne)
 unfolding wholeVerdict noMissingFace everyEdged noMissedEdge pointWalk
 whole-is ps pts es is fs np ne = refl

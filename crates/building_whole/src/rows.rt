@@ -4,9 +4,8 @@ ghost use mathlib.Core.Bool.{_&&_};
 ghost use Prim.Native.Nat.{_*_, _≤_};
 ghost use lib.Dec.{leb};
 ghost use lib.ListN.{length};
-ghost use Rattle.tables.specs.Mesh.{Mesh};
+ghost use Rattle.tables.specs.Mesh.{Mesh, meshOf};
 ghost use Rattle.audited_meshes.specs.Audit.{pointRows, edgeRows, faceRows};
-ghost use Rattle.edge_search.specs.Places.{mesh};
 ghost use Rattle.building_whole.specs.Zeroing.{zeroedTo};
 use tables::edge_rows;
 use tables::face_rows;
@@ -25,7 +24,7 @@ pub fn rows_fit(
     nl: usize,
     nf: usize,
 ) -> bool
-    ensures { λ r. ⌜ _≡_ r (leb np (pointRows (mesh (now (positions .entry)) (now (points .entry)) (now (edges .entry)) (now (intervals .entry)) (now (faces .entry)))) && leb nf (faceRows (mesh (now (positions .entry)) (now (points .entry)) (now (edges .entry)) (now (intervals .entry)) (now (faces .entry)))) && leb nl (edgeRows (mesh (now (positions .entry)) (now (points .entry)) (now (edges .entry)) (now (intervals .entry)) (now (faces .entry))))) ⌝ }
+    ensures { λ r. ⌜ _≡_ r (leb np (pointRows (meshOf (now (positions .entry)) (now (points .entry)) (now (edges .entry)) (now (intervals .entry)) (now (faces .entry)))) && leb nf (faceRows (meshOf (now (positions .entry)) (now (points .entry)) (now (edges .entry)) (now (intervals .entry)) (now (faces .entry)))) && leb nl (edgeRows (meshOf (now (positions .entry)) (now (points .entry)) (now (edges .entry)) (now (intervals .entry)) (now (faces .entry))))) ⌝ }
 {
     if point_rows(positions, points) < np {
         return false;
@@ -52,7 +51,7 @@ pub fn zero_rows(
     requires { ⌜ nl * 8 ≤ length (now edges) ⌝ }
     requires { ⌜ nl ≤ length (now intervals) ⌝ }
     requires { ⌜ nf * 5 ≤ length (now faces) ⌝ }
-    ensures { λ _. ⌜ _≡_ {A = Mesh} (mesh (now (positions .exit)) (now (points .exit)) (now (edges .exit)) (now (intervals .exit)) (now (faces .exit))) (zeroedTo np nl nf (mesh (now (positions .entry)) (now (points .entry)) (now (edges .entry)) (now (intervals .entry)) (now (faces .entry)))) ⌝ }
+    ensures { λ _. ⌜ _≡_ {A = Mesh} (meshOf (now (positions .exit)) (now (points .exit)) (now (edges .exit)) (now (intervals .exit)) (now (faces .exit))) (zeroedTo np nl nf (meshOf (now (positions .entry)) (now (points .entry)) (now (edges .entry)) (now (intervals .entry)) (now (faces .entry)))) ⌝ }
 {
     zero_numbers(positions, np * 3);
     zero_words(points, np * 3);

@@ -6,11 +6,10 @@ ghost use Prim.Native.Nat.{ℕ, _+_, _*_, _≤_};
 ghost use lib.Dec.{ltb};
 ghost use lib.Ieee.{Float};
 ghost use lib.ListN.{length};
-ghost use Rattle.tables.specs.Mesh.{valence};
+ghost use Rattle.tables.specs.Mesh.{valence, meshOf};
 ghost use Rattle.audited_meshes.specs.Walks.{passed, pointWalk};
 ghost use Rattle.built_meshes.specs.Whole.{noMissingFace, everyEdged, noMissedEdge, wholeVerdict, markOf, marked};
 ghost use Rattle.walks.specs.Steps.{pointTables};
-ghost use Rattle.edge_search.specs.Places.{mesh};
 use built_meshes::Ground;
 use built_meshes::Verdict;
 use t_spline::NONE;
@@ -81,7 +80,7 @@ pub fn no_missed_edge(points: &[u32], edges: &[u32], np: usize, ne: usize) -> bo
 pub fn whole_verdict(points: &[u32], edges: &[u32], np: usize, ne: usize) -> Verdict
     requires { ⌜ np * 3 ≤ length (now points) ⌝ }
     requires { ⌜ ne * 8 ≤ length (now edges) ⌝ }
-    ensures { λ r. ⌜ ((ps : List Float) (is : List Float) (fs : List ℕ) → r ≡ wholeVerdict (mesh ps (now (points .entry)) (now (edges .entry)) is fs) np ne) ⌝ }
+    ensures { λ r. ⌜ ((ps : List Float) (is : List Float) (fs : List ℕ) → r ≡ wholeVerdict (meshOf ps (now (points .entry)) (now (edges .entry)) is fs) np ne) ⌝ }
 {
     if !no_missing_face(edges, ne) {
         return Verdict::Unfit(Ground::MissingFace);

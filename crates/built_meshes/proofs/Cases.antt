@@ -6,7 +6,7 @@ use mathlib.Core.List.{List, [], _∷_, _++_}
 use Prim.Native.Nat.{ℕ, zero, suc, _*_}
 use lib.ListN.{replicate}
 use lib.Ieee.{Float, nan, inf, ofBits, neg, add, sub, le, lt, binary64}
-use Rattle.t_spline.specs.Connect.{linksOf}
+use Rattle.edge_links.specs.Connect.{linksOf}
 use Rattle.tables.specs.Mesh.{Mesh, none}
 use Rattle.built_meshes.specs.Lists.{Lists, Limits, general, refine}
 use Rattle.built_meshes.specs.Building.{build}

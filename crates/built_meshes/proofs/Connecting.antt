@@ -18,14 +18,14 @@ use lib.Seq.{getD-set-same, getD-set-other}
 use borrow.Author.Tests.{eqb-true, eqb-false, eq-eqb, ne-eqb}
 use Rattle.t_spline.specs.Connection.{indexOf, connectionAt}
 use Rattle.t_spline.specs.Edge.{none, connectionOf, withConnection, acwOnSide, cwOnSide, faceFromSide, sameFace}
-use Rattle.t_spline.specs.Connect.{linksOf, vertexState, linked, served, connected}
+use Rattle.edge_links.specs.Connect.{linksOf, vertexState, linked, served, connected}
 use Rattle.t_spline.specs.declared.TnurccEdge.{TnurccEdge}
 use Rattle.t_spline.specs.declared.TnurccConnection.{TnurccConnection}
 use Rattle.t_spline.specs.declared.TnurccFaceSide.{TnurccFaceSide}
 use Rattle.t_spline.specs.declared.TnurccFaceSide.the-variants.{Left, Right}
-use Rattle.t_spline.specs.declared.Links.{Links}
-use Rattle.t_spline.specs.declared.Links.the-variants.{Both, Mismatch}
-use Rattle.t_spline.specs.declared.Pair.{Pair}
+use Rattle.edge_links.specs.declared.Links.{Links}
+use Rattle.edge_links.specs.declared.Links.the-variants.{Both, Mismatch}
+use Rattle.edge_links.specs.declared.Pair.{Pair}
 use Rattle.t_spline.proofs.Laws.{index-below, connection-at-index}
 
 abbrev pub firstOf : TnurccFaceSide → TnurccEdge → ℕ

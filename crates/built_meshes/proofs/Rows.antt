@@ -11,7 +11,7 @@ use lib.ListN.{length, getD, set, length-set}
 use lib.Seq.{getD-set-same, getD-set-other}
 use lib.Ieee.{Float, nan}
 use Rattle.t_spline.specs.declared.TnurccEdge.{TnurccEdge}
-use Rattle.t_spline.specs.declared.Pair.{Pair}
+use Rattle.edge_links.specs.declared.Pair.{Pair}
 use Rattle.tables.specs.Mesh.{Mesh, none, valence, start, faceStart, corner}
 use Rattle.tables.specs.Rows.{putRow}
 use Rattle.tables.specs.Records.{edgeAt, edgeWords, faceWords}

@@ -16,11 +16,11 @@ use position_rules::places::load_face_point;
 use positions::Placed;
 use positions::Position;
 use positions::is_small;
+use records::load_edge;
+use records::load_position;
 use t_spline::TnurccConnection;
 use t_spline::TnurccEdge;
 use tables::index;
-use tables::load_edge;
-use tables::load_position;
 
 // A part of a denominator, 0 if the denominator is small.
 fn share(a: f64, den: f64) -> f64

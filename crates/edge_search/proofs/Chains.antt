@@ -22,7 +22,7 @@ use lib.Ieee.{Float}
 use lib.ListN.{length, getD, set}
 use lib.Seq.{getD-set-other}
 use borrow.Author.Tests.{eqb-true, eq-eqb, ne-eqb}
-use Rattle.tables.specs.Mesh.{Mesh, none, origin, dest}
+use Rattle.tables.specs.Mesh.{Mesh, none, origin, dest, meshOf}
 use Rattle.audited_meshes.specs.Walks.{touches}
 use Rattle.built_meshes.specs.declared.Found.{Found}
 use Rattle.built_meshes.specs.declared.Found.the-variants.{At, Nothing}
@@ -30,7 +30,7 @@ use Rattle.built_meshes.specs.declared.Ground.the-variants.{EdgeTripleFace, Sam
 use Rattle.built_meshes.specs.Edges.{joins, orLast, edgeBetween, newEdge, enteredAt, enteredIf, entered, filled}
 use Rattle.built_meshes.proofs.Entering.{Finds, finds, finds-none, found-is}
 use Rattle.edge_search.specs.Chains.{edgeTable, linkTo, SameEnds, Newest, olderLink, Chained, Standing}
-use Rattle.edge_search.specs.Places.{mesh, EnteredBy, FilledBy, StandingAfter}
+use Rattle.edge_search.specs.Places.{EnteredBy, FilledBy, StandingAfter}
 use Rattle.edge_search.specs.declared.Entry.{Entry}
 use Rattle.edge_search.specs.declared.Entry.the-variants.{Made, Refused}
 
@@ -213,15 +213,15 @@ module _ (es : List ℕ) (k f e p : ℕ) where
 
 module _ (pts es : List ℕ) (is : List Float) (k f p q : ℕ) (v : Float) where
   pub entered-found : (e : ℕ) (r : Entry) (new : List ℕ) → edgeBetween (edgeTable es) k p q ≡ At e → FilledBy es k f e p r new
-      → (ps : List Float) (fs : List ℕ) → EnteredBy r (mesh ps pts es is fs) (mesh ps pts new is fs) k f p q v
+      → (ps : List Float) (fs : List ℕ) → EnteredBy r (meshOf ps pts es is fs) (meshOf ps pts new is fs) k f p q v
   unfolding entered enteredIf
   entered-found e r new found h ps fs =
-      rw (edgeBetween-table (mesh ps pts es is fs) k p q ∙ found) (h .filled (mesh ps pts es is fs) refl)
+      rw (edgeBetween-table (meshOf ps pts es is fs) k p q ∙ found) (h .filled (meshOf ps pts es is fs) refl)
 
   pub entered-new : (ps : List Float) (fs : List ℕ) (n : Mesh) → edgeBetween (edgeTable es) k p q ≡ Nothing
-      → n ≡ newEdge (mesh ps pts es is fs) k f p q v → EnteredBy (Made (k + 1) k) (mesh ps pts es is fs) n k f p q v
+      → n ≡ newEdge (meshOf ps pts es is fs) k f p q v → EnteredBy (Made (k + 1) k) (meshOf ps pts es is fs) n k f p q v
   unfolding entered enteredIf
-  entered-new ps fs n found made = rw (edgeBetween-table (mesh ps pts es is fs) k p q ∙ found, made, add-one k)
+  entered-new ps fs n found made = rw (edgeBetween-table (meshOf ps pts es is fs) k p q ∙ found, made, add-one k)
 
 pub standing-filled : (np : ℕ) (pts es ch new : List ℕ) (k f e p : ℕ) (r : Entry) → FilledBy es k f e p r new → length new ≡ length es
     → Standing np pts es ch k → StandingAfter np pts new ch r

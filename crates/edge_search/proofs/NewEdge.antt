@@ -15,14 +15,13 @@ use lib.Ieee.{Float}
 use lib.ListN.{length, getD, set, length-set}
 use lib.Seq.{getD-set-same, getD-set-other}
 use borrow.Author.Tests.{eq-eqb, ne-eqb}
-use Rattle.tables.specs.Mesh.{Mesh, origin, dest}
+use Rattle.tables.specs.Mesh.{Mesh, origin, dest, meshOf}
 use Rattle.tables.specs.Rows.{putRow}
 use Rattle.tables.specs.Records.{edgeWords}
 use Rattle.tables.proofs.Laws.{length-putRow, getD-putRow, getD-putRow-before}
 use Rattle.audited_meshes.specs.Walks.{touches}
 use Rattle.built_meshes.specs.Edges.{edgeOf, touched, newEdge}
 use Rattle.edge_search.specs.Chains.{edgeTable, Newest, chainedEdge, Standing, Room}
-use Rattle.edge_search.specs.Places.{mesh}
 use Rattle.edge_search.proofs.Chains.{newest-kept, newest-more, newest-top}
 
 pub length-touched : (ws : List ℕ) (p e : ℕ) → length (touched ws p e) ≡ length ws
@@ -202,7 +201,7 @@ module _ (np : ℕ) (pts es : List ℕ) (is : List Float) (ch : List ℕ) (k f p
   module _ (one two new : List ℕ) (row : ℕ) (beside : List Float) (links : List ℕ) (a : one ≡ touched pts p k) (b : two ≡ touched one q k)
       (s : row ≡ k) (c : new ≡ putRow es (row * 8) (edgeWords (edgeOf k f p q v))) (d : beside ≡ set is row v)
       (e : links ≡ chainedEdge np ch k p q) where
-    pub made-mesh : (ps : List Float) (fs : List ℕ) → _≡_ {A = Mesh} (mesh ps two new beside fs) (newEdge (mesh ps pts es is fs) k f p q v)
+    pub made-mesh : (ps : List Float) (fs : List ℕ) → _≡_ {A = Mesh} (meshOf ps two new beside fs) (newEdge (meshOf ps pts es is fs) k f p q v)
     unfolding newEdge
     made-mesh ps fs = rw (c, d, b, a, s)
 

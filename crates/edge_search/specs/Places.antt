@@ -1,5 +1,4 @@
 -- One place of a perimeter, as the code answers it.
---     mesh                    the mesh whose tables are these lists
 --     Place                   the tables when a place is entered, how many edges they hold, and the place's edge
 --     placeOf m r             the place that an entry made, or its ground, with the tables as they stand then
 --     entering m x            the same of the definition's answer x, from the tables m
@@ -17,9 +16,6 @@ use Rattle.built_meshes.specs.Edges.{Entered, at, refused, enteredAt, entered, 
 use Rattle.edge_search.specs.Chains.{Standing, SameEnds}
 use Rattle.edge_search.specs.declared.Entry.{Entry}
 use Rattle.edge_search.specs.declared.Entry.the-variants.{Made, Refused}
-
-abbrev pub mesh : List Float → List ℕ → List ℕ → List Float → List ℕ → Mesh
-mesh ps pts es is fs = record { positions = ps; points = pts; edges = es; intervals = is; faces = fs }
 
 pub record Place : Type 0 where
   pub mesh : Mesh

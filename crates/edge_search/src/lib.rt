@@ -11,16 +11,16 @@ ghost use Prim.Native.Nat.{ℕ, _+_, _*_, _≤_, _<_};
 ghost use lib.Dec.{eqb};
 ghost use lib.Ieee.{Float};
 ghost use lib.ListN.{length, getD};
-ghost use Rattle.tables.specs.Mesh.{Mesh};
+ghost use Rattle.tables.specs.Mesh.{Mesh, meshOf};
 ghost use Rattle.built_meshes.specs.Edges.{joins, edgeBetween, touched, newEdge};
 ghost use Rattle.edge_search.specs.Chains.{edgeTable, linkTo, Newest, olderLink, chainedEdge, Chained, Standing, Room};
-ghost use Rattle.edge_search.specs.Places.{mesh, EnteredBy, FilledBy, StandingAfter};
+ghost use Rattle.edge_search.specs.Places.{EnteredBy, FilledBy, StandingAfter};
 use built_meshes::Found;
 use built_meshes::Ground;
+use records::store_edge;
 use t_spline::NONE;
 use t_spline::TnurccEdge;
 use tables::index;
-use tables::store_edge;
 
 // What entering a place of a perimeter answers: how many edges there are then and the place's edge, or the ground.
 pub enum Entry {
@@ -170,7 +170,7 @@ fn make_edge(
     requires { ⌜ Room np (now edges) (now intervals) (now chain) k ⌝ }
     requires { ⌜ p < np ⌝ }
     requires { ⌜ q < np ⌝ }
-    ensures { λ _. ⌜ ((ps : List Float) (fs : List ℕ) → _≡_ {A = Mesh} (mesh ps (now (points .exit)) (now (edges .exit)) (now (intervals .exit)) fs) (newEdge (mesh ps (now (points .entry)) (now (edges .entry)) (now (intervals .entry)) fs) k f p q v)) ⌝ }
+    ensures { λ _. ⌜ ((ps : List Float) (fs : List ℕ) → _≡_ {A = Mesh} (meshOf ps (now (points .exit)) (now (edges .exit)) (now (intervals .exit)) fs) (newEdge (meshOf ps (now (points .entry)) (now (edges .entry)) (now (intervals .entry)) fs) k f p q v)) ⌝ }
     ensures { λ _. ⌜ Standing np (now (points .exit)) (now (edges .exit)) (now (chain .exit)) (k + 1) ⌝ }
 {
     chain_edge(chain, np, k, p, q);
@@ -224,7 +224,7 @@ pub fn enter(
     requires { ⌜ Room np (now edges) (now intervals) (now chain) k ⌝ }
     requires { ⌜ p < np ⌝ }
     requires { ⌜ q < np ⌝ }
-    ensures { λ r. ⌜ ((ps : List Float) (fs : List ℕ) → EnteredBy r (mesh ps (now (points .entry)) (now (edges .entry)) (now (intervals .entry)) fs) (mesh ps (now (points .exit)) (now (edges .exit)) (now (intervals .exit)) fs) k f p q v) ⌝ }
+    ensures { λ r. ⌜ ((ps : List Float) (fs : List ℕ) → EnteredBy r (meshOf ps (now (points .entry)) (now (edges .entry)) (now (intervals .entry)) fs) (meshOf ps (now (points .exit)) (now (edges .exit)) (now (intervals .exit)) fs) k f p q v) ⌝ }
     ensures { λ r. ⌜ StandingAfter np (now (points .exit)) (now (edges .exit)) (now (chain .exit)) r ⌝ }
 {
     match find_edge(points, edges, chain, np, k, p, q) {

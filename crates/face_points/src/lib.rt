@@ -15,8 +15,8 @@ use position_rules::intervals::a2;
 use position_rules::intervals::c2;
 use positions::Placed;
 use positions::Position;
+use records::load_position;
 use tables::index;
-use tables::load_position;
 use walks::t_nurcc_face::put_border;
 
 // The interval of an edge, and those after two steps anticlockwise and two steps clockwise about one of its points.

@@ -13,7 +13,7 @@ use Rattle.position_rules.specs.Intervals.{acwAbout, cwAbout, threeTerms}
 use Rattle.position_rules.specs.FacePoint.{sixTerms, windowWeight, windowSum, facePoint, facePointAbout, facePointOf}
 use Rattle.position_rules.specs.EdgePoint.{shares, edgeMiddle, edgePoint}
 use Rattle.position_rules.specs.OldPoint.{radialEdge, edgeWeight, faceWeight, radialTerms, radialSum, oldPoint}
-use Rattle.t_spline.specs.Connect.{linksOf}
+use Rattle.edge_links.specs.Connect.{linksOf}
 use Rattle.built_meshes.specs.Building.{build}
 use Rattle.steps.specs.Step.{step}
 use Rattle.runs.specs.Runs.{numbered}

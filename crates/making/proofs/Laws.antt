@@ -7,7 +7,7 @@ use Prim.Native.Nat.{ℕ, _+_, _*_, _≤_, _<_}
 use native.Mathlib.Omega.{arith}
 use lib.ListN.{length, getD}
 use lib.Ieee.{Float}
-use Rattle.tables.specs.Mesh.{Mesh, none, dest, corner}
+use Rattle.tables.specs.Mesh.{Mesh, none, dest, corner, meshOf}
 use Rattle.tables.specs.declared.Counts.{Counts}
 use Rattle.audited_meshes.specs.Audited.{Audited}
 use Rattle.audited_meshes.specs.Rows.{HoldsClosed}
@@ -15,9 +15,9 @@ use Rattle.audited_meshes.proofs.Audited.{audit-is-audited}
 use Rattle.audited_meshes.proofs.Holds.{audit-is-closed}
 use Rattle.closed_meshes.specs.Refinement.{mid, facePoint}
 use Rattle.walks.specs.Steps.{faceTables}
-use Rattle.visiting.specs.Visiting.{Holds, Fits, meshOf as meshWith}
+use Rattle.visiting.specs.Visiting.{Holds, Fits}
 use Rattle.visiting.proofs.Fitting.{holds-of-closed, holds-of-rows, fits-of-closed}
-use Rattle.refined_meshes.specs.State.{State, meshOf, copied}
+use Rattle.refined_meshes.specs.State.{State, withPositions, copied}
 use Rattle.refined_meshes.specs.Refines.{Refines}
 use Rattle.refined_meshes.specs.Visits.{refinedRows}
 use Rattle.refined_meshes.proofs.Refines.{visits-refine}
@@ -38,7 +38,7 @@ module _ (m : Mesh) (c : Counts) (order : List ℕ) (t : Mesh) (ready : Ready m 
   audited : Audited m (c .points) (c .edges) (c .faces)
   audited = audit-is-audited m (c .points) (c .edges) (c .faces) .0 (ready .closed)
 
-  refines : (ps : List Float) → Refines m (holds .mesh) (holds .closed) order (meshOf ps rowsMade)
+  refines : (ps : List Float) → Refines m (holds .mesh) (holds .closed) order (withPositions ps rowsMade)
   refines ps =
       visits-refine m (c .points) (c .edges) (c .faces) holds order (ready .once) t (ready .points-room) (ready .edges-room) (ready .faces-room) ps
 
@@ -46,20 +46,20 @@ module _ (m : Mesh) (c : Counts) (order : List ℕ) (t : Mesh) (ready : Ready m 
   few-faces = omega (arith, ready .ceilings .points)
 
   -- What the visits ask: they look at no position.
-  pub old-rows-hold : Holds (meshWith [] (m .points) (m .edges) (m .intervals) (m .faces)) (c .points) (c .edges) (c .faces)
+  pub old-rows-hold : Holds (meshOf [] (m .points) (m .edges) (m .intervals) (m .faces)) (c .points) (c .edges) (c .faces)
   old-rows-hold =
       let h = holds-of-closed m (c .points) (c .edges) (c .faces) holds in
       record { points = h .points; edges = h .edges; intervals = h .intervals; faces = h .faces }
 
-  pub new-rows-hold : Holds (meshWith [] (t .points) (t .edges) (t .intervals) (t .faces)) (c .points) (c .edges) (c .faces)
+  pub new-rows-hold : Holds (meshOf [] (t .points) (t .edges) (t .intervals) (t .faces)) (c .points) (c .edges) (c .faces)
   new-rows-hold =
       let h = holds-of-rows m (c .points) (c .edges) (c .faces) holds order (ready .once) t (ready .points-room) (ready .edges-room) (ready .faces-room) in
       record { points = h .points; edges = h .edges; intervals = h .intervals; faces = h .faces }
 
   pub visits-fit :
       Fits (faceTables (m .edges) (m .faces)) (c .points) (c .edges) (c .faces) order
-      (copied (meshWith [] (m .points) (m .edges) (m .intervals) (m .faces)) (c .points) (c .edges) (c .faces)
-      (meshWith [] (t .points) (t .edges) (t .intervals) (t .faces)))
+      (copied (meshOf [] (m .points) (m .edges) (m .intervals) (m .faces)) (c .points) (c .edges) (c .faces)
+      (meshOf [] (t .points) (t .edges) (t .intervals) (t .faces)))
   unfolding copied
   visits-fit =
       fits-of-closed m (c .points) (c .edges) (c .faces) holds order (ready .once) t (ready .points-room) (ready .edges-room) (ready .faces-room)
@@ -71,14 +71,14 @@ module _ (m : Mesh) (c : Counts) (order : List ℕ) (t : Mesh) (ready : Ready m 
     face-place : (f : ℕ) → f < c .faces → getD (s .faces) (f * 5 + 1) 0 < c .points + c .edges + c .faces
     face-place f l =
         let r = refines places in
-        let row : corner (meshOf places rowsMade) f 0 ≡ r .numbering .points .to (facePoint (f, l)) .0 = r .centre-row (f, l) in
+        let row : corner (withPositions places rowsMade) f 0 ≡ r .numbering .points .to (facePoint (f, l)) .0 = r .centre-row (f, l) in
         let at : getD (s .faces) (f * 5 + 1) 0 ≡ r .numbering .points .to (facePoint (f, l)) .0 = rw same row in
         omega (arith, r .numbering .points .to (facePoint (f, l)) .1)
 
     edge-place : (e : ℕ) → e < c .edges → getD (s .edges) (e * 8 + 1) 0 < c .points + c .edges + c .faces
     edge-place e l =
         let r = refines places in
-        let row : dest (meshOf places rowsMade) e ≡ r .numbering .points .to (mid (e, l)) .0 = r .mid-row (e, l) in
+        let row : dest (withPositions places rowsMade) e ≡ r .numbering .points .to (mid (e, l)) .0 = r .mid-row (e, l) in
         let at : getD (s .edges) (e * 8 + 1) 0 ≡ r .numbering .points .to (mid (e, l)) .0 = rw same row in
         omega (arith, r .numbering .points .to (mid (e, l)) .1)
 
@@ -119,10 +119,10 @@ module _ (m : Mesh) (c : Counts) (order : List ℕ) (t : Mesh) (ready : Ready m 
 -- The visits made the rows s, and the loops over the points came so far.
 pub made-of-parts : (m : Mesh) (c : Counts) (order : List ℕ) (t : Mesh) (s : State) (r : Bool) (ps : List Float)
     → s ≡ refinedRows m (c .points) (c .edges) (c .faces) order t
-    → placedAll m c (rowsOf (s .edges) (s .faces)) (t .positions) ≡ came r ps → made m c order t ≡ madeAs r (meshOf ps s)
+    → placedAll m c (rowsOf (s .edges) (s .faces)) (t .positions) ≡ came r ps → made m c order t ≡ madeAs r (withPositions ps s)
 unfolding made placedRows placedAll
 made-of-parts m c order t s r ps e p = ap (λ (q : State). madeOf q (placedAll m c q (t .positions))) (sym e) ∙ ap (madeOf s) p ∙ last r
   where
-    last : (r : Bool) → madeOf s (came r ps) ≡ madeAs r (meshOf ps s)
+    last : (r : Bool) → madeOf s (came r ps) ≡ madeAs r (withPositions ps s)
     last true = refl
     last false = refl

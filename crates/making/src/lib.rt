@@ -3,8 +3,9 @@
 // Not here: whether a step may be made, and the tables written back (`refining`).
 // Definitions: `steps`, specs/Step.antt, `made`; what must hold: specs/Making.antt.
 ghost use mathlib.Core.Path.{_≡_};
-ghost use Rattle.steps.specs.Step.{made};
-ghost use Rattle.visiting.specs.Visiting.{meshOf};
+ghost use Rattle.steps.specs.Step.{firstRows, zeroedRows, made};
+ghost use Rattle.steps.specs.Rows.{Room};
+ghost use Rattle.tables.specs.Mesh.{meshOf};
 ghost use Rattle.making.specs.Making.{Ready, madeAs};
 use placing::place_all;
 use tables::Counts;
@@ -59,5 +60,57 @@ pub fn make(
         halves,
         quads,
         places,
+    )
+}
+
+// Makes the refined mesh, of the counts c, in the first rows of the scratch tables, and says whether all its positions are finite.
+// Further rows are not touched.
+pub fn make_in_rows(
+    positions: &[f64],
+    points: &[u32],
+    edges: &[u32],
+    intervals: &[f64],
+    faces: &[u32],
+    counts: Counts,
+    order: &[u32],
+    c: Counts,
+    places: &mut [f64],
+    rows: &mut [u32],
+    halves: &mut [u32],
+    lengths: &mut [f64],
+    quads: &mut [u32],
+) -> bool
+    requires { ⌜ Room c (meshOf (now places) (now rows) (now halves) (now lengths) (now quads)) ⌝ }
+    requires { ⌜
+        Ready (meshOf (now positions) (now points) (now edges) (now intervals) (now faces)) counts (now order)
+        (firstRows c (meshOf (now places) (now rows) (now halves) (now lengths) (now quads))) ⌝ }
+    ensures { λ r. ⌜
+        made
+        (meshOf (now (positions .entry)) (now (points .entry)) (now (edges .entry)) (now (intervals .entry)) (now (faces .entry)))
+        counts
+        (now (order .entry))
+        (firstRows c (meshOf (now (places .entry)) (now (rows .entry)) (now (halves .entry)) (now (lengths .entry)) (now (quads .entry))))
+        ≡ madeAs r (firstRows c (meshOf (now (places .exit)) (now (rows .exit)) (now (halves .exit)) (now (lengths .exit)) (now (quads .exit)))) ⌝ }
+    ensures { λ _. ⌜
+        zeroedRows c (meshOf (now (places .exit)) (now (rows .exit)) (now (halves .exit)) (now (lengths .exit)) (now (quads .exit)))
+        ≡ zeroedRows c (meshOf (now (places .entry)) (now (rows .entry)) (now (halves .entry)) (now (lengths .entry)) (now (quads .entry))) ⌝ }
+{
+    let p = c.points * 3;
+    let e = c.edges * 8;
+    let i = c.edges;
+    let f = c.faces * 5;
+    make(
+        positions,
+        points,
+        edges,
+        intervals,
+        faces,
+        counts,
+        order,
+        &mut places[..p],
+        &mut rows[..p],
+        &mut halves[..e],
+        &mut lengths[..i],
+        &mut quads[..f],
     )
 }

@@ -1,4 +1,2 @@
-pub mod Cases
-pub mod Laws
-pub mod Answers
+mod Cases
 pub mod Read

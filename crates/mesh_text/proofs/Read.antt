@@ -13,12 +13,13 @@ use lib.ListN.{length, length-append, length-map}
 use Rattle.text_numbers.specs.Form.{Found, found, none, Form, onward, _>>=_, pure, choose, stands, literal, many, bytes}
 use Rattle.text_numbers.specs.Numbers.{float}
 use Rattle.text_numbers.proofs.Laws.{total, onward-found}
-use Rattle.mesh_text.specs.Text.{Listed, Mesh, point, face, ends, mesh, text}
-use Rattle.mesh_text.specs.Reading.{flat, sidePoints, sideIntervals, coordinates, lengths, listedPoints, intervals, counts, Lists, filled, within, readInto}
+use Rattle.mesh_lines.specs.Grammar.{Listed, point, face, flat, sidePoints, sideIntervals}
+use Rattle.mesh_text.specs.Text.{Mesh, ends, mesh, text}
+use Rattle.mesh_text.specs.Reading.{coordinates, lengths, listedPoints, intervals, counts, Lists, filled, within, readInto}
 use Rattle.mesh_text.specs.declared.Counts.{Counts}
 use Rattle.mesh_text.specs.declared.Reading.{Reading}
 use Rattle.mesh_text.specs.declared.Reading.the-variants as Reading
-use Rattle.mesh_text.proofs.Laws.{same-count, length-point, length-face}
+use Rattle.mesh_lines.proofs.Laws.{same-count, length-point, length-face}
 
 pub record ReadText (s : List ℕ) (limits : Counts) (l : Lists) (c : Counts) : Type 0 where
   pub what : Mesh

@@ -1,11 +1,10 @@
 -- What reading a text answers, and what it leaves in the lent lists.
---     flat f l                     the lists of l's elements joined
 --     coordinates lengths listedPoints intervals m   the four lists that a text stands for
 --     counts m                     how many points, faces and listed points
 --     Lists                        the four lent lists
 --     within c limits xs ls ps ds  the counts are within the limits and the rooms of the lists
 --     readInto s limits l          the answer, and the lists after it
-use mathlib.Core.List.{List, [], _∷_, _++_, map}
+use mathlib.Core.List.{List, map}
 use mathlib.Core.Bool.{Bool, _&&_, cond}
 use Prim.Native.Nat.{ℕ, _*_}
 use lib.ListN.{length}
@@ -14,20 +13,11 @@ use lib.Dec.{leb}
 use lib.Ieee.{Float}
 use Rattle.text_numbers.specs.Numbers.{float}
 use Rattle.text_numbers.specs.Form.{given}
-use Rattle.mesh_text.specs.Text.{Mesh, Listed, text}
+use Rattle.mesh_lines.specs.Grammar.{flat, sidePoints, sideIntervals}
+use Rattle.mesh_text.specs.Text.{Mesh, text}
 use Rattle.mesh_text.specs.declared.Counts.{Counts}
 use Rattle.mesh_text.specs.declared.Reading.{Reading}
 use Rattle.mesh_text.specs.declared.Reading.the-variants as Reading
-
-unfoldable pub flat : {A B : Type 0} → (A → List B) → List A → List B
-flat f [] = []
-flat f (a ∷ l) = f a ++ flat f l
-
-abbrev pub sidePoints : List Listed → List ℕ
-sidePoints ps = map (λ (p : Listed). p .point) ps
-
-abbrev pub sideIntervals : List Listed → List Float
-sideIntervals ps = map (λ (p : Listed). float (p .interval)) ps
 
 abbrev pub coordinates : Mesh → List Float
 coordinates m = flat (map float) (m .points)

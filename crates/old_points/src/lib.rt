@@ -22,9 +22,9 @@ use position_rules::places::load_face_point;
 use positions::Placed;
 use positions::Position;
 use positions::is_small;
+use records::load_edge;
+use records::load_point;
 use tables::index;
-use tables::load_edge;
-use tables::load_point;
 
 // 0.5 (A1 + C1) (A2 + C2) of edge r about p.
 fn edge_weight(edges: &[u32], intervals: &[f64], p: usize, r: usize) -> f64

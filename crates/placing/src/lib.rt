@@ -17,9 +17,9 @@ use face_points::face_point;
 use old_points::old_point;
 use positions::Placed;
 use positions::Position;
+use records::store_position;
 use tables::Counts;
 use tables::index;
-use tables::store_position;
 
 // Puts the face points of the first nf faces into their rows, and says whether all are finite.
 pub fn place_face_points(

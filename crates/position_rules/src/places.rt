@@ -5,8 +5,8 @@ ghost use Prim.Native.Nat.{_+_, _*_, _≤_};
 ghost use lib.ListN.{getD, length};
 ghost use Rattle.position_rules.specs.Places.{edgePointAt, facePointAt};
 use positions::Position;
+use records::load_position;
 use tables::index;
-use tables::load_position;
 
 // The edge point of edge e.
 pub fn load_edge_point(places: &[f64], halves: &[u32], e: usize) -> Position

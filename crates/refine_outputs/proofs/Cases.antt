@@ -5,8 +5,8 @@ use mathlib.Core.List.{[], _∷_, map}
 use lib.Ieee.{add, div, le, lt, mul, neg, ofBits, ofInt, sub, toBits}
 use Rattle.text_numbers.specs.Form.{bytes, literal, many, stands, times}
 use Rattle.text_numbers.specs.Numbers.{bits, decimal, decimalFrom, digit, digitValue, digits, value}
-use Rattle.mesh_text.specs.Text.{coordinate, ends, face, listed, mesh, point, side, text}
-use Rattle.mesh_text.specs.Reading.{flat}
+use Rattle.mesh_lines.specs.Grammar.{coordinate, face, listed, point, side, flat}
+use Rattle.mesh_text.specs.Text.{ends, mesh, text}
 use Rattle.mesh_answers.specs.Lines.{decimalDigits, hexByte, hexBytes}
 use Rattle.refine_outputs.specs.Output.{output}
 use Rattle.tables.specs.Rows.{over, zeroed}
@@ -21,7 +21,7 @@ use Rattle.position_rules.specs.Intervals.{acwAbout, cwAbout, threeTerms}
 use Rattle.position_rules.specs.FacePoint.{facePoint, facePointAbout, facePointOf, sixTerms, windowSum, windowWeight}
 use Rattle.position_rules.specs.EdgePoint.{edgeMiddle, edgePoint, shares}
 use Rattle.position_rules.specs.OldPoint.{edgeWeight, faceWeight, oldPoint, radialEdge, radialSum, radialTerms}
-use Rattle.t_spline.specs.Connect.{linksOf}
+use Rattle.edge_links.specs.Connect.{linksOf}
 use Rattle.built_meshes.specs.Building.{build}
 use Rattle.steps.specs.Step.{step}
 use Rattle.runs.specs.Runs.{numbered}

@@ -7,7 +7,7 @@ use native.Mathlib.Omega.{arith}
 use lib.ListN.{length, take, replicate}
 use lib.Ieee.{ofBits, binary64}
 use borrow.Author.Tests.{le-leb, lt-leb}
-use Rattle.tables.specs.Mesh.{Mesh}
+use Rattle.tables.specs.Mesh.{Mesh, meshOf}
 use Rattle.tables.specs.declared.Counts.{Counts}
 use Rattle.built_meshes.specs.Answers.{numberOf}
 use Rattle.built_meshes.specs.declared.Ground.{Ground}
@@ -19,7 +19,6 @@ use Rattle.text_meshes.proofs.Theorem.{accepted-within}
 use Rattle.steps.specs.Step.{step}
 use Rattle.steps.specs.declared.Stepped.{Stepped}
 use Rattle.runs.specs.Runs.{numbered}
-use Rattle.visiting.specs.Visiting.{meshOf}
 use Rattle.text_numbers.specs.Form.{bytes}
 use Rattle.mesh_answers.specs.Lines.{meshLine, refusedLine, Written}
 use Rattle.mesh_answers.proofs.Laws.{written-append, length-counts}

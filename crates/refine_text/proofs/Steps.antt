@@ -4,11 +4,10 @@ use mathlib.Core.List.{List}
 use lib.ListN.{replicate}
 use lib.Ieee.{ofBits, binary64}
 use Prim.Native.Nat.{ℕ}
-use Rattle.tables.specs.Mesh.{Mesh}
+use Rattle.tables.specs.Mesh.{Mesh, meshOf}
 use Rattle.tables.specs.declared.Counts.{Counts}
 use Rattle.steps.specs.Step.{Outcome, step}
 use Rattle.steps.specs.declared.Stepped.{Stepped}
-use Rattle.visiting.specs.Visiting.{meshOf}
 use Rattle.refine_outputs.specs.Output.{lent}
 use Rattle.refine_text.specs.Parts.{SteppedTo}
 

@@ -8,7 +8,7 @@ ghost use mathlib.Core.Path.{_≡_};
 ghost use mathlib.Core.List.{_++_};
 ghost use Prim.Native.Nat.{_≤_};
 ghost use lib.ListN.{length};
-ghost use Rattle.visiting.specs.Visiting.{meshOf};
+ghost use Rattle.tables.specs.Mesh.{meshOf};
 ghost use Rattle.steps.specs.Step.{step};
 ghost use Rattle.mesh_answers.specs.Lines.{meshLine, Written};
 ghost use Rattle.refine_outputs.specs.Output.{lent, linesOf, numberedStep, outputFrom, Writing, refine};

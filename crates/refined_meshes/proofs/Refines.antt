@@ -21,7 +21,7 @@ use Rattle.closed_meshes.proofs.Isomorphisms.{onto}
 use Rattle.closed_meshes.proofs.NewDarts.{start-half, edge-start-half, face-start-half}
 use Rattle.tables.specs.Mesh.{Mesh, valence, start, mark, origin, dest, leftFace, rightFace, leftCw, leftAcw, rightCw, rightAcw, interval, faceStart, corner}
 use Rattle.audited_meshes.specs.Rows.{place as placeNo, cornerWord, Stands}
-use Rattle.refined_meshes.specs.State.{State, meshOf, copied}
+use Rattle.refined_meshes.specs.State.{State, withPositions, copied}
 use Rattle.refined_meshes.specs.Order.{EachOnce, turnIn}
 use Rattle.refined_meshes.specs.Visits.{refinedRows, visits}
 use Rattle.refined_meshes.specs.Refines.{Refines, StartOfOld, VisitsRefine}
@@ -143,7 +143,7 @@ module _
 
     module _ (ps : List Float) where
       abbrev m' : Mesh
-      m' = meshOf ps s
+      m' = withPositions ps s
 
       valence-kind : (x : NewPoint (Row np) (Row ne) (Row nf)) → pointOf s (pointNo c order x) .valence ≡ R .valence x
       valence-kind (old p) = unfold pointNo in h .content .old-point p .valence-kept
@@ -245,7 +245,7 @@ module _
     joint-is : (d : Dart (Row ne)) → joint m c by-turns d ≡ Claims.joint m t c order d
     joint-is d = rw (found-is (c .next d), found-is (c .prev d))
 
-    refines-of-arrived : (ps : List Float) → Refines m t c order (meshOf ps s)
+    refines-of-arrived : (ps : List Float) → Refines m t c order (withPositions ps s)
     unfolding points edges faces
     refines-of-arrived ps =
         record {
@@ -287,13 +287,13 @@ module _
             ap (λ w. w .corner0) (done (c .faceDart f) .new-face)
             ∙ (unfold faceAt in ap (λ g. pointNo c by-turns (facePoint g)) (c .about-faces .cls-start f))
 
-        centre : (f : Row nf) → corner (meshOf ps s) (f .0) 0 ≡ pointNo c by-turns (facePoint f)
+        centre : (f : Row nf) → corner (withPositions ps s) (f .0) 0 ≡ pointNo c by-turns (facePoint f)
         centre f = unfold faceOf in (ap (λ k. faceOf s k .corner0) (sym (first f)) ∙ corner-word f)
 
-        joined : (d : Dart (Row ne)) → interval (meshOf ps s) (edgeNo c by-turns (join d)) ≡ joint m c by-turns d
+        joined : (d : Dart (Row ne)) → interval (withPositions ps s) (edgeNo c by-turns (join d)) ≡ joint m c by-turns d
         joined d = unfold ends endsAt in ap (λ w. w .interval) (ends-final m stands c by-turns s h (join d))
 
-        centred : (f : Row nf) → start (meshOf ps s) (pointNo c by-turns (facePoint f)) ≡ edgeNo c by-turns (join (dartAt c f (c .size f - 1)))
+        centred : (f : Row nf) → start (withPositions ps s) (pointNo c by-turns (facePoint f)) ≡ edgeNo c by-turns (join (dartAt c f (c .size f - 1)))
         centred f = unfold pointOf centreAt in ap (λ w. w .start) (h .content .centre f (when-below c by-turns f))
 
         last : (f : Row nf) → dartAt c f (c .size f - 1) ≡ c .prev (c .faceDart f)
@@ -301,7 +301,7 @@ module _
 
         starts :
             (p : Row np) → Unchanged m c by-turns (Past c by-turns nf 0) s p ⊎ Latest m c by-turns (Past c by-turns nf 0) s p
-            → StartOfOld t (λ e. edgeNo c by-turns (dst e)) p (start m (p .0)) (start (meshOf ps s) (p .0))
+            → StartOfOld t (λ e. edgeNo c by-turns (dst e)) p (start m (p .0)) (start (withPositions ps s) (p .0))
         starts p (inl u) = inl (λ e q. u .none-split e q (past e), unfold pointOf in (u .start-kept ∙ sym (stands .start-stands p)))
         starts p (inr l) =
             inr

@@ -18,7 +18,7 @@ use Rattle.closed_meshes.specs.Renumbering.{Isomorphism, Touching, Row}
 use Rattle.tables.specs.Mesh.{Mesh, start, mark, dest, interval, faceStart, corner}
 use Rattle.audited_meshes.specs.Audit.{pointRows, edgeRows, faceRows}
 use Rattle.audited_meshes.specs.Rows.{Stands, HoldsClosed}
-use Rattle.refined_meshes.specs.State.{meshOf}
+use Rattle.refined_meshes.specs.State.{withPositions}
 use Rattle.refined_meshes.specs.Split.{half}
 use Rattle.refined_meshes.specs.Order.{EachOnce, turnIn}
 use Rattle.refined_meshes.specs.Visits.{refinedRows}
@@ -75,4 +75,4 @@ abbrev pub VisitsRefine : Type 0
 VisitsRefine =
     (m : Mesh) (np ne nf : ℕ) (h : HoldsClosed m np ne nf) (order : List ℕ) → EachOnce nf order → (t : Mesh)
     → np + ne + nf ≤ pointRows t → 4 * ne ≤ edgeRows t → 2 * ne ≤ faceRows t
-    → (ps : List Float) → Refines m (h .mesh) (h .closed) order (meshOf ps (refinedRows m np ne nf order t))
+    → (ps : List Float) → Refines m (h .mesh) (h .closed) order (withPositions ps (refinedRows m np ne nf order t))

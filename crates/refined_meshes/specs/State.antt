@@ -1,7 +1,7 @@
 -- The scratch tables while faces are visited: their rows, and how many rows of each kind are taken. Positions are no part of it: no
 -- visit reads or writes them, and they are put into their rows later.
 --     State                    the four tables and the rows taken so far
---     meshOf ps s              the five tables, with ps for positions
+--     withPositions ps s       the five tables, with ps for positions
 --     edgeOf s e               the edge in row e
 --     putEdge e r s            the edge r stored in row e
 --     putPoint p v e k s       valence v, start edge e and mark k stored in the row of point p
@@ -26,8 +26,8 @@ pub record State : Type 0 where
   pub edgesTaken : ℕ
   pub facesTaken : ℕ
 
-abbrev pub meshOf : List Float → State → Mesh
-meshOf ps s =
+abbrev pub withPositions : List Float → State → Mesh
+withPositions ps s =
     record { positions = ps; points = s .points; edges = s .edges; intervals = s .intervals; faces = s .faces }
 
 abbrev pub edgeOf : State → ℕ → TnurccEdge

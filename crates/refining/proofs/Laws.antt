@@ -1,66 +1,26 @@
--- The laws of a step: first rows worked on as parts of their own and put back, the tests in their order, the end. Assumes nothing.
+-- The laws of a step: from its tests to its end. Assumes nothing.
 use mathlib.Core.Path.{_≡_, refl, sym, _∙_, ap, subst}
 use mathlib.Core.Logic.{_≢_}
-use mathlib.Core.Bool.{Bool, true, false, _&&_, cond}
+use mathlib.Core.Bool.{Bool, true, false, cond}
 use mathlib.Core.List.{List, _++_}
-use Prim.Native.Nat.{ℕ, _+_, _*_, _<_}
-use lib.ListN.{length, getD, take, drop, replicate}
-use lib.Dec.{eqb, ltb}
+use Prim.Native.Nat.{ℕ, _*_}
+use lib.ListN.{length, take, drop}
 use native.Mathlib.Omega.{arith}
-use lib.Seq.{take-at, drop-at, take-take}
-use lib.Ieee.{Float}
+use lib.Seq.{take-take}
 use native.Mathlib.Nat.{le-refl}
 use Rattle.tables.specs.Mesh.{Mesh}
-use Rattle.tables.specs.Rows.{over, zeroed}
+use Rattle.tables.specs.Rows.{over}
 use Rattle.tables.specs.declared.Counts.{Counts}
-use Rattle.visiting.specs.Visiting.{meshOf}
 use Rattle.audited_meshes.specs.Audit.{audit}
-use Rattle.audited_meshes.specs.Folds.{every, distinct}
-use Rattle.audited_meshes.proofs.Audited.{audit-is-audited}
 use Rattle.steps.specs.declared.Stepped.the-variants.{Refined, NotClosed, NotEachFaceOnce, NoRoom, NotFinite}
-use Rattle.steps.specs.Step.{Made, whole, notFinite, Outcome, refusal, ended, firstRows, zeroedRows, overRows, refinedCounts, eachFaceOnce, rowsFor, withinCeilings, roomFor, stepIf, step}
+use Rattle.steps.specs.Step.{Made, whole, notFinite, Outcome, refusal, ended, firstRows, zeroedRows, overRows, refinedCounts, eachFaceOnce, roomFor, stepIf, step}
 use Rattle.steps.specs.declared.Stepped.{Stepped}
 use Rattle.steps.specs.Rows.{Room}
 use Rattle.steps.proofs.Rows.{room-of-holds, holds-firstRows, room-firstRows, points-fit, edges-fit, faces-fit}
 use Rattle.steps.proofs.Grounds.{eachFaceOnce-is, rooms-of-test, step-is}
 use Rattle.audited_meshes.proofs.Holds.{audit-is-closed}
-use Rattle.refining.specs.Refining.{Passed, tested}
-
--- a part of n elements put back before the rest
-zeroed-back : {A : Type 0} (n : ℕ) (z : A) (part xs : List A) → length part ≡ n → zeroed n z (part ++ drop n xs) ≡ zeroed n z xs
-unfolding zeroed
-zeroed-back n z part xs l = ap (λ ys. replicate n z ++ ys) (drop-at part (drop n xs) n l)
-
--- The tables t, with their first rows replaced by the parts.
-module _ (c : Counts) (t : Mesh) (ps : List Float) (ws es : List ℕ) (is : List Float) (fs : List ℕ)
-    (lp : length ps ≡ c .points * 3) (lw : length ws ≡ c .points * 3) (le : length es ≡ c .edges * 8) (li : length is ≡ c .edges)
-    (lf : length fs ≡ c .faces * 5) where
-  abbrev putBack : Mesh
-  putBack =
-      meshOf (ps ++ drop (c .points * 3) (t .positions)) (ws ++ drop (c .points * 3) (t .points)) (es ++ drop (c .edges * 8) (t .edges))
-      (is ++ drop (c .edges) (t .intervals)) (fs ++ drop (c .faces * 5) (t .faces))
-
-  pub first-rows-back : firstRows c putBack ≡ meshOf ps ws es is fs
-  unfolding firstRows
-  first-rows-back =
-      rw (
-        take-at ps (drop (c .points * 3) (t .positions)) (c .points * 3) lp,
-        take-at ws (drop (c .points * 3) (t .points)) (c .points * 3) lw,
-        take-at es (drop (c .edges * 8) (t .edges)) (c .edges * 8) le,
-        take-at is (drop (c .edges) (t .intervals)) (c .edges) li,
-        take-at fs (drop (c .faces * 5) (t .faces)) (c .faces * 5) lf,
-      )
-
-  pub zeroed-rows-back : zeroedRows c putBack ≡ zeroedRows c t
-  unfolding zeroedRows
-  zeroed-rows-back =
-      rw (
-        zeroed-back (c .points * 3) _ ps (t .positions) lp,
-        zeroed-back (c .points * 3) _ ws (t .points) lw,
-        zeroed-back (c .edges * 8) _ es (t .edges) le,
-        zeroed-back (c .edges) _ is (t .intervals) li,
-        zeroed-back (c .faces * 5) _ fs (t .faces) lf,
-      )
+use Rattle.step_grounds.specs.Tested.{tested}
+use Rattle.refining.specs.Refining.{Passed}
 
 over-first : {A : Type 0} (n : ℕ) (new xs : List A) → over n (take n new) xs ≡ over n new xs
 unfolding over
@@ -77,49 +37,6 @@ over-first-rows c new t =
       over-first (c .edges) (new .intervals) (t .intervals),
       over-first (c .faces * 5) (new .faces) (t .faces),
     )
-
--- ---- the tests of a step, one after the other
-
-module _ (m : Mesh) (c : Counts) (order : List ℕ) (t : Mesh) where
-  abbrev Passes : Type 0
-  Passes = audit m (c .points) (c .edges) (c .faces) ≡ true
-
-  abbrev once : Bool
-  once = eqb (length order) (c .faces) && every (c .faces) (λ i. ltb (getD order i 0) (c .faces)) && distinct order
-
-  pub not-closed : audit m (c .points) (c .edges) (c .faces) ≡ false → NotClosed ≡ tested m c order t
-  not-closed a = rw a
-
-  pub not-once : Passes → once ≡ false → NotEachFaceOnce ≡ tested m c order t
-  unfolding eachFaceOnce
-  not-once a o = rw (a, o)
-
-  pub no-room-in-tables : Passes → once ≡ true → rowsFor (refinedCounts c) m ≡ false → NoRoom ≡ tested m c order t
-  unfolding eachFaceOnce roomFor
-  no-room-in-tables a o r = rw (a, o, r)
-
-  pub no-room-in-scratch : Passes → once ≡ true → rowsFor (refinedCounts c) m ≡ true → rowsFor (refinedCounts c) t ≡ false
-      → NoRoom ≡ tested m c order t
-  unfolding eachFaceOnce roomFor
-  no-room-in-scratch a o r s = rw (a, o, r, s)
-
-  pub over-ceilings : Passes → once ≡ true → rowsFor (refinedCounts c) m ≡ true → rowsFor (refinedCounts c) t ≡ true
-      → withinCeilings (refinedCounts c) ≡ false → NoRoom ≡ tested m c order t
-  unfolding eachFaceOnce roomFor
-  over-ceilings a o r s w = rw (a, o, r, s, w)
-
-  pub no-ground : Passes → once ≡ true → rowsFor (refinedCounts c) m ≡ true → rowsFor (refinedCounts c) t ≡ true
-      → withinCeilings (refinedCounts c) ≡ true → Refined (refinedCounts c) ≡ tested m c order t
-  unfolding eachFaceOnce roomFor
-  no-ground a o r s w = rw (a, o, r, s, w)
-
-  -- the counts of an audited mesh are far below what a number holds
-  pub counts-fit : Passes → length (m .positions) < 18446744073709551616 → length (m .edges) < 18446744073709551616
-      → length (m .faces) < 18446744073709551616
-      → (c .points + c .edges + c .faces < 18446744073709551616) × (4 * c .edges < 18446744073709551616)
-  counts-fit a lp le lf =
-      let h = audit-is-audited m (c .points) (c .edges) (c .faces) .0 a in
-      (omega (arith, h .points-fit, h .edges-fit, h .faces-fit), omega (arith, h .edges-fit))
 
 -- ---- the end of a step: t₁ is scratch once the refined mesh is made, or was tried
 

@@ -3,74 +3,18 @@
 // Names: `places`, `rows`, `halves`, `lengths` and `quads` are the scratch tables of positions, points, edges, intervals, faces.
 // Contract: `step`. Definition: `steps`, specs/Step.antt, `step`.
 ghost use mathlib.Core.Path.{_≡_};
-ghost use Rattle.visiting.specs.Visiting.{meshOf};
+ghost use Rattle.tables.specs.Mesh.{meshOf};
 ghost use Rattle.steps.specs.Step.{firstRows, zeroedRows, overRows, made, step, Outcome};
 ghost use Rattle.steps.specs.OneStep.{Binary64};
 ghost use Rattle.steps.specs.Rows.{Room};
-ghost use Rattle.making.specs.Making.{Ready, madeAs};
-ghost use Rattle.refining.specs.Refining.{Passed, tested};
-use audit::audit;
-use making::make;
-use orders::each_face_once;
+ghost use Rattle.making.specs.Making.{madeAs};
+ghost use Rattle.refining.specs.Refining.{Passed};
+use making::make_in_rows;
 use scratch_rows::copy_rows;
-use scratch_rows::refined_counts;
-use scratch_rows::rows_for;
-use scratch_rows::within_ceilings;
 use scratch_rows::zero_rows;
+use step_grounds::first_ground;
 use steps::Stepped;
 use tables::Counts;
-
-// Makes the refined mesh, of the counts c, in the first rows of the scratch tables, and says whether all its positions are finite.
-// Further rows are not touched.
-fn make_in_rows(
-    positions: &[f64],
-    points: &[u32],
-    edges: &[u32],
-    intervals: &[f64],
-    faces: &[u32],
-    counts: Counts,
-    order: &[u32],
-    c: Counts,
-    places: &mut [f64],
-    rows: &mut [u32],
-    halves: &mut [u32],
-    lengths: &mut [f64],
-    quads: &mut [u32],
-) -> bool
-    requires { ⌜ Room c (meshOf (now places) (now rows) (now halves) (now lengths) (now quads)) ⌝ }
-    requires { ⌜
-        Ready (meshOf (now positions) (now points) (now edges) (now intervals) (now faces)) counts (now order)
-        (firstRows c (meshOf (now places) (now rows) (now halves) (now lengths) (now quads))) ⌝ }
-    ensures { λ r. ⌜
-        made
-        (meshOf (now (positions .entry)) (now (points .entry)) (now (edges .entry)) (now (intervals .entry)) (now (faces .entry)))
-        counts
-        (now (order .entry))
-        (firstRows c (meshOf (now (places .entry)) (now (rows .entry)) (now (halves .entry)) (now (lengths .entry)) (now (quads .entry))))
-        ≡ madeAs r (firstRows c (meshOf (now (places .exit)) (now (rows .exit)) (now (halves .exit)) (now (lengths .exit)) (now (quads .exit)))) ⌝ }
-    ensures { λ _. ⌜
-        zeroedRows c (meshOf (now (places .exit)) (now (rows .exit)) (now (halves .exit)) (now (lengths .exit)) (now (quads .exit)))
-        ≡ zeroedRows c (meshOf (now (places .entry)) (now (rows .entry)) (now (halves .entry)) (now (lengths .entry)) (now (quads .entry))) ⌝ }
-{
-    let p = c.points * 3;
-    let e = c.edges * 8;
-    let i = c.edges;
-    let f = c.faces * 5;
-    make(
-        positions,
-        points,
-        edges,
-        intervals,
-        faces,
-        counts,
-        order,
-        &mut places[..p],
-        &mut rows[..p],
-        &mut halves[..e],
-        &mut lengths[..i],
-        &mut quads[..f],
-    )
-}
 
 // Makes the refined mesh of the rows that the counts count, and of no other, as `make_in_rows` does.
 fn make_from_rows(
@@ -121,46 +65,6 @@ fn make_from_rows(
         lengths,
         quads,
     )
-}
-
-// The first of the grounds 30, 31 and 32 that holds, or the counts after the step.
-fn first_ground(
-    positions: &[f64],
-    points: &[u32],
-    edges: &[u32],
-    intervals: &[f64],
-    faces: &[u32],
-    counts: Counts,
-    order: &[u32],
-    places: &[f64],
-    rows: &[u32],
-    halves: &[u32],
-    lengths: &[f64],
-    quads: &[u32],
-) -> Stepped
-    ensures { λ r. ⌜
-        r
-        ≡ tested (meshOf (now (positions .entry)) (now (points .entry)) (now (edges .entry)) (now (intervals .entry)) (now (faces .entry)))
-        counts (now (order .entry))
-        (meshOf (now (places .entry)) (now (rows .entry)) (now (halves .entry)) (now (lengths .entry)) (now (quads .entry))) ⌝ }
-{
-    if !audit(positions, points, edges, intervals, faces, counts) {
-        return Stepped::NotClosed;
-    }
-    if !each_face_once(order, counts.faces) {
-        return Stepped::NotEachFaceOnce;
-    }
-    let c = refined_counts(counts);
-    if !rows_for(c, positions, points, edges, intervals, faces) {
-        return Stepped::NoRoom;
-    }
-    if !rows_for(c, places, rows, halves, lengths, quads) {
-        return Stepped::NoRoom;
-    }
-    if !within_ceilings(c) {
-        return Stepped::NoRoom;
-    }
-    Stepped::Refined(c)
 }
 
 // Copies the refined mesh, of the counts c, from scratch to the tables, and zeroes scratch.

@@ -12,11 +12,11 @@ ghost use Rattle.refined_meshes.specs.State.{State};
 ghost use Rattle.refined_meshes.specs.Split.{half, originHalf, destinationHalf, split, splitWhole};
 ghost use Rattle.refined_meshes.specs.Visits.{splitAll};
 ghost use Rattle.splitting.specs.Scratch.{scratch, InRows, Room};
+use records::load_edge;
+use records::store_edge;
 use t_spline::TnurccEdge;
 use tables::Counts;
 use tables::index;
-use tables::load_edge;
-use tables::store_edge;
 
 // Half of an interval.
 pub fn half(d: f64) -> f64

@@ -9,7 +9,7 @@ ghost use Rattle.built_meshes.specs.Lists.{general};
 ghost use Rattle.building_tests.specs.Lent.{lists};
 ghost use Rattle.building_tests.specs.declared.Bounds.the-variants.{General};
 ghost use Rattle.text_meshes.specs.TextBuilding.{buildText};
-ghost use Rattle.edge_search.specs.Places.{mesh};
+ghost use Rattle.tables.specs.Mesh.{meshOf};
 ghost use Rattle.steps.specs.Step.{numbersOf, step};
 ghost use Rattle.station.specs.Station.{Building, built, textBuilt, answerOf, countsAfter, countsIn, audited, Step, stepped};
 ghost use Rattle.tables.specs.Rows.{putRow};
@@ -62,10 +62,10 @@ pub extern "C" fn lavyngo_build(
 ) -> u32
     ensures { λ r. ⌜
         _≡_ {A = Building}
-        (record { answer = r; counts = now (counts .exit); tables = mesh (now (positions .exit)) (now (points .exit)) (now (edges .exit)) (now (intervals .exit)) (now (faces .exit)) })
+        (record { answer = r; counts = now (counts .exit); tables = meshOf (now (positions .exit)) (now (points .exit)) (now (edges .exit)) (now (intervals .exit)) (now (faces .exit)) })
         (built (now (counts .entry))
         (build general (lists (now (coordinates .entry)) (now (sides .entry)) (now (listed .entry)) (now (beside .entry)))
-        (mesh (now (positions .entry)) (now (points .entry)) (now (edges .entry)) (now (intervals .entry)) (now (faces .entry))))) ⌝ }
+        (meshOf (now (positions .entry)) (now (points .entry)) (now (edges .entry)) (now (intervals .entry)) (now (faces .entry))))) ⌝ }
 {
     let answer = build(
         coordinates,
@@ -101,10 +101,10 @@ pub extern "C" fn lavyngo_build_text(
 ) -> u32
     ensures { λ r. ⌜
         _≡_ {A = Building}
-        (record { answer = r; counts = now (counts .exit); tables = mesh (now (positions .exit)) (now (points .exit)) (now (edges .exit)) (now (intervals .exit)) (now (faces .exit)) })
+        (record { answer = r; counts = now (counts .exit); tables = meshOf (now (positions .exit)) (now (points .exit)) (now (edges .exit)) (now (intervals .exit)) (now (faces .exit)) })
         (textBuilt (now (counts .entry))
         (buildText General (now (text .entry))
-        (mesh (now (positions .entry)) (now (points .entry)) (now (edges .entry)) (now (intervals .entry)) (now (faces .entry))))) ⌝ }
+        (meshOf (now (positions .entry)) (now (points .entry)) (now (edges .entry)) (now (intervals .entry)) (now (faces .entry))))) ⌝ }
 {
     let answer = build_text(
         text,
@@ -138,7 +138,7 @@ pub extern "C" fn lavyngo_audit(
     ensures { λ r. ⌜
         r
         ≡ audited
-        (mesh (now (positions .entry)) (now (points .entry)) (now (edges .entry)) (now (intervals .entry)) (now (faces .entry)))
+        (meshOf (now (positions .entry)) (now (points .entry)) (now (edges .entry)) (now (intervals .entry)) (now (faces .entry)))
         (countsIn (now (counts .entry))) ⌝ }
 {
     if audit(
@@ -188,11 +188,11 @@ pub extern "C" fn lavyngo_step(
 ) -> u32
     ensures { λ r. ⌜
         _≡_ {A = Step}
-        (record { answer = r; counts = now (counts .exit); tables = mesh (now (positions .exit)) (now (points .exit)) (now (edges .exit)) (now (intervals .exit)) (now (faces .exit)); scratch = mesh (now (places .exit)) (now (rows .exit)) (now (halves .exit)) (now (lengths .exit)) (now (quads .exit)) })
+        (record { answer = r; counts = now (counts .exit); tables = meshOf (now (positions .exit)) (now (points .exit)) (now (edges .exit)) (now (intervals .exit)) (now (faces .exit)); scratch = meshOf (now (places .exit)) (now (rows .exit)) (now (halves .exit)) (now (lengths .exit)) (now (quads .exit)) })
         (stepped (now (counts .entry))
-        (step (mesh (now (positions .entry)) (now (points .entry)) (now (edges .entry)) (now (intervals .entry)) (now (faces .entry)))
+        (step (meshOf (now (positions .entry)) (now (points .entry)) (now (edges .entry)) (now (intervals .entry)) (now (faces .entry)))
         (countsIn (now (counts .entry))) (now (order .entry))
-        (mesh (now (places .entry)) (now (rows .entry)) (now (halves .entry)) (now (lengths .entry)) (now (quads .entry))))) ⌝ }
+        (meshOf (now (places .entry)) (now (rows .entry)) (now (halves .entry)) (now (lengths .entry)) (now (quads .entry))))) ⌝ }
 {
     let c = load_counts(counts);
     let answer = step(

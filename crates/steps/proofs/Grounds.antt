@@ -18,7 +18,7 @@ use Rattle.tables.specs.declared.Counts.{Counts}
 use Rattle.audited_meshes.specs.Folds.{every, distinct}
 use Rattle.audited_meshes.specs.Audit.{pointRows, edgeRows, faceRows, audit}
 use Rattle.audited_meshes.proofs.Tests.{Is, and-is, eqb-is, ltb-is, leb-is, not-is, self-is, every-is}
-use Rattle.refined_meshes.specs.State.{State, meshOf}
+use Rattle.refined_meshes.specs.State.{State, withPositions}
 use Rattle.refined_meshes.specs.Order.{EachOnce}
 use Rattle.refined_meshes.specs.Visits.{refinedRows}
 use Rattle.steps.specs.declared.Stepped.{Stepped}
@@ -151,7 +151,7 @@ module _ (m : Mesh) (c : Counts) (order : List ℕ) (t : Mesh) where
 pub record Begun (m : Mesh) (c : Counts) (order : List ℕ) (t : Mesh) (n : Mesh) : Type 0 where
   pub positions : List Float
   pub put : placedAll m c (refinedRows m (c .points) (c .edges) (c .faces) order t) (t .positions) ≡ on positions
-  pub mesh : n ≡ meshOf positions (refinedRows m (c .points) (c .edges) (c .faces) order t)
+  pub mesh : n ≡ withPositions positions (refinedRows m (c .points) (c .edges) (c .faces) order t)
 
 pub made-is : (m : Mesh) (c : Counts) (order : List ℕ) (t n : Mesh) → made m c order t ≡ whole n → Begun m c order t n
 unfolding made placedRows

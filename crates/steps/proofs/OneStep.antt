@@ -29,7 +29,7 @@ use Rattle.audited_meshes.specs.Audit.{intervalFit}
 use Rattle.audited_meshes.specs.Audited.{Audited}
 use Rattle.audited_meshes.specs.Rows.{Fit, HoldsClosed}
 use Rattle.audited_meshes.proofs.Holds.{audited-of-closed}
-use Rattle.refined_meshes.specs.State.{State, meshOf, copied}
+use Rattle.refined_meshes.specs.State.{State, withPositions, copied}
 use Rattle.refined_meshes.specs.Split.{half}
 use Rattle.refined_meshes.specs.Order.{EachOnce, turnIn}
 use Rattle.refined_meshes.specs.Visits.{refinedRows}
@@ -75,7 +75,7 @@ module _ (m : Mesh) (c : Counts) (h : HoldsClosed m (c .points) (c .edges) (c .f
   found-halved d =
       halved-found (ltb (turnIn order (face (h .mesh) (flip d) .0)) (turnIn order (face (h .mesh) d .0))) (interval m (edge d .0))
 
-  module _ (visited : Refines m (h .mesh) (h .closed) order (meshOf qs s)) where
+  module _ (visited : Refines m (h .mesh) (h .closed) order (withPositions qs s)) where
     -- the row of a new point
     row : NewPoint (Row (c .points)) (Row (c .edges)) (Row (c .faces)) → ℕ
     row x = visited .numbering .points .to x .0
@@ -177,7 +177,7 @@ module _ (m : Mesh) (c : Counts) (h : HoldsClosed m (c .points) (c .edges) (c .f
             onto (visited .numbering .points) (λ p. finitePosition (positionAt qs (p .0)) ≡ true)
             (λ x. ap finitePosition (rule-stands x) ∙ rule-finite x)
 
-        interval-of : (x : NewEdge (Row (c .edges))) → intervalFit (interval (meshOf qs s) (visited .numbering .edges .to x .0)) ≡ true
+        interval-of : (x : NewEdge (Row (c .edges))) → intervalFit (interval (withPositions qs s) (visited .numbering .edges .to x .0)) ≡ true
         interval-of (org e) =
             rw (visited .origin-row e, visited .origin-interval e) (half-fit _ (h .fit .interval-fit (e .0) (e .1)) (numbers (e .0)) .is-fit)
         interval-of (dst e) = rw (visited .destination-interval e) (half-fit _ (h .fit .interval-fit (e .0) (e .1)) (numbers (e .0)) .is-fit)
@@ -186,22 +186,22 @@ module _ (m : Mesh) (c : Counts) (h : HoldsClosed m (c .points) (c .edges) (c .f
             (joining-fit m h numbers d (all .face-finite (face (h .mesh) d .0) (face (h .mesh) d .1)) _ _ (found-halved (h .closed .next d))
             (found-halved (h .closed .prev d)))
 
-        number-of : (x : NewEdge (Row (c .edges))) → T (fits binary64 (interval (meshOf qs s) (visited .numbering .edges .to x .0)))
+        number-of : (x : NewEdge (Row (c .edges))) → T (fits binary64 (interval (withPositions qs s) (visited .numbering .edges .to x .0)))
         number-of (org e) = rw (visited .origin-row e, visited .origin-interval e) (mul-fits binary64 _ _)
         number-of (dst e) = rw (visited .destination-interval e) (mul-fits binary64 _ _)
         number-of (join d) = rw (visited .join-interval d) (add-fits binary64 _ _)
 
         mark-of :
             (x : NewPoint (Row (c .points)) (Row (c .edges)) (Row (c .faces))) →
-            (mark (meshOf qs s) (row x) ≡ 0) ⊎ (mark (meshOf qs s) (row x) ≡ 1)
+            (mark (withPositions qs s) (row x) ≡ 0) ⊎ (mark (withPositions qs s) (row x) ≡ 1)
         unfolding row
         mark-of (old p) =
-            subst (λ k. (mark (meshOf qs s) k ≡ 0) ⊎ (mark (meshOf qs s) k ≡ 1)) (sym (visited .old-row p))
+            subst (λ k. (mark (withPositions qs s) k ≡ 0) ⊎ (mark (withPositions qs s) k ≡ 1)) (sym (visited .old-row p))
             (subst (λ w. (w ≡ 0) ⊎ (w ≡ 1)) (sym (visited .old-mark p)) (h .fit .mark-fit (p .0) (p .1)))
         mark-of (mid e) = inl (visited .mid-mark e)
         mark-of (facePoint f) = inl (visited .centre-mark f)
 
-        lengths : Exact (refinedCounts c) (meshOf qs s)
+        lengths : Exact (refinedCounts c) (withPositions qs s)
         unfolding copied
         lengths =
             let l = long-refinedRows m (c .points) (c .edges) (c .faces) order t in
@@ -219,7 +219,7 @@ module _ (m : Mesh) (c : Counts) (h : HoldsClosed m (c .points) (c .edges) (c .f
               faces = l .faces ∙ length-over _ (m .faces) (t .faces) (r .faces) (omega (arith, room .faces, faces-fewer)) ∙ room .faces;
             }
 
-        pub fit : Fit (meshOf qs s) (refinedCounts c .points) (refinedCounts c .edges) (refinedCounts c .faces)
+        pub fit : Fit (withPositions qs s) (refinedCounts c .points) (refinedCounts c .edges) (refinedCounts c .faces)
         unfolding row
         fit =
             let r = room-of-exact lengths in
@@ -231,13 +231,13 @@ module _ (m : Mesh) (c : Counts) (h : HoldsClosed m (c .points) (c .edges) (c .f
               y-finite = λ p l. finite-parts (positionAt qs p) (position-finite (p, l)) .0 .1;
               z-finite = λ p l. finite-parts (positionAt qs p) (position-finite (p, l)) .1;
               interval-fit =
-                  λ e l. onto (visited .numbering .edges) (λ x. intervalFit (interval (meshOf qs s) (x .0)) ≡ true) interval-of (e, l);
+                  λ e l. onto (visited .numbering .edges) (λ x. intervalFit (interval (withPositions qs s) (x .0)) ≡ true) interval-of (e, l);
               mark-fit =
-                  λ p l. onto (visited .numbering .points) (λ x. (mark (meshOf qs s) (x .0) ≡ 0) ⊎ (mark (meshOf qs s) (x .0) ≡ 1)) mark-of (p, l);
+                  λ p l. onto (visited .numbering .points) (λ x. (mark (withPositions qs s) (x .0) ≡ 0) ⊎ (mark (withPositions qs s) (x .0) ≡ 1)) mark-of (p, l);
             }
 
         -- The mesh that is made holds a closed mesh.
-        unfoldable pub holds : HoldsClosed (meshOf qs s) (refinedCounts c .points) (refinedCounts c .edges) (refinedCounts c .faces)
+        unfoldable pub holds : HoldsClosed (withPositions qs s) (refinedCounts c .points) (refinedCounts c .edges) (refinedCounts c .faces)
         holds =
             record {
               mesh = visited .mesh;
@@ -251,11 +251,11 @@ module _ (m : Mesh) (c : Counts) (h : HoldsClosed m (c .points) (c .edges) (c .f
         -- Put over the first rows of the tables, it is the refinement there.
         module _ (m0 : Mesh) where
           there : Mesh
-          there = overRows (refinedCounts c) (meshOf qs s) m0
+          there = overRows (refinedCounts c) (withPositions qs s) m0
 
-          same : SameRows (refinedCounts c) (meshOf qs s) there
+          same : SameRows (refinedCounts c) (withPositions qs s) there
           unfolding there
-          same = same-overRows (refinedCounts c) (meshOf qs s) m0 lengths
+          same = same-overRows (refinedCounts c) (withPositions qs s) m0 lengths
 
           position-there :
               (x : NewPoint (Row (c .points)) (Row (c .edges)) (Row (c .faces))) →
@@ -271,9 +271,9 @@ module _ (m : Mesh) (c : Counts) (h : HoldsClosed m (c .points) (c .edges) (c .f
 
           holds-there : HoldsClosed there (refinedCounts c .points) (refinedCounts c .edges) (refinedCounts c .faces)
           unfolding there
-          holds-there = holds-same same (room-overRows (refinedCounts c) (meshOf qs s) m0 lengths) holds
+          holds-there = holds-same same (room-overRows (refinedCounts c) (withPositions qs s) m0 lengths) holds
 
-          pub refinement-there : Refinement m c (h .mesh) (h .closed) (overRows (refinedCounts c) (meshOf qs s) m0)
+          pub refinement-there : Refinement m c (h .mesh) (h .closed) (overRows (refinedCounts c) (withPositions qs s) m0)
           unfolding there holds-there holds-same holds rule
           refinement-there =
               record {
@@ -289,11 +289,11 @@ module _ (m : Mesh) (c : Counts) (h : HoldsClosed m (c .points) (c .edges) (c .f
                 face-point = λ f. position-there (facePoint f);
               }
 
-          pub numbers-there : Binary64 (refinedCounts c) (overRows (refinedCounts c) (meshOf qs s) m0)
+          pub numbers-there : Binary64 (refinedCounts c) (overRows (refinedCounts c) (withPositions qs s) m0)
           unfolding there
           numbers-there e l =
               rw (same .intervals e l)
-              (onto (visited .numbering .edges) (λ x. T (fits binary64 (interval (meshOf qs s) (x .0)))) number-of (e, l))
+              (onto (visited .numbering .edges) (λ x. T (fits binary64 (interval (withPositions qs s) (x .0)))) number-of (e, l))
 
 -- An accepted step makes the refinement.
 pub one-step : OneStep
@@ -309,7 +309,7 @@ one-step m c order t h numbers c' e =
     let v = visits-refine m1 (c .points) (c .edges) (c .faces) h1 order (k .once) u (points-fit r) (edges-fit r) (faces-fit r) (b .positions) in
     let held : (e : ℕ) → T (fits binary64 (interval m1 e)) = binary64-firstRows c m numbers in
     let few : c .faces ≤ none = omega (arith, k .within .points) in
-    let q : step m c order t .tables ≡ overRows (refinedCounts c) (meshOf (b .positions) (refinedRows m1 (c .points) (c .edges) (c .faces) order u)) m =
+    let q : step m c order t .tables ≡ overRows (refinedCounts c) (withPositions (b .positions) (refinedRows m1 (c .points) (c .edges) (c .faces) order u)) m =
     k .tables ∙ ap (λ n. overRows (refinedCounts c) n m) (b .mesh) in
     record {
       counts = k .counts;
@@ -318,7 +318,7 @@ one-step m c order t h numbers c' e =
           ∙ ap whole
           (b .mesh
           ∙ sym (ap (firstRows (refinedCounts c)) q
-          ∙ firstRows-overRows (refinedCounts c) (meshOf (b .positions) (refinedRows m1 (c .points) (c .edges) (c .faces) order u)) m
+          ∙ firstRows-overRows (refinedCounts c) (withPositions (b .positions) (refinedRows m1 (c .points) (c .edges) (c .faces) order u)) m
           (lengths m1 c h1 order u (b .positions) v held few x (b .put))));
       refinement =
           subst (Refinement m1 c (h .mesh) (h .closed)) (sym q)

@@ -25,7 +25,7 @@ use Rattle.tables.specs.Rows.{over, zeroed}
 use Rattle.tables.specs.declared.Counts.{Counts}
 use Rattle.audited_meshes.specs.Folds.{every, distinct}
 use Rattle.audited_meshes.specs.Audit.{pointRows, edgeRows, faceRows, audit}
-use Rattle.refined_meshes.specs.State.{State, meshOf}
+use Rattle.refined_meshes.specs.State.{State, withPositions}
 use Rattle.refined_meshes.specs.Visits.{refinedRows}
 use Rattle.steps.specs.declared.Stepped.{Stepped}
 use Rattle.steps.specs.declared.Stepped.the-variants.{Refined, NotClosed, NotEachFaceOnce, NoRoom, NotFinite}
@@ -103,7 +103,7 @@ pub data Made : Type 0 where
   notFinite : Made
 
 abbrev pub madeOf : State → Placing → Made
-madeOf s (on ps) = whole (meshOf ps s)
+madeOf s (on ps) = whole (withPositions ps s)
 madeOf s stopped = notFinite
 
 -- the positions, once all faces are visited

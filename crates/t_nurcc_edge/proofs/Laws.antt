@@ -5,8 +5,8 @@ use mathlib.Core.List.{List}
 use Prim.Native.Nat.{ℕ, _*_}
 use lib.Ieee.{Float}
 use lib.ListN.{length}
-use Rattle.t_spline.specs.Connect.{connected, joinable}
-use Rattle.t_spline.specs.declared.Pair.{Pair}
+use Rattle.edge_links.specs.Connect.{connected, joinable}
+use Rattle.edge_links.specs.declared.Pair.{Pair}
 use Rattle.t_spline.specs.declared.TnurccEdge.{TnurccEdge}
 use Rattle.tables.specs.Rows.{putRow}
 use Rattle.tables.specs.Records.{edgeAt, edgeWords}

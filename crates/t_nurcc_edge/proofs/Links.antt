@@ -1,5 +1,4 @@
 -- One word stored in a table that holds a pair of edges in two rows, against the pair with one neighbour set. Assumes nothing.
---     set-putRow, set-putRow-other      a word stored in a row that was put, and outside it
 --     number-below                      the number of a neighbour
 --     link-first, link-other            a neighbour of the first edge, of the other, set in the table
 --     not-served, mismatched, both-served      one face state: it does not hold, its states mismatch, both edges get each other
@@ -9,88 +8,25 @@ use mathlib.Core.Path.{_≡_, refl, sym, _∙_, ap, ap₂}
 use mathlib.Core.Bool.{Bool, true, false}
 use mathlib.Core.List.{List, [], _∷_}
 use mathlib.Core.Logic.{_≢_}
-use Prim.Native.Nat.{ℕ, zero, suc, _+_, _*_, _<_, _≤_}
-use native.Mathlib.Nat.{le-of-suc-le-suc}
+use Prim.Native.Nat.{ℕ, _+_, _*_, _<_, _≤_}
 use native.Mathlib.Omega.{arith}
 use lib.Ieee.{Float}
 use lib.ListN.{length, getD, set, length-set}
-use lib.Seq.{set-getD, set-set, set-comm}
+use lib.Seq.{set-getD}
 use Rattle.t_spline.specs.Connection.{indexOf}
 use Rattle.t_spline.specs.Edge.{withConnection, sameFace}
-use Rattle.t_spline.specs.Connect.{vertexState, linked, linksOf, served, connected}
-use Rattle.t_spline.specs.declared.Pair.{Pair}
+use Rattle.edge_links.specs.Connect.{vertexState, linked, linksOf, served, connected}
+use Rattle.edge_links.specs.declared.Pair.{Pair}
 use Rattle.t_spline.specs.declared.TnurccEdge.{TnurccEdge}
 use Rattle.t_spline.specs.declared.TnurccConnection.{TnurccConnection}
 use Rattle.t_spline.specs.declared.TnurccConnection.the-variants.{LeftCw, LeftAcw, RightCw, RightAcw}
-use Rattle.t_spline.specs.declared.Links.{Links}
-use Rattle.t_spline.specs.declared.Links.the-variants.{Both, Mismatch}
+use Rattle.edge_links.specs.declared.Links.{Links}
+use Rattle.edge_links.specs.declared.Links.the-variants.{Both, Mismatch}
 use Rattle.t_spline.proofs.Laws.{index-below}
-use Rattle.tables.specs.Rows.{putFrom, putRow}
+use Rattle.tables.specs.Rows.{putRow}
 use Rattle.tables.specs.Records.{edgeAt, edgeWords}
+use Rattle.tables.proofs.Laws.{set-putRow, set-putRow-other}
 use Rattle.t_nurcc_edge.specs.Connected.{paired, connectedRows, Linkable}
-
-module _ {A : Type 0} where
-  set-putFrom-other : (vs xs : List A) (b k n : ℕ) (v : A) → ((s : ℕ) → s < length vs → n ≢ b + (k + s))
-      → set (putFrom xs b k vs) n v ≡ putFrom (set xs n v) b k vs
-  set-putFrom-other [] xs b k n v h = refl
-  set-putFrom-other (w ∷ vs) xs b k n v h =
-      set-putFrom-other vs (set xs (b + k) w) b (suc k) n v (λ s l e. h (suc s) (further s l) (e ∙ place s))
-      ∙ ap (λ (t : List A). putFrom t b (suc k) vs) (set-comm xs (b + k) n w v (λ e. h 0 (omega arith) (sym e ∙ first)))
-    where
-      first : b + k ≡ b + (k + 0)
-      first = omega arith
-
-      place : (s : ℕ) → b + (suc k + s) ≡ b + (k + suc s)
-      place s = omega arith
-
-      further : (s : ℕ) → s < length vs → suc s < suc (length vs)
-      further s l = omega arith
-
-  set-putFrom : (vs xs : List A) (b k t : ℕ) (v : A) → t < length vs
-      → set (putFrom xs b k vs) (b + (k + t)) v ≡ putFrom xs b k (set vs t v)
-  set-putFrom [] xs b k t v l = absurd (omega arith)
-  set-putFrom (w ∷ vs) xs b k zero v l =
-      set-putFrom-other vs (set xs (b + k) w) b (suc k) (b + (k + 0)) v (λ s m e. absurd (omega (arith, e)))
-      ∙ ap (λ (t : List A). putFrom t b (suc k) vs) (rw (first b k) (set-set xs (b + k) w v))
-    where
-      first : (b k : ℕ) → b + (k + 0) ≡ b + k
-      first b k = omega arith
-  set-putFrom (w ∷ vs) xs b k (suc t) v l =
-      rw (place b k t) (set-putFrom vs (set xs (b + k) w) b (suc k) t v (le-of-suc-le-suc l))
-    where
-      place : (b k t : ℕ) → b + (k + suc t) ≡ b + (suc k + t)
-      place b k t = omega arith
-
-  -- a word stored in the row
-  pub set-putRow : (vs xs : List A) (b t : ℕ) (v : A) → t < length vs → set (putRow xs b vs) (b + t) v ≡ putRow xs b (set vs t v)
-  set-putRow [] xs b t v l = absurd (omega arith)
-  set-putRow (w ∷ vs) xs b zero v l =
-      set-putFrom-other vs (set xs b w) b 1 (b + 0) v (λ s m e. absurd (omega (arith, e)))
-      ∙ ap (λ (t : List A). putFrom t b 1 vs) (rw (first b) (set-set xs b w v))
-    where
-      first : (b : ℕ) → b + 0 ≡ b
-      first b = omega arith
-  set-putRow (w ∷ vs) xs b (suc t) v l = rw (place b t) (set-putFrom vs (set xs b w) b 1 t v (le-of-suc-le-suc l))
-    where
-      place : (b t : ℕ) → b + suc t ≡ b + (1 + t)
-      place b t = omega arith
-
-  -- a word stored outside it
-  pub set-putRow-other : (vs xs : List A) (b n : ℕ) (v : A) → ((s : ℕ) → s < length vs → n ≢ b + s)
-      → set (putRow xs b vs) n v ≡ putRow (set xs n v) b vs
-  set-putRow-other [] xs b n v h = refl
-  set-putRow-other (w ∷ vs) xs b n v h =
-      set-putFrom-other vs (set xs b w) b 1 n v (λ s l e. h (suc s) (further s l) (e ∙ place s))
-      ∙ ap (λ (t : List A). putFrom t b 1 vs) (set-comm xs b n w v (λ e. h 0 (omega arith) (sym e ∙ first)))
-    where
-      first : b ≡ b + 0
-      first = omega arith
-
-      place : (s : ℕ) → b + (1 + s) ≡ b + suc s
-      place s = omega arith
-
-      further : (s : ℕ) → s < length vs → suc s < suc (length vs)
-      further s l = omega arith
 
 abbrev row : TnurccEdge → List ℕ → List ℕ
 row e cs = e .origin ∷ e .dest ∷ e .«face_left» ∷ e .«face_right» ∷ getD cs 0 0 ∷ getD cs 1 0 ∷ getD cs 2 0 ∷ getD cs 3 0 ∷ []

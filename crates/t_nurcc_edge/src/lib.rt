@@ -1,21 +1,21 @@
 // Connecting two edges in the tables of a mesh.
-// Carries over `connect` of t_nurcc_edge/mod.rs; what looks at no table stands in `t_spline`.
+// Carries over `connect` of t_nurcc_edge/mod.rs; what looks at no table stands in `edge_links`.
 // Contract: `connect`. Definitions: `specs/Connected.antt`. Laws: `proofs/Laws.antt`, `proofs/Links.antt`.
 ghost use mathlib.Core.Path.{_≡_};
 ghost use mathlib.Core.List.{List};
 ghost use mathlib.Core.Logic.{_≢_};
 ghost use Prim.Native.Nat.{ℕ, _+_, _*_, _≤_, _<_};
 ghost use lib.ListN.{length};
-ghost use Rattle.t_spline.specs.Connect.{served};
-ghost use Rattle.t_spline.specs.declared.Pair.{Pair};
+ghost use Rattle.edge_links.specs.Connect.{served};
+ghost use Rattle.edge_links.specs.declared.Pair.{Pair};
 ghost use Rattle.t_nurcc_edge.specs.Connected.{paired, connectedRows, joinableRows, Linkable};
-use t_spline::Links;
-use t_spline::Pair;
-use t_spline::connect::link_directions;
+use edge_links::Links;
+use edge_links::Pair;
+use edge_links::link_directions;
+use records::load_edge;
+use records::store_edge_words;
 use t_spline::t_nurcc_edge::same_face;
 use tables::index;
-use tables::load_edge;
-use tables::store_edge_words;
 
 // Serves one face state of the edges i and j, if it holds: each gets the other as one of its neighbours.
 fn put_links(edges: &mut [u32], holds: bool, face: usize, vert: usize, i: u32, j: u32)
@@ -51,12 +51,13 @@ fn connect_rows(edges: &mut [u32], intervals: &[f64], i: u32, j: u32) -> bool
 {
     let e = load_edge(edges, intervals, index(i));
     let o = load_edge(edges, intervals, index(j));
-    let v = e.vert_state(o);
+    let pair = Pair { first: e, other: o };
+    let v = pair.vert_state();
     put_links(edges, same_face(e.face_left, o.face_left), 0, v, i, j);
     put_links(edges, same_face(e.face_left, o.face_right), 2, v, i, j);
     put_links(edges, same_face(e.face_right, o.face_left), 3, v, i, j);
     put_links(edges, same_face(e.face_right, o.face_right), 1, v, i, j);
-    e.can_connect(o)
+    pair.can_connect()
 }
 
 // Connects two edges by value, as the definition does: both are stored whole, the other last.
@@ -72,12 +73,13 @@ fn connect_values(edges: &mut [u32], intervals: &[f64], i: u32, j: u32) -> bool
     let b = index(j);
     let e = load_edge(edges, intervals, a);
     let o = load_edge(edges, intervals, b);
-    let pair = Pair { first: e, other: o }.connect(i, j);
-    let first = pair.first;
-    let other = pair.other;
+    let pair = Pair { first: e, other: o };
+    let connected = pair.connect(i, j);
+    let first = connected.first;
+    let other = connected.other;
     store_edge_words(edges, a, first);
     store_edge_words(edges, b, other);
-    e.can_connect(o)
+    pair.can_connect()
 }
 
 // Connects the edges i and j to each other, and says whether they share a face and a point. An edge with itself, which no

@@ -1,12 +1,11 @@
 // The records and enums of a T-NURCC, by value, with the methods of its edges.
 // Carries over t_spline/mod.rs (only its T-NURCC items) and the part of t_nurcc_edge/mod.rs that looks at no other row.
-// Not here: rows in tables (`tables`), connecting and splitting in tables (`t_nurcc_edge`).
-// Contracts cite `specs/Connection.antt`, `specs/Edge.antt` and `specs/Connect.antt`.
+// Not here: rows in tables (`tables`, `records`), connecting (`edge_links`, in tables `t_nurcc_edge`).
+// Contracts cite `specs/Connection.antt` and `specs/Edge.antt`.
 ghost use mathlib.Core.Path.{_≡_};
 ghost use Rattle.t_spline.specs.Connection.{indexOf, connectionAt};
 use positions::Position;
 
-pub mod connect;
 pub mod t_nurcc_edge;
 
 // The mark for no row, which stands where the Rust has `None`.
@@ -66,18 +65,6 @@ pub struct TnurccEdge {
     pub origin: u32,
     pub dest: u32,
     pub knot_interval: f64,
-}
-
-// The links that two states set: the first edge's and the other's.
-pub enum Links {
-    Both(TnurccConnection, TnurccConnection),
-    Mismatch,
-}
-
-// Two edges that are connected to each other.
-pub struct Pair {
-    pub first: TnurccEdge,
-    pub other: TnurccEdge,
 }
 
 impl TnurccConnection {

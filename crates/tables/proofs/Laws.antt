@@ -2,6 +2,7 @@
 --     length-putRow          a list keeps its length
 --     getD-putRow            the row itself stands there
 --     getD-putRow-other      every other place is as it was
+--     set-putRow             an element stored in a row that was put; set-putRow-other: outside it
 --     over-none, over-more   what a loop that copies has done before its first turn, and one turn more; zeroed likewise
 use mathlib.Core.Path.{_≡_, refl, _∙_, ap, sym}
 use mathlib.Core.List.{List, [], _∷_, _++_}
@@ -12,7 +13,7 @@ use mathlib.Core.Logic.{_≢_}
 use native.Mathlib.Numerals.{add-one}
 use native.Mathlib.Omega.{arith}
 use lib.ListN.{length, getD, set, take, drop, replicate, length-set, length-append, length-drop, length-replicate}
-use lib.Seq.{getD-set-same, getD-set-other, length-take-le}
+use lib.Seq.{getD-set-same, getD-set-other, set-set, set-comm, length-take-le}
 use Rattle.tables.specs.Rows.{putFrom, putRow, over, zeroed}
 
 module _ {A : Type 0} where
@@ -88,6 +89,68 @@ module _ {A : Type 0} where
           (let k : suc r ≤ s = omega arith in
           let m : suc r * w ≤ s * w = mul-le-mul-right w k in
           omega (arith, suc-mul r w))
+
+  set-putFrom-other : (vs xs : List A) (b k n : ℕ) (v : A) → ((s : ℕ) → s < length vs → n ≢ b + (k + s))
+      → set (putFrom xs b k vs) n v ≡ putFrom (set xs n v) b k vs
+  set-putFrom-other [] xs b k n v h = refl
+  set-putFrom-other (w ∷ vs) xs b k n v h =
+      set-putFrom-other vs (set xs (b + k) w) b (suc k) n v (λ s l e. h (suc s) (further s l) (e ∙ place s))
+      ∙ ap (λ (t : List A). putFrom t b (suc k) vs) (set-comm xs (b + k) n w v (λ e. h 0 (omega arith) (sym e ∙ first)))
+    where
+      first : b + k ≡ b + (k + 0)
+      first = omega arith
+
+      place : (s : ℕ) → b + (suc k + s) ≡ b + (k + suc s)
+      place s = omega arith
+
+      further : (s : ℕ) → s < length vs → suc s < suc (length vs)
+      further s l = omega arith
+
+  set-putFrom : (vs xs : List A) (b k t : ℕ) (v : A) → t < length vs
+      → set (putFrom xs b k vs) (b + (k + t)) v ≡ putFrom xs b k (set vs t v)
+  set-putFrom [] xs b k t v l = absurd (omega arith)
+  set-putFrom (w ∷ vs) xs b k zero v l =
+      set-putFrom-other vs (set xs (b + k) w) b (suc k) (b + (k + 0)) v (λ s m e. absurd (omega (arith, e)))
+      ∙ ap (λ (t : List A). putFrom t b (suc k) vs) (rw (first b k) (set-set xs (b + k) w v))
+    where
+      first : (b k : ℕ) → b + (k + 0) ≡ b + k
+      first b k = omega arith
+  set-putFrom (w ∷ vs) xs b k (suc t) v l =
+      rw (place b k t) (set-putFrom vs (set xs (b + k) w) b (suc k) t v (le-of-suc-le-suc l))
+    where
+      place : (b k t : ℕ) → b + (k + suc t) ≡ b + (suc k + t)
+      place b k t = omega arith
+
+  -- an element stored in the row
+  pub set-putRow : (vs xs : List A) (b t : ℕ) (v : A) → t < length vs → set (putRow xs b vs) (b + t) v ≡ putRow xs b (set vs t v)
+  set-putRow [] xs b t v l = absurd (omega arith)
+  set-putRow (w ∷ vs) xs b zero v l =
+      set-putFrom-other vs (set xs b w) b 1 (b + 0) v (λ s m e. absurd (omega (arith, e)))
+      ∙ ap (λ (t : List A). putFrom t b 1 vs) (rw (first b) (set-set xs b w v))
+    where
+      first : (b : ℕ) → b + 0 ≡ b
+      first b = omega arith
+  set-putRow (w ∷ vs) xs b (suc t) v l = rw (place b t) (set-putFrom vs (set xs b w) b 1 t v (le-of-suc-le-suc l))
+    where
+      place : (b t : ℕ) → b + suc t ≡ b + (1 + t)
+      place b t = omega arith
+
+  -- an element stored outside it
+  pub set-putRow-other : (vs xs : List A) (b n : ℕ) (v : A) → ((s : ℕ) → s < length vs → n ≢ b + s)
+      → set (putRow xs b vs) n v ≡ putRow (set xs n v) b vs
+  set-putRow-other [] xs b n v h = refl
+  set-putRow-other (w ∷ vs) xs b n v h =
+      set-putFrom-other vs (set xs b w) b 1 n v (λ s l e. h (suc s) (further s l) (e ∙ place s))
+      ∙ ap (λ (t : List A). putFrom t b 1 vs) (set-comm xs b n w v (λ e. h 0 (omega arith) (sym e ∙ first)))
+    where
+      first : b ≡ b + 0
+      first = omega arith
+
+      place : (s : ℕ) → b + (1 + s) ≡ b + suc s
+      place s = omega arith
+
+      further : (s : ℕ) → s < length vs → suc s < suc (length vs)
+      further s l = omega arith
 
   pub over-none : (new xs : List A) → over 0 new xs ≡ xs
   unfolding over

@@ -1,5 +1,6 @@
 -- The five tables of a mesh as lists, and the words of their rows.
 --     Mesh                                     the five tables
+--     meshOf xs ps es is fs                    the five tables, in this order, as a mesh
 --     x y z m p                                the coordinates of point p
 --     valence start mark m p                   the words of point p: start is its start edge, mark 1 if extraordinary
 --     origin dest leftFace rightFace m e       the ends and the sides of edge e
@@ -20,6 +21,9 @@ pub record Mesh : Type 0 where
   pub edges : List ℕ
   pub intervals : List Float
   pub faces : List ℕ
+
+abbrev pub meshOf : List Float → List ℕ → List ℕ → List Float → List ℕ → Mesh
+meshOf xs ps es is fs = record { positions = xs; points = ps; edges = es; intervals = is; faces = fs }
 
 abbrev pub none : ℕ
 none = 4294967295

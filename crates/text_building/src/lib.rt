@@ -7,7 +7,7 @@ ghost use mathlib.Core.Path.{_≡_};
 ghost use mathlib.Core.Bool.{false};
 ghost use Prim.Native.Nat.{_*_, _≤_};
 ghost use lib.ListN.{length, take};
-ghost use Rattle.edge_search.specs.Places.{mesh};
+ghost use Rattle.tables.specs.Mesh.{meshOf};
 ghost use Rattle.building_tests.specs.Lent.{lists, limitsOf};
 ghost use Rattle.built_meshes.specs.Building.{build};
 ghost use Rattle.text_meshes.specs.TextBuilding.{Outcome, toldOutcome, buildTextIf, buildText};
@@ -43,11 +43,11 @@ fn build_first(
     requires { ⌜ n ≤ length (now beside) ⌝ }
     ensures { λ r. ⌜
         _≡_ {A = Outcome}
-        (record { answer = r; tables = mesh (now (positions .exit)) (now (points .exit)) (now (edges .exit)) (now (intervals .exit)) (now (faces .exit)) })
+        (record { answer = r; tables = meshOf (now (positions .exit)) (now (points .exit)) (now (edges .exit)) (now (intervals .exit)) (now (faces .exit)) })
         (toldOutcome
         (build (limitsOf bounds)
         (lists (take (3 * p) (now (coordinates .entry))) (take (4 * f) (now (sides .entry))) (take n (now (listed .entry))) (take n (now (beside .entry))))
-        (mesh (now (positions .entry)) (now (points .entry)) (now (edges .entry)) (now (intervals .entry)) (now (faces .entry))))) ⌝ }
+        (meshOf (now (positions .entry)) (now (points .entry)) (now (edges .entry)) (now (intervals .entry)) (now (faces .entry))))) ⌝ }
 {
     let a = 3 * p;
     let b = 4 * f;
@@ -86,9 +86,9 @@ fn read_and_build(
     requires { ⌜ 16384 ≤ length (now beside) ⌝ }
     ensures { λ r. ⌜
         _≡_ {A = Outcome}
-        (record { answer = r; tables = mesh (now (positions .exit)) (now (points .exit)) (now (edges .exit)) (now (intervals .exit)) (now (faces .exit)) })
+        (record { answer = r; tables = meshOf (now (positions .exit)) (now (points .exit)) (now (edges .exit)) (now (intervals .exit)) (now (faces .exit)) })
         (buildTextIf false bounds (now (text .entry))
-        (mesh (now (positions .entry)) (now (points .entry)) (now (edges .entry)) (now (intervals .entry)) (now (faces .entry)))) ⌝ }
+        (meshOf (now (positions .entry)) (now (points .entry)) (now (edges .entry)) (now (intervals .entry)) (now (faces .entry)))) ⌝ }
 {
     match read_text(text, sizes_of(bounds), coordinates, sides, listed, beside) {
         Reading::Read(c) => build_first(
@@ -123,9 +123,9 @@ pub fn build_text(
 ) -> TextBuilt
     ensures { λ r. ⌜
         _≡_ {A = Outcome}
-        (record { answer = r; tables = mesh (now (positions .exit)) (now (points .exit)) (now (edges .exit)) (now (intervals .exit)) (now (faces .exit)) })
+        (record { answer = r; tables = meshOf (now (positions .exit)) (now (points .exit)) (now (edges .exit)) (now (intervals .exit)) (now (faces .exit)) })
         (buildText bounds (now (text .entry))
-        (mesh (now (positions .entry)) (now (points .entry)) (now (edges .entry)) (now (intervals .entry)) (now (faces .entry)))) ⌝ }
+        (meshOf (now (positions .entry)) (now (points .entry)) (now (edges .entry)) (now (intervals .entry)) (now (faces .entry)))) ⌝ }
 {
     if is_too_long(bounds, text.len()) {
         return TextBuilt::Refused(Ground::OverCounts);

@@ -5,12 +5,12 @@ use mathlib.Core.List.{List, [], _∷_, map}
 use Prim.Native.Nat.{ℕ, _*_}
 use lib.Ieee.{ofBits, neg, add, sub, le, lt, binary64}
 use lib.ListN.{replicate}
-use Rattle.t_spline.specs.Connect.{linksOf}
+use Rattle.edge_links.specs.Connect.{linksOf}
 use Rattle.tables.specs.Mesh.{Mesh}
 use Rattle.text_numbers.specs.Form.{bytes, times, stands, literal, many}
 use Rattle.text_numbers.specs.Numbers.{digitValue, value, digit, bits, digits, decimalFrom, decimal}
-use Rattle.mesh_text.specs.Text.{coordinate, point, listed, side, face, ends, mesh, text}
-use Rattle.mesh_text.specs.Reading.{flat}
+use Rattle.mesh_lines.specs.Grammar.{coordinate, point, listed, side, face, flat}
+use Rattle.mesh_text.specs.Text.{ends, mesh, text}
 use Rattle.building_tests.specs.declared.Bounds.{Bounds}
 use Rattle.building_tests.specs.declared.Bounds.the-variants.{General, Refine}
 use Rattle.text_meshes.specs.TextBuilding.{numbersOf, buildText}

@@ -23,9 +23,9 @@ use Rattle.refined_meshes.specs.Ring.{Ring, onLeft, firstHalfOf, secondHalfOf, 
 use Rattle.refined_meshes.specs.Visits.{foundOn, splitAll, ringOf, putRing, visitAlong, visit}
 use Rattle.splitting.specs.Scratch.{tablesOf, scratch}
 use Rattle.splitting.proofs.Laws.{splitAll-faces}
-use Rattle.rings.specs.declared.RingRows.{RingRows}
-use Rattle.rings.specs.Rings.{ring, firstOf, secondOf}
-use Rattle.rings.proofs.Laws.{filled-same}
+use Rattle.ring_places.specs.declared.RingRows.{RingRows}
+use Rattle.ring_places.specs.Rings.{ring, firstOf, secondOf}
+use Rattle.ring_places.proofs.Laws.{filled-same}
 use Rattle.visiting.proofs.Laws.{firstHalfOf-is, secondHalfOf-is, border-edges, border-n, visitAlong-bare}
 use Rattle.visiting.proofs.Padding.{visitAlong-places}
 

@@ -21,7 +21,7 @@ use Rattle.refined_meshes.specs.State.{State, copied}
 use Rattle.refined_meshes.specs.Ring.{firstHalfOf, secondHalfOf, putFirst, putSecond, putNewFace}
 use Rattle.refined_meshes.specs.Visits.{ringOf, putRing, visitAlong, visit, visits, refinedRows}
 use Rattle.splitting.specs.Scratch.{tablesOf}
-use Rattle.rings.proofs.Laws.{turns-none, turns-turn, turns-same}
+use Rattle.ring_places.proofs.Laws.{turns-none, turns-turn, turns-same}
 use Rattle.visiting.specs.Visiting.{bare}
 
 pub firstHalfOf-is : (b : Bool) (s : State) (e : ℕ) → firstHalfOf b s e ≡ cond b e (getD (s .edges) (e * 8 + 6) 0)

@@ -11,7 +11,7 @@ use Rattle.refined_meshes.specs.State.{State, edgeOf, take}
 use Rattle.refined_meshes.specs.Split.{splitWhole}
 use Rattle.refined_meshes.specs.Ring.{Ring, onLeft, firstHalfOf, secondHalfOf, putJoin, putFirst, putSecond, putNewFace, putFacePoint}
 use Rattle.refined_meshes.specs.Visits.{foundOn, splitAll, ringOf, putRing, visitAlong}
-use Rattle.rings.proofs.Laws.{turns-same, filled-same}
+use Rattle.ring_places.proofs.Laws.{turns-same, filled-same}
 
 -- the ring r with the perimeter es
 along : Ring → List ℕ → Ring

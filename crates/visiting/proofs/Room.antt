@@ -24,8 +24,8 @@ use Rattle.refined_meshes.specs.Visits.{splitAll, ringOf}
 use Rattle.refined_meshes.specs.Fits.{VisitFits, splitSome}
 use Rattle.splitting.specs.Scratch.{tablesOf, scratch, Room}
 use Rattle.splitting.proofs.Laws.{splitWhole-split, splitWhole-kept, splitAll-none, splitAll-suc, faces-splitAll, points-splitAll-faces, edges-splitAll-faces}
-use Rattle.rings.specs.Rings.{Rows, firstOf, secondOf}
-use Rattle.rings.proofs.Laws.{getD-filled}
+use Rattle.ring_places.specs.Rings.{Rows, firstOf, secondOf}
+use Rattle.ring_places.proofs.Laws.{getD-filled}
 use Rattle.visiting.specs.Visiting.{Ceilings, RingFits, AlongFits}
 use Rattle.visiting.proofs.Laws.{firstHalfOf-is, secondHalfOf-is, border-edges, border-n}
 use Rattle.visiting.proofs.Padding.{splitAll-places}

@@ -1,6 +1,5 @@
 -- What must hold so that every row that a visit reads or writes is there.
 --     bare m                   the mesh m with its tables of edges and faces alone, which are all that a visit looks at
---     meshOf qs ps es is fs    the mesh of five tables
 --     Holds m np ne nf         the tables of m hold the rows of np points, ne edges and nf faces, positions aside
 --     Ceilings np ne nf        a mesh with these counts is below the ceilings of document 01 once it is refined
 --     RingFits oe pe rows ..   the ring with these rows, of the split perimeter pe, finds its rows and has room in the scratch tables
@@ -16,14 +15,11 @@ use Rattle.refined_meshes.specs.State.{State, take}
 use Rattle.refined_meshes.specs.Visits.{splitAll, visits}
 use Rattle.refined_meshes.specs.Fits.{VisitFits}
 use Rattle.splitting.specs.Scratch.{InRows, Room}
-use Rattle.rings.specs.declared.RingRows.{RingRows}
-use Rattle.rings.specs.Rings.{firstOf, secondOf, Small, Rows}
+use Rattle.ring_places.specs.declared.RingRows.{RingRows}
+use Rattle.ring_places.specs.Rings.{firstOf, secondOf, Small, Rows}
 
 abbrev pub bare : Mesh → Mesh
 bare m = faceTables (m .edges) (m .faces)
-
-abbrev pub meshOf : List Float → List ℕ → List ℕ → List Float → List ℕ → Mesh
-meshOf qs ps es is fs = record { positions = qs; points = ps; edges = es; intervals = is; faces = fs }
 
 pub record Holds (m : Mesh) (np ne nf : ℕ) : Type 0 where
   pub points : np * 3 ≤ length (m .points)

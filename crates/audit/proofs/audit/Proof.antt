@@ -3,7 +3,7 @@ use mathlib.Core.Path.{sym, _∙_}
 use borrow.Author.Tests.{not-true, not-false}
 use borrow.Author.Needs.{needs}
 use Rattle.audit.proofs.Whole.{counts-rows, ends-below, audit-counts, audit-rows, audit-walks}
-use Rattle.audit.specs.Parts.{meshOf}
+use Rattle.tables.specs.Mesh.{meshOf}
 use Rattle.audit.proofs.audit.Statement.{statement}
 use Rattle.audit.proofs.audit.Tie as tie
 

@@ -1,7 +1,7 @@
 -- counts_fit meets its contract: each test decides one of the definition's.
 use borrow.Author.Needs.{needs}
 use Rattle.audit.proofs.Whole.{counts-points, counts-edges, counts-faces}
-use Rattle.audit.specs.Parts.{meshOf}
+use Rattle.tables.specs.Mesh.{meshOf}
 use Rattle.audit.proofs.counts_fit.Statement.{statement}
 use Rattle.audit.proofs.counts_fit.Tie as tie
 

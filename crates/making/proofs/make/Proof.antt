@@ -4,10 +4,9 @@ use native.Mathlib.Omega.{arith}
 use lib.ListN.{length}
 use borrow.Author.Needs.{needs}
 use Rattle.making.proofs.Laws.{old-rows-hold, new-rows-hold, visits-fit, faces-fit, edges-fit, points-fit, made-of-parts}
-use Rattle.visiting.specs.Visiting.{meshOf}
 use Rattle.splitting.specs.Scratch.{tablesOf}
 use Rattle.refined_meshes.specs.State.{State}
-use Rattle.tables.specs.Mesh.{Mesh}
+use Rattle.tables.specs.Mesh.{Mesh, meshOf}
 use Rattle.making.proofs.make.Statement.{statement}
 use Rattle.making.proofs.make.Tie as tie
 

@@ -3,7 +3,7 @@ use mathlib.Core.Path.{_≡_, sym, ap, _∙_}
 use native.Mathlib.Omega.{arith}
 use lib.ListN.{length}
 use lib.Seq.{length-take-le}
-use Rattle.visiting.specs.Visiting.{meshOf}
+use Rattle.tables.specs.Mesh.{meshOf}
 use Rattle.refine_outputs.proofs.Orders.{length-numbered}
 use Rattle.refine_text.proofs.Outputs.{in-numbered-order}
 use borrow.Author.Needs.{needs}

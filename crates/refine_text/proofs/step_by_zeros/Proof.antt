@@ -1,5 +1,5 @@
 -- step_by_zeros meets its contract.
-use Rattle.visiting.specs.Visiting.{meshOf}
+use Rattle.tables.specs.Mesh.{meshOf}
 use Rattle.refine_text.proofs.Steps.{stepped-to}
 use borrow.Author.Needs.{needs}
 use Rattle.refine_text.proofs.step_by_zeros.Statement.{statement}

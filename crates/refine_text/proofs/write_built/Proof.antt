@@ -1,5 +1,5 @@
 -- write_built meets its contract: the line of the counts, then those of the step.
-use Rattle.visiting.specs.Visiting.{meshOf}
+use Rattle.tables.specs.Mesh.{meshOf}
 use Rattle.refine_text.proofs.Outputs.{ready, written-both, step-room}
 use borrow.Author.Needs.{needs}
 use Rattle.refine_text.proofs.write_built.Statement.{statement}

@@ -1,5 +1,5 @@
 -- write_output meets its contract: by the answer of building.
-use Rattle.visiting.specs.Visiting.{meshOf}
+use Rattle.tables.specs.Mesh.{meshOf}
 use Rattle.refine_text.proofs.Outputs.{few, written-built, written-not-text, written-refused}
 use borrow.Author.Needs.{needs}
 use Rattle.refine_text.proofs.write_output.Statement.{statement}

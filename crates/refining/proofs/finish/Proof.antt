@@ -2,8 +2,7 @@
 use Rattle.refining.proofs.Laws.{rooms-kept, ended-whole, ended-not-finite}
 use Rattle.making.specs.Making.{madeAs}
 use Rattle.steps.specs.Step.{firstRows}
-use Rattle.visiting.specs.Visiting.{meshOf}
-use Rattle.tables.specs.Mesh.{Mesh}
+use Rattle.tables.specs.Mesh.{Mesh, meshOf}
 use mathlib.Core.Path.{sym, _∙_, ap}
 use borrow.Author.Needs.{needs}
 use Rattle.refining.proofs.finish.Statement.{statement}

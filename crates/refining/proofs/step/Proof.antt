@@ -1,7 +1,6 @@
 -- step meets its contract: the first ground is answered with everything untouched, else the step is made.
 use Rattle.refining.proofs.Laws.{passed, refused}
-use Rattle.visiting.specs.Visiting.{meshOf}
-use Rattle.tables.specs.Mesh.{Mesh}
+use Rattle.tables.specs.Mesh.{Mesh, meshOf}
 use mathlib.Core.Path.{sym, _∙_, subst}
 use mathlib.Core.List.{[], _∷_}
 use mathlib.Core.Logic.{inl, inr}

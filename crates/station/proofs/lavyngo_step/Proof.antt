@@ -1,7 +1,7 @@
 -- lavyngo_step meets its contract: the answer of the step and the counts by it.
 use borrow.Author.Needs.{needs}
 use mathlib.Core.Path.{_∙_}
-use Rattle.edge_search.specs.Places.{mesh}
+use Rattle.tables.specs.Mesh.{meshOf}
 use Rattle.station.proofs.Laws.{step-number, step-stored}
 use Rattle.station.proofs.lavyngo_step.Statement.{statement}
 use Rattle.station.proofs.lavyngo_step.Tie as tie
@@ -9,8 +9,8 @@ use Rattle.station.proofs.lavyngo_step.Tie as tie
 returns : tie.Need-returns
 returns c =
     let a = c .before .before .before .before .before .before .before .before .before .before .before .before .before .before .before .before .before .before .before .before .before .before .before .before .before .before .before .before .before .before .before .before .before .before .before .before .before .before .before .before .before .before .before .before .before .before .before .args in
-    step-stored (a .counts .now) (mesh (a .positions .now) (a .points .now) (a .edges .now) (a .intervals .now) (a .faces .now))
-    (mesh (a .places .now) (a .rows .now) (a .halves .now) (a .lengths .now) (a .quads .now)) (a .order .now) (c .before .before .before .before .before .before .before .before .before .before .before .before .before .before .before .before .before .before .before .before .before .before .before .before .before .before .before .before .before .before .before .before .before .before .load-counts .ensures) (c .before .before .before .before .before .before .before .before .before .before .before .before .before .before .before .before .before .before .before .before .before .before .before .step .ensures .0) (c .step-number .ensures ∙ step-number (c .before .before .before .before .before .before .before .before .before .before .before .before .before .before .before .before .before .before .before .before .before .before .before .step .result)) (c .before .store-refined .ensures)
+    step-stored (a .counts .now) (meshOf (a .positions .now) (a .points .now) (a .edges .now) (a .intervals .now) (a .faces .now))
+    (meshOf (a .places .now) (a .rows .now) (a .halves .now) (a .lengths .now) (a .quads .now)) (a .order .now) (c .before .before .before .before .before .before .before .before .before .before .before .before .before .before .before .before .before .before .before .before .before .before .before .before .before .before .before .before .before .before .before .before .before .before .load-counts .ensures) (c .before .before .before .before .before .before .before .before .before .before .before .before .before .before .before .before .before .before .before .before .before .before .before .step .ensures .0) (c .step-number .ensures ∙ step-number (c .before .before .before .before .before .before .before .before .before .before .before .before .before .before .before .before .before .before .before .before .before .before .before .step .result)) (c .before .store-refined .ensures)
 
 pub lavyngo-step-spec : {M : Type 1} → statement M
 lavyngo-step-spec =

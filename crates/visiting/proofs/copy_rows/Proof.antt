@@ -1,6 +1,6 @@
 -- copy_rows meets its contract: four copies, one for each table.
 use Rattle.visiting.proofs.Laws.{rows-copied}
-use Rattle.visiting.specs.Visiting.{meshOf}
+use Rattle.tables.specs.Mesh.{meshOf}
 use mathlib.Core.List.{[]}
 use borrow.Author.Needs.{needs}
 use Rattle.visiting.proofs.copy_rows.Statement.{statement}

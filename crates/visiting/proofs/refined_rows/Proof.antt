@@ -1,6 +1,7 @@
 -- refined_rows meets its contract: the rows are copied, then the faces are visited.
 use Rattle.visiting.proofs.Laws.{refinedRows-bare}
-use Rattle.visiting.specs.Visiting.{meshOf, Fits}
+use Rattle.visiting.specs.Visiting.{Fits}
+use Rattle.tables.specs.Mesh.{meshOf}
 use Rattle.walks.specs.Steps.{faceTables}
 use Rattle.refined_meshes.specs.State.{State, copied}
 use mathlib.Core.Path.{sym, _∙_, subst}

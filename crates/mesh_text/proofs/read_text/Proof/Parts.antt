@@ -11,9 +11,11 @@ use lib.Dec.{leb}
 use lib.Ieee.{Float}
 use borrow.Author.Tests.{leb-true}
 use Rattle.text_numbers.specs.Form.{Found, found, none}
-use Rattle.mesh_text.specs.Text.{Mesh, Listed, text}
-use Rattle.mesh_text.specs.Reading.{flat, sidePoints, coordinates, lengths, listedPoints, intervals, counts, Lists, within, readInto}
-use Rattle.mesh_text.specs.Parts.{lengthWord, lengthWords, totalOf, stored, AtTotal}
+use Rattle.mesh_lines.specs.Grammar.{Listed, flat, sidePoints}
+use Rattle.mesh_text.specs.Text.{Mesh, text}
+use Rattle.mesh_text.specs.Reading.{coordinates, lengths, listedPoints, intervals, counts, Lists, within, readInto}
+use Rattle.mesh_lines.specs.Parts.{lengthWord, stored}
+use Rattle.mesh_text.specs.Parts.{lengthWords, totalOf, AtTotal}
 use Rattle.text_numbers.proofs.Laws.{and-both}
 use Rattle.mesh_text.specs.declared.Total.{Total}
 use Rattle.mesh_text.specs.declared.Total.the-variants as Total

@@ -8,19 +8,21 @@ use native.Mathlib.Omega.{arith}
 use lib.ListN.{length}
 use lib.Ieee.{Float}
 use Rattle.text_numbers.specs.Form.{bytes, found, Form, many, stands}
-use Rattle.mesh_text.specs.Text.{Listed, point, face, ends, mesh, text}
+use Rattle.mesh_lines.specs.Grammar.{Listed, point, face, flat, sidePoints, sideIntervals}
+use Rattle.mesh_text.specs.Text.{ends, mesh, text}
 use Rattle.text_numbers.specs.Numbers.{float}
-use Rattle.mesh_text.specs.Reading.{flat, sidePoints, sideIntervals, coordinates, listedPoints, intervals}
-use Rattle.mesh_text.specs.Parts.{lengthWord, lengthWords, run, linesOf, totalOf, stored, AtRun, AtLines}
-use Rattle.mesh_text.specs.declared.Run.{Run}
-use Rattle.mesh_text.specs.declared.Run.the-variants as Run
-use Rattle.mesh_text.specs.declared.Lines.{Lines}
-use Rattle.mesh_text.specs.declared.Lines.the-variants as Lines
+use Rattle.mesh_text.specs.Reading.{coordinates, listedPoints, intervals}
+use Rattle.mesh_lines.specs.Parts.{lengthWord, run, linesOf, stored, AtRun, AtLines}
+use Rattle.mesh_text.specs.Parts.{lengthWords, totalOf}
+use Rattle.mesh_lines.specs.declared.Run.{Run}
+use Rattle.mesh_lines.specs.declared.Run.the-variants as Run
+use Rattle.mesh_lines.specs.declared.Lines.{Lines}
+use Rattle.mesh_lines.specs.declared.Lines.the-variants as Lines
 use Rattle.mesh_text.specs.declared.Total.the-variants as Total
 use Rattle.text_numbers.proofs.Laws.{takes-many, stands-inside}
-use Rattle.mesh_text.proofs.Laws.{takes-point, takes-face}
+use Rattle.mesh_lines.proofs.Laws.{takes-point, takes-face}
 use Rattle.text_numbers.proofs.Turns.{literal-found, literal-none}
-use Rattle.mesh_text.proofs.Answers.{run-of, run-none, lines-are, lines-none}
+use Rattle.mesh_lines.proofs.Answers.{run-of, run-none, lines-are, lines-none}
 
 abbrev pointLines : List ℕ → Form (List (List ℕ))
 pointLines s = many s (bytes "[point") (point s) (length s)

@@ -1,0 +1,2 @@
+mod LinkTable
+mod Table

@@ -1,0 +1,83 @@
+-- make_in_rows meets its contract: the first rows are worked on as parts of their own and put back.
+use Rattle.making.proofs.FirstRows.{first-rows-back, zeroed-rows-back}
+use Rattle.making.specs.Making.{madeAs}
+use Rattle.steps.specs.Step.{firstRows}
+use Rattle.tables.specs.Mesh.{Mesh, meshOf}
+use lib.Seq.{length-take-le}
+use native.Mathlib.Omega.{arith}
+use mathlib.Core.Path.{_≡_, refl, sym, _∙_, ap}
+use borrow.Author.Needs.{needs}
+use Rattle.making.proofs.make_in_rows.Statement.{statement}
+use Rattle.making.proofs.make_in_rows.Tie as tie
+
+mul-f : tie.Need-mul-f
+mul-f c = omega (arith, c .before .before .before .before .before .before .before .before .before .before .before .before .before .before)
+
+slice-aggregate-make : tie.Need-slice-aggregate-make
+slice-aggregate-make c = sym (length-take-le _ (c .before .before .before .before .before .before .before .before .before .before .before .before .before .before .before .args .places .now) (c .before .before .before .before .before .before .before .before .before .before .before .before .before .before .before .pre .0 .positions))
+
+slice-aggregate-make-2 : tie.Need-slice-aggregate-make-2
+slice-aggregate-make-2 c = sym (length-take-le _ (c .before .before .before .before .before .before .before .before .before .before .before .before .before .before .before .before .args .rows .now) (c .before .before .before .before .before .before .before .before .before .before .before .before .before .before .before .before .pre .0 .points))
+
+slice-aggregate-make-3 : tie.Need-slice-aggregate-make-3
+slice-aggregate-make-3 c = sym (length-take-le _ (c .before .before .before .before .before .before .before .before .before .before .before .before .before .before .before .before .before .args .halves .now) (c .before .before .before .before .before .before .before .before .before .before .before .before .before .before .before .before .before .pre .0 .edges))
+
+slice-aggregate-make-4 : tie.Need-slice-aggregate-make-4
+slice-aggregate-make-4 c = sym (length-take-le _ (c .before .before .before .before .before .before .before .before .before .before .before .before .before .before .before .before .before .before .args .lengths .now) (c .before .before .before .before .before .before .before .before .before .before .before .before .before .before .before .before .before .before .pre .0 .intervals))
+
+slice-aggregate-make-5 : tie.Need-slice-aggregate-make-5
+slice-aggregate-make-5 c = sym (length-take-le _ (c .before .before .before .before .before .before .before .before .before .before .before .before .before .before .before .before .before .before .before .args .quads .now) (c .before .before .before .before .before .before .before .before .before .before .before .before .before .before .before .before .before .before .before .pre .0 .faces))
+
+make-requires : tie.Need-make-requires
+unfolding firstRows
+make-requires c κs =
+    let r = c .before .before .before .before .before .before .before .before .before .before .before .before .before .before .before .before .before .before .before .pre .1 in
+    record {
+      closed = r .closed;
+      once = r .once;
+      points-room = r .points-room;
+      edges-room = r .edges-room;
+      faces-room = r .faces-room;
+      ceilings = r .ceilings;
+    }
+
+returns : tie.Need-returns
+unfolding firstRows
+returns c =
+    let a = c .before .before .before .before .before .before .before .before .before .before .before .before .before .before .before .before .before .before .before .before .before .before .before .before .before .before .before .before .before .before .args in
+    let h = c .before .before .before .before .before .before .before .before .before .before .before .before .before .before .before .before .before .before .before .before .before .before .before .before .before .before .before .before .before .before .pre .0 in
+    let t : Mesh = meshOf (a .places .now) (a .rows .now) (a .halves .now) (a .lengths .now) (a .quads .now) in
+    let v = c .before .before .before .before .before .before .before .before .before .before .make in
+    let lp = v .kept .1 .1 .1 .1 .1 .1 .1 .0 ∙ length-take-le _ (a .places .now) (h .positions) in
+    let lw = v .kept .1 .1 .1 .1 .1 .1 .1 .1 .0 ∙ length-take-le _ (a .rows .now) (h .points) in
+    let le = v .kept .1 .1 .1 .1 .1 .1 .1 .1 .1 .0 ∙ length-take-le _ (a .halves .now) (h .edges) in
+    let li = v .kept .1 .1 .1 .1 .1 .1 .1 .1 .1 .1 .0 ∙ length-take-le _ (a .lengths .now) (h .intervals) in
+    let lf = v .kept .1 .1 .1 .1 .1 .1 .1 .1 .1 .1 .1 .0 ∙ length-take-le _ (a .quads .now) (h .faces) in (
+      v .ensures ∙ ap (madeAs (v .result)) (sym (first-rows-back (a .c) t (v .last .1 .1 .1 .1 .1 .1 .1 .0) (v .last .1 .1 .1 .1 .1 .1 .1 .1 .0) (v .last .1 .1 .1 .1 .1 .1 .1 .1 .1 .0) (v .last .1 .1 .1 .1 .1 .1 .1 .1 .1 .1 .0) (v .last .1 .1 .1 .1 .1 .1 .1 .1 .1 .1 .1 .0) lp lw le li lf)),
+      zeroed-rows-back (a .c) t (v .last .1 .1 .1 .1 .1 .1 .1 .0) (v .last .1 .1 .1 .1 .1 .1 .1 .1 .0) (v .last .1 .1 .1 .1 .1 .1 .1 .1 .1 .0) (v .last .1 .1 .1 .1 .1 .1 .1 .1 .1 .1 .0) (v .last .1 .1 .1 .1 .1 .1 .1 .1 .1 .1 .1 .0) lp lw le li lf,
+    )
+
+pub make-in-rows-spec : {M : Type 1} → statement M
+make-in-rows-spec =
+    tie.close
+    (tie.spec
+    (λ c. search needs)
+    (λ c. search needs)
+    mul-f
+    (λ c. search needs)
+    slice-aggregate-make
+    (λ c. search needs)
+    slice-aggregate-make-2
+    (λ c. search needs)
+    slice-aggregate-make-3
+    (λ c. search needs)
+    slice-aggregate-make-4
+    (λ c. search needs)
+    slice-aggregate-make-5
+    make-requires
+    (λ c. search needs)
+    (λ c. search needs)
+    (λ c. search needs)
+    (λ c. search needs)
+    (λ c. search needs)
+    returns)

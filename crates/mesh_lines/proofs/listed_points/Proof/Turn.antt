@@ -1,0 +1,94 @@
+-- One turn of the reading of a side's listed points: k are read and stored from n on, the next one is to stand at i.
+use mathlib.Core.List.{List, [], _∷_}
+use mathlib.Core.Path.{_≡_, refl, sym, ap, _∙_}
+use mathlib.Core.Bool.{true, false}
+use Prim.Native.Nat.{ℕ, suc, _+_, _-_, _≤_}
+use native.Mathlib.Nat.{add-zero}
+use native.Mathlib.Omega.{arith}
+use lib.ListN.{length, set, length-set}
+use lib.Ieee.{Float}
+use Rattle.text_numbers.specs.Form.{bytes, found, none, Form, many, stands}
+use Rattle.mesh_lines.specs.Grammar.{Listed, listed, sidePoints, sideIntervals}
+use Rattle.text_numbers.specs.Numbers.{float}
+use Rattle.mesh_lines.specs.Parts.{run, stored}
+use Rattle.mesh_lines.specs.declared.Run.the-variants as Run
+use Rattle.mesh_lines.proofs.Laws.{takes-listed}
+use Rattle.text_numbers.proofs.Laws.{stands-inside}
+use Rattle.text_numbers.proofs.Turns.{many-found, many-none, many-stop}
+use Rattle.mesh_lines.proofs.Answers.{runFrom, run-next, run-start, stored-next}
+
+-- the listed points from a place on, at most k of them
+abbrev pub listedFrom : List ℕ → ℕ → Form (List Listed)
+listedFrom s k = many s (bytes " [") (listed s) k
+
+pub record ListedSoFar (s : List ℕ) (at : ℕ) (ps₀ : List ℕ) (ds₀ : List Float) (n : ℕ) (ps : List ℕ) (ds : List Float) (i k : ℕ) : Type 0 where
+  pub inside : i ≤ length s
+  pub counted : n + k ≤ i
+  pub same-points : length ps ≡ length ps₀
+  pub same-intervals : length ds ≡ length ds₀
+  pub run : runFrom length k (listedFrom s (length s - k) i) ≡ run length (listedFrom s (length s) at)
+  pub points : stored sidePoints ps (n + k) (listedFrom s (length s - k) i) ≡ stored sidePoints ps₀ n (listedFrom s (length s) at)
+  pub intervals : stored sideIntervals ds (n + k) (listedFrom s (length s - k) i) ≡ stored sideIntervals ds₀ n (listedFrom s (length s) at)
+
+pub start : (s : List ℕ) (at : ℕ) (ps₀ : List ℕ) (ds₀ : List Float) (n : ℕ) → at ≤ length s → n ≤ at → ListedSoFar s at ps₀ ds₀ n ps₀ ds₀ at 0
+start s at ps₀ ds₀ n h hn =
+    let e : length s - 0 ≡ length s = omega arith in
+    record {
+      inside = h;
+      counted = omega arith;
+      same-points = refl;
+      same-intervals = refl;
+      run = rw e (run-start length (listedFrom s (length s) at));
+      points = rw (e, add-zero) refl;
+      intervals = rw (e, add-zero) refl;
+    }
+
+module _ (s : List ℕ) (at : ℕ) (ps₀ : List ℕ) (ds₀ : List Float) (n : ℕ) (ps : List ℕ) (ds : List Float) (i k : ℕ)
+    (inv : ListedSoFar s at ps₀ ds₀ n ps ds i k) where
+  pub end : stands s i (bytes " [") ≡ false
+      → (Run.Of k i ≡ run length (listedFrom s (length s) at))
+      × ((ps ≡ stored sidePoints ps₀ n (listedFrom s (length s) at)) × (ds ≡ stored sideIntervals ds₀ n (listedFrom s (length s) at)))
+  end e =
+      let m = many-stop s (bytes " [") (listed s) i (length s - k) e in
+      (ap (λ c. Run.Of c i) (sym (add-zero k)) ∙ (rw m at (inv .run)), (rw m at (inv .points), rw m at (inv .intervals)))
+
+  module _ (e : stands s i (bytes " [") ≡ true) where
+    pub head-inside : i + 2 ≤ length s
+    head-inside = stands-inside s (bytes " [") i refl (inv .inside) e
+
+    fuel : length s - k ≡ suc (length s - (k + 1))
+    fuel = let h = head-inside in let c = inv .counted in omega arith
+
+    pub stop : listed s (i + 2) ≡ none → Run.None ≡ run length (listedFrom s (length s) at)
+    stop en = rw (fuel, many-none s (bytes " [") (listed s) i (length s - (k + 1)) e en) at (inv .run)
+
+    module _ {p d j : ℕ} (el : listed s (i + 2) ≡ found (record { point = p; interval = d }) j) where
+      pub listed-longer : (i + 2 ≤ j) × (j ≤ length s)
+      listed-longer = let t = takes-listed s (i + 2) head-inside _ j el in omega arith
+
+      pub turn : {ps′ : List ℕ} → ps′ ≡ set ps (n + k) p → {x : Float} → x ≡ float d → {ds′ : List Float} → ds′ ≡ set ds (n + k) x
+          → ListedSoFar s at ps₀ ds₀ n ps′ ds′ j (k + 1)
+      turn {ps′} ep {x} ex {ds′} ed =
+          let a : Listed = record { point = p; interval = d } in
+          let rest = listedFrom s (length s - (k + 1)) j in
+          let t = many-found s (bytes " [") (listed s) i (length s - (k + 1)) e el in
+          let lo = listed-longer in
+          let c = inv .counted in
+          let en : n + (k + 1) ≡ n + k + 1 = omega arith in
+          record {
+            inside = lo .1;
+            counted = omega arith;
+            same-points = ap length ep ∙ length-set ps (n + k) p ∙ inv .same-points;
+            same-intervals = ap length ed ∙ length-set ds (n + k) x ∙ inv .same-intervals;
+            run = sym (run-next length k 1 a rest (λ l. omega arith)) ∙ (rw (fuel, t) at (inv .run));
+            points =
+                ap (λ (v : List ℕ). stored sidePoints v (n + (k + 1)) rest) ep
+                ∙ ap (λ (m : ℕ). stored sidePoints (set ps (n + k) p) m rest) en
+                ∙ sym (stored-next sidePoints (λ (b : Listed). b .point ∷ []) ps (n + k) a rest (λ l. refl))
+                ∙ (rw (fuel, t) at (inv .points));
+            intervals =
+                ap (λ (v : List Float). stored sideIntervals v (n + (k + 1)) rest) (ed ∙ ap (set ds (n + k)) ex)
+                ∙ ap (λ (m : ℕ). stored sideIntervals (set ds (n + k) (float d)) m rest) en
+                ∙ sym (stored-next sideIntervals (λ (b : Listed). float (b .interval) ∷ []) ds (n + k) a rest (λ l. refl))
+                ∙ (rw (fuel, t) at (inv .intervals));
+          }

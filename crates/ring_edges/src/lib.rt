@@ -1,0 +1,230 @@
+// The edges that a visit writes about a face once its perimeter is split: the joining edges, and the halves' fields on the side of
+// this face.
+// Carries over the part of `global_subdivide`'s loop over the faces that connects edges (t_nurcc/mod.rs).
+// Not here: the places of the perimeter (`ring_places`), the new faces (`ring_faces`), the visit itself (`visiting`).
+// Definitions: `refined_meshes`, specs/Ring.antt; `ring_places`, specs/Rings.antt.
+ghost use mathlib.Core.Path.{_≡_};
+ghost use mathlib.Core.List.{List, []};
+ghost use Prim.Native.Nat.{ℕ, _+_, _*_, _≤_, _<_};
+ghost use lib.ListN.{length, getD};
+ghost use lib.Ieee.{Float};
+ghost use Rattle.tables.specs.declared.Counts.{Counts};
+ghost use Rattle.walks.specs.Steps.{faceTables};
+ghost use Rattle.refined_meshes.specs.Turns.{turns};
+ghost use Rattle.refined_meshes.specs.State.{State, putEdge};
+ghost use Rattle.refined_meshes.specs.Ring.{putSide, putJoin, putFirst, putSecond};
+ghost use Rattle.splitting.specs.Scratch.{tablesOf};
+ghost use Rattle.ring_places.specs.Rings.{ring, Small, Rows};
+use records::store_edge;
+use ring_places::RingRows;
+use ring_places::face_row;
+use ring_places::next_place;
+use ring_places::on_left;
+use ring_places::prev_place;
+use t_spline::TnurccEdge;
+use tables::index;
+
+// The joining edge to the midpoint of place i.
+pub fn join_edge(
+    firsts: &[u32; 64],
+    seconds: &[u32; 64],
+    mids: &[u32; 64],
+    found: &[f64; 64],
+    rows: RingRows,
+    i: usize,
+) -> TnurccEdge
+    requires { ⌜ Small rows ⌝ }
+    requires { ⌜ i < rows .size ⌝ }
+    ensures { λ e. ⌜
+        ((es : List ℕ) (s : State) →
+        putEdge (rows .joins + i) e s ≡
+        putJoin (ring rows es (now (firsts .entry)) (now (seconds .entry)) (now (mids .entry)) (now (found .entry))) i s) ⌝ }
+{
+    let next = next_place(rows.size, i);
+    let prev = prev_place(rows.size, i);
+    TnurccEdge {
+        connections: [
+            (rows.joins + next) as u32,
+            seconds[i],
+            firsts[i],
+            (rows.joins + prev) as u32,
+        ],
+        face_left: face_row(rows, next),
+        face_right: face_row(rows, i),
+        origin: rows.centre as u32,
+        dest: mids[i],
+        knot_interval: found[next] + found[prev],
+    }
+}
+
+// Stores the joining edges.
+pub fn put_joins(
+    edges: &mut [u32],
+    intervals: &mut [f64],
+    firsts: &[u32; 64],
+    seconds: &[u32; 64],
+    mids: &[u32; 64],
+    found: &[f64; 64],
+    rows: RingRows,
+)
+    requires { ⌜ Small rows ⌝ }
+    requires { ⌜ (rows .joins + rows .size) * 8 ≤ length (now edges) ⌝ }
+    requires { ⌜ rows .joins + rows .size ≤ length (now intervals) ⌝ }
+    ensures { λ _. ⌜
+        ((es ps fs : List ℕ) (c : Counts) →
+        _≡_ {A = State}
+        (tablesOf ps (now (edges .exit)) (now (intervals .exit)) fs c)
+        (turns (rows .size) (putJoin (ring rows es (now (firsts .entry)) (now (seconds .entry)) (now (mids .entry)) (now (found .entry))))
+        (tablesOf ps (now (edges .entry)) (now (intervals .entry)) fs c))) ⌝ }
+{
+    let n = rows.size;
+    let mut i = 0;
+    while i < n {
+        let edge = join_edge(firsts, seconds, mids, found, rows, i);
+        store_edge(edges, intervals, rows.joins + i, edge);
+        i += 1;
+    }
+}
+
+// Stores the face and the two neighbours of the edge e on its left or its right.
+fn put_side(edges: &mut [u32], left: bool, e: u32, f: u32, acw: u32, cw: u32)
+    requires { ⌜ e * 8 + 8 ≤ length (now edges) ⌝ }
+    ensures { λ _. ⌜
+        ((ps fs : List ℕ) (is : List Float) (c : Counts) →
+        _≡_ {A = State} (tablesOf ps (now (edges .exit)) is fs c) (putSide left e f acw cw (tablesOf ps (now (edges .entry)) is fs c))) ⌝ }
+{
+    let b = e as usize * 8;
+    if left {
+        edges[b + 2] = f;
+        edges[b + 4] = cw;
+        edges[b + 5] = acw;
+        return;
+    }
+    edges[b + 3] = f;
+    edges[b + 6] = cw;
+    edges[b + 7] = acw;
+}
+
+// Stores the first half at place i on the side of the face.
+fn put_first(
+    oldedges: &[u32],
+    edges: &mut [u32],
+    perimeter: &[u32; 64],
+    firsts: &[u32; 64],
+    seconds: &[u32; 64],
+    rows: RingRows,
+    i: usize,
+)
+    requires { ⌜ Small rows ⌝ }
+    requires { ⌜ i < rows .size ⌝ }
+    requires { ⌜ getD (now perimeter) i 0 * 8 + 8 ≤ length (now oldedges) ⌝ }
+    requires { ⌜ getD (now firsts) i 0 * 8 + 8 ≤ length (now edges) ⌝ }
+    ensures { λ _. ⌜
+        ((ms ps fs : List ℕ) (ds is : List Float) (c : Counts) →
+        _≡_ {A = State}
+        (tablesOf ps (now (edges .exit)) is fs c)
+        (putFirst (faceTables (now (oldedges .entry)) []) (ring rows (now (perimeter .entry)) (now (firsts .entry)) (now (seconds .entry)) ms ds) i
+        (tablesOf ps (now (edges .entry)) is fs c))) ⌝ }
+{
+    let left = on_left(oldedges, rows.face, index(perimeter[i]));
+    let prev = prev_place(rows.size, i);
+    let f = face_row(rows, i);
+    put_side(
+        edges,
+        left,
+        firsts[i],
+        f,
+        (rows.joins + i) as u32,
+        seconds[prev],
+    );
+}
+
+// Stores the first halves on the side of the face.
+pub fn put_firsts(
+    oldedges: &[u32],
+    edges: &mut [u32],
+    perimeter: &[u32; 64],
+    firsts: &[u32; 64],
+    seconds: &[u32; 64],
+    rows: RingRows,
+)
+    requires { ⌜ Small rows ⌝ }
+    requires { ⌜ Rows (now oldedges) (now perimeter) (rows .size) ⌝ }
+    requires { ⌜ Rows (now edges) (now firsts) (rows .size) ⌝ }
+    ensures { λ _. ⌜
+        ((ms ps fs : List ℕ) (ds is : List Float) (c : Counts) →
+        _≡_ {A = State}
+        (tablesOf ps (now (edges .exit)) is fs c)
+        (turns (rows .size)
+        (putFirst (faceTables (now (oldedges .entry)) []) (ring rows (now (perimeter .entry)) (now (firsts .entry)) (now (seconds .entry)) ms ds))
+        (tablesOf ps (now (edges .entry)) is fs c))) ⌝ }
+{
+    let n = rows.size;
+    let mut i = 0;
+    while i < n {
+        put_first(oldedges, edges, perimeter, firsts, seconds, rows, i);
+        i += 1;
+    }
+}
+
+// Stores the second half at place i on the side of the face.
+fn put_second(
+    oldedges: &[u32],
+    edges: &mut [u32],
+    perimeter: &[u32; 64],
+    firsts: &[u32; 64],
+    seconds: &[u32; 64],
+    rows: RingRows,
+    i: usize,
+)
+    requires { ⌜ Small rows ⌝ }
+    requires { ⌜ i < rows .size ⌝ }
+    requires { ⌜ getD (now perimeter) i 0 * 8 + 8 ≤ length (now oldedges) ⌝ }
+    requires { ⌜ getD (now seconds) i 0 * 8 + 8 ≤ length (now edges) ⌝ }
+    ensures { λ _. ⌜
+        ((ms ps fs : List ℕ) (ds is : List Float) (c : Counts) →
+        _≡_ {A = State}
+        (tablesOf ps (now (edges .exit)) is fs c)
+        (putSecond (faceTables (now (oldedges .entry)) []) (ring rows (now (perimeter .entry)) (now (firsts .entry)) (now (seconds .entry)) ms ds) i
+        (tablesOf ps (now (edges .entry)) is fs c))) ⌝ }
+{
+    let left = on_left(oldedges, rows.face, index(perimeter[i]));
+    let next = next_place(rows.size, i);
+    let f = face_row(rows, next);
+    put_side(
+        edges,
+        left,
+        seconds[i],
+        f,
+        firsts[next],
+        (rows.joins + i) as u32,
+    );
+}
+
+// Stores the second halves on the side of the face.
+pub fn put_seconds(
+    oldedges: &[u32],
+    edges: &mut [u32],
+    perimeter: &[u32; 64],
+    firsts: &[u32; 64],
+    seconds: &[u32; 64],
+    rows: RingRows,
+)
+    requires { ⌜ Small rows ⌝ }
+    requires { ⌜ Rows (now oldedges) (now perimeter) (rows .size) ⌝ }
+    requires { ⌜ Rows (now edges) (now seconds) (rows .size) ⌝ }
+    ensures { λ _. ⌜
+        ((ms ps fs : List ℕ) (ds is : List Float) (c : Counts) →
+        _≡_ {A = State}
+        (tablesOf ps (now (edges .exit)) is fs c)
+        (turns (rows .size)
+        (putSecond (faceTables (now (oldedges .entry)) []) (ring rows (now (perimeter .entry)) (now (firsts .entry)) (now (seconds .entry)) ms ds))
+        (tablesOf ps (now (edges .entry)) is fs c))) ⌝ }
+{
+    let n = rows.size;
+    let mut i = 0;
+    while i < n {
+        put_second(oldedges, edges, perimeter, firsts, seconds, rows, i);
+        i += 1;
+    }
+}

@@ -1,0 +1,38 @@
+-- put_new_face meets its contract: each word is the definition's.
+use Rattle.splitting.specs.Scratch.{tablesOf}
+use Rattle.ring_faces.proofs.Writing.{face-put}
+use Rattle.refined_meshes.specs.State.{putFace}
+use Prim.Native.Nat.{ℕ}
+use mathlib.Core.List.{List}
+use mathlib.Core.Path.{_∙_, ap}
+use borrow.Author.Needs.{needs}
+use Rattle.ring_faces.proofs.put_new_face.Statement.{statement}
+use Rattle.ring_faces.proofs.put_new_face.Tie as tie
+
+returns : tie.Need-returns
+unfolding putFace
+returns c =
+    let a = c .before .before .before .before .before .before .before .before .before .before .before .before .before .before .before .args in
+    λ gs ps es ds is k. ap (λ (fs : List ℕ). tablesOf ps es is fs k) (c .before .before .store-face .ensures) ∙ face-put (a .rows) (a .i) (a .perimeter .now) (a .firsts .now) gs (a .mids .now) ds (tablesOf ps es is (a .faces .now) k) (a .oldedges .now) _ (c .before .before .before .before .before .before .before .before .before .before .index .ensures) _ _ _ (c .before .before .before .before .before .before .before .before .before .before .before .before .prev-place .ensures .0) (c .before .before .before .before .before .before .before .before .before .first-point .ensures) (c .before .before .before .before .before .before .before .before .face-row .ensures)
+
+pub put-new-face-spec : {M : Type 1} → statement M
+put-new-face-spec =
+    tie.close
+    (tie.spec
+    (λ c κs. search needs)
+    (λ c. search needs)
+    (λ c. search needs)
+    (λ c κs. search needs)
+    (λ c κs. search needs)
+    (λ c κs. search needs)
+    (λ c. search needs)
+    (λ c. search needs)
+    (λ c. search needs)
+    (λ c. search needs)
+    (λ c. search needs)
+    (λ c. search needs)
+    (λ c. search needs)
+    (λ c. search needs)
+    (λ c κs. search needs)
+    (λ c. search needs)
+    returns)

@@ -1,0 +1,142 @@
+// The places of a face's perimeter once it is split: which halves and midpoints stand there, the intervals found on arriving, and
+// the rows that a visit takes for the face.
+// Carries over the reading half of `global_subdivide`'s loop over the faces (t_nurcc/mod.rs).
+// Not here: what is written about the face (`ring_edges`, `ring_faces`), the splitting (`splitting`).
+// Definitions: `refined_meshes`, specs/Ring.antt; `specs/Rings.antt` for the ring as the code holds it. Laws of loops: `proofs/Laws.antt`.
+ghost use mathlib.Core.Path.{_≡_};
+ghost use mathlib.Core.Bool.{cond};
+ghost use mathlib.Core.List.{[]};
+ghost use Prim.Native.Nat.{ℕ, _+_, _*_, _≤_, _<_};
+ghost use lib.Dec.{eqb};
+ghost use lib.ListN.{length, getD};
+ghost use lib.Ieee.{nan};
+ghost use Rattle.refined_meshes.specs.Turns.{filled};
+ghost use Rattle.refined_meshes.specs.Ring.{nextPlace, prevPlace, faceRow};
+ghost use Rattle.ring_places.specs.Rings.{ring, firstOf, secondOf, Small, Rows};
+use tables::index;
+
+// The rows of a ring: the face, the number of its edges, its face point, its first joining edge, its first appended face.
+pub struct RingRows {
+    pub face: usize,
+    pub size: usize,
+    pub centre: usize,
+    pub joins: usize,
+    pub faces: usize,
+}
+
+// The place after i on a perimeter of n.
+pub fn next_place(n: usize, i: usize) -> usize
+    requires { ⌜ i < n ⌝ }
+    ensures { λ r. ⌜ r ≡ nextPlace n i ⌝ }
+    ensures { λ r. ⌜ r < n ⌝ }
+{
+    if i + 1 == n {
+        return 0;
+    }
+    i + 1
+}
+
+// The place before i on a perimeter of n.
+pub fn prev_place(n: usize, i: usize) -> usize
+    requires { ⌜ i < n ⌝ }
+    ensures { λ r. ⌜ r ≡ prevPlace n i ⌝ }
+    ensures { λ r. ⌜ r < n ⌝ }
+{
+    if i == 0 {
+        return n - 1;
+    }
+    i - 1
+}
+
+// Whether face f is on the left of the edge e, in a mesh's table of edges.
+pub fn on_left(oldedges: &[u32], f: usize, e: usize) -> bool
+    requires { ⌜ e * 8 + 8 ≤ length (now oldedges) ⌝ }
+    ensures { λ r. ⌜ r ≡ eqb (getD (now (oldedges .entry)) (e * 8 + 2) 0) f ⌝ }
+{
+    index(oldedges[e * 8 + 2]) == f
+}
+
+// The half of the edge e at its first point, where the face is on its left or its right.
+fn first_half(edges: &[u32], left: bool, e: u32) -> u32
+    requires { ⌜ e * 8 + 8 ≤ length (now edges) ⌝ }
+    ensures { λ r. ⌜ r ≡ cond left e (getD (now (edges .entry)) (e * 8 + 6) 0) ⌝ }
+{
+    if left {
+        return e;
+    }
+    edges[e as usize * 8 + 6]
+}
+
+// The half of the edge e at its second point.
+fn second_half(edges: &[u32], left: bool, e: u32) -> u32
+    requires { ⌜ e * 8 + 8 ≤ length (now edges) ⌝ }
+    ensures { λ r. ⌜ r ≡ cond left (getD (now (edges .entry)) (e * 8 + 5) 0) e ⌝ }
+{
+    if left {
+        return edges[e as usize * 8 + 5];
+    }
+    e
+}
+
+// Stores the intervals of the first n edges of a perimeter.
+pub fn put_found(intervals: &[f64], perimeter: &[u32; 64], n: usize, found: &mut [f64; 64])
+    requires { ⌜ n ≤ 64 ⌝ }
+    requires { ⌜ ((i : ℕ) → i < n → getD (now perimeter) i 0 < length (now intervals)) ⌝ }
+    ensures { λ _. ⌜
+        now (found .exit) ≡ filled n (λ i. getD (now (intervals .entry)) (getD (now (perimeter .entry)) i 0) nan) (now (found .entry)) ⌝ }
+{
+    let mut i = 0;
+    while i < n {
+        let e = index(perimeter[i]);
+        found[i] = intervals[e];
+        i += 1;
+    }
+}
+
+// Stores what stands at the places of the perimeter of face f, once it is split: the half of the edge at its first point, the half
+// at its second, the midpoint.
+pub fn put_places(
+    oldedges: &[u32],
+    edges: &[u32],
+    perimeter: &[u32; 64],
+    f: usize,
+    n: usize,
+    firsts: &mut [u32; 64],
+    seconds: &mut [u32; 64],
+    mids: &mut [u32; 64],
+)
+    requires { ⌜ n ≤ 64 ⌝ }
+    requires { ⌜ Rows (now oldedges) (now perimeter) n ⌝ }
+    requires { ⌜ Rows (now edges) (now perimeter) n ⌝ }
+    ensures { λ _. ⌜
+        now (firsts .exit) ≡
+        filled n (λ i. firstOf (now (oldedges .entry)) (now (edges .entry)) f (getD (now (perimeter .entry)) i 0)) (now (firsts .entry)) ⌝ }
+    ensures { λ _. ⌜
+        now (seconds .exit) ≡
+        filled n (λ i. secondOf (now (oldedges .entry)) (now (edges .entry)) f (getD (now (perimeter .entry)) i 0)) (now (seconds .entry)) ⌝ }
+    ensures { λ _. ⌜
+        now (mids .exit) ≡ filled n (λ i. getD (now (edges .entry)) (getD (now (perimeter .entry)) i 0 * 8 + 1) 0) (now (mids .entry)) ⌝ }
+{
+    let mut i = 0;
+    while i < n {
+        let e = perimeter[i];
+        let row = index(e);
+        let left = on_left(oldedges, f, row);
+        firsts[i] = first_half(edges, left, e);
+        seconds[i] = second_half(edges, left, e);
+        mids[i] = edges[row * 8 + 1];
+        i += 1;
+    }
+}
+
+// The row of the new face at place i: the first takes the old row.
+pub fn face_row(rows: RingRows, i: usize) -> u32
+    requires { ⌜ Small rows ⌝ }
+    requires { ⌜ i < rows .size ⌝ }
+    ensures { λ r. ⌜ r ≡ faceRow (ring rows [] [] [] [] []) i ⌝ }
+{
+    if i == 0 {
+        return rows.face as u32;
+    }
+    (rows.faces + (i - 1)) as u32
+}
