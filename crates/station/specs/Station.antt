@@ -1,8 +1,4 @@
--- What the C functions answer and leave. An answer of the library has its numbers (`numbersOf` of `built_meshes`, `text_meshes`
--- and `steps`): three are the counts of an accepted mesh, one is that of a ground.
---     countsIn xs             the counts that stand in an array of three words: points, edges, faces
---     answerOf ns             the one number that is answered: 0 for counts, else that of the ground
---     countsAfter xs ns       the array xs of counts afterwards: it is written only where the answer is 0
+-- What the C functions answer and leave: the numbers of an answer (`station_answers`), beside the tables.
 --     Building                the answer of building, the array of counts and the tables afterwards
 --     built xs o              the outcome o of building from lists, if the array of counts was xs
 --     textBuilt xs o          the outcome o of building from a text
@@ -10,30 +6,16 @@
 --     Step                    the answer of a step, the array of counts, the tables and the scratch tables afterwards
 --     stepped xs o            the outcome o of a step
 use mathlib.Core.Bool.{cond}
-use mathlib.Core.List.{List, [], _∷_}
+use mathlib.Core.List.{List}
 use Prim.Native.Nat.{ℕ}
-use lib.ListN.{getD}
 use Rattle.tables.specs.Mesh.{Mesh}
-use Rattle.tables.specs.Rows.{putRow}
 use Rattle.tables.specs.declared.Counts.{Counts}
 use Rattle.audited_meshes.specs.Audit.{audit}
 use Rattle.built_meshes.specs.Answers.{numbersOf}
 use Rattle.built_meshes.specs.Building as building
 use Rattle.text_meshes.specs.TextBuilding as text
 use Rattle.steps.specs.Step as steps
-
-abbrev pub countsIn : List ℕ → Counts
-countsIn xs = record { points = getD xs 0 0; edges = getD xs 1 0; faces = getD xs 2 0 }
-
-abbrev pub answerOf : List ℕ → ℕ
-answerOf [] = 0
-answerOf (g ∷ []) = g
-answerOf (p ∷ e ∷ ns) = 0
-
-abbrev pub countsAfter : List ℕ → List ℕ → List ℕ
-countsAfter xs [] = xs
-countsAfter xs (g ∷ []) = xs
-countsAfter xs (p ∷ e ∷ ns) = putRow xs 0 (p ∷ e ∷ ns)
+use Rattle.station_answers.specs.Answers.{answerOf, countsAfter}
 
 pub record Building : Type 0 where
   pub answer : ℕ

@@ -1,7 +1,7 @@
 // The library for stations: building, the audit and the step as C functions on pointers and lengths (station/lavyngo.h declares
 // them). Every answer is document 01's number: 0 for what is accepted, else that of the ground. Counts stand in an array of three
 // that the caller lends: points, edges, faces.
-// Not here: what the functions do (`building`, `text_building`, `audit`, `refining`).
+// Not here: what the functions do (`building`, `text_building`, `audit`, `refining`), how an answer is told (`station_answers`).
 // Contracts: `lavyngo_build`, `lavyngo_build_text`, `lavyngo_audit`, `lavyngo_step`. Definitions: `specs/Station.antt`. Laws: `proofs/Laws.antt`.
 ghost use mathlib.Core.Path.{_≡_};
 ghost use Rattle.built_meshes.specs.Building.{build};
@@ -10,41 +10,18 @@ ghost use Rattle.building_tests.specs.Lent.{lists};
 ghost use Rattle.building_tests.specs.declared.Bounds.the-variants.{General};
 ghost use Rattle.text_meshes.specs.TextBuilding.{buildText};
 ghost use Rattle.tables.specs.Mesh.{meshOf};
-ghost use Rattle.steps.specs.Step.{numbersOf, step};
-ghost use Rattle.station.specs.Station.{Building, built, textBuilt, answerOf, countsAfter, countsIn, audited, Step, stepped};
-ghost use Rattle.tables.specs.Rows.{putRow};
-ghost use mathlib.Core.List.{[], _∷_};
-use answer_numbers::ground_number;
-use answer_numbers::step_number;
+ghost use Rattle.steps.specs.Step.{step};
+ghost use Rattle.station.specs.Station.{Building, built, textBuilt, audited, Step, stepped};
+ghost use Rattle.station_answers.specs.Answers.{countsIn};
 use audit::audit;
 use building::build;
 use building_tests::Bounds;
-use built_meshes::Built;
 use refining::step;
-use steps::Stepped;
-use tables::Counts;
+use station_answers::load_counts;
+use station_answers::tell_built;
+use station_answers::tell_stepped;
+use station_answers::tell_text_built;
 use text_building::build_text;
-use text_meshes::TextBuilt;
-
-// The counts that stand in an array.
-fn load_counts(counts: &[usize; 3]) -> Counts
-    ensures { λ r. ⌜ r ≡ countsIn (now (counts .entry)) ⌝ }
-{
-    Counts {
-        points: counts[0],
-        edges: counts[1],
-        faces: counts[2],
-    }
-}
-
-// Stores counts in an array.
-fn store_counts(counts: &mut [usize; 3], c: Counts)
-    ensures { λ _. ⌜ now (counts .exit) ≡ putRow (now (counts .entry)) 0 (c .points ∷ c .edges ∷ c .faces ∷ []) ⌝ }
-{
-    counts[0] = c.points;
-    counts[1] = c.edges;
-    counts[2] = c.faces;
-}
 
 // Builds a mesh from lists in the lent tables. The counts are written if it is accepted.
 #[no_mangle]
@@ -79,13 +56,7 @@ pub extern "C" fn lavyngo_build(
         faces,
         Bounds::General,
     );
-    match answer {
-        Built::Accepted(c) => {
-            store_counts(counts, c);
-            0
-        }
-        Built::Refused(g) => ground_number(g),
-    }
+    tell_built(counts, answer)
 }
 
 // Builds a mesh from a text in the lent tables. The counts are written if it is accepted.
@@ -115,14 +86,7 @@ pub extern "C" fn lavyngo_build_text(
         intervals,
         faces,
     );
-    match answer {
-        TextBuilt::Accepted(c) => {
-            store_counts(counts, c);
-            0
-        }
-        TextBuilt::NotText => 1,
-        TextBuilt::Refused(g) => ground_number(g),
-    }
+    tell_text_built(counts, answer)
 }
 
 // Whether the tables are a closed mesh with these counts: 0, or 30 if they are not.
@@ -152,19 +116,6 @@ pub extern "C" fn lavyngo_audit(
         0
     } else {
         30
-    }
-}
-
-// Stores the counts after a step, if it is accepted.
-fn store_refined(counts: &mut [usize; 3], answer: Stepped)
-    ensures { λ _. ⌜ now (counts .exit) ≡ countsAfter (now (counts .entry)) (numbersOf answer) ⌝ }
-{
-    match answer {
-        Stepped::Refined(c) => store_counts(counts, c),
-        Stepped::NotClosed => {}
-        Stepped::NotEachFaceOnce => {}
-        Stepped::NoRoom => {}
-        Stepped::NotFinite => {}
     }
 }
 
@@ -209,6 +160,5 @@ pub extern "C" fn lavyngo_step(
         lengths,
         quads,
     );
-    store_refined(counts, answer);
-    step_number(answer)
+    tell_stepped(counts, answer)
 }

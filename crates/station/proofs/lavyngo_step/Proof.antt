@@ -1,22 +1,21 @@
--- lavyngo_step meets its contract: the answer of the step and the counts by it.
+-- lavyngo_step meets its contract: what the step left, and its answer as it is told.
 use borrow.Author.Needs.{needs}
-use mathlib.Core.Path.{_∙_}
 use Rattle.tables.specs.Mesh.{meshOf}
-use Rattle.station.proofs.Laws.{step-number, step-stored}
+use Rattle.station.proofs.Laws.{step-told}
 use Rattle.station.proofs.lavyngo_step.Statement.{statement}
 use Rattle.station.proofs.lavyngo_step.Tie as tie
 
 returns : tie.Need-returns
 returns c =
-    let a = c .before .before .before .before .before .before .before .before .before .before .before .before .before .before .before .before .before .before .before .before .before .before .before .before .before .before .before .before .before .before .before .before .before .before .before .before .before .before .before .before .before .before .before .before .before .before .before .args in
-    step-stored (a .counts .now) (meshOf (a .positions .now) (a .points .now) (a .edges .now) (a .intervals .now) (a .faces .now))
-    (meshOf (a .places .now) (a .rows .now) (a .halves .now) (a .lengths .now) (a .quads .now)) (a .order .now) (c .before .before .before .before .before .before .before .before .before .before .before .before .before .before .before .before .before .before .before .before .before .before .before .before .before .before .before .before .before .before .before .before .before .before .load-counts .ensures) (c .before .before .before .before .before .before .before .before .before .before .before .before .before .before .before .before .before .before .before .before .before .before .before .step .ensures .0) (c .step-number .ensures ∙ step-number (c .before .before .before .before .before .before .before .before .before .before .before .before .before .before .before .before .before .before .before .before .before .before .before .step .result)) (c .before .store-refined .ensures)
+    let a = c .before .before .before .before .before .before .before .before .before .before .before .before .before .before .before .before .before .before .before .before .before .before .before .before .before .before .before .before .before .before .before .before .before .before .before .before .before .before .before .before .before .before .before .before .before .before .args in
+    step-told (a .counts .now) (meshOf (a .positions .now) (a .points .now) (a .edges .now) (a .intervals .now) (a .faces .now))
+    (meshOf (a .places .now) (a .rows .now) (a .halves .now) (a .lengths .now) (a .quads .now)) (a .order .now) (c .before .before .before .before .before .before .before .before .before .before .before .before .before .before .before .before .before .before .before .before .before .before .before .before .before .before .before .before .before .before .before .before .before .load-counts .ensures)
+    (c .before .before .before .before .before .before .before .before .before .before .before .before .before .before .before .before .before .before .before .before .before .before .step .ensures .0) (c .tell-stepped .ensures .0) (c .tell-stepped .ensures .1)
 
 pub lavyngo-step-spec : {M : Type 1} → statement M
 lavyngo-step-spec =
     tie.close
     (tie.spec
-    (λ c κs. search needs)
     (λ c κs. search needs)
     (λ c κs. search needs)
     (λ c κs. search needs)

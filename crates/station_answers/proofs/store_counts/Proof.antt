@@ -1,8 +1,8 @@
 -- store_counts meets its contract: the three words in turn.
 use borrow.Author.Needs.{needs}
 use mathlib.Core.Path.{refl}
-use Rattle.station.proofs.store_counts.Statement.{statement}
-use Rattle.station.proofs.store_counts.Tie as tie
+use Rattle.station_answers.proofs.store_counts.Statement.{statement}
+use Rattle.station_answers.proofs.store_counts.Tie as tie
 
 returns : tie.Need-returns
 returns c = refl

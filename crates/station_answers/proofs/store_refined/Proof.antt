@@ -1,11 +1,13 @@
 -- store_refined meets its contract, by the cases of the answer.
+use mathlib.Core.Path.{ap}
 use borrow.Author.Needs.{needs}
-use Rattle.station.proofs.Laws.{counts-stored}
-use Rattle.station.proofs.store_refined.Statement.{statement}
-use Rattle.station.proofs.store_refined.Tie as tie
+use Rattle.steps.specs.Step.{numbersOf}
+use Rattle.station_answers.proofs.Laws.{counts-told}
+use Rattle.station_answers.proofs.store_refined.Statement.{statement}
+use Rattle.station_answers.proofs.store_refined.Tie as tie
 
 returns : tie.Need-returns
-returns c = counts-stored (c .before .before .before .before .before .args .counts .now) (c .before .before .before .answer .given .1) (c .store-counts .ensures)
+returns c = counts-told (c .before .before .before .before .before .args .counts .now) (ap numbersOf (c .before .before .before .answer .given .1)) (c .store-counts .ensures) .1
 
 pub store-refined-spec : {M : Type 1} → statement M
 store-refined-spec =

@@ -1,0 +1,23 @@
+-- What is told of an answer. An answer of the library has its numbers (`numbersOf` of `built_meshes`, `text_meshes` and `steps`):
+-- three are the counts of an accepted mesh, one is that of a ground.
+--     countsIn xs             the counts that stand in an array of three words: points, edges, faces
+--     answerOf ns             the one number that is answered: 0 for counts, else that of the ground
+--     countsAfter xs ns       the array xs of counts afterwards: it is written only where the answer is 0
+use mathlib.Core.List.{List, [], _∷_}
+use Prim.Native.Nat.{ℕ}
+use lib.ListN.{getD}
+use Rattle.tables.specs.Rows.{putRow}
+use Rattle.tables.specs.declared.Counts.{Counts}
+
+abbrev pub countsIn : List ℕ → Counts
+countsIn xs = record { points = getD xs 0 0; edges = getD xs 1 0; faces = getD xs 2 0 }
+
+abbrev pub answerOf : List ℕ → ℕ
+answerOf [] = 0
+answerOf (g ∷ []) = g
+answerOf (p ∷ e ∷ ns) = 0
+
+abbrev pub countsAfter : List ℕ → List ℕ → List ℕ
+countsAfter xs [] = xs
+countsAfter xs (g ∷ []) = xs
+countsAfter xs (p ∷ e ∷ ns) = putRow xs 0 (p ∷ e ∷ ns)
