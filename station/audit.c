@@ -1,17 +1,14 @@
 // Times the audit on a torus of 256 by 256 squares: 65,536 points, 131,072 edges, 65,536 faces, the most that a step may leave.
+#include "lavyngo.h"
 #include <stdbool.h>
-#include <stddef.h>
-#include <stdint.h>
 #include <stdio.h>
 #include <stdlib.h>
 #include <time.h>
 
-bool bench_audit(const double *positions, size_t, const uint32_t *points, size_t, const uint32_t *edges, size_t,
-                 const double *intervals, size_t, const uint32_t *faces, size_t, size_t np, size_t ne, size_t nf);
-
 enum { N = 256, P = N * N, E = 2 * P, F = P };
 static double positions[3 * P], intervals[E];
 static uint32_t points[3 * P], edges[8 * E], faces[5 * F];
+static const size_t counts[3] = {P, E, F};
 
 // The point, the edge to the right of it, the edge upwards and the square right and above of it.
 static uint32_t at(int x, int y) { return (uint32_t)(((y + N) % N) * N + (x + N) % N); }
@@ -23,6 +20,10 @@ static void put(uint32_t e, uint32_t origin, uint32_t dest, uint32_t left, uint3
     uint32_t words[8] = {origin, dest, left, right, left_cw, left_acw, right_cw, right_acw};
     for (int k = 0; k < 8; k++) edges[8 * e + k] = words[k];
     intervals[e] = 1.0;
+}
+
+static bool is_closed(void) {
+    return lavyngo_audit(positions, 3 * P, points, 3 * P, edges, 8 * E, intervals, E, faces, 5 * F, counts) == 0;
 }
 
 static double milliseconds(void) {
@@ -47,13 +48,13 @@ int main(int argc, char **argv) {
     bool closed = true;
     for (int i = 0; i < runs; i++) {
         double t = milliseconds();
-        closed &= bench_audit(positions, 3 * P, points, 3 * P, edges, 8 * E, intervals, E, faces, 5 * F, P, E, F);
+        closed &= is_closed();
         t = milliseconds() - t;
         sum += t;
         if (t < least) least = t;
     }
     edges[8 * (E - 1) + 4] ^= 1;
-    bool spoilt = bench_audit(positions, 3 * P, points, 3 * P, edges, 8 * E, intervals, E, faces, 5 * F, P, E, F);
+    bool spoilt = is_closed();
     printf("closed %d, spoilt %d, %d runs: least %.2f ms, mean %.2f ms\n", closed, spoilt, runs, least, sum / runs);
     return closed && !spoilt ? 0 : 1;
 }

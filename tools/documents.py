@@ -1,0 +1,103 @@
+#!/usr/bin/env python3
+"""The documents held against the files that they name.
+
+    tools/documents.py            print README.md's table of the files to read: the files of specs/ that state the claims and the
+                                  contracts of the library's own functions, and all that these files use
+    tools/documents.py --check    say whether README.md has that table, and whether every path below crates/ that a document names,
+                                  and every edit that docs/HOLLOW.md names, is there
+"""
+import re
+import sys
+from pathlib import Path
+
+ROOT = Path(__file__).resolve().parent.parent
+
+# The files that state the claims, and those that the contracts of `build`, `build_text`, `audit`, `step`, `refine` and of the
+# functions for C cite.
+STATED = """
+    audited_meshes/Audit audited_meshes/Claims built_meshes/Building built_meshes/Claims building_tests/Lent
+    closed_meshes/Refinement closed_meshes/Renumbering filed_pieces/Pieces refine_outputs/Claims refine_outputs/Output
+    refined_meshes/Refines runs/Runs station/Station steps/OneStep steps/Step text_meshes/Claims text_meshes/TextBuilding
+""".split()
+
+# What each crate's definitions are about, in the order of the table.
+ABOUT = {
+    "closed_meshes": "closed meshes over any rows, their refinement, names, what two meshes share",
+    "positions": "positions, small and finite numbers",
+    "t_spline": "the ends, sides and neighbours of an edge",
+    "edge_links": "connecting two edges",
+    "tables": "the five tables",
+    "t_nurcc_edge": "connecting two rows",
+    "walks": "borders and walks in tables",
+    "audited_meshes": "the audit",
+    "text_numbers": "forms on bytes, decimal and hexadecimal numbers",
+    "mesh_lines": "the lines of mesh text 1",
+    "mesh_text": "mesh text 1",
+    "built_meshes": "building",
+    "building_tests": "the lists that building is handed",
+    "text_meshes": "building from a text",
+    "refined_meshes": "the visits of a refinement",
+    "position_rules": "the position rules",
+    "steps": "the step",
+    "runs": "demand 3",
+    "mesh_answers": "the lines of an answer",
+    "refine_outputs": "what the program `refine` writes",
+    "station_answers": "how an answer is told to a C caller",
+    "station": "what the C functions answer and leave",
+    "filed_pieces": "document 01's starred pieces",
+}
+USE = re.compile(r"^use Rattle·(\w+?)(?:·specs\.specs|\.specs)\.(\w+)", re.M)
+
+
+def read_files():
+    """Each crate's files, with their numbers of lines."""
+    found = {}
+    todo = [tuple(name.split("/")) for name in STATED]
+    while todo:
+        crate, file = todo.pop()
+        if file == "declared" or file in found.setdefault(crate, {}):
+            continue
+        text = (ROOT / "crates" / crate / "specs" / f"{file}.antt").read_text()
+        found[crate][file] = text.count("\n")
+        todo += USE.findall(text)
+    return found
+
+
+def table(found):
+    rows = ["| Files | Lines | About |", "|---|---|---|"]
+    for crate, about in ABOUT.items():
+        files = sorted(found[crate])
+        rows.append(f"| crates/{crate}/specs: {', '.join(files)} | {sum(found[crate].values())} | {about} |")
+    total = sum(sum(files.values()) for files in found.values())
+    return "\n".join(rows) + f"\n\nTogether {total} lines, and the contracts of the functions named above.\n"
+
+
+def missing():
+    """What documents name and is not there."""
+    for document in [ROOT / "README.md", ROOT / "NOTICE", *sorted((ROOT / "docs").glob("*.md"))]:
+        for path in re.findall(r"crates/[a-z_]+(?:/[A-Za-z_]+)*(?:\.[a-z]+)?", document.read_text()):
+            if not (ROOT / path).exists():
+                yield f"{document.name} names {path}"
+    for row in (ROOT / "docs" / "HOLLOW.md").read_text().split("\n"):
+        for crate, edits in re.findall(r"(\w+): ((?:`\w+`(?:, )?)+)", row):
+            for edit in re.findall(r"\w+", edits):
+                if not (ROOT / "crates" / crate / "must-fail" / f"{edit}.edit").exists():
+                    yield f"HOLLOW.md names the edit {edit} of {crate}"
+
+
+def main():
+    found = read_files()
+    if set(found) != set(ABOUT):
+        sys.exit(f"documents: of these crates it is not known what to read: {sorted(set(found) ^ set(ABOUT))}")
+    if sys.argv[1:] != ["--check"]:
+        print(table(found), end="")
+        return
+    wrong = list(missing())
+    if table(found) not in (ROOT / "README.md").read_text():
+        wrong.append("README.md has another table of the files to read")
+    if wrong:
+        sys.exit("\n".join(f"documents: {line}" for line in wrong))
+    print("documents: the files and the edits that they name are there")
+
+
+main()
