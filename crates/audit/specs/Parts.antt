@@ -7,7 +7,7 @@ use Prim.Native.Nat.{ℕ, _*_}
 use lib.Dec.{eqb}
 use lib.Ieee.{Float}
 use Rattle.closed_meshes.specs.Renumbering.{sumTo}
-use Rattle.tables.specs.Mesh.{Mesh, valence}
+use Rattle.tables.specs.Mesh.{valence}
 use Rattle.audited_meshes.specs.Folds.{every}
 use Rattle.audited_meshes.specs.Walks.{faceWalk, pointWalk}
 use Rattle.audited_meshes.specs.Quick.{pointFit, edgeFit, faceFit, faceBack, pointBack, oneEdge}

@@ -15,12 +15,11 @@ use Rattle.closed_meshes.proofs.Counting.{row-path}
 use Rattle.closed_meshes.proofs.Darts.{edge-flip, first-flip}
 use Rattle.tables.specs.Mesh.{Mesh, valence, start, faceStart}
 use Rattle.audited_meshes.specs.Folds.{occurrences}
-use Rattle.audited_meshes.specs.Walks.{acwOfFace, cwOfFace, acwOfPoint, firstPoint, passed, faceWalk, pointWalk}
+use Rattle.audited_meshes.specs.Walks.{acwOfFace, cwOfFace, acwOfPoint, firstPoint}
 use Rattle.audited_meshes.specs.Audited.{Borders, Touches, AcwLinks, CwLinks, FaceWalked, PointWalked, Audited}
 use Rattle.audited_meshes.proofs.Walks.{passes-head, passes-on}
 use Rattle.audited_meshes.proofs.Positions.{position, position-below, getD-position, getD-map-below, passes-step, passes-moves}
 use Rattle.audited_meshes.proofs.Cycles.{cycles-of-walks}
-use Rattle.audited_meshes.proofs.Audited.{faceWalk-is, pointWalk-is}
 use Rattle.audited_meshes.proofs.Rows.{rows, rows-stand}
 use Rattle.audited_meshes.proofs.Darts.{number, num, Seen, acwOfFace-dart, cwOfFace-dart, acwOfPoint-dart, firstPoint-dart, borders-dart, touches-first, dart-of-borders, dart-of-touches, settled-on-face, settled-at-point}
 
@@ -263,13 +262,3 @@ module _ (m : Mesh) {np ne nf : ℕ} (a : Audited m np ne nf) where
         valence-low = λ p. subst (λ n. 2 ≤ n) (point-walk p .is-valence) (point-walk p .at-least-2);
         about-points = about-points;
       }
-
-  -- The number of edges that a walk passes is the size of the face, the valence of the point.
-  pub passed-faceWalk : (f : Row nf) → passed (faceWalk m ne (f .0)) ≡ closed-rows .size f
-  unfolding closed-rows
-  passed-faceWalk f = let w = face-walk f in ap passed (faceWalk-is m ne (f .0) (w .edges) .1 (w .passes, w .at-most-64))
-
-  pub passed-pointWalk : (p : Row np) (k : ℕ) → valence m (p .0) ≤ k → passed (pointWalk m ne k (p .0)) ≡ valence m (p .0)
-  passed-pointWalk p k h =
-      let w = point-walk p in
-      ap passed (pointWalk-is m ne (p .0) k (w .edges) .1 (w .passes, omega (arith, w .is-valence))) ∙ w .is-valence

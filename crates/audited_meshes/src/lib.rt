@@ -7,4 +7,4 @@
 // tables pass it exactly if they hold a closed mesh over bounded numbers.
 // Proofs: `audit-is-audited` in `proofs/Audited.antt`, `quick-is-audit` in `proofs/Quick.antt`, `audit-is-closed` in
 // `proofs/Holds.antt`. Laws for callers: `proofs/Tests.antt`, `proofs/Walks.antt`, `proofs/Audited.antt`, and of closed meshes
-// `closed-rows`, `passed-faceWalk`, `passed-pointWalk` in `proofs/Closed.antt`. Computed meshes: `proofs/Cases.antt`.
+// `closed-rows` in `proofs/Closed.antt`. Computed meshes: `proofs/Cases.antt`.

@@ -1,19 +1,16 @@
 -- How many rows a refined mesh has: of np points, ne edges and nf faces it has np + ne + nf points, 4 ne edges and 2 ne faces.
--- The sizes of all faces of a closed mesh add up to 2 ne, and so do the valences. Assumes nothing.
-use mathlib.Core.Path.{_≡_, refl, _∙_, ap, subst}
+-- Assumes nothing.
+use mathlib.Core.Path.{_≡_, refl, ap, subst}
 use mathlib.Core.Logic.{_⊎_, inl, inr}
 use Prim.Native.Nat.{ℕ, _+_, _-_, _*_, _<_}
 use native.Mathlib.Omega.{arith}
 use native.Mathlib.Decide.{decLt}
-use Rattle.closed_meshes.specs.Mesh.{Mesh, Dart, lft, rgt, flip}
-use Rattle.closed_meshes.specs.Closed.{Closed}
+use Rattle.closed_meshes.specs.Mesh.{Dart, lft, rgt}
 use Rattle.closed_meshes.specs.Refinement.{NewPoint, old, mid, facePoint, NewEdge, org, dst, join}
-use Rattle.closed_meshes.specs.Renumbering.{Injective, Bijection, Row, sumTo}
+use Rattle.closed_meshes.specs.Renumbering.{Injective, Bijection, Row}
 use Rattle.closed_meshes.proofs.Counting.{row-path, bijection}
-use Rattle.closed_meshes.proofs.Darts.{flip-flip}
-use Rattle.closed_meshes.proofs.Groupoid.{identity, composed}
+use Rattle.closed_meshes.proofs.Groupoid.{composed}
 use Rattle.closed_meshes.proofs.Isomorphisms.{inverse}
-use Rattle.closed_meshes.proofs.Sums.{sum-of-lengths}
 
 -- One table after another.
 module _ (a b : ℕ) where
@@ -107,14 +104,3 @@ module _ {E : Type 0} {ne : ℕ} (edges : Bijection E (Row ne)) where
 
   pub count-edges : Bijection (NewEdge E) (Row (4 * ne))
   count-edges = recounted {n = ne + ne + 2 * ne} (omega arith) (composed kinds-of-edges (both (both edges edges) count-darts))
-
-module _ {np ne nf : ℕ} {m : Mesh (Row np) (Row ne) (Row nf)} (c : Closed m) (g : ℕ → ℕ) where
-  -- The sizes of all faces add up to twice the number of edges.
-  pub sum-of-sizes : ((f : Row nf) → g (f .0) ≡ c .size f) → sumTo nf g ≡ 2 * ne
-  sum-of-sizes h = sum-of-lengths (count-darts (identity (Row ne))) (c .about-faces) (c .prev) (c .next-prev) g h
-
-  -- So do the valences.
-  pub sum-of-valences : ((p : Row np) → g (p .0) ≡ m .valence p) → sumTo np g ≡ 2 * ne
-  sum-of-valences h =
-      sum-of-lengths (count-darts (identity (Row ne))) (c .about-points) (λ d. c .next (flip d))
-      (λ d. ap flip (c .prev-next (flip d)) ∙ flip-flip d) g h

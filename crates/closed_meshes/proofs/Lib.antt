@@ -13,7 +13,6 @@ pub mod Counts
 pub mod Names
 pub mod RefinementLifts
 pub mod Runs
-pub mod SameKind
 pub mod SharedIsAll
 pub mod TwoRuns
 pub mod Cases

@@ -118,14 +118,3 @@ module _ {P E F : Type 0} where
             edge-name = λ e. ap (newEdgeName k (s .mesh) (s .names)) (i .edges .from-to e);
             face-name = λ f. ap (newFaceName k (s .mesh) (s .names)) (i .faces .from-to f);
           }
-
-  -- The name of a row after a step is the name of its kind.
-  module _ {k : ℕ} {s t : Stage P E F} (b : Step k s t) where
-    pub name-of-point : (p : t .Point) → t .names .point p ≡ newPointName k (s .mesh) (s .names) (b .numbering .points .from p)
-    name-of-point p = ap (t .names .point) (sym (b .numbering .points .to-from p)) ∙ b .point-name _
-
-    pub name-of-edge : (e : t .Edge) → t .names .edge e ≡ newEdgeName k (s .mesh) (s .names) (b .numbering .edges .from e)
-    name-of-edge e = ap (t .names .edge) (sym (b .numbering .edges .to-from e)) ∙ b .edge-name _
-
-    pub name-of-face : (f : t .Face) → t .names .face f ≡ newFaceName k (s .mesh) (s .names) (b .numbering .faces .from f)
-    name-of-face f = ap (t .names .face) (sym (b .numbering .faces .to-from f)) ∙ b .face-name _

@@ -1,12 +1,9 @@
--- The lengths of all cycles of n darts add up to n. Assumes nothing.
-use mathlib.Core.Path.{_≡_, refl, sym, _∙_, ap}
+-- The places of a sum: below it, told apart, found. Assumes nothing.
+use mathlib.Core.Path.{_≡_, refl}
 use Prim.Native.Nat.{ℕ, zero, suc, _+_, _-_, _≤_, _<_}
 use native.Mathlib.Omega.{arith}
 use native.Mathlib.Decide.{decLt, decLe}
-use Rattle.closed_meshes.specs.Cycles.{Cycles, steps}
-use Rattle.closed_meshes.specs.Renumbering.{Bijection, Row, sumTo}
-use Rattle.closed_meshes.proofs.Counting.{row-path, rows-le}
-use Rattle.closed_meshes.proofs.Cycles.{rank-steps, cls-steps-start, rank-injective}
+use Rattle.closed_meshes.specs.Renumbering.{sumTo}
 
 -- A place of a sum is a term k and a number r below the term. It stands at sumTo k g + r.
 module _ (g : ℕ → ℕ) where
@@ -43,46 +40,3 @@ module _ (g : ℕ → ℕ) where
           (k : ℕ) × (k < suc n) × (r : ℕ) × (r < g k) × (sumTo k g + r ≡ x)
       go ih (yes h') = let t = ih h' in (t .0, omega (arith, t .1), t .2, t .3, t .4)
       go ih (no h') = (n, omega arith, x - sumTo n g, omega arith, omega arith)
-
-module _
-    {D : Type 0} {n k : ℕ} (b : Bijection D (Row n)) {step : D → D} {cls : D → Row k} {start : Row k → D} {len : Row k → ℕ}
-    (c : Cycles step cls start len) (back : D → D) (step-back : (d : D) → step (back d) ≡ d)
-    (g : ℕ → ℕ) (g-len : (x : Row k) → g (x .0) ≡ len x)
-  where
-    rank-place : (d : D) → c .rank d < g (cls d .0)
-    rank-place d = rw (g-len (cls d)) (c .rank-below d)
-
-    -- the place of a dart
-    placeOf : D → Row (sumTo k g)
-    placeOf d = (sumTo (cls d .0) g + c .rank d, place-below g (cls d .0) k (c .rank d) (cls d .1) (rank-place d))
-
-    placeOf-injective : (d d' : D) → placeOf d ≡ placeOf d' → d ≡ d'
-    unfolding placeOf
-    placeOf-injective d d' h =
-        let e : sumTo (cls d .0) g + c .rank d ≡ sumTo (cls d' .0) g + c .rank d' = ap (λ r. r .0) h in
-        let k : cls d .0 ≡ cls d' .0 = place-unique g (cls d .0) (cls d' .0) (c .rank d) (c .rank d') (rank-place d) (rank-place d') e in
-        let s : sumTo (cls d .0) g ≡ sumTo (cls d' .0) g = ap (λ x. sumTo x g) k in
-        rank-injective c back step-back d d' (row-path _ _ k) (omega arith)
-
-    -- the dart at a place
-    dartAt : Row (sumTo k g) → D
-    dartAt x = let t = place-found g k (x .0) (x .1) in steps step (t .2) (start (t .0, t .1))
-
-    placeOf-dartAt : (x : Row (sumTo k g)) → placeOf (dartAt x) ≡ x
-    unfolding placeOf dartAt
-    placeOf-dartAt x =
-        let t = place-found g k (x .0) (x .1) in
-        let y : Row k = (t .0, t .1) in
-        let l : t .2 < len y = rw (← g-len y) (t .3) in
-        row-path _ _ (rw (cls-steps-start c (t .2) y, rank-steps c (t .2) y l) (t .4))
-
-    -- The lengths add up to the number of darts.
-    pub sum-of-lengths : sumTo k g ≡ n
-    sum-of-lengths =
-        let above : n ≤ sumTo k g =
-        rows-le n (sumTo k g) (λ x. placeOf (b .from x)) λ x y h.
-        sym (b .to-from x) ∙ ap (b .to) (placeOf-injective _ _ h) ∙ b .to-from y in
-        let below : sumTo k g ≤ n =
-        rows-le (sumTo k g) n (λ x. b .to (dartAt x)) λ x y h.
-        sym (placeOf-dartAt x) ∙ ap placeOf (sym (b .from-to _) ∙ ap (b .from) h ∙ b .from-to _) ∙ placeOf-dartAt y in
-        omega arith

@@ -2,7 +2,7 @@
 use mathlib.Core.Path.{_≡_, refl, sym, _∙_}
 use Rattle.closed_meshes.specs.Mesh.{Mesh, Dart}
 use Rattle.closed_meshes.specs.Closed.{Closed}
-use Rattle.closed_meshes.proofs.Darts.{dart-of-face, dart-of-first, face-next, face-prev}
+use Rattle.closed_meshes.proofs.Darts.{dart-of-face, face-next}
 use Rattle.closed_meshes.proofs.Cycles.{len-unique}
 use Rattle.closed_meshes.proofs.Groupoid.{identity}
 use Rattle.closed_meshes.proofs.Isomorphisms.{cycles-carried}
@@ -11,10 +11,6 @@ module _ {P E F : Type 0} {m : Mesh P E F} (c c' : Closed m) where
   pub next-unique : (d : Dart E) → c .next d ≡ c' .next d
   next-unique d =
       dart-of-face c (c .next d) (c' .next d) (c .edge-next d ∙ sym (c' .edge-next d)) (face-next c d ∙ sym (face-next c' d))
-
-  pub prev-unique : (d : Dart E) → c .prev d ≡ c' .prev d
-  prev-unique d =
-      dart-of-face c (c .prev d) (c' .prev d) (c .edge-prev d ∙ sym (c' .edge-prev d)) (face-prev c d ∙ sym (face-prev c' d))
 
   pub size-unique : (f : F) → c .size f ≡ c' .size f
   size-unique f =
@@ -26,8 +22,3 @@ module _ {P E F : Type 0} {m : Mesh P E F} (c c' : Closed m) where
   faceDart-unique f =
       dart-of-face c (c .faceDart f) (c' .faceDart f) (c .edge-faceDart f ∙ sym (c' .edge-faceDart f))
       (c .about-faces .cls-start f ∙ sym (c' .about-faces .cls-start f))
-
-  pub pointDart-unique : (p : P) → c .pointDart p ≡ c' .pointDart p
-  pointDart-unique p =
-      dart-of-first c (c .pointDart p) (c' .pointDart p) (c .edge-pointDart p ∙ sym (c' .edge-pointDart p))
-      (c .about-points .cls-start p ∙ sym (c' .about-points .cls-start p))

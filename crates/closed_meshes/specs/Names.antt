@@ -3,7 +3,7 @@
 --                                           carries the number of the step that gave it, and stands on names before that step
 --     Names P E F P' E' F'                  a name for each row of a mesh over P' E' F'
 --     givenNames                            the names in the first mesh
---     newNames k m n                        the names after step number k, by kind, of the refinement of m with the names n
+--     newPointName newEdgeName newFaceName k m n     the names after step number k, by kind, of the refinement of m with the names n
 use Prim.Native.Nat.{ℕ}
 use Rattle.closed_meshes.specs.Mesh.{Mesh, Dart, edge, first, face}
 use Rattle.closed_meshes.specs.Refinement.{NewPoint, old, mid, facePoint, NewEdge, org, dst, join}
@@ -47,6 +47,3 @@ module _ {P E F P' E' F' : Type 0} (k : ℕ) (m : Mesh P' E' F') (n : Names P E 
   -- A new face is named by (face, old point).
   abbrev pub newFaceName : Dart E' → FaceName P E F
   newFaceName d = newFaceOf k (n .face (face m d)) (n .point (first m d))
-
-  abbrev pub newNames : Names P E F (NewPoint P' E' F') (NewEdge E') (Dart E')
-  newNames = record { point = newPointName; edge = newEdgeName; face = newFaceName }

@@ -20,7 +20,7 @@
 //     RunsNameApart   no two rows of a kind share a name                           proofs/Names.antt, names-differ
 //     TwoRuns         two runs with equally many steps are shared                  proofs/TwoRuns.antt, theorem
 //     SharedIsAll     nothing but row numbers and start edges is left out of it    proofs/SharedIsAll.antt, shared-is-all
-// Laws for callers: a walk passes each dart once, any start will do, lengths are unique (proofs/Cycles.antt); the data of Closed
-// are settled by the mesh (proofs/Unique.antt); injective numbers in range are a numbering (proofs/Counting.antt); counts of rows,
-// sums of sizes and of valences (proofs/Counts.antt); any numbering makes a step, and which names its rows have (proofs/Runs.antt);
-// points of one name are of one kind (proofs/SameKind.antt). An instance: two triangles back to back (proofs/Cases.antt).
+// Laws for callers: a walk passes each dart once, any start will do, lengths are unique (proofs/Cycles.antt); next darts, sizes and
+// start darts are settled by the mesh (proofs/Unique.antt); injective numbers in range are a numbering (proofs/Counting.antt); counts
+// of rows (proofs/Counts.antt); any numbering makes a step (proofs/Runs.antt). An instance: two triangles back to back
+// (proofs/Cases.antt).

@@ -1,14 +1,14 @@
 -- The laws of the table of links: what stands at a face state and a vertex state. Assumes nothing.
-use mathlib.Core.Path.{_≡_, refl, _∙_, ap}
+use mathlib.Core.Path.{_≡_, refl, _∙_}
 use mathlib.Core.Bool.{Bool, true, false, _&&_, cond}
 use mathlib.Core.List.{List, [], _∷_}
 use Prim.Native.Nat.{ℕ, _+_, _*_, _/_, _%_, _<_, _≤_}
 use native.Mathlib.Omega.{arith}
-use borrow.Author.Tests.{eq-eqb, ne-eqb}
+use borrow.Author.Tests.{ne-eqb}
 use lib.Dec.{eqb}
 use lib.ListN.{getD}
 use Rattle.t_spline.specs.Connection.{indexOf, connectionAt}
-use Rattle.edge_links.specs.Connect.{linksOf, linksIn, agreeing}
+use Rattle.edge_links.specs.Connect.{linksOf}
 use Rattle.edge_links.specs.declared.Links.{Links}
 use Rattle.edge_links.specs.declared.Links.the-variants.{Both, Mismatch}
 use Rattle.t_spline.proofs.Laws.{index-below, connection-at-index}

@@ -10,7 +10,7 @@ use mathlib.Core.Bool.{Bool, true, false}
 use Prim.Native.Nat.{ℕ, zero, suc, _+_, _*_}
 use native.Mathlib.Omega.{arith}
 use lib.ListN.{length, length-append, length-map}
-use Rattle.text_numbers.specs.Form.{Found, found, none, Form, onward, _>>=_, pure, choose, stands, literal, many, bytes}
+use Rattle.text_numbers.specs.Form.{Found, found, none, Form, _>>=_, pure, choose, stands, literal, many, bytes}
 use Rattle.text_numbers.specs.Numbers.{float}
 use Rattle.text_numbers.proofs.Laws.{total, onward-found}
 use Rattle.mesh_lines.specs.Grammar.{Listed, point, face, flat, sidePoints, sideIntervals}

@@ -7,3 +7,4 @@ pub mod Floats
 pub mod Joins
 pub mod Sums
 pub mod Windows
+pub mod Clockwise

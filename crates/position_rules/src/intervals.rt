@@ -4,6 +4,8 @@ ghost use Prim.Native.Nat.{_+_, _*_, _≤_};
 ghost use lib.ListN.{length};
 ghost use Rattle.position_rules.specs.Intervals.{acwAbout, cwAbout, A1, A2, C1, C2, threeTerms};
 ghost use Rattle.position_rules.specs.Fits.{EdgeFits};
+use records::load_edge_words;
+use t_spline::TnurccVertexEnd;
 use tables::index;
 use walks::t_nurcc_control_point::acw_of_point;
 
@@ -20,12 +22,11 @@ pub fn cw_about(edges: &[u32], p: usize, e: usize) -> usize
     requires { ⌜ e * 8 + 8 ≤ length (now edges) ⌝ }
     ensures { λ r. ⌜ r ≡ cwAbout (now (edges .entry)) p e ⌝ }
 {
-    let b = e * 8;
-    if index(edges[b]) == p {
-        index(edges[b + 7])
-    } else {
-        index(edges[b + 5])
+    let edge = load_edge_words(edges, e);
+    if index(edge.origin) == p {
+        return index(edge.cw_edge_from_end(TnurccVertexEnd::Origin));
     }
+    index(edge.cw_edge_from_end(TnurccVertexEnd::Dest))
 }
 
 // The interval after one step anticlockwise about p from e.

@@ -5,7 +5,7 @@ ghost use mathlib.Core.Path.{_≡_};
 ghost use Prim.Native.Nat.{_+_, _*_, _≤_, _<_};
 ghost use lib.ListN.{length, set};
 ghost use Rattle.tables.specs.Rows.{putRow};
-ghost use Rattle.tables.specs.Records.{pointWords, placeOf, edgeWords, faceWords, positionAt, pointAt, edgeAt, faceAt};
+ghost use Rattle.tables.specs.Records.{placeOf, edgeWords, faceWords, positionAt, pointAt, edgeAt, edgeWordsAt};
 use positions::Position;
 use t_spline::TnurccControlPoint;
 use t_spline::TnurccEdge;
@@ -33,10 +33,10 @@ pub fn store_position(positions: &mut [f64], p: usize, place: Position)
     positions[b + 2] = place.z;
 }
 
-pub fn load_edge(edges: &[u32], intervals: &[f64], e: usize) -> TnurccEdge
+// Loads all of an edge but its interval, for what looks at its ends, sides and neighbours alone.
+pub fn load_edge_words(edges: &[u32], e: usize) -> TnurccEdge
     requires { ⌜ e * 8 + 8 ≤ length (now edges) ⌝ }
-    requires { ⌜ e < length (now intervals) ⌝ }
-    ensures { λ r. ⌜ r ≡ edgeAt (now (edges .entry)) (now (intervals .entry)) e ⌝ }
+    ensures { λ r. ⌜ r ≡ edgeWordsAt (now (edges .entry)) e ⌝ }
 {
     let b = e * 8;
     TnurccEdge {
@@ -45,8 +45,18 @@ pub fn load_edge(edges: &[u32], intervals: &[f64], e: usize) -> TnurccEdge
         face_right: edges[b + 3],
         origin: edges[b],
         dest: edges[b + 1],
-        knot_interval: intervals[e],
+        knot_interval: 0.0,
     }
+}
+
+pub fn load_edge(edges: &[u32], intervals: &[f64], e: usize) -> TnurccEdge
+    requires { ⌜ e * 8 + 8 ≤ length (now edges) ⌝ }
+    requires { ⌜ e < length (now intervals) ⌝ }
+    ensures { λ r. ⌜ r ≡ edgeAt (now (edges .entry)) (now (intervals .entry)) e ⌝ }
+{
+    let mut edge = load_edge_words(edges, e);
+    edge.knot_interval = intervals[e];
+    edge
 }
 
 // Stores all of an edge but its interval.
@@ -86,30 +96,6 @@ pub fn load_point(positions: &[f64], points: &[u32], p: usize) -> TnurccControlP
         valence: points[b],
         incoming_edge: points[b + 1],
         extraordinary: points[b + 2],
-    }
-}
-
-pub fn store_point(positions: &mut [f64], points: &mut [u32], p: usize, point: TnurccControlPoint)
-    requires { ⌜ p * 3 + 3 ≤ length (now positions) ⌝ }
-    requires { ⌜ p * 3 + 3 ≤ length (now points) ⌝ }
-    ensures { λ _. ⌜ now (positions .exit) ≡ putRow (now (positions .entry)) (p * 3) (placeOf (point .point)) ⌝ }
-    ensures { λ _. ⌜ now (points .exit) ≡ putRow (now (points .entry)) (p * 3) (pointWords point) ⌝ }
-{
-    let b = p * 3;
-    store_position(positions, p, point.point);
-    points[b] = point.valence;
-    points[b + 1] = point.incoming_edge;
-    points[b + 2] = point.extraordinary;
-}
-
-pub fn load_face(faces: &[u32], f: usize) -> TnurccFace
-    requires { ⌜ f * 5 + 5 ≤ length (now faces) ⌝ }
-    ensures { λ r. ⌜ r ≡ faceAt (now (faces .entry)) f ⌝ }
-{
-    let b = f * 5;
-    TnurccFace {
-        edge: faces[b],
-        corners: [faces[b + 1], faces[b + 2], faces[b + 3], faces[b + 4]],
     }
 }
 

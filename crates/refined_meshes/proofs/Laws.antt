@@ -1,21 +1,17 @@
 -- The laws of visits for code that makes them. Assumes nothing.
---     visitAlong-same       a visit reads only the first n places of its perimeter, so that an array may hold it
+--     splitAll-same, visitAlong-same      a visit reads only the first n places of its perimeter, so that an array may hold it
 use mathlib.Core.Path.{_≡_, _∙_, ap}
 use mathlib.Core.List.{List}
 use Prim.Native.Nat.{ℕ, _-_, _<_}
-use lib.ListN.{getD, replicate, set}
+use lib.ListN.{getD, replicate}
 use lib.Ieee.{Float, nan, ofBits, binary64}
 use Rattle.tables.specs.Mesh.{Mesh}
-use Rattle.refined_meshes.specs.Turns.{turns, filled}
+use Rattle.refined_meshes.specs.Turns.{turns}
 use Rattle.refined_meshes.specs.State.{State, edgeOf, take}
 use Rattle.refined_meshes.specs.Split.{splitWhole}
 use Rattle.refined_meshes.specs.Ring.{Ring, onLeft, firstHalfOf, secondHalfOf, putJoin, putFirst, putSecond, putNewFace, putFacePoint}
 use Rattle.refined_meshes.specs.Visits.{foundOn, splitAll, ringOf, putRing, visitAlong}
-use Rattle.refined_meshes.proofs.Turns.{turns-cong}
-
-filled-cong : {A : Type 0} (n : ℕ) (g g' : ℕ → A) (xs : List A) → ((i : ℕ) → i < n → g i ≡ g' i) → filled n g xs ≡ filled n g' xs
-unfolding filled
-filled-cong n g g' xs h = turns-cong n (λ i ys. set ys i (g i)) (λ i ys. set ys i (g' i)) (λ i ys l. ap (set ys i) (h i l)) xs
+use Rattle.refined_meshes.proofs.Turns.{turns-cong, filled-cong}
 
 -- the ring with another list of edges
 withEdges : Ring → List ℕ → Ring
@@ -50,7 +46,7 @@ putRing-same m r es h s =
     (ap (λ x. turns n (putNewFace m w) (turns n (putSecond m w) x)) e2 ∙ ap (turns n (putNewFace m w)) e3 ∙ e4)
 
 module _ (m : Mesh) (np f n : ℕ) (es es' : List ℕ) (same : (i : ℕ) → i < n → getD es i 0 ≡ getD es' i 0) where
-  splitAll-same : (s : State) → splitAll np es n s ≡ splitAll np es' n s
+  pub splitAll-same : (s : State) → splitAll np es n s ≡ splitAll np es' n s
   unfolding splitAll
   splitAll-same s =
       turns-cong n (λ i. splitWhole np (getD es i 0)) (λ i. splitWhole np (getD es' i 0)) (λ i x l. ap (λ e. splitWhole np e x) (same i l)) s

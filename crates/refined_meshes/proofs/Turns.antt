@@ -1,10 +1,13 @@
 -- The laws of turns and of filled lists. Assumes nothing.
---     turns-none, turns-more      before the first turn, and one turn more
+--     turns-none, turns-turn, turns-end      for a loop: before the first turn, after one turn more, after the last
+--     turns-more                  one turn more
 --     turns-cong                  turns that do the same come to the same
 --     turns-keep                  what each turn keeps holds at the end
 --     turns-same, turns-other     what is read at a key after each turn has put a value at a key of its own
+--     filled-none, filled-turn, filled-end   for a loop that fills a list: nothing filled, one element more, all of them
+--     filled-cong                 lists that are filled with the same elements are the same
 --     getD-filled                 the elements of a filled list
-use mathlib.Core.Path.{_≡_, refl, _∙_, ap}
+use mathlib.Core.Path.{_≡_, refl, sym, _∙_, ap}
 use mathlib.Core.List.{List}
 use mathlib.Core.Logic.{_≢_}
 use Prim.Native.Nat.{ℕ, zero, suc, _+_, _≤_, _<_}
@@ -16,7 +19,7 @@ use lib.Seq.{getD-set-same, getD-set-other}
 use Rattle.refined_meshes.specs.Turns.{turns, filled}
 
 module _ {A : Type 0} where
-  pub turns-none : (turn : ℕ → A → A) (s : A) → turns 0 turn s ≡ s
+  pub turns-none : (turn : ℕ → A → A) (s : A) → s ≡ turns 0 turn s
   unfolding turns
   turns-none turn s = refl
 
@@ -27,6 +30,12 @@ module _ {A : Type 0} where
   pub turns-more : (n : ℕ) (turn : ℕ → A → A) (s : A) → turns (n + 1) turn s ≡ turn n (turns n turn s)
   turns-more n turn s = rw add-one (turns-suc n turn s)
 
+  pub turns-turn : (turn : ℕ → A → A) (i : ℕ) (s s0 : A) → s ≡ turns i turn s0 → turn i s ≡ turns (i + 1) turn s0
+  turns-turn turn i s s0 h = ap (turn i) h ∙ sym (turns-more i turn s0)
+
+  pub turns-end : (turn : ℕ → A → A) (i n : ℕ) (s0 : A) → i ≡ n → turns i turn s0 ≡ turns n turn s0
+  turns-end turn i n s0 h = ap (λ (k : ℕ). turns k turn s0) h
+
   pub turns-keep :
       (n : ℕ) (turn : ℕ → A → A) (I : ℕ → A → Type 0) → ((i : ℕ) (s : A) → i < n → I i s → I (suc i) (turn i s)) → (s : A) → I 0 s
       → I n (turns n turn s)
@@ -35,7 +44,7 @@ module _ {A : Type 0} where
   turns-keep (suc n) turn I step s h =
       step n (turns n turn s) (omega arith) (turns-keep n turn I (λ i x l. step i x (omega arith)) s h)
 
-  -- The turns need agree only where I holds.
+  -- The turns need agree only below n.
   pub turns-cong :
       (n : ℕ) (turn turn' : ℕ → A → A) → ((i : ℕ) (s : A) → i < n → turn i s ≡ turn' i s) → (s : A) → turns n turn s ≡ turns n turn' s
   unfolding turns
@@ -90,9 +99,20 @@ module _ {A : Type 0} where
 -- ---- filled lists
 
 module _ {A : Type 0} where
-  pub length-filled : (n : ℕ) (g : ℕ → A) (xs : List A) → length (filled n g xs) ≡ length xs
+  pub filled-none : (g : ℕ → A) (xs : List A) → xs ≡ filled 0 g xs
   unfolding filled
-  length-filled n g xs = turns-view n (λ i ys. set ys i (g i)) length (λ i ys. length-set ys i (g i)) xs
+  filled-none g xs = turns-none (λ i ys. set ys i (g i)) xs
+
+  pub filled-turn : (g : ℕ → A) (i : ℕ) (ys xs : List A) (v : A) → ys ≡ filled i g xs → v ≡ g i → set ys i v ≡ filled (i + 1) g xs
+  unfolding filled
+  filled-turn g i ys xs v h e = ap (set ys i) e ∙ turns-turn (λ i ys. set ys i (g i)) i ys xs h
+
+  pub filled-end : (g : ℕ → A) (i n : ℕ) (xs : List A) → i ≡ n → filled i g xs ≡ filled n g xs
+  filled-end g i n xs h = ap (λ (k : ℕ). filled k g xs) h
+
+  pub filled-cong : (n : ℕ) (g g' : ℕ → A) (xs : List A) → ((i : ℕ) → i < n → g i ≡ g' i) → filled n g xs ≡ filled n g' xs
+  unfolding filled
+  filled-cong n g g' xs h = turns-cong n (λ i ys. set ys i (g i)) (λ i ys. set ys i (g' i)) (λ i ys l. ap (set ys i) (h i l)) xs
 
   pub getD-filled : (n : ℕ) (g : ℕ → A) (xs : List A) (d : A) → n ≤ length xs → (i : ℕ) → i < n → getD (filled n g xs) i d ≡ g i
   unfolding filled

@@ -9,7 +9,7 @@ use lib.Dec.{eqb}
 use lib.ListN.{getD, set}
 use Rattle.refined_meshes.specs.Turns.{filled}
 use Rattle.ring_places.specs.Rings.{firstOf, secondOf}
-use Rattle.ring_places.proofs.Laws.{filled-none, filled-turn, filled-end}
+use Rattle.refined_meshes.proofs.Turns.{filled-none, filled-turn, filled-end}
 
 abbrev firstAt : List ℕ → List ℕ → List ℕ → ℕ → ℕ → ℕ
 firstAt me es pe f i = firstOf me es f (getD pe i 0)

@@ -2,7 +2,7 @@
 // the rows that a visit takes for the face.
 // Carries over the reading half of `global_subdivide`'s loop over the faces (t_nurcc/mod.rs).
 // Not here: what is written about the face (`ring_edges`, `ring_faces`), the splitting (`splitting`).
-// Definitions: `refined_meshes`, specs/Ring.antt; `specs/Rings.antt` for the ring as the code holds it. Laws of loops: `proofs/Laws.antt`.
+// Definitions: `refined_meshes`, specs/Ring.antt; `specs/Rings.antt` for the ring as the code holds it.
 ghost use mathlib.Core.Path.{_≡_};
 ghost use mathlib.Core.Bool.{cond};
 ghost use mathlib.Core.List.{[]};

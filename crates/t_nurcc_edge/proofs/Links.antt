@@ -4,11 +4,11 @@
 --     not-served, mismatched, both-served      one face state: it does not hold, its states mismatch, both edges get each other
 --     linkable-served, connected-links         the pair still has its neighbours; all four face states
 --     paired-rows                       a table holds the pair of its own rows
-use mathlib.Core.Path.{_≡_, refl, sym, _∙_, ap, ap₂}
+use mathlib.Core.Path.{_≡_, refl, sym, _∙_, ap}
 use mathlib.Core.Bool.{Bool, true, false}
 use mathlib.Core.List.{List, [], _∷_}
 use mathlib.Core.Logic.{_≢_}
-use Prim.Native.Nat.{ℕ, _+_, _*_, _<_, _≤_}
+use Prim.Native.Nat.{ℕ, _+_, _*_, _<_}
 use native.Mathlib.Omega.{arith}
 use lib.Ieee.{Float}
 use lib.ListN.{length, getD, set, length-set}

@@ -5,8 +5,8 @@
 --     set-putRow             an element stored in a row that was put; set-putRow-other: outside it
 --     over-none, over-more   what a loop that copies has done before its first turn, and one turn more; zeroed likewise
 use mathlib.Core.Path.{_≡_, refl, _∙_, ap, sym}
-use mathlib.Core.List.{List, [], _∷_, _++_}
-use Prim.Native.Nat.{ℕ, zero, suc, _+_, _-_, _*_, _<_, _≤_}
+use mathlib.Core.List.{List, [], _∷_}
+use Prim.Native.Nat.{ℕ, zero, suc, _+_, _*_, _<_, _≤_}
 use native.Mathlib.Nat.{not-suc-le-zero, le-of-suc-le-suc, add-zero, suc-mul, mul-le-mul-right}
 use native.Mathlib.Decide.{decLt}
 use mathlib.Core.Logic.{_≢_}

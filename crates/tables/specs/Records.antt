@@ -1,22 +1,20 @@
 -- The records that stand in the rows of the tables.
---     pointWords c, placeOf c      what a control point takes in the tables of points and of positions
+--     placeOf p                    what a place takes in the table of positions
 --     edgeWords e                  what an edge takes in the table of edges; its interval stands in a table of its own
 --     faceWords f                  what a face takes in the table of faces
+--     positionAt ps p              the place of point p
 --     pointAt ps ws p              the control point p
 --     edgeAt es is e               the edge e
---     faceAt fs f                  the face f
+--     edgeWordsAt es e             all of the edge e but its interval, which is +0
 --     pointRows ps ws              how many whole control points both tables hold; edgeRows, faceRows likewise
 use mathlib.Core.List.{List, [], _∷_}
 use Prim.Native.Nat.{ℕ, _+_, _*_, _/_, min}
 use lib.ListN.{getD, length}
-use lib.Ieee.{Float, nan}
+use lib.Ieee.{Float, nan, binary64, ofBits}
 use Rattle.positions.specs.declared.Position.{Position}
 use Rattle.t_spline.specs.declared.TnurccControlPoint.{TnurccControlPoint}
 use Rattle.t_spline.specs.declared.TnurccEdge.{TnurccEdge}
 use Rattle.t_spline.specs.declared.TnurccFace.{TnurccFace}
-
-abbrev pub pointWords : TnurccControlPoint → List ℕ
-pointWords c = c .valence ∷ c .«incoming_edge» ∷ c .extraordinary ∷ []
 
 abbrev pub placeOf : Position → List Float
 placeOf p = p .x ∷ p .y ∷ p .z ∷ []
@@ -42,23 +40,23 @@ pointAt ps ws p =
       extraordinary = getD ws (p * 3 + 2) 0;
     }
 
-abbrev pub edgeAt : List ℕ → List Float → ℕ → TnurccEdge
-edgeAt es is e =
+-- the words of the edge e, with the interval d
+abbrev pub edgeOver : List ℕ → Float → ℕ → TnurccEdge
+edgeOver es d e =
     record {
       connections = getD es (e * 8 + 4) 0 ∷ getD es (e * 8 + 5) 0 ∷ getD es (e * 8 + 6) 0 ∷ getD es (e * 8 + 7) 0 ∷ [];
       «face_left» = getD es (e * 8 + 2) 0;
       «face_right» = getD es (e * 8 + 3) 0;
       origin = getD es (e * 8) 0;
       dest = getD es (e * 8 + 1) 0;
-      «knot_interval» = getD is e nan;
+      «knot_interval» = d;
     }
 
-abbrev pub faceAt : List ℕ → ℕ → TnurccFace
-faceAt fs f =
-    record {
-      edge = getD fs (f * 5) 0;
-      corners = getD fs (f * 5 + 1) 0 ∷ getD fs (f * 5 + 2) 0 ∷ getD fs (f * 5 + 3) 0 ∷ getD fs (f * 5 + 4) 0 ∷ [];
-    }
+abbrev pub edgeAt : List ℕ → List Float → ℕ → TnurccEdge
+edgeAt es is e = edgeOver es (getD is e nan) e
+
+abbrev pub edgeWordsAt : List ℕ → ℕ → TnurccEdge
+edgeWordsAt es e = edgeOver es (ofBits binary64 0) e
 
 abbrev pub pointRows : List Float → List ℕ → ℕ
 pointRows ps ws = min (length ps / 3) (length ws / 3)

@@ -25,9 +25,9 @@ use Rattle.splitting.specs.Scratch.{tablesOf, scratch}
 use Rattle.splitting.proofs.Laws.{splitAll-faces}
 use Rattle.ring_places.specs.declared.RingRows.{RingRows}
 use Rattle.ring_places.specs.Rings.{ring, firstOf, secondOf}
-use Rattle.ring_places.proofs.Laws.{filled-same}
+use Rattle.refined_meshes.proofs.Turns.{filled-cong}
+use Rattle.refined_meshes.proofs.Laws.{visitAlong-same}
 use Rattle.visiting.proofs.Laws.{firstHalfOf-is, secondHalfOf-is, border-edges, border-n, visitAlong-bare}
-use Rattle.visiting.proofs.Padding.{visitAlong-places}
 
 -- the ring that the code holds is the ring of the state
 module _ (oe pe hs gs ms : List ℕ) (ds : List Float) (rows : RingRows) (s : State) where
@@ -42,11 +42,11 @@ module _ (oe pe hs gs ms : List ℕ) (ds : List Float) (rows : RingRows) (s : St
   unfolding ringOf
   ring-read j k a b c =
       let firsts =
-      filled-same (λ i. firstHalfOf (onLeft M (rows .face) (getD pe i 0)) s (getD pe i 0)) (λ i. firstOf oe (s .edges) (rows .face) (getD pe i 0))
-      (rows .size) (replicate 64 0) (λ i. firstHalfOf-is (onLeft M (rows .face) (getD pe i 0)) s (getD pe i 0)) in
+      filled-cong (rows .size) (λ i. firstHalfOf (onLeft M (rows .face) (getD pe i 0)) s (getD pe i 0))
+      (λ i. firstOf oe (s .edges) (rows .face) (getD pe i 0)) (replicate 64 0) (λ i l. firstHalfOf-is (onLeft M (rows .face) (getD pe i 0)) s (getD pe i 0)) in
       let seconds =
-      filled-same (λ i. secondHalfOf (onLeft M (rows .face) (getD pe i 0)) s (getD pe i 0)) (λ i. secondOf oe (s .edges) (rows .face) (getD pe i 0))
-      (rows .size) (replicate 64 0) (λ i. secondHalfOf-is (onLeft M (rows .face) (getD pe i 0)) s (getD pe i 0)) in
+      filled-cong (rows .size) (λ i. secondHalfOf (onLeft M (rows .face) (getD pe i 0)) s (getD pe i 0))
+      (λ i. secondOf oe (s .edges) (rows .face) (getD pe i 0)) (replicate 64 0) (λ i l. secondHalfOf-is (onLeft M (rows .face) (getD pe i 0)) s (getD pe i 0)) in
       rw (a, b, c, firsts, seconds, j, k)
 
 module _ (oe ps ps1 es es1 fs fs1 pe hs gs ms : List ℕ) (is is1 ds : List Float) (rows : RingRows) (p : ℕ) where
@@ -121,4 +121,4 @@ visited-border oe of np ne f about s h =
     let es : List ℕ = edgesOf (faceWalk m ne f) in
     rw (h, border-edges m ne f, border-n m ne f)
     (visitAlong-bare m np f (padded 64 es) (passed (faceWalk m ne f)) s
-    ∙ visitAlong-places m (padded 64 es) es (getD-padded 64 es) np f (passed (faceWalk m ne f)) s)
+    ∙ visitAlong-same m np f (passed (faceWalk m ne f)) (padded 64 es) es (λ i l. getD-padded 64 es i) s)

@@ -21,7 +21,7 @@ use Rattle.refined_meshes.specs.State.{State, copied}
 use Rattle.refined_meshes.specs.Ring.{firstHalfOf, secondHalfOf, putFirst, putSecond, putNewFace}
 use Rattle.refined_meshes.specs.Visits.{ringOf, putRing, visitAlong, visit, visits, refinedRows}
 use Rattle.splitting.specs.Scratch.{tablesOf}
-use Rattle.ring_places.proofs.Laws.{turns-none, turns-turn, turns-same}
+use Rattle.refined_meshes.proofs.Turns.{turns-none, turns-turn, turns-cong}
 use Rattle.visiting.specs.Visiting.{bare}
 
 pub firstHalfOf-is : (b : Bool) (s : State) (e : ℕ) → firstHalfOf b s e ≡ cond b e (getD (s .edges) (e * 8 + 6) 0)
@@ -70,8 +70,8 @@ module _ (m : Mesh) (np ne : ℕ) (order : List ℕ) (s : State) where
   pub visits-bare : (k : ℕ) → visits (bare m) np ne k order s ≡ visits m np ne k order s
   unfolding visits
   visits-bare k =
-      turns-same (λ i. visit (bare m) np ne (getD order i 0)) (λ i. visit m np ne (getD order i 0)) k s
-      (λ i t. visit-bare m np ne (getD order i 0) t)
+      turns-cong k (λ i. visit (bare m) np ne (getD order i 0)) (λ i. visit m np ne (getD order i 0))
+      (λ i t l. visit-bare m np ne (getD order i 0) t) s
 
 -- The refined rows: the visits of a mesh of which the edges and faces alone are looked at, begun with a copy of all its rows.
 pub refinedRows-bare : (m t : Mesh) (np ne nf : ℕ) (order : List ℕ) (s : State) → s ≡ copied m np ne nf t

@@ -1,5 +1,4 @@
 pub mod Laws
-pub mod Padding
 pub mod Along
 pub mod Room
 pub mod Turning

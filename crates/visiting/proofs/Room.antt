@@ -25,10 +25,10 @@ use Rattle.refined_meshes.specs.Fits.{VisitFits, splitSome}
 use Rattle.splitting.specs.Scratch.{tablesOf, scratch, Room}
 use Rattle.splitting.proofs.Laws.{splitWhole-split, splitWhole-kept, splitAll-none, splitAll-suc, faces-splitAll, points-splitAll-faces, edges-splitAll-faces}
 use Rattle.ring_places.specs.Rings.{Rows, firstOf, secondOf}
-use Rattle.ring_places.proofs.Laws.{getD-filled}
+use Rattle.refined_meshes.proofs.Turns.{getD-filled}
+use Rattle.refined_meshes.proofs.Laws.{splitAll-same}
 use Rattle.visiting.specs.Visiting.{Ceilings, RingFits, AlongFits}
 use Rattle.visiting.proofs.Laws.{firstHalfOf-is, secondHalfOf-is, border-edges, border-n}
-use Rattle.visiting.proofs.Padding.{splitAll-places}
 
 split-points : (e : ℕ) (s : State) → split e s .pointsTaken ≡ s .pointsTaken + 1
 unfolding split putEdge putPoint putStart
@@ -74,7 +74,7 @@ module _ (m : Mesh) (np ne nf f : ℕ) (s : State) (h : VisitFits m np ne nf f s
   firsts-fit i l =
       let halves : ℕ → ℕ = λ i. firstHalfOf (onLeft m f (getD es i 0)) all (getD es i 0) in
       subst (λ x. x < 4 * ne)
-      (getD-filled halves n (replicate 64 0) 0 i l (rw length-replicate (h .size-high)) ∙ firstHalfOf-is (onLeft m f (getD es i 0)) all (getD es i 0))
+      (getD-filled n halves (replicate 64 0) 0 (rw length-replicate (h .size-high)) i l ∙ firstHalfOf-is (onLeft m f (getD es i 0)) all (getD es i 0))
       (h .first-fits i l)
 
   seconds-fit : (i : ℕ) → i < n → secondOf (m .edges) (all .edges) f (getD es i 0) < 4 * ne
@@ -82,7 +82,7 @@ module _ (m : Mesh) (np ne nf f : ℕ) (s : State) (h : VisitFits m np ne nf f s
   seconds-fit i l =
       let halves : ℕ → ℕ = λ i. secondHalfOf (onLeft m f (getD es i 0)) all (getD es i 0) in
       subst (λ x. x < 4 * ne)
-      (getD-filled halves n (replicate 64 0) 0 i l (rw length-replicate (h .size-high)) ∙ secondHalfOf-is (onLeft m f (getD es i 0)) all (getD es i 0))
+      (getD-filled n halves (replicate 64 0) 0 (rw length-replicate (h .size-high)) i l ∙ secondHalfOf-is (onLeft m f (getD es i 0)) all (getD es i 0))
       (h .second-fits i l)
 
   along-of-edges : ne * 8 ≤ length (m .edges) → AlongFits (m .edges) np f es n s
@@ -126,7 +126,7 @@ module _ (m : Mesh) (np ne nf f : ℕ) (s : State) (h : VisitFits m np ne nf f s
 along-places : (oe : List ℕ) (np f : ℕ) (pe es : List ℕ) (n : ℕ) (s : State) → ((i : ℕ) → getD pe i 0 ≡ getD es i 0)
     → AlongFits oe np f es n s → AlongFits oe np f pe n s
 along-places oe np f pe es n s same h =
-    let all : splitAll np pe n (take 1 0 0 s) ≡ splitAll np es n (take 1 0 0 s) = splitAll-places (faceTables oe []) pe es same np n (take 1 0 0 s) in
+    let all : splitAll np pe n (take 1 0 0 s) ≡ splitAll np es n (take 1 0 0 s) = splitAll-same (faceTables oe []) np f n pe es (λ i l. same i) (take 1 0 0 s) in
     record {
       some-places = h .some-places;
       few-places = h .few-places;
@@ -212,4 +212,4 @@ module _ (oe ps es fs pe : List ℕ) (is : List Float) (np f n : ℕ) (taken : C
 -- the halves at the places are rows of the table
 pub halves-rows : (es hs : List ℕ) (half : ℕ → ℕ) (n : ℕ) → n ≤ 64 → hs ≡ filled n half (replicate 64 0)
     → ((i : ℕ) → i < n → half i * 8 + 8 ≤ length es) → Rows es hs n
-halves-rows es hs half n few is h i l = rw (is, getD-filled half n (replicate 64 0) 0 i l (rw length-replicate few)) (h i l)
+halves-rows es hs half n few is h i l = rw (is, getD-filled n half (replicate 64 0) 0 (rw length-replicate few) i l) (h i l)

@@ -1,4 +1,5 @@
 pub mod Steps
+pub mod FromEdge
 pub mod Walking
 pub mod Counting
 pub mod Seeking

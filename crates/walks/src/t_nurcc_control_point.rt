@@ -11,6 +11,8 @@ use crate::Passed;
 use crate::Step;
 use crate::t_nurcc_iter::point_step;
 use crate::t_nurcc_iter::point_walk;
+use records::load_edge_words;
+use t_spline::TnurccVertexEnd;
 use tables::index;
 
 // The edges about point p, anticlockwise from its start edge, in the lent words: as many as the walk passes, none if it is lost.
@@ -45,11 +47,11 @@ pub fn acw_of_point(edges: &[u32], p: usize, e: usize) -> u32
     requires { ⌜ e * 8 + 8 ≤ length (now edges) ⌝ }
     ensures { λ r. ⌜ r ≡ acwOfPoint (faceTables (now (edges .entry)) []) p e ⌝ }
 {
-    let b = e * 8;
-    if index(edges[b]) == p {
-        return edges[b + 4];
+    let edge = load_edge_words(edges, e);
+    if index(edge.origin) == p {
+        return edge.acw_edge_from_end(TnurccVertexEnd::Origin);
     }
-    edges[b + 6]
+    edge.acw_edge_from_end(TnurccVertexEnd::Dest)
 }
 
 // Whether point p is an end of edge e.

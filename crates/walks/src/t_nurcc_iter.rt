@@ -6,6 +6,9 @@ ghost use Rattle.audited_meshes.specs.Walks.{faceWalk, pointWalk};
 ghost use Rattle.walks.specs.Steps.{faceTables, pointTables, faceStep, pointStep, passedBy};
 use crate::Passed;
 use crate::Step;
+use records::load_edge_words;
+use t_spline::TnurccFaceSide;
+use t_spline::TnurccVertexEnd;
 use tables::index;
 
 // One step about face f from edge e, among the edges below ne.
@@ -16,17 +19,17 @@ pub fn face_step(edges: &[u32], ne: usize, f: usize, e: usize) -> Step
     if ne <= e {
         return Step::Lost;
     }
-    let b = e * 8;
-    if index(edges[b + 2]) == f {
+    let edge = load_edge_words(edges, e);
+    if index(edge.face_left) == f {
         return Step::To {
-            point: edges[b],
-            next: edges[b + 5],
+            point: edge.point_at_end(TnurccVertexEnd::Origin),
+            next: edge.acw_edge_from_side(TnurccFaceSide::Left),
         };
     }
-    if index(edges[b + 3]) == f {
+    if index(edge.face_right) == f {
         return Step::To {
-            point: edges[b + 1],
-            next: edges[b + 7],
+            point: edge.point_at_end(TnurccVertexEnd::Dest),
+            next: edge.acw_edge_from_side(TnurccFaceSide::Right),
         };
     }
     Step::Lost
@@ -40,17 +43,17 @@ pub fn point_step(edges: &[u32], ne: usize, p: usize, e: usize) -> Step
     if ne <= e {
         return Step::Lost;
     }
-    let b = e * 8;
-    if index(edges[b]) == p {
+    let edge = load_edge_words(edges, e);
+    if index(edge.origin) == p {
         return Step::To {
-            point: edges[b + 1],
-            next: edges[b + 4],
+            point: edge.point_at_end(TnurccVertexEnd::Dest),
+            next: edge.acw_edge_from_end(TnurccVertexEnd::Origin),
         };
     }
-    if index(edges[b + 1]) == p {
+    if index(edge.dest) == p {
         return Step::To {
-            point: edges[b],
-            next: edges[b + 6],
+            point: edge.point_at_end(TnurccVertexEnd::Origin),
+            next: edge.acw_edge_from_end(TnurccVertexEnd::Dest),
         };
     }
     Step::Lost

@@ -5,7 +5,7 @@ use Rattle.steps.specs.Step.{firstRows}
 use Rattle.tables.specs.Mesh.{Mesh, meshOf}
 use lib.Seq.{length-take-le}
 use native.Mathlib.Omega.{arith}
-use mathlib.Core.Path.{_≡_, refl, sym, _∙_, ap}
+use mathlib.Core.Path.{refl, sym, _∙_, ap}
 use borrow.Author.Needs.{needs}
 use Rattle.making.proofs.make_in_rows.Statement.{statement}
 use Rattle.making.proofs.make_in_rows.Tie as tie

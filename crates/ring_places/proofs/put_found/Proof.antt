@@ -1,5 +1,5 @@
 -- put_found meets its contract. The invariant: the first i intervals are found; the measure is what is left of n.
-use Rattle.ring_places.proofs.Laws.{filled-none, filled-turn, filled-end}
+use Rattle.refined_meshes.proofs.Turns.{filled-none, filled-turn, filled-end}
 use Rattle.refined_meshes.specs.Turns.{filled}
 use lib.Ieee.{Float, nan}
 use mathlib.Core.List.{List}

@@ -3,7 +3,7 @@ use Rattle.step_grounds.proofs.Laws.{not-closed, not-once, no-room-in-t
 use Rattle.tables.specs.Mesh.{Mesh, meshOf}
 use native.Mathlib.Omega.{arith}
 use borrow.Author.Tests.{not-true, not-false}
-use mathlib.Core.Path.{_≡_, sym, _∙_, ap}
+use mathlib.Core.Path.{sym, _∙_}
 use borrow.Author.Needs.{needs}
 use Rattle.step_grounds.proofs.first_ground.Statement.{statement}
 use Rattle.step_grounds.proofs.first_ground.Tie as tie
