@@ -6,7 +6,7 @@
    TABLES
    A mesh stands in five tables, each handed over as a pointer and its number of elements (not of bytes, not of rows).
 
-     positions   double     3 an element row of a point: x, y, z
+     positions   double     3 a point: x, y, z
      points      uint32_t   3 words a point: valence, start edge, mark (1 for an extraordinary point, else 0)
      edges       uint32_t   8 words an edge: origin, destination, left face, right face, and its four neighbours
      intervals   double     1 an edge

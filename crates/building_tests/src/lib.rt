@@ -1,5 +1,5 @@
 // The tests that building makes before it enters an edge: grounds 2 and 3 on the lists that are lent, grounds 10 to 13 on one face.
-// Not here: ground 4, and grounds 14 to 22 (`building_faces`, `building`).
+// Not here: ground 4 and grounds 20 to 22 (`building_whole`), grounds 14 and 15 (`edge_search`).
 // Definitions: `Lists` and `Faces` of `built_meshes`; `specs/Lent.antt`. Laws for callers: `proofs/Laws.antt`.
 ghost use mathlib.Core.Path.{_≡_};
 ghost use Rattle.building_tests.specs.Lent.{limitsOf, mostOf};

@@ -1,6 +1,6 @@
 -- When each ground holds of the lists l within the limits c and of the lent tables m: document 01's table "Refused if". A place is an
 -- edge of a face as the lists give it, so 14, 15 and 20 speak of the lists alone.
---     OverCounts? .. MissedEdge?     the condition of each ground
+--     Over-counts .. Missed-edge     the condition of each ground
 --     Holds c l m g                  the ground g holds
 use mathlib.Core.Path.{_≡_}
 use mathlib.Core.Bool.{false}

@@ -41,7 +41,7 @@ used c =
       faces = replicate (c .faces * 5) 7;
     }
 
--- the rows of the mesh that the lists give, and of the mesh after one step, if each edge is listed twice
+-- the rows that ground 4 counts: twice the edges of an accepted mesh, so that a step from as many has room too
 abbrev pub rowsOf : Lists → Counts
 rowsOf l = record { points = pointsOf l; edges = length (l .listed); faces = facesOf l }
 

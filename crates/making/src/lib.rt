@@ -1,6 +1,6 @@
 // The refined mesh made whole in the scratch tables: its rows by the visits of the faces, then its positions.
 // Names: `places`, `rows`, `halves`, `lengths` and `quads` are the scratch tables of positions, points, edges, intervals, faces.
-// Not here: whether a step may be made, and the tables written back (`refining`).
+// Not here: whether a step may be made (`step_grounds`), and the tables written back (`refining`).
 // Definitions: `steps`, specs/Step.antt, `made`; what must hold: specs/Making.antt.
 ghost use mathlib.Core.Path.{_≡_};
 ghost use Rattle.steps.specs.Step.{firstRows, zeroedRows, made};

@@ -103,7 +103,8 @@ fn point(s: &[u8], at: usize, xs: &mut [f64], n: usize) -> Place
     Place::At(i + 2)
 }
 
-// The point lines, and how many they are.
+// The point lines, and how many they are. Where one is not of the form, what stands in the list is left free: the reader of a whole
+// text stores nothing for its caller before it has scanned it once.
 pub fn points(s: &[u8], at: usize, xs: &mut [f64]) -> Run
     requires { ⌜ at ≤ length (now s) ⌝ }
     ensures run { λ r. ⌜ r ≡ run length (many (now (s .entry)) (bytes "[point") (point (now (s .entry))) (length (now (s .entry))) at) ⌝ }
@@ -240,7 +241,7 @@ fn face(
     Run::Of(c, i + 2)
 }
 
-// The face lines, how many they are, and how many points they list.
+// The face lines, how many they are, and how many points they list. Where one is not of the form, the lists are left free.
 pub fn faces(s: &[u8], at: usize, ls: &mut [u32], ps: &mut [u32], ds: &mut [f64]) -> Lines
     requires { ⌜ at ≤ length (now s) ⌝ }
     ensures faces { λ r. ⌜ r ≡ linesOf (many (now (s .entry)) (bytes "[face") (face (now (s .entry))) (length (now (s .entry))) at) ⌝ }

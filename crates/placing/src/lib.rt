@@ -6,6 +6,7 @@
 ghost use mathlib.Core.Path.{_≡_};
 ghost use Prim.Native.Nat.{_+_, _*_};
 ghost use lib.ListN.{getD};
+ghost use Rattle.tables.specs.Mesh.{meshOf};
 ghost use Rattle.position_rules.specs.FacePoint.{faceMesh, facePointOf};
 ghost use Rattle.position_rules.specs.EdgePoint.{edgePoint};
 ghost use Rattle.position_rules.specs.OldPoint.{oldPoint};
@@ -133,13 +134,7 @@ pub fn place_all(
     requires { ⌜ PointsFit (now positions) (now points) (now edges) (now intervals) (counts .points) (now halves) (now quads) (now places) ⌝ }
     ensures { λ r. ⌜
         placedAll
-        (record {
-          positions = now (positions .entry);
-          points = now (points .entry);
-          edges = now (edges .entry);
-          intervals = now (intervals .entry);
-          faces = now (faces .entry);
-        })
+        (meshOf (now (positions .entry)) (now (points .entry)) (now (edges .entry)) (now (intervals .entry)) (now (faces .entry)))
         counts
         (rowsOf (now (halves .entry)) (now (quads .entry)))
         (now (places .entry))

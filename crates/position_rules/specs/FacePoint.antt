@@ -3,9 +3,11 @@
 -- joins pt i and pt (i + 1).
 --     sixTerms             d, A2, C2 of one edge about a point, then of another edge about another point
 --     windowWeight         the weight of the window p0 .. p4 that begins at place i
+--     windowSum            the sums over the first windows
 --     facePoint            the weighted sum of the middle points p2 over the sum of the weights, of n windows
 --     around n j           the place j, counted round n places
 --     faceMesh ps es is fs a mesh of which the points' own words are not looked at
+--     facePointAbout       the face point of the face that a walk went about
 --     facePointOf m ne f   the face point of face f, by the walk about it along the edges below ne
 use mathlib.Core.Bool.{cond}
 use mathlib.Core.List.{List, [], map}

@@ -1,4 +1,9 @@
 -- Positions.
+--     zeros                     the origin
+--     sum p q                   coordinate by coordinate, as product p w and quotient p w by a number
+--     tolerance, small v        document 01's t, and what it calls small
+--     finitePosition p          all three coordinates are finite
+--     placedAt p                the answer of a position rule: the three coordinates, or the word that one is not finite
 use mathlib.Core.Bool.{Bool, true, false, _&&_}
 use lib.Ieee.{Float, add, mul, div, neg, le, ofBits, binary64}
 use lib.Ieee.Scale.{finite}

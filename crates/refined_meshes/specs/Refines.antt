@@ -1,6 +1,7 @@
 -- What the visits make of a closed mesh: its refinement on kinds (`refined` of `closed_meshes`) under some numbering of the new rows.
 --     found m t order d          the interval of d's edge as found on arriving at d's face
 --     joint m t c order d        the interval of the joining edge to the midpoint of d's edge
+--     Highest                    the highest row of the destination halves that end in an old point
 --     StartOfOld                 what the start edge of an old point is
 --     Refines m t c order m'     the tables m' hold the refinement of the closed mesh t, which stands in the tables m
 --     VisitsRefine               the claim: visits in an order that names each face once make the refinement

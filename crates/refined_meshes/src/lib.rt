@@ -1,5 +1,5 @@
 // The topology of one refinement in the order handed in (document 01, "One refinement"), and its closed form.
-// Not here: the positions of the points after it, and the code that makes them (`refining`).
+// Not here: the positions of the points after it (`position_rules`), and the code that makes both (`visiting`, `placing`).
 // Definitions: `specs/Visits.antt` (the visits of the faces in the scratch tables), over `specs/State.antt` (the tables and the rows
 // taken), `specs/Split.antt` (the splitting of an edge), `specs/Ring.antt` (what is written about a face) and `specs/Turns.antt`.
 // Theorems: `VisitsRefine` of `specs/Refines.antt` (visits in an order that names each face once make the refinement on kinds, under

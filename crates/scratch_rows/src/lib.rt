@@ -3,7 +3,7 @@
 ghost use mathlib.Core.Path.{_≡_};
 ghost use Prim.Native.Nat.{_+_, _*_, _≤_, _<_};
 ghost use lib.ListN.{length};
-ghost use Rattle.tables.specs.Mesh.{Mesh};
+ghost use Rattle.tables.specs.Mesh.{Mesh, meshOf};
 ghost use Rattle.steps.specs.Step.{refinedCounts, rowsFor, withinCeilings, zeroedRows, overRows};
 use tables::Counts;
 use tables::copy_numbers;
@@ -39,13 +39,7 @@ pub fn rows_for(
     ensures { λ r. ⌜
         r
         ≡ rowsFor c
-        (record {
-          positions = now (positions .entry);
-          points = now (points .entry);
-          edges = now (edges .entry);
-          intervals = now (intervals .entry);
-          faces = now (faces .entry);
-        }) ⌝ }
+        (meshOf (now (positions .entry)) (now (points .entry)) (now (edges .entry)) (now (intervals .entry)) (now (faces .entry))) ⌝ }
 {
     if point_rows(positions, points) < c.points {
         return false;
@@ -85,21 +79,9 @@ pub fn zero_rows(
     requires { ⌜ c .faces * 5 ≤ length (now faces) ⌝ }
     ensures { λ _. ⌜
         _≡_ {A = Mesh}
-        (record {
-          positions = now (positions .exit);
-          points = now (points .exit);
-          edges = now (edges .exit);
-          intervals = now (intervals .exit);
-          faces = now (faces .exit);
-        })
+        (meshOf (now (positions .exit)) (now (points .exit)) (now (edges .exit)) (now (intervals .exit)) (now (faces .exit)))
         (zeroedRows c
-        (record {
-          positions = now (positions .entry);
-          points = now (points .entry);
-          edges = now (edges .entry);
-          intervals = now (intervals .entry);
-          faces = now (faces .entry);
-        })) ⌝ }
+        (meshOf (now (positions .entry)) (now (points .entry)) (now (edges .entry)) (now (intervals .entry)) (now (faces .entry)))) ⌝ }
 {
     zero_numbers(positions, c.points * 3);
     zero_words(points, c.points * 3);
@@ -134,28 +116,10 @@ pub fn copy_rows(
     requires { ⌜ c .faces * 5 ≤ length (now faces) ⌝ }
     ensures { λ _. ⌜
         _≡_ {A = Mesh}
-        (record {
-          positions = now (positions .exit);
-          points = now (points .exit);
-          edges = now (edges .exit);
-          intervals = now (intervals .exit);
-          faces = now (faces .exit);
-        })
+        (meshOf (now (positions .exit)) (now (points .exit)) (now (edges .exit)) (now (intervals .exit)) (now (faces .exit)))
         (overRows c
-        (record {
-          positions = now (newpositions .entry);
-          points = now (newpoints .entry);
-          edges = now (newedges .entry);
-          intervals = now (newintervals .entry);
-          faces = now (newfaces .entry);
-        })
-        (record {
-          positions = now (positions .entry);
-          points = now (points .entry);
-          edges = now (edges .entry);
-          intervals = now (intervals .entry);
-          faces = now (faces .entry);
-        })) ⌝ }
+        (meshOf (now (newpositions .entry)) (now (newpoints .entry)) (now (newedges .entry)) (now (newintervals .entry)) (now (newfaces .entry)))
+        (meshOf (now (positions .entry)) (now (points .entry)) (now (edges .entry)) (now (intervals .entry)) (now (faces .entry)))) ⌝ }
 {
     copy_numbers(newpositions, positions, c.points * 3);
     copy_words(newpoints, points, c.points * 3);

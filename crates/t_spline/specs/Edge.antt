@@ -1,8 +1,8 @@
 -- What stands at the ends and the sides of an edge, and its neighbours, as the Rust's methods give them.
 --     connectionOf e c         the neighbour c of e
 --     withConnection e n c     e with n as its neighbour c
---     acwFromEnd e end         the next edge anticlockwise about the point at that end; cwFromEnd: clockwise
---     acwFromSide e side       the next edge anticlockwise about the face on that side; cwFromSide: clockwise
+--     acwAtEnd end             which neighbour is next anticlockwise about the point at that end; cwAtEnd: clockwise
+--     acwOnSide side           which neighbour is next anticlockwise about the face on that side; cwOnSide: clockwise
 --     pointAtEnd e end         the point at that end
 --     faceFromSide e side      the face on that side
 --     endOf e p                the end at which e has the point p: the origin is looked at first

@@ -1,5 +1,5 @@
 // The numbers of a text (document 01, "Mesh text"): decimal numbers, and the bits of a binary64 in hexadecimal digits.
-// Not here: the lines of a mesh text (`mesh_text`), the writing of numbers (`mesh_answers`).
+// Not here: the lines of a mesh text (`mesh_lines`), the writing of numbers (`mesh_answers`).
 // Contracts: `stands`, `bits`, `decimal`, `float`. Definitions: `specs/Form.antt` (forms of text), `specs/Numbers.antt` (numbers).
 // Laws for callers: `proofs/Laws.antt` (how far a form goes), `proofs/Turns.antt` (one turn of a repeated form).
 ghost use mathlib.Core.Path.{_≡_};

@@ -1,7 +1,7 @@
 // The visits of the faces, in the order handed in, which make the refined mesh's topology in the scratch tables.
 // Carries over the loop over the faces of `global_subdivide` (t_nurcc/mod.rs). A visit takes a row for the face point, reads the
 // perimeter's intervals as found on arriving, splits what is not yet split, and writes the ring.
-// Not here: positions (`position_rules`), whether the mesh may be refined (`audit`).
+// Not here: positions (`placing`), whether the mesh may be refined (`step_grounds`).
 // Definitions: `refined_meshes`, specs/Visits.antt; `specs/Visiting.antt` for what must hold. Laws for callers: `proofs/Laws.antt`.
 ghost use mathlib.Core.Path.{_≡_};
 ghost use mathlib.Core.List.{List, []};
