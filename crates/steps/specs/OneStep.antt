@@ -5,7 +5,8 @@
 --     Binary64 c m            the intervals of the mesh are binary64 numbers, as all numbers of the lent tables are
 --     Accepted m c order t h c'   what is claimed of an accepted step
 --     OneStep                 the claim: it holds of every accepted step
---     Untouched               the claim: a refused step leaves the tables as found
+--     Refused m c order t g   what is claimed of a step that is refused by the ground number g
+--     Untouched               the claim: it holds of every refused step
 use mathlib.Core.Path.{_≡_}
 use mathlib.Core.List.{List}
 use mathlib.Core.Option.{some}
@@ -23,7 +24,7 @@ use Rattle.audited_meshes.specs.Rows.{HoldsClosed}
 use Rattle.position_rules.specs.FacePoint.{facePointOf}
 use Rattle.position_rules.specs.Rules.{edgePointOf, oldPointOf}
 use Rattle.steps.specs.declared.Stepped.the-variants.{Refined}
-use Rattle.steps.specs.Step.{numberOf, refinedCounts, firstRows, whole, made, step}
+use Rattle.steps.specs.Step.{numberOf, refinedCounts, firstRows, zeroedRows, whole, made, step}
 
 pub record Refinement
     (m : Mesh) (c : Counts) (t : MeshOver (Row (c .points)) (Row (c .edges)) (Row (c .faces))) (d : Closed t) (m' : Mesh) : Type 0
@@ -69,7 +70,13 @@ OneStep =
     (m : Mesh) (c : Counts) (order : List ℕ) (t : Mesh) (h : HoldsClosed m (c .points) (c .edges) (c .faces)) → Binary64 c m →
     (c' : Counts) → step m c order t .answer ≡ Refined c' → Accepted m c order t h c'
 
+pub record Refused (m : Mesh) (c : Counts) (order : List ℕ) (t : Mesh) (g : ℕ) : Type 0 where
+  -- Every ground leaves the tables as found, and all but 33 leave scratch as found.
+  pub tables : step m c order t .tables ≡ m
+  pub scratch : g < 33 → step m c order t .scratch ≡ t
+  -- 33 leaves the rows of scratch that 32 counts zeroed.
+  pub zeroed : g ≡ 33 → step m c order t .scratch ≡ zeroedRows (refinedCounts c) t
+
 abbrev pub Untouched : Type 0
 Untouched =
-    (m : Mesh) (c : Counts) (order : List ℕ) (t : Mesh) (g : ℕ) → numberOf (step m c order t .answer) ≡ some g →
-    step m c order t .tables ≡ m
+    (m : Mesh) (c : Counts) (order : List ℕ) (t : Mesh) (g : ℕ) → numberOf (step m c order t .answer) ≡ some g → Refused m c order t g
