@@ -174,11 +174,11 @@ pub record StepClaim (l : Lent) (h : Handed) : Type 0 where
       (c : Counts) → outcome l h .answer ≡ Refined c →
       made (firstRows (l .counts) (l .tables)) (l .counts) (h .order) (firstRows c (h .scratch))
       ≡ whole (firstRows c (after l h .tables))
-  -- That is the refinement on kinds, and every position is its rule's answer.
+  -- That is the refinement on kinds, with its marks, intervals and start edges, and every position is its rule's answer.
   pub on-kinds :
       (c : Counts) → outcome l h .answer ≡ Refined c →
       (n : HoldsClosed (l .tables) (l .counts .points) (l .counts .edges) (l .counts .faces)) →
-      Refinement (firstRows (l .counts) (l .tables)) (l .counts) (n .mesh) (n .closed) (after l h .tables)
+      Refinement (firstRows (l .counts) (l .tables)) (l .counts) (n .mesh) (n .closed) (h .order) (after l h .tables)
   -- A refused step changes nothing.
   pub refused : (g : ℕ) → numberOf (outcome l h .answer) ≡ some g → after l h ≡ l
 
