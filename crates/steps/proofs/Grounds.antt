@@ -1,5 +1,8 @@
 -- What the tests of a step say, and what an answer says of the tests. Assumes nothing.
---     eachFaceOnce-is, rowsFor-is, withinCeilings-is     a passed test
+--     eachFaceOnce-is, room-of-test, rooms-of-test     what a passed test says
+--     Within                    counts within the ceilings
+--     step-is                   the step by the answers of its tests
+--     begun, step-made          the mesh in the making, and the step by what it came to
 --     Taken                     what stands behind the answer Refined
 --     taken                     an answer Refined has it
 --     untouched                 what a refused step leaves
@@ -74,7 +77,7 @@ pub record Taken (m : Mesh) (c : Counts) (order : List ℕ) (t : Mesh) (c' : Cou
 
 module _ (m : Mesh) (c : Counts) (order : List ℕ) (t : Mesh) where
   -- The mesh in the making.
-  begun : Made
+  unfoldable pub begun : Made
   begun = made (firstRows c m) c order (firstRows (refinedCounts c) t)
 
   -- The step by the answers of its tests.
@@ -84,7 +87,8 @@ module _ (m : Mesh) (c : Counts) (order : List ℕ) (t : Mesh) where
   unfolding step
   step-is ha ho hr = rw (ha, ho, hr)
 
-  step-made :
+  -- The step that 30 to 32 do not refuse.
+  pub step-made :
       audit m (c .points) (c .edges) (c .faces) ≡ true → eachFaceOnce (c .faces) order ≡ true → roomFor (refinedCounts c) m t ≡ true →
       (w : Made) → begun ≡ w → step m c order t ≡ ended m (refinedCounts c) t w
   unfolding stepIf begun

@@ -100,7 +100,8 @@ module _ (m : Mesh) (c : Counts) (h : HoldsClosed m (c .points) (c .edges) (c .f
     unfolding row
     old-row p l = visited .old-row (p, l)
 
-    point-rows : PointRows c s (refinedCounts c .points)
+    -- The new points stand in rows that are all different.
+    pub point-rows : PointRows c s (refinedCounts c .points)
     point-rows =
         record {
           face-below = λ f l. rw (face-row f l) (row-below (facePoint (f, l)));
@@ -157,9 +158,9 @@ module _ (m : Mesh) (c : Counts) (h : HoldsClosed m (c .points) (c .edges) (c .f
 
         rule-finite : (x : NewPoint (Row (c .points)) (Row (c .edges)) (Row (c .faces))) → finitePosition (rule x) ≡ true
         unfolding rule
-        rule-finite (old p) = all .old-finite (p .0) (p .1)
-        rule-finite (mid e) = all .edge-finite (e .0) (e .1)
-        rule-finite (facePoint f) = all .face-finite (f .0) (f .1)
+        rule-finite (old p) = all .finite .old-points (p .0) (p .1)
+        rule-finite (mid e) = all .finite .edge-points (e .0) (e .1)
+        rule-finite (facePoint f) = all .finite .face-points (f .0) (f .1)
 
         position-finite : (p : Row (refinedCounts c .points)) → finitePosition (positionAt qs (p .0)) ≡ true
         unfolding row
@@ -173,7 +174,7 @@ module _ (m : Mesh) (c : Counts) (h : HoldsClosed m (c .points) (c .edges) (c .f
         interval-of (dst e) = rw (visited .destination-interval e) (half-fit _ (h .fit .interval-fit (e .0) (e .1)) (numbers (e .0)) .is-fit)
         interval-of (join d) =
             rw (visited .join-interval d)
-            (joining-fit m h numbers d (all .face-finite (face (h .mesh) d .0) (face (h .mesh) d .1)) _ _ (found-halved (h .closed .next d))
+            (joining-fit m h numbers d (all .finite .face-points (face (h .mesh) d .0) (face (h .mesh) d .1)) _ _ (found-halved (h .closed .next d))
             (found-halved (h .closed .prev d)))
 
         number-of : (x : NewEdge (Row (c .edges))) → T (fits binary64 (interval (withPositions qs s) (visited .numbering .edges .to x .0)))

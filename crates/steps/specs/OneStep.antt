@@ -6,12 +6,17 @@
 --     OneStep                       the claim: it holds of every accepted step
 --     Refused m c order t g         what is claimed of a step that is refused by the ground number g
 --     Untouched                     the claim: it holds of every refused step
+--     AllFinite m c                 every new position is finite, by its rule from the rows m of the mesh alone
+--     Not-finite-exactly            the claim: where 30 to 32 do not refuse, 33 does exactly if not every new position is finite
 use mathlib.Core.Path.{_≡_}
+use mathlib.Core.Bool.{true}
 use mathlib.Core.List.{List}
+use mathlib.Core.Logic.{_↔_}
 use mathlib.Core.Option.{some}
 use Prim.Native.Nat.{ℕ, _<_}
 use lib.Dec.{T}
 use lib.Ieee.{fits, binary64}
+use Rattle.positions.specs.Position.{finitePosition}
 use Rattle.tables.specs.Mesh.{Mesh, interval}
 use Rattle.tables.specs.Records.{positionAt}
 use Rattle.tables.specs.declared.Counts.{Counts}
@@ -19,12 +24,13 @@ use Rattle.closed_meshes.specs.Mesh.{Mesh as MeshOver}
 use Rattle.closed_meshes.specs.Closed.{Closed}
 use Rattle.closed_meshes.specs.Refinement.{old, mid, facePoint}
 use Rattle.closed_meshes.specs.Renumbering.{Row}
+use Rattle.audited_meshes.specs.Audit.{audit}
 use Rattle.audited_meshes.specs.Rows.{HoldsClosed}
 use Rattle.refined_meshes.specs.Refines.{Refines}
 use Rattle.position_rules.specs.FacePoint.{facePointOf}
 use Rattle.position_rules.specs.Rules.{edgePointOf, oldPointOf}
-use Rattle.steps.specs.declared.Stepped.the-variants.{Refined}
-use Rattle.steps.specs.Step.{numberOf, refinedCounts, firstRows, zeroedRows, whole, made, step}
+use Rattle.steps.specs.declared.Stepped.the-variants.{Refined, NotFinite}
+use Rattle.steps.specs.Step.{numberOf, refinedCounts, eachFaceOnce, roomFor, firstRows, zeroedRows, whole, made, step}
 
 pub record Refinement
     (m : Mesh) (c : Counts) (t : MeshOver (Row (c .points)) (Row (c .edges)) (Row (c .faces))) (d : Closed t) (order : List ℕ) (m' : Mesh) : Type 0
@@ -76,3 +82,16 @@ pub record Refused (m : Mesh) (c : Counts) (order : List ℕ) (t : Mesh) (g : �
 abbrev pub Untouched : Type 0
 Untouched =
     (m : Mesh) (c : Counts) (order : List ℕ) (t : Mesh) (g : ℕ) → numberOf (step m c order t .answer) ≡ some g → Refused m c order t g
+
+-- In it is no visiting order, and no row number of a new point.
+pub record AllFinite (m : Mesh) (c : Counts) : Type 0 where
+  pub face-points : (f : ℕ) → f < c .faces → finitePosition (facePointOf m (c .edges) f) ≡ true
+  pub edge-points : (e : ℕ) → e < c .edges → finitePosition (edgePointOf m (c .edges) e) ≡ true
+  pub old-points : (p : ℕ) → p < c .points → finitePosition (oldPointOf m (c .edges) p) ≡ true
+
+-- Where they are, the other stored numbers are finite too: `OneStep` has it in `holds`.
+abbrev pub Not-finite-exactly : Type 0
+Not-finite-exactly =
+    (m : Mesh) (c : Counts) (order : List ℕ) (t : Mesh) → audit m (c .points) (c .edges) (c .faces) ≡ true →
+    eachFaceOnce (c .faces) order ≡ true → roomFor (refinedCounts c) m t ≡ true →
+    (step m c order t .answer ≡ NotFinite) ↔ (¬ AllFinite (firstRows c m) c)
