@@ -79,9 +79,9 @@ module _
     {first : Counts} (P : ℕ → (l : Lent) → NamedMesh first l → Type 1)
     (same : (k : ℕ) (l : Lent) (n : NamedMesh first l) → P k l n → (n' : NamedMesh first l) → SameNames n n' → P k l n')
     (new :
-    (k : ℕ) (l : Lent) (n : NamedMesh first l) → P k l n → (m' : Mesh) →
+    (k : ℕ) (l : Lent) (n : NamedMesh first l) → P k l n → (order : List ℕ) (m' : Mesh) →
     ((h : HoldsClosed (l .tables) (l .counts .points) (l .counts .edges) (l .counts .faces)) →
-    Refinement (firstRows (l .counts) (l .tables)) (l .counts) (h .mesh) (h .closed) m') →
+    Refinement (firstRows (l .counts) (l .tables)) (l .counts) (h .mesh) (h .closed) order m') →
     (n' : NamedMesh first (lent m' (refinedCounts (l .counts)))) → NewNames (suc k) n n' → P (suc k) (lent m' (refinedCounts (l .counts))) n')
   where
     along-step :
@@ -95,7 +95,7 @@ module _
         go (inl (c, e)) =
             subst (λ g. P (oneMore g k) (after l h) n') (sym e)
             (pathJ (λ y q. (n' : NamedMesh first y) → NewNames (suc k) n n' → P (suc k) y n')
-            (new k l n r (outcome l h .tables) (λ H. made-of l h b H c e .refinement))
+            (new k l n r (h .order) (outcome l h .tables) (λ H. made-of l h b H c e .refinement))
             (sym (after-accepted l h b (n .holds) c e)) n' (subst (λ g. Renamed k g n n') e a))
         go (inr (x, q)) =
             subst (λ j. P j (after l h) n') (sym (refused-number (outcome l h .answer) x k q))
@@ -125,7 +125,7 @@ module _ {first : Counts} (s : Stage (Row (first .points)) (Row (first .edges)) 
       {k : ℕ} {l l' : Lent} {n : NamedMesh first l} {hs : List Handed} {n' : NamedMesh first l'} → Naming k l n hs l' n' →
       Binary64 (l .counts) (l .tables) → Reached k l n → Reached (k + accepted l hs) l' n'
   reached =
-      along Reached reached-same λ k l n r m' made n' a.
+      along Reached reached-same λ k l n r order m' made n' a.
       record {
         mesh = n';
         same = same-names-refl n';
@@ -166,28 +166,31 @@ module _ {first : Counts} where
 -- ---- names are settled
 
 -- Names by the rules from the same names are the same.
-module _ {first c : Counts} (m m' : Mesh) (n : NamedMesh first (lent m c)) (r : Refinement (firstRows c m) c (n .holds .mesh) (n .holds .closed) m') (k : ℕ) where
-  new-names-settled :
-      (o o' : NamedMesh first (lent m' (refinedCounts c))) → NewNames k n o → NewNames k n o' → SameNames o o'
-  unfolding point edge-no face-no
-  new-names-settled o o' a b =
-      record {
-        points =
-            λ p p' q.
-            ap (o' .names .point) (row-path p' p q)
-            ∙ onto (r .numbering .points) (λ p. o' .names .point p ≡ o .names .point p)
-            (λ x. point-name m m' n r k o' b x ∙ sym (point-name m m' n r k o a x)) p;
-        edges =
-            λ e e' q.
-            ap (o' .names .edge) (row-path e' e q)
-            ∙ onto (r .numbering .edges) (λ e. o' .names .edge e ≡ o .names .edge e)
-            (λ x. edge-name m m' n r k o' b x ∙ sym (edge-name m m' n r k o a x)) e;
-        faces =
-            λ f f' q.
-            ap (o' .names .face) (row-path f' f q)
-            ∙ onto (r .numbering .faces) (λ f. o' .names .face f ≡ o .names .face f)
-            (λ d. face-name m m' n r k o' b d ∙ sym (face-name m m' n r k o a d)) f;
-      }
+module _
+    {first c : Counts} (m m' : Mesh) (n : NamedMesh first (lent m c)) {order : List ℕ}
+    (r : Refinement (firstRows c m) c (n .holds .mesh) (n .holds .closed) order m') (k : ℕ)
+  where
+    new-names-settled :
+        (o o' : NamedMesh first (lent m' (refinedCounts c))) → NewNames k n o → NewNames k n o' → SameNames o o'
+    unfolding point edge-no face-no
+    new-names-settled o o' a b =
+        record {
+          points =
+              λ p p' q.
+              ap (o' .names .point) (row-path p' p q)
+              ∙ onto (r .refines .numbering .points) (λ p. o' .names .point p ≡ o .names .point p)
+              (λ x. point-name m m' n r k o' b x ∙ sym (point-name m m' n r k o a x)) p;
+          edges =
+              λ e e' q.
+              ap (o' .names .edge) (row-path e' e q)
+              ∙ onto (r .refines .numbering .edges) (λ e. o' .names .edge e ≡ o .names .edge e)
+              (λ x. edge-name m m' n r k o' b x ∙ sym (edge-name m m' n r k o a x)) e;
+          faces =
+              λ f f' q.
+              ap (o' .names .face) (row-path f' f q)
+              ∙ onto (r .refines .numbering .faces) (λ f. o' .names .face f ≡ o .names .face f)
+              (λ d. face-name m m' n r k o' b d ∙ sym (face-name m m' n r k o a d)) f;
+        }
 
 module _ {first : Counts} where
   settled-step :

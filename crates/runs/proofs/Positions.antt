@@ -55,13 +55,13 @@ module _
 
     module _ {k : ℕ} {l : Lent} {n : NamedMesh c l} (r : Positions k l n) where
       -- The first accepted step: l is the first mesh still.
-      module _ (z : k ≡ 0) (m' : Mesh) (f : Refinement (firstRows (l .counts) (l .tables)) (l .counts) (n .holds .mesh) (n .holds .closed) m') where
+      module _ (z : k ≡ 0) {order : List ℕ} (m' : Mesh) (f : Refinement (firstRows (l .counts) (l .tables)) (l .counts) (n .holds .mesh) (n .holds .closed) order m') where
         here : lent a c ≡ l
         here = r .none-accepted z .0
 
         place :
             (x : NewPoint (Row (l .counts .points)) (Row (l .counts .edges)) (Row (l .counts .faces))) →
-            positionAt (m' .positions) (f .numbering .points .to x .0)
+            positionAt (m' .positions) (f .refines .numbering .points .to x .0)
             ≡ afterOne (firstRows c a) c (newPointName (suc k) (n .holds .mesh) (n .names) x)
         unfolding afterOne ofEdge ofFace
         place (old p) =
@@ -88,13 +88,13 @@ module _
         Binary64 (l .counts) (l .tables) → Positions k l n → Positions (k + accepted l hs) l' n'
     unfolding point
     positions =
-        along Positions positions-same λ k l n r m' made n' b.
+        along Positions positions-same λ k l n r order m' made n' b.
         let f = made (n .holds) in
         record {
           none-accepted = λ z. absurd (omega arith);
           one-accepted =
               λ z.
-              onto (f .numbering .points) (λ p. positionAt (m' .positions) (p .0) ≡ afterOne (firstRows c a) c (n' .names .point p))
+              onto (f .refines .numbering .points) (λ p. positionAt (m' .positions) (p .0) ≡ afterOne (firstRows c a) c (n' .names .point p))
               (λ x.
               place r (omega arith) m' f x ∙ ap (afterOne (firstRows c a) c) (sym (point-name (l .tables) m' n f (suc k) n' b x)));
         }

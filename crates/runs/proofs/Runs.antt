@@ -209,6 +209,8 @@ two-runs c a b h na e hsA hsB =
       named-B = named-run c b hsB nb h';
       settled-A = settled-run c a hsA na;
       settled-B = settled-run c b hsB nb;
+      apart-A = λ n. end-differs na n;
+      apart-B = λ n. end-differs nb n;
       shared = λ k n n'. runs-shared s na nb n n' k;
       positions = λ k l n n' p p' q. positions-agree e na nb n n' k p p' q l;
     }

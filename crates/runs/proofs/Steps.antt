@@ -67,7 +67,7 @@ module _ {first : Counts} {l l' : Lent} (n : NamedMesh first l) (n' : NamedMesh 
 module _ (l : Lent) (h : Handed) where
   pub after-refused : (x : ℕ) → numberOf (outcome l h .answer) ≡ some x → after l h ≡ l
   after-refused x q =
-      let t = untouched (l .tables) (l .counts) (h .order) (h .scratch) x q in
+      let t = untouched (l .tables) (l .counts) (h .order) (h .scratch) x q .tables in
       let c = refused-counts (outcome l h .answer) x (l .counts) q in
       ap₂ lent t c
 

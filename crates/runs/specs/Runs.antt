@@ -3,8 +3,10 @@
 --     Lent                     tables, and the counts of the mesh in them
 --     Handed                   what a step is handed anew: an order and scratch tables, of any content and lengths
 --     outcome l h              what the step answers and leaves
---     after l h                the tables and counts that a step leaves: a refused one leaves the counts
+--     countsAfter g c          the counts after a step that answers g: a refused one leaves the counts c
+--     after l h                the tables and counts that a step leaves
 --     run l hs                 the tables and counts that a list of steps leaves
+--     oneMore g k              k, and one more if the step that answers g is accepted
 --     accepted l hs            how many steps of a list are accepted
 --     numbered n               the order 0, 1, .., n - 1
 --     inNumberedOrder l ts     the steps of a run that visits in numbered order, handed the scratch tables ts
@@ -13,9 +15,11 @@
 --     NewNames k n n'          the names n' after an accepted step, number k among the accepted ones, by the names n before it
 --     SameNames n n'           the names n' after a refused step
 --     Renamed k g n n'         the one or the other, by the answer g of the step
---     Naming k n hs n'         the names n' that a list of steps makes of the names n, if k steps were accepted before
+--     Naming k l n hs l' n'    the names n' of the rows of l' that a list of steps makes of the names n of the rows of l, if k steps
+--                              were accepted before
 --     StepClaim l h            what is claimed of one step
 --     EachStep l hs            it holds of each step of a list
+--     lent m c                 the tables m with the mesh of the counts c in them
 --     NamedRun c m hs          the names that a run makes, begun with row numbers
 --     TwoRuns c a b hsA hsB    what is claimed of two runs
 --     Demand3                  the claim
@@ -31,6 +35,7 @@ use Rattle.closed_meshes.specs.Mesh.{Place}
 use Rattle.closed_meshes.specs.Renumbering.{Row}
 use Rattle.closed_meshes.specs.Names.{Names, midpointOf, facePointOf, destinationHalfOf, joiningEdgeOf, newFaceOf, givenNames}
 use Rattle.closed_meshes.specs.Shared.{Stage, Shared}
+use Rattle.closed_meshes.specs.Runs.{NamesDiffer}
 use Rattle.audited_meshes.specs.Audit.{audit}
 use Rattle.audited_meshes.specs.Rows.{HoldsClosed, place}
 use Rattle.steps.specs.declared.Stepped.{Stepped}
@@ -65,7 +70,6 @@ unfoldable pub run : Lent → List Handed → Lent
 run l [] = l
 run l (h ∷ hs) = run (after l h) hs
 
--- k, and one more if the step is accepted
 abbrev pub oneMore : Stepped → ℕ → ℕ
 oneMore (Refined c) k = suc k
 oneMore NotClosed k = k
@@ -170,11 +174,11 @@ pub record StepClaim (l : Lent) (h : Handed) : Type 0 where
       (c : Counts) → outcome l h .answer ≡ Refined c →
       made (firstRows (l .counts) (l .tables)) (l .counts) (h .order) (firstRows c (h .scratch))
       ≡ whole (firstRows c (after l h .tables))
-  -- That is the refinement on kinds, and every position is its rule's answer.
+  -- That is the refinement on kinds, with its marks, intervals and start edges, and every position is its rule's answer.
   pub on-kinds :
       (c : Counts) → outcome l h .answer ≡ Refined c →
       (n : HoldsClosed (l .tables) (l .counts .points) (l .counts .edges) (l .counts .faces)) →
-      Refinement (firstRows (l .counts) (l .tables)) (l .counts) (n .mesh) (n .closed) (after l h .tables)
+      Refinement (firstRows (l .counts) (l .tables)) (l .counts) (n .mesh) (n .closed) (h .order) (after l h .tables)
   -- A refused step changes nothing.
   pub refused : (g : ℕ) → numberOf (outcome l h .answer) ≡ some g → after l h ≡ l
 
@@ -182,7 +186,6 @@ pub data EachStep : Lent → List Handed → Type 0 where
   noSteps : {l : Lent} → EachStep l []
   eachStep : {l : Lent} {h : Handed} {hs : List Handed} → StepClaim l h → EachStep (after l h) hs → EachStep l (h ∷ hs)
 
--- The tables m with the mesh of the counts c in them.
 abbrev pub lent : Mesh → Counts → Lent
 lent m c = record { tables = m; counts = c }
 
@@ -194,7 +197,7 @@ pub record NamedRun (c : Counts) (m : Mesh) (hs : List Handed) : Type 0 where
   pub ended : NamedMesh c (run (lent m c) hs)
   pub naming : Naming 0 (lent m c) begun hs (run (lent m c) hs) ended
 
--- Two runs, of the steps as from the tables a and of the steps bs from the tables b, the mesh of the counts c in both.
+-- Two runs, of the steps hsA from the tables a and of the steps hsB from the tables b, the mesh of the counts c in both.
 pub record TwoRuns (c : Counts) (a b : Mesh) (hsA hsB : List Handed) : Type 0 where
   -- After each step the mesh is closed; each accepted step is the refinement in the order handed in, each refused one changes
   -- nothing.
@@ -205,6 +208,9 @@ pub record TwoRuns (c : Counts) (a b : Mesh) (hsA hsB : List Handed) : Type 0 wh
   pub named-B : NamedRun c b hsB
   pub settled-A : (n n' : NamedRun c a hsA) → SameNames (n .ended) (n' .ended)
   pub settled-B : (n n' : NamedRun c b hsB) → SameNames (n .ended) (n' .ended)
+  -- No two rows of a kind share a name.
+  pub apart-A : (n : NamedRun c a hsA) → NamesDiffer (stage (n .ended))
+  pub apart-B : (n : NamedRun c b hsB) → NamesDiffer (stage (n .ended))
   -- With as many accepted steps the two meshes are shared.
   pub shared :
       accepted (lent a c) hsA ≡ accepted (lent b c) hsB → (n : NamedRun c a hsA) (n' : NamedRun c b hsB) →

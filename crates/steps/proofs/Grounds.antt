@@ -1,8 +1,12 @@
 -- What the tests of a step say, and what an answer says of the tests. Assumes nothing.
---     eachFaceOnce-is, rowsFor-is, withinCeilings-is     a passed test
+--     eachFaceOnce-is, room-of-test, rooms-of-test     what a passed test says
+--     Within                    counts within the ceilings
+--     step-is                   the step by the answers of its tests
+--     begun, step-made          the mesh in the making, and the step by what it came to
 --     Taken                     what stands behind the answer Refined
 --     taken                     an answer Refined has it
---     untouched, refused-counts a refused step leaves tables and counts as found
+--     untouched                 what a refused step leaves
+--     Begun, made-is            what stands behind a mesh that is made whole
 use mathlib.Core.Path.{_≡_, refl, sym, _∙_, ap}
 use mathlib.Core.Bool.{Bool, true, false, _&&_, false≢true}
 use mathlib.Core.List.{List}
@@ -26,6 +30,7 @@ use Rattle.steps.specs.declared.Stepped.the-variants.{Refined, NotClosed
 use Rattle.steps.specs.Positions.{Placing, on, stopped, placedAll}
 use Rattle.steps.specs.Step.{numberOf, refinedCounts, eachFaceOnce, rowsFor, withinCeilings, roomFor, firstRows, zeroedRows, overRows, Made, whole, notFinite, madeOf, placedRows, made, refusal, ended, stepIf, step}
 use Rattle.steps.specs.Rows.{Room}
+use Rattle.steps.specs.OneStep.{Refused, Untouched}
 use Rattle.steps.proofs.Rows.{room-of-rows}
 
 pub eachFaceOnce-is : (nf : ℕ) (order : List ℕ) → eachFaceOnce nf order ≡ true → EachOnce nf order
@@ -72,7 +77,7 @@ pub record Taken (m : Mesh) (c : Counts) (order : List ℕ) (t : Mesh) (c' : Cou
 
 module _ (m : Mesh) (c : Counts) (order : List ℕ) (t : Mesh) where
   -- The mesh in the making.
-  begun : Made
+  unfoldable pub begun : Made
   begun = made (firstRows c m) c order (firstRows (refinedCounts c) t)
 
   -- The step by the answers of its tests.
@@ -82,7 +87,8 @@ module _ (m : Mesh) (c : Counts) (order : List ℕ) (t : Mesh) where
   unfolding step
   step-is ha ho hr = rw (ha, ho, hr)
 
-  step-made :
+  -- The step that 30 to 32 do not refuse.
+  pub step-made :
       audit m (c .points) (c .edges) (c .faces) ≡ true → eachFaceOnce (c .faces) order ≡ true → roomFor (refinedCounts c) m t ≡ true →
       (w : Made) → begun ≡ w → step m c order t ≡ ended m (refinedCounts c) t w
   unfolding stepIf begun
@@ -127,25 +133,40 @@ module _ (m : Mesh) (c : Counts) (order : List ℕ) (t : Mesh) where
           absurd (let z : _≡_ {A = ℕ} 0 1 = cc in omega arith)
       go true ha true ho true hr = mending ha ho hr begun refl
 
-  -- A refused step leaves the tables as found.
-  pub untouched : (g : ℕ) → numberOf (step m c order t .answer) ≡ some g → step m c order t .tables ≡ m
-  unfolding stepIf ended begun
-  untouched g e = go _ refl _ refl _ refl
-    where
-      mending : audit m (c .points) (c .edges) (c .faces) ≡ true → eachFaceOnce (c .faces) order ≡ true → roomFor (refinedCounts c) m t ≡ true → (w : Made) → begun ≡ w → step m c order t .tables ≡ m
-      mending ha ho hr (whole n) hw =
-          let q = step-made ha ho hr (whole n) hw in
-          let k : none ≡ some g = ap (λ x. numberOf (x .answer)) (sym q) ∙ e in
-          absurd (let z : _≡_ {A = ℕ} 0 1 = cc in omega arith)
-      mending ha ho hr notFinite hw = ap (λ x. x .tables) (step-made ha ho hr notFinite hw)
+  -- A step that 30, 31 or 32 refuses leaves everything as found.
+  refused-early :
+      (b : Stepped) (n : ℕ) → n < 33 → numberOf b ≡ some n → step m c order t ≡ refusal b m t → (g : ℕ) →
+      numberOf (step m c order t .answer) ≡ some g → Refused m c order t g
+  refused-early b n l k q g e =
+      let z : some n ≡ some g = sym k ∙ ap (λ o. numberOf (o .answer)) (sym q) ∙ e in
+      let w : n ≡ g = cc in
+      record { tables = ap (λ o. o .tables) q; scratch = λ i. ap (λ o. o .scratch) q; zeroed = λ i. absurd (omega arith) }
 
-      go :
-          (a : Bool) → audit m (c .points) (c .edges) (c .faces) ≡ a → (o : Bool) → eachFaceOnce (c .faces) order ≡ o → (r : Bool) →
-          roomFor (refinedCounts c) m t ≡ r → step m c order t .tables ≡ m
-      go false ha o ho r hr = ap (λ x. x .tables) (step-is ha ho hr)
-      go true ha false ho r hr = ap (λ x. x .tables) (step-is ha ho hr)
-      go true ha true ho false hr = ap (λ x. x .tables) (step-is ha ho hr)
-      go true ha true ho true hr = mending ha ho hr begun refl
+-- A refused step leaves the tables as found, and scratch too but for 33.
+pub untouched : Untouched
+unfolding stepIf ended begun
+untouched m c order t g e = go _ refl _ refl _ refl
+  where
+    mending :
+        audit m (c .points) (c .edges) (c .faces) ≡ true → eachFaceOnce (c .faces) order ≡ true → roomFor (refinedCounts c) m t ≡ true →
+        (w : Made) → begun m c order t ≡ w → Refused m c order t g
+    mending ha ho hr (whole n) hw =
+        let q = step-made m c order t ha ho hr (whole n) hw in
+        let k : none ≡ some g = ap (λ o. numberOf (o .answer)) (sym q) ∙ e in
+        absurd (let z : _≡_ {A = ℕ} 0 1 = cc in omega arith)
+    mending ha ho hr notFinite hw =
+        let q = step-made m c order t ha ho hr notFinite hw in
+        let k : some 33 ≡ some g = ap (λ o. numberOf (o .answer)) (sym q) ∙ e in
+        let w : 33 ≡ g = cc in
+        record { tables = ap (λ o. o .tables) q; scratch = λ i. absurd (omega arith); zeroed = λ i. ap (λ o. o .scratch) q }
+
+    go :
+        (a : Bool) → audit m (c .points) (c .edges) (c .faces) ≡ a → (o : Bool) → eachFaceOnce (c .faces) order ≡ o → (r : Bool) →
+        roomFor (refinedCounts c) m t ≡ r → Refused m c order t g
+    go false ha o ho r hr = refused-early m c order t NotClosed 30 (omega arith) refl (step-is m c order t ha ho hr) g e
+    go true ha false ho r hr = refused-early m c order t NotEachFaceOnce 31 (omega arith) refl (step-is m c order t ha ho hr) g e
+    go true ha true ho false hr = refused-early m c order t NoRoom 32 (omega arith) refl (step-is m c order t ha ho hr) g e
+    go true ha true ho true hr = mending ha ho hr (begun m c order t) refl
 
 -- The mesh that is made: the visits' rows, with all positions put.
 pub record Begun (m : Mesh) (c : Counts) (order : List ℕ) (t : Mesh) (n : Mesh) : Type 0 where

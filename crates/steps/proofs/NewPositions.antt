@@ -2,6 +2,7 @@
 -- Assumes nothing.
 --     PointRows                  the rows of the new points, all different
 --     AllPlaced, placed-all      what stands in the rows when all positions are put
+--     all-put                    all positions are put where every one is finite
 use mathlib.Core.Path.{_≡_, refl, sym, _∙_, ap}
 use mathlib.Core.Bool.{true}
 use mathlib.Core.List.{List}
@@ -22,7 +23,8 @@ use Rattle.position_rules.specs.Rules.{edgePointOf, oldPointOf}
 use Rattle.position_rules.specs.Places.{edgePointAt, facePointAt}
 use Rattle.position_rules.proofs.Claims.{edgePoint-stands, oldPoint-stands}
 use Rattle.steps.specs.Positions.{Placing, on, facePointRow, edgePointRow, placed, placedAll, facePointRule, edgePointRule, oldPointRule}
-use Rattle.steps.proofs.Placing.{PutAt, placed-begun, length-placed, placed-other, placed-at}
+use Rattle.steps.specs.OneStep.{AllFinite}
+use Rattle.steps.proofs.Placing.{PutAt, placed-begun, length-placed, placed-other, placed-at, placed-whole}
 
 -- The rows of the points after a step are n in number, and no two of them are one.
 pub record PointRows (c : Counts) (s : State) (n : ℕ) : Type 0 where
@@ -39,9 +41,7 @@ pub record AllPlaced (m : Mesh) (c : Counts) (s : State) (qs : List Float) : Typ
   pub face-points : (f : ℕ) → f < c .faces → positionAt qs (facePointRow s f) ≡ facePointOf m (c .edges) f
   pub edge-points : (e : ℕ) → e < c .edges → positionAt qs (edgePointRow s e) ≡ edgePointOf m (c .edges) e
   pub old-points : (p : ℕ) → p < c .points → positionAt qs p ≡ oldPointOf m (c .edges) p
-  pub face-finite : (f : ℕ) → f < c .faces → finitePosition (facePointOf m (c .edges) f) ≡ true
-  pub edge-finite : (e : ℕ) → e < c .edges → finitePosition (edgePointOf m (c .edges) e) ≡ true
-  pub old-finite : (p : ℕ) → p < c .points → finitePosition (oldPointOf m (c .edges) p) ≡ true
+  pub finite : AllFinite m c
 
 module _
     (m : Mesh) (c : Counts) (a : Audited m (c .points) (c .edges) (c .faces)) (h : c .faces ≤ none) (s : State) (n : ℕ)
@@ -57,60 +57,68 @@ module _
           placed-at (facePointRow s) (facePointRule m c) (c .faces) ps ps1 e1 (r .face-face)
           (λ f l. let b = r .face-below f l in omega arith)
 
+      -- No edge point is put over a face point, however many are put.
+      faces-at :
+          (k : ℕ) → k ≤ c .edges → (t : List Float) → placed k (edgePointRow s) (edgePointRule m s) (on ps1) ≡ on t → (f : ℕ) →
+          f < c .faces → facePointAt t (s .faces) f ≡ facePointOf m (c .edges) f
+      faces-at k b t e f l =
+          placed-other (edgePointRow s) (edgePointRule m s) k ps1 t e (facePointRow s f)
+          (λ i x. r .face-edge f i l (omega arith))
+          ∙ faces1 f l .stands
+
+      -- The rule of an edge point reads the face points.
+      edge-rule :
+          (e : ℕ) → e < c .edges → (t : List Float) → placed e (edgePointRow s) (edgePointRule m s) (on ps1) ≡ on t →
+          edgePointRule m s e t ≡ edgePointOf m (c .edges) e
+      edge-rule e l t q = edgePoint-stands m _ _ _ t (s .faces) a (faces-at e (omega arith) t q) e l
+
       -- Then the edge points.
       module _ (ps2 : List Float) (e2 : placed (c .edges) (edgePointRow s) (edgePointRule m s) (on ps1) ≡ on ps2) where
         length2 : length ps2 ≡ length ps
         length2 = length-placed (edgePointRow s) (edgePointRule m s) (c .edges) ps1 ps2 e2 ∙ length1
-
-        -- No edge point is put over a face point, however many are put.
-        faces-at :
-            (k : ℕ) → k ≤ c .edges → (t : List Float) → placed k (edgePointRow s) (edgePointRule m s) (on ps1) ≡ on t → (f : ℕ) →
-            f < c .faces → facePointAt t (s .faces) f ≡ facePointOf m (c .edges) f
-        faces-at k b t e f l =
-            placed-other (edgePointRow s) (edgePointRule m s) k ps1 t e (facePointRow s f)
-            (λ i x. r .face-edge f i l (omega arith))
-            ∙ faces1 f l .stands
 
         edges2 : (e : ℕ) → e < c .edges → PutAt (edgePointRow s) (edgePointRule m s) e ps1 ps2
         edges2 =
             placed-at (edgePointRow s) (edgePointRule m s) (c .edges) ps1 ps2 e2 (r .edge-edge)
             (λ e l. let b = r .edge-below e l in rw length1 (omega arith))
 
-        -- The rule of an edge point read the face points.
         rule2 : (e : ℕ) (l : e < c .edges) → edgePointRule m s e (edges2 e l .table) ≡ edgePointOf m (c .edges) e
-        rule2 e l =
-            let u = edges2 e l in
-            edgePoint-stands m _ _ _ (u .table) (s .faces) a (faces-at e (omega arith) (u .table) (u .before)) e l
+        rule2 e l = let u = edges2 e l in edge-rule e l (u .table) (u .before)
 
         edges-stand : (e : ℕ) → e < c .edges → positionAt ps2 (edgePointRow s e) ≡ edgePointOf m (c .edges) e
         edges-stand e l = edges2 e l .stands ∙ rule2 e l
 
+        -- No old point is put over them.
+        faces-stay :
+            (k : ℕ) → k ≤ c .points → (t : List Float) → placed k (λ p. p) (oldPointRule m s) (on ps2) ≡ on t → (f : ℕ) →
+            f < c .faces → facePointAt t (s .faces) f ≡ facePointOf m (c .edges) f
+        faces-stay k b t e f l =
+            placed-other (λ p. p) (oldPointRule m s) k ps2 t e (facePointRow s f) (λ i x. r .face-old f i l (omega arith))
+            ∙ faces-at (c .edges) (omega arith) ps2 e2 f l
+
+        edges-stay :
+            (k : ℕ) → k ≤ c .points → (t : List Float) → placed k (λ p. p) (oldPointRule m s) (on ps2) ≡ on t → (e : ℕ) →
+            e < c .edges → edgePointAt t (s .edges) e ≡ edgePointOf m (c .edges) e
+        edges-stay k b t e i l =
+            placed-other (λ p. p) (oldPointRule m s) k ps2 t e (edgePointRow s i) (λ j x. r .edge-old i j l (omega arith))
+            ∙ edges-stand i l
+
+        -- The rule of an old point reads the edge points and the face points.
+        old-rule :
+            (p : ℕ) → p < c .points → (t : List Float) → placed p (λ p. p) (oldPointRule m s) (on ps2) ≡ on t →
+            oldPointRule m s p t ≡ oldPointOf m (c .edges) p
+        old-rule p l t q =
+            oldPoint-stands m _ _ _ t (s .edges) (s .faces) a h (faces-stay p (omega arith) t q) (edges-stay p (omega arith) t q) p l
+
         -- Then the old points.
         module _ (qs : List Float) (e3 : placed (c .points) (λ p. p) (oldPointRule m s) (on ps2) ≡ on qs) where
-          faces-stay :
-              (k : ℕ) → k ≤ c .points → (t : List Float) → placed k (λ p. p) (oldPointRule m s) (on ps2) ≡ on t → (f : ℕ) →
-              f < c .faces → facePointAt t (s .faces) f ≡ facePointOf m (c .edges) f
-          faces-stay k b t e f l =
-              placed-other (λ p. p) (oldPointRule m s) k ps2 t e (facePointRow s f) (λ i x. r .face-old f i l (omega arith))
-              ∙ faces-at (c .edges) (omega arith) ps2 e2 f l
-
-          edges-stay :
-              (k : ℕ) → k ≤ c .points → (t : List Float) → placed k (λ p. p) (oldPointRule m s) (on ps2) ≡ on t → (e : ℕ) →
-              e < c .edges → edgePointAt t (s .edges) e ≡ edgePointOf m (c .edges) e
-          edges-stay k b t e i l =
-              placed-other (λ p. p) (oldPointRule m s) k ps2 t e (edgePointRow s i) (λ j x. r .edge-old i j l (omega arith))
-              ∙ edges-stand i l
-
           olds3 : (p : ℕ) → p < c .points → PutAt (λ p. p) (oldPointRule m s) p ps2 qs
           olds3 =
               placed-at (λ p. p) (oldPointRule m s) (c .points) ps2 qs e3 (λ i j x y z. z)
               (λ p l. let b = r .old-below p l in rw length2 (omega arith))
 
           rule3 : (p : ℕ) (l : p < c .points) → oldPointRule m s p (olds3 p l .table) ≡ oldPointOf m (c .edges) p
-          rule3 p l =
-              let u = olds3 p l in
-              oldPoint-stands m _ _ _ (u .table) (s .edges) (s .faces) a h (faces-stay p (omega arith) (u .table) (u .before))
-              (edges-stay p (omega arith) (u .table) (u .before)) p l
+          rule3 p l = let u = olds3 p l in old-rule p l (u .table) (u .before)
 
           all-placed : AllPlaced m c s qs
           all-placed =
@@ -118,9 +126,12 @@ module _
                 face-points = faces-stay (c .points) (omega arith) qs e3;
                 edge-points = edges-stay (c .points) (omega arith) qs e3;
                 old-points = λ p l. olds3 p l .stands ∙ rule3 p l;
-                face-finite = λ f l. faces1 f l .is-finite;
-                edge-finite = λ e l. ap finitePosition (sym (rule2 e l)) ∙ edges2 e l .is-finite;
-                old-finite = λ p l. ap finitePosition (sym (rule3 p l)) ∙ olds3 p l .is-finite;
+                finite =
+                    record {
+                      face-points = λ f l. faces1 f l .is-finite;
+                      edge-points = λ e l. ap finitePosition (sym (rule2 e l)) ∙ edges2 e l .is-finite;
+                      old-points = λ p l. ap finitePosition (sym (rule3 p l)) ∙ olds3 p l .is-finite;
+                    };
               }
 
     -- the tables after each kind of points
@@ -156,3 +167,17 @@ module _
         let t = stages qs e in
         length-placed (λ p. p) (oldPointRule m s) (c .points) (t .ps2) qs (t .old-points-put)
         ∙ length2 (t .ps1) (t .face-points-put) (t .ps2) (t .edge-points-put)
+
+    -- Where every position is finite, all are put.
+    pub all-put : AllFinite m c → (qs : List Float) × (placedAll m c s ps ≡ on qs)
+    unfolding placedAll
+    all-put w =
+        let b1 = placed-whole (facePointRow s) (facePointRule m c) (c .faces) ps (λ f l t q. w .face-points f l) in
+        let b2 =
+        placed-whole (edgePointRow s) (edgePointRule m s) (c .edges) (b1 .0)
+        (λ e l t q. ap finitePosition (edge-rule (b1 .0) (b1 .1) e l t q) ∙ w .edge-points e l) in
+        let b3 =
+        placed-whole (λ p. p) (oldPointRule m s) (c .points) (b2 .0)
+        (λ p l t q. ap finitePosition (old-rule (b1 .0) (b1 .1) (b2 .0) (b2 .1) p l t q) ∙ w .old-points p l) in
+        let put2 = ap (placed (c .edges) (edgePointRow s) (edgePointRule m s)) (b1 .1) ∙ b2 .1 in
+        (b3 .0, ap (placed (c .points) (λ p. p) (oldPointRule m s)) put2 ∙ b3 .1)

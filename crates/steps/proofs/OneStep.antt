@@ -4,9 +4,8 @@ use mathlib.Core.Path.{_≡_, refl, sym, _∙_, ap, subst}
 use mathlib.Core.Bool.{Bool, true, false, _&&_, cond}
 use mathlib.Core.List.{List}
 use mathlib.Core.Logic.{_⊎_, inl, inr, _≢_}
-use Prim.Native.Nat.{ℕ, _+_, _*_, _≤_, _<_}
+use Prim.Native.Nat.{ℕ, _≤_, _<_}
 use native.Mathlib.Omega.{arith}
-use native.Mathlib.Decide.{decLt}
 use lib.Dec.{T, ltb}
 use lib.ListN.{length, getD}
 use lib.Ieee.{Float, fits, binary64}
@@ -14,7 +13,7 @@ use lib.Ieee.Fits.{add-fits, mul-fits}
 use lib.Ieee.Scale.{finite}
 use Rattle.positions.specs.declared.Position.{Position}
 use Rattle.positions.specs.Position.{finitePosition}
-use Rattle.tables.specs.Mesh.{Mesh, none, x, y, z, mark, dest, interval, corner}
+use Rattle.tables.specs.Mesh.{Mesh, none, x, y, z, mark, interval}
 use Rattle.tables.specs.Records.{positionAt}
 use Rattle.tables.specs.declared.Counts.{Counts}
 use Rattle.tables.proofs.Laws.{length-over}
@@ -48,6 +47,7 @@ use Rattle.steps.proofs.Rows.{points-fit, edges-fit, faces-fit, Exact, 
 use Rattle.steps.proofs.NewPositions.{PointRows, AllPlaced, placed-all, length-all}
 use Rattle.steps.proofs.Lengths.{AsLong, long-refinedRows}
 use Rattle.steps.proofs.Joining.{joining-fit, binary64-firstRows}
+use Rattle.steps.proofs.SameRefinement.{faces-fewer, refines-same}
 use Rattle.steps.proofs.Grounds.{Within, Taken, taken, Begun, made-is}
 
 -- the three coordinates of a finite position
@@ -100,17 +100,8 @@ module _ (m : Mesh) (c : Counts) (h : HoldsClosed m (c .points) (c .edges) (c .f
     unfolding row
     old-row p l = visited .old-row (p, l)
 
-    -- Every face has a first new face.
-    faces-fewer : c .faces ≤ 2 * c .edges
-    faces-fewer = go (decLt (2 * c .edges) (c .faces))
-      where
-        go : Dec (2 * c .edges < c .faces) → c .faces ≤ 2 * c .edges
-        go (yes l) =
-            let r = visited .numbering .faces .to (h .closed .faceDart (2 * c .edges, l)) in
-            omega (arith, r .1, visited .first-row (2 * c .edges, l))
-        go (no l) = omega arith
-
-    point-rows : PointRows c s (refinedCounts c .points)
+    -- The new points stand in rows that are all different.
+    pub point-rows : PointRows c s (refinedCounts c .points)
     point-rows =
         record {
           face-below = λ f l. rw (face-row f l) (row-below (facePoint (f, l)));
@@ -167,9 +158,9 @@ module _ (m : Mesh) (c : Counts) (h : HoldsClosed m (c .points) (c .edges) (c .f
 
         rule-finite : (x : NewPoint (Row (c .points)) (Row (c .edges)) (Row (c .faces))) → finitePosition (rule x) ≡ true
         unfolding rule
-        rule-finite (old p) = all .old-finite (p .0) (p .1)
-        rule-finite (mid e) = all .edge-finite (e .0) (e .1)
-        rule-finite (facePoint f) = all .face-finite (f .0) (f .1)
+        rule-finite (old p) = all .finite .old-points (p .0) (p .1)
+        rule-finite (mid e) = all .finite .edge-points (e .0) (e .1)
+        rule-finite (facePoint f) = all .finite .face-points (f .0) (f .1)
 
         position-finite : (p : Row (refinedCounts c .points)) → finitePosition (positionAt qs (p .0)) ≡ true
         unfolding row
@@ -183,7 +174,7 @@ module _ (m : Mesh) (c : Counts) (h : HoldsClosed m (c .points) (c .edges) (c .f
         interval-of (dst e) = rw (visited .destination-interval e) (half-fit _ (h .fit .interval-fit (e .0) (e .1)) (numbers (e .0)) .is-fit)
         interval-of (join d) =
             rw (visited .join-interval d)
-            (joining-fit m h numbers d (all .face-finite (face (h .mesh) d .0) (face (h .mesh) d .1)) _ _ (found-halved (h .closed .next d))
+            (joining-fit m h numbers d (all .finite .face-points (face (h .mesh) d .0) (face (h .mesh) d .1)) _ _ (found-halved (h .closed .next d))
             (found-halved (h .closed .prev d)))
 
         number-of : (x : NewEdge (Row (c .edges))) → T (fits binary64 (interval (withPositions qs s) (visited .numbering .edges .to x .0)))
@@ -216,7 +207,7 @@ module _ (m : Mesh) (c : Counts) (h : HoldsClosed m (c .points) (c .edges) (c .f
               intervals =
                   l .intervals ∙ length-over _ (m .intervals) (t .intervals) (r .intervals) (omega (arith, room .intervals))
                   ∙ room .intervals;
-              faces = l .faces ∙ length-over _ (m .faces) (t .faces) (r .faces) (omega (arith, room .faces, faces-fewer)) ∙ room .faces;
+              faces = l .faces ∙ length-over _ (m .faces) (t .faces) (r .faces) (omega (arith, room .faces, faces-fewer visited)) ∙ room .faces;
             }
 
         pub fit : Fit (withPositions qs s) (refinedCounts c .points) (refinedCounts c .edges) (refinedCounts c .faces)
@@ -263,27 +254,17 @@ module _ (m : Mesh) (c : Counts) (h : HoldsClosed m (c .points) (c .edges) (c .f
           unfolding row
           position-there x = position-same same (row x) (row-below x) ∙ rule-stands x
 
-          mid-there : (e : Row (c .edges)) → dest there (e .0) ≡ visited .numbering .points .to (mid e) .0
-          mid-there e = same .edges (e .0 * 8 + 1) (omega (arith, e .1)) ∙ visited .mid-row e
-
-          centre-there : (f : Row (c .faces)) → corner there (f .0) 0 ≡ visited .numbering .points .to (facePoint f) .0
-          centre-there f = same .faces (f .0 * 5 + 1) (omega (arith, f .1, faces-fewer)) ∙ visited .centre-row f
-
           holds-there : HoldsClosed there (refinedCounts c .points) (refinedCounts c .edges) (refinedCounts c .faces)
           unfolding there
           holds-there = holds-same same (room-overRows (refinedCounts c) (withPositions qs s) m0 lengths) holds
 
-          pub refinement-there : Refinement m c (h .mesh) (h .closed) (overRows (refinedCounts c) (withPositions qs s) m0)
-          unfolding there holds-there holds-same holds rule
+          pub refinement-there : Refinement m c (h .mesh) (h .closed) order (overRows (refinedCounts c) (withPositions qs s) m0)
+          unfolding there holds-there holds-same holds rule refines-same
           refinement-there =
               record {
                 holds = holds-there;
-                numbering = visited .numbering;
-                old-row = visited .old-row;
-                origin-row = visited .origin-row;
-                first-row = visited .first-row;
-                mid-row = mid-there;
-                centre-row = centre-there;
+                refines = refines-same visited same;
+                one-mesh = refl;
                 old-point = λ p. position-there (old p);
                 edge-point = λ e. position-there (mid e);
                 face-point = λ f. position-there (facePoint f);
@@ -321,7 +302,7 @@ one-step m c order t h numbers c' e =
           ∙ firstRows-overRows (refinedCounts c) (withPositions (b .positions) (refinedRows m1 (c .points) (c .edges) (c .faces) order u)) m
           (lengths m1 c h1 order u (b .positions) v held few x (b .put))));
       refinement =
-          subst (Refinement m1 c (h .mesh) (h .closed)) (sym q)
+          subst (Refinement m1 c (h .mesh) (h .closed) order) (sym q)
           (refinement-there m1 c h1 order u (b .positions) v held few x (b .put) m);
       numbers =
           subst (Binary64 (refinedCounts c)) (sym q) (numbers-there m1 c h1 order u (b .positions) v held few x (b .put) m);

@@ -2,7 +2,8 @@
 --     placed-stopped, stopped-stays      a rule that is not finite ends it
 --     placed-begun                       what ends in a table began with one
 --     length-placed, placed-other        the table stays as long, and other rows stay as they are
---     Placed-at, placed-at               where a position was put, with the table that its rule read
+--     PutAt, placed-at                   where a position was put, with the table that its rule read
+--     placed-whole                       rules that are all finite are all put
 use mathlib.Core.Path.{_≡_, refl, sym, _∙_, ap, subst}
 use mathlib.Core.Bool.{Bool, true, false, _&&_}
 use mathlib.Core.List.{List, [], _∷_}
@@ -55,6 +56,11 @@ put-is r p ps qs e = go (finitePosition p) refl e
         (finitePosition p ≡ true) × (qs ≡ putRow ps (r * 3) (placeOf p))
     go true h e = (h, cc)
     go false h e = absurd (not-stopped qs e)
+
+-- a finite position is put
+put-finite :
+    (r : ℕ) (p : Position) (ps : List Float) → finitePosition p ≡ true → put r (placedAt p) ps ≡ on (putRow ps (r * 3) (placeOf p))
+put-finite r p ps e = ap (λ b. put r (placedIf b p) ps) e
 
 module _ (row : ℕ → ℕ) (rule : ℕ → List Float → Position) where
   pub placed-stopped : (n : ℕ) → placed n row rule stopped ≡ stopped
@@ -151,3 +157,15 @@ module _ (row : ℕ → ℕ) (rule : ℕ → List Float → Position) where
       go : (i ≤ n → placed n row rule r ≡ stopped) → Dec (i ≡ suc n) → placed (suc n) row rule r ≡ stopped
       go earlier (yes q) = rw q at e
       go earlier (no q) = rw (earlier (omega arith))
+
+  -- Rules that are all finite, each from the table that the one before left, are all put.
+  pub placed-whole :
+      (n : ℕ) (ps : List Float) →
+      ((i : ℕ) → i < n → (t : List Float) → placed i row rule (on ps) ≡ on t → finitePosition (rule i t) ≡ true) →
+      (qs : List Float) × (placed n row rule (on ps) ≡ on qs)
+  unfolding placed
+  placed-whole zero ps h = (ps, refl)
+  placed-whole (suc n) ps h =
+      let w = placed-whole n ps (λ i l. h i (omega arith)) in
+      let f = h n (omega arith) (w .0) (w .1) in
+      (putRow (w .0) (row n * 3) (placeOf (rule n (w .0))), ap (putNext (row n) (rule n)) (w .1) ∙ put-finite (row n) (rule n (w .0)) (w .0) f)

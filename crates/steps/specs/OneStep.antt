@@ -1,53 +1,56 @@
--- What an accepted step makes of a mesh.
---     Refinement m c t d m'   the tables m' hold the refinement on kinds of the mesh t, which is closed by d and stands in the rows m,
---                             under the numbering that the visits make; and the position of each point is its rule's answer from
---                             m alone
---     Binary64 c m            the intervals of the mesh are binary64 numbers, as all numbers of the lent tables are
---     Accepted m c order t h c'   what is claimed of an accepted step
---     OneStep                 the claim: it holds of every accepted step
---     Untouched               the claim: a refused step leaves the tables as found
+-- What an accepted step makes of a mesh, and what a refused one leaves.
+--     Refinement m c t d order m'   the tables m' hold the refinement of the mesh t, which is closed by d and stands in the rows m,
+--                                   as visits in the order make it; and the position of each point is its rule's answer from m alone
+--     Binary64 c m                  the intervals of the mesh are binary64 numbers, as all numbers of the lent tables are
+--     Accepted m c order t h c'     what is claimed of an accepted step
+--     OneStep                       the claim: it holds of every accepted step
+--     Refused m c order t g         what is claimed of a step that is refused by the ground number g
+--     Untouched                     the claim: it holds of every refused step
+--     AllFinite m c                 every new position is finite, by its rule from the rows m of the mesh alone
+--     Not-finite-exactly            the claim: where 30 to 32 do not refuse, 33 does exactly if not every new position is finite
 use mathlib.Core.Path.{_≡_}
+use mathlib.Core.Bool.{true}
 use mathlib.Core.List.{List}
+use mathlib.Core.Logic.{_↔_}
 use mathlib.Core.Option.{some}
 use Prim.Native.Nat.{ℕ, _<_}
 use lib.Dec.{T}
 use lib.Ieee.{fits, binary64}
-use Rattle.tables.specs.Mesh.{Mesh, dest, interval, corner}
+use Rattle.positions.specs.Position.{finitePosition}
+use Rattle.tables.specs.Mesh.{Mesh, interval}
 use Rattle.tables.specs.Records.{positionAt}
 use Rattle.tables.specs.declared.Counts.{Counts}
 use Rattle.closed_meshes.specs.Mesh.{Mesh as MeshOver}
 use Rattle.closed_meshes.specs.Closed.{Closed}
-use Rattle.closed_meshes.specs.Refinement.{old, mid, facePoint, org, refined}
-use Rattle.closed_meshes.specs.Renumbering.{Isomorphism, Row}
+use Rattle.closed_meshes.specs.Refinement.{old, mid, facePoint}
+use Rattle.closed_meshes.specs.Renumbering.{Row}
+use Rattle.audited_meshes.specs.Audit.{audit}
 use Rattle.audited_meshes.specs.Rows.{HoldsClosed}
+use Rattle.refined_meshes.specs.Refines.{Refines}
 use Rattle.position_rules.specs.FacePoint.{facePointOf}
 use Rattle.position_rules.specs.Rules.{edgePointOf, oldPointOf}
-use Rattle.steps.specs.declared.Stepped.the-variants.{Refined}
-use Rattle.steps.specs.Step.{numberOf, refinedCounts, firstRows, whole, made, step}
+use Rattle.steps.specs.declared.Stepped.the-variants.{Refined, NotFinite}
+use Rattle.steps.specs.Step.{numberOf, refinedCounts, eachFaceOnce, roomFor, firstRows, zeroedRows, whole, made, step}
 
 pub record Refinement
-    (m : Mesh) (c : Counts) (t : MeshOver (Row (c .points)) (Row (c .edges)) (Row (c .faces))) (d : Closed t) (m' : Mesh) : Type 0
+    (m : Mesh) (c : Counts) (t : MeshOver (Row (c .points)) (Row (c .edges)) (Row (c .faces))) (d : Closed t) (order : List ℕ) (m' : Mesh) : Type 0
   where
-    -- The mesh after the step is closed, and it is the refinement of the mesh before.
+    -- The mesh after the step is closed.
     pub holds : HoldsClosed m' (refinedCounts c .points) (refinedCounts c .edges) (refinedCounts c .faces)
-    pub numbering : Isomorphism (refined t d) (holds .mesh)
-    -- Old points and origin halves keep their rows, and the first new face of a face takes its row. The midpoint of an edge is the
-    -- destination of its row, the face point of a face the first corner of its row.
-    pub old-row : (p : Row (c .points)) → numbering .points .to (old p) .0 ≡ p .0
-    pub origin-row : (e : Row (c .edges)) → numbering .edges .to (org e) .0 ≡ e .0
-    pub first-row : (f : Row (c .faces)) → numbering .faces .to (d .faceDart f) .0 ≡ f .0
-    pub mid-row : (e : Row (c .edges)) → dest m' (e .0) ≡ numbering .points .to (mid e) .0
-    pub centre-row : (f : Row (c .faces)) → corner m' (f .0) 0 ≡ numbering .points .to (facePoint f) .0
+    -- It is the refinement of the mesh before, in rows that are numbered by the visits, with its marks, intervals and start edges.
+    pub refines : Refines m t d order m'
+    -- What is closed and what is the refinement is one mesh.
+    pub one-mesh : holds .mesh ≡ refines .mesh
     -- Every position is its rule's answer.
     pub old-point :
         (p : Row (c .points)) →
-        positionAt (m' .positions) (numbering .points .to (old p) .0) ≡ oldPointOf m (c .edges) (p .0)
+        positionAt (m' .positions) (refines .numbering .points .to (old p) .0) ≡ oldPointOf m (c .edges) (p .0)
     pub edge-point :
         (e : Row (c .edges)) →
-        positionAt (m' .positions) (numbering .points .to (mid e) .0) ≡ edgePointOf m (c .edges) (e .0)
+        positionAt (m' .positions) (refines .numbering .points .to (mid e) .0) ≡ edgePointOf m (c .edges) (e .0)
     pub face-point :
         (f : Row (c .faces)) →
-        positionAt (m' .positions) (numbering .points .to (facePoint f) .0) ≡ facePointOf m (c .edges) (f .0)
+        positionAt (m' .positions) (refines .numbering .points .to (facePoint f) .0) ≡ facePointOf m (c .edges) (f .0)
 
 -- A number of a definition may have more digits than a binary64 number. Those that are stored in the tables are binary64.
 abbrev pub Binary64 : Counts → Mesh → Type 0
@@ -61,7 +64,7 @@ pub record Accepted
     -- What stands in the tables is the mesh that visits in the order handed in and the position rules make.
     pub in-order :
         made (firstRows c m) c order (firstRows (refinedCounts c) t) ≡ whole (firstRows (refinedCounts c) (step m c order t .tables))
-    pub refinement : Refinement (firstRows c m) c (h .mesh) (h .closed) (step m c order t .tables)
+    pub refinement : Refinement (firstRows c m) c (h .mesh) (h .closed) order (step m c order t .tables)
     pub numbers : Binary64 (refinedCounts c) (step m c order t .tables)
 
 abbrev pub OneStep : Type 0
@@ -69,7 +72,26 @@ OneStep =
     (m : Mesh) (c : Counts) (order : List ℕ) (t : Mesh) (h : HoldsClosed m (c .points) (c .edges) (c .faces)) → Binary64 c m →
     (c' : Counts) → step m c order t .answer ≡ Refined c' → Accepted m c order t h c'
 
+pub record Refused (m : Mesh) (c : Counts) (order : List ℕ) (t : Mesh) (g : ℕ) : Type 0 where
+  -- Every ground leaves the tables as found, and all but 33 leave scratch as found.
+  pub tables : step m c order t .tables ≡ m
+  pub scratch : g < 33 → step m c order t .scratch ≡ t
+  -- 33 leaves the rows of scratch that 32 counts zeroed.
+  pub zeroed : g ≡ 33 → step m c order t .scratch ≡ zeroedRows (refinedCounts c) t
+
 abbrev pub Untouched : Type 0
 Untouched =
-    (m : Mesh) (c : Counts) (order : List ℕ) (t : Mesh) (g : ℕ) → numberOf (step m c order t .answer) ≡ some g →
-    step m c order t .tables ≡ m
+    (m : Mesh) (c : Counts) (order : List ℕ) (t : Mesh) (g : ℕ) → numberOf (step m c order t .answer) ≡ some g → Refused m c order t g
+
+-- In it is no visiting order, and no row number of a new point.
+pub record AllFinite (m : Mesh) (c : Counts) : Type 0 where
+  pub face-points : (f : ℕ) → f < c .faces → finitePosition (facePointOf m (c .edges) f) ≡ true
+  pub edge-points : (e : ℕ) → e < c .edges → finitePosition (edgePointOf m (c .edges) e) ≡ true
+  pub old-points : (p : ℕ) → p < c .points → finitePosition (oldPointOf m (c .edges) p) ≡ true
+
+-- Where they are, the other stored numbers are finite too: `OneStep` has it in `holds`.
+abbrev pub Not-finite-exactly : Type 0
+Not-finite-exactly =
+    (m : Mesh) (c : Counts) (order : List ℕ) (t : Mesh) → audit m (c .points) (c .edges) (c .faces) ≡ true →
+    eachFaceOnce (c .faces) order ≡ true → roomFor (refinedCounts c) m t ≡ true →
+    (step m c order t .answer ≡ NotFinite) ↔ (¬ AllFinite (firstRows c m) c)
