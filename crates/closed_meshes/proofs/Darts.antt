@@ -19,10 +19,6 @@ module _ {P E F : Type 0} (m : Mesh P E F) where
   first-flip (lft e) = refl
   first-flip (rgt e) = refl
 
-  pub second-flip : (d : Dart E) → second m (flip d) ≡ first m d
-  second-flip (lft e) = refl
-  second-flip (rgt e) = refl
-
 module _ {P E F : Type 0} {m : Mesh P E F} (c : Closed m) where
   -- The ends of a dart differ.
   pub first-differs : (d : Dart E) → ¬ (first m d ≡ second m d)

@@ -18,8 +18,6 @@ pub mod Runs
 pub mod Renumbered
 pub mod Refines
 pub mod Fits
-pub mod Intervals
-pub mod After
 pub mod Laws
 pub mod Records
 pub mod Cases

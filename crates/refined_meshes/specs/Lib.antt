@@ -6,4 +6,3 @@ pub mod Visits
 pub mod Order
 pub mod Refines
 pub mod Fits
-pub mod After

@@ -4,6 +4,5 @@
 // taken), `specs/Split.antt` (the splitting of an edge), `specs/Ring.antt` (what is written about a face) and `specs/Turns.antt`.
 // Theorems: `VisitsRefine` of `specs/Refines.antt` (visits in an order that names each face once make the refinement on kinds, under
 // the numbering that they make; proved in `proofs/Refines.antt`); `VisitsFit` and `AllTaken` of `specs/Fits.antt` (every row that is
-// stored fits, and all are taken in the end; `proofs/Fits.antt`); `HalvesFit`, `SignsClear`, `NewPointRows` and `HoldsAfter` of
-// `specs/After.antt` (what follows for the tables; `proofs/Intervals.antt`, `proofs/After.antt`).
+// stored fits, and all are taken in the end; `proofs/Fits.antt`).
 // The definitions computed on the oracle's records: `proofs/Cases.antt`. Laws for callers: `proofs/Turns.antt`, `proofs/Laws.antt`.

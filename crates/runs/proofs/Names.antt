@@ -3,15 +3,15 @@
 --     named-after           there are such names
 use mathlib.Core.Path.{_≡_, refl, sym, _∙_, ap, ap₂, subst}
 use mathlib.Core.List.{List}
-use mathlib.Core.Option.{Option, none, some, Option·map}
-use Prim.Native.Nat.{ℕ, _+_, _*_, _≤_, _<_}
+use mathlib.Core.Option.{none, Option·map}
+use Prim.Native.Nat.{ℕ, _≤_}
 use native.Mathlib.Omega.{arith}
 use Rattle.tables.specs.Mesh.{Mesh, origin, dest, corner}
 use Rattle.tables.specs.declared.Counts.{Counts}
-use Rattle.closed_meshes.specs.Mesh.{Mesh as MeshOver, Place, place0, place1, place2, place3, Dart, edge, first, face}
+use Rattle.closed_meshes.specs.Mesh.{Place, place0, place1, place2, place3, Dart, edge, first, face}
 use Rattle.closed_meshes.specs.Refinement.{NewPoint, old, mid, facePoint, NewEdge, org, dst, join, refined}
-use Rattle.closed_meshes.specs.Renumbering.{Isomorphism, Row}
-use Rattle.closed_meshes.specs.Names.{Names, midpointOf, facePointOf, destinationHalfOf, joiningEdgeOf, newFaceOf, newPointName, newEdgeName, newFaceName}
+use Rattle.closed_meshes.specs.Renumbering.{Row}
+use Rattle.closed_meshes.specs.Names.{destinationHalfOf, joiningEdgeOf, newFaceOf, newPointName, newEdgeName, newFaceName}
 use Rattle.closed_meshes.specs.Runs.{Step}
 use Rattle.closed_meshes.proofs.Counting.{row-path}
 use Rattle.closed_meshes.proofs.Groupoid.{isomorphism-trans}

@@ -2,7 +2,7 @@
 -- whatever their numberings. Assumes nothing.
 use mathlib.Core.Path.{_≡_, refl, sym, _∙_, ap, subst}
 use mathlib.Core.List.{List}
-use Prim.Native.Nat.{ℕ, zero, suc, _+_, _≤_, _<_}
+use Prim.Native.Nat.{_≤_, _<_}
 use native.Mathlib.Nat.{zero-add}
 use native.Mathlib.Omega.{arith}
 use native.Mathlib.Decide.{ℕ-discrete}
@@ -10,7 +10,7 @@ use Rattle.tables.specs.Mesh.{Mesh}
 use Rattle.tables.specs.Records.{positionAt}
 use Rattle.tables.specs.declared.Counts.{Counts}
 use Rattle.closed_meshes.specs.Renumbering.{Row}
-use Rattle.closed_meshes.specs.Names.{PointName, givenPoint, givenNames}
+use Rattle.closed_meshes.specs.Names.{givenPoint, givenNames}
 use Rattle.closed_meshes.specs.Shared.{Stage, Shared}
 use Rattle.closed_meshes.specs.Runs.{Run, begin, NamesDiffer}
 use Rattle.closed_meshes.proofs.Counting.{row-path}
@@ -24,7 +24,7 @@ use Rattle.steps.specs.Step.{firstRows}
 use Rattle.steps.specs.OneStep.{Binary64}
 use Rattle.steps.proofs.Rows.{SameRows, same-of-firstRows, room-of-firstRows, room-of-holds, holds-same, position-same}
 use Rattle.runs.specs.Runs.{Lent, Handed, run, accepted, inNumberedOrder, lent, NamedMesh, stage, SameNames, NamedRun, TwoRuns, Demand3}
-use Rattle.runs.proofs.Readings.{reading-same, matching-same, first-reading, first-points-first}
+use Rattle.runs.proofs.Readings.{matching-same, first-reading, first-points-first}
 use Rattle.runs.proofs.Steps.{each-step}
 use Rattle.runs.proofs.Naming.{same-names-refl, same-names-sym, same-names-trans, Reached, reached, named, settled}
 use Rattle.runs.proofs.Positions.{Positions, afterOne, positions}

@@ -4,24 +4,21 @@
 --     after-refused          a refused step leaves tables and counts as found
 --     each-step              every step of a list meets its claim
 use mathlib.Core.Path.{_≡_, refl, sym, _∙_, ap, ap₂, subst}
-use mathlib.Core.Bool.{true}
 use mathlib.Core.List.{List, [], _∷_}
 use mathlib.Core.Logic.{_⊎_, inl, inr}
-use mathlib.Core.Option.{Option, none, some}
-use Prim.Native.Nat.{ℕ, suc}
+use mathlib.Core.Option.{some}
+use Prim.Native.Nat.{ℕ}
 use native.Mathlib.Omega.{arith}
-use Rattle.tables.specs.Mesh.{Mesh}
 use Rattle.tables.specs.declared.Counts.{Counts}
-use Rattle.audited_meshes.specs.Audit.{audit}
 use Rattle.audited_meshes.specs.Rows.{HoldsClosed}
 use Rattle.audited_meshes.proofs.Holds.{audit-is-closed}
 use Rattle.steps.specs.declared.Stepped.{Stepped}
 use Rattle.steps.specs.declared.Stepped.the-variants.{Refined, NotClosed, NotEachFaceOnce, NoRoom, NotFinite}
-use Rattle.steps.specs.Step.{numberOf, refinedCounts, firstRows, whole, made, step}
+use Rattle.steps.specs.Step.{numberOf, refinedCounts, firstRows, whole, made}
 use Rattle.steps.specs.OneStep.{Binary64, Accepted}
 use Rattle.steps.proofs.Grounds.{untouched}
 use Rattle.steps.proofs.OneStep.{one-step}
-use Rattle.runs.specs.Runs.{Lent, Handed, outcome, countsAfter, after, oneMore, lent, NamedMesh, NewNames, SameNames, Renamed, StepClaim, EachStep, noSteps, eachStep}
+use Rattle.runs.specs.Runs.{Lent, Handed, outcome, countsAfter, after, oneMore, lent, NamedMesh, SameNames, Renamed, StepClaim, EachStep, noSteps, eachStep}
 
 pub answered : (g : Stepped) → ((c : Counts) × (g ≡ Refined c)) ⊎ ((x : ℕ) × (numberOf g ≡ some x))
 answered (Refined c) = inl (c, refl)

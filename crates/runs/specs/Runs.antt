@@ -26,7 +26,7 @@
 use mathlib.Core.Path.{_≡_}
 use mathlib.Core.Bool.{true}
 use mathlib.Core.List.{List, [], _∷_, _++_}
-use mathlib.Core.Option.{Option, none, some}
+use mathlib.Core.Option.{none, some}
 use Prim.Native.Nat.{ℕ, zero, suc, _≤_}
 use Rattle.tables.specs.Mesh.{Mesh, origin, dest, corner}
 use Rattle.tables.specs.Records.{positionAt}

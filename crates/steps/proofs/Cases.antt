@@ -4,8 +4,8 @@
 use mathlib.Core.Path.{_≡_, refl}
 use mathlib.Core.List.{List, [], _∷_, _++_, map}
 use Prim.Native.Nat.{ℕ, _*_}
-use lib.ListN.{replicate, take, set}
-use lib.Ieee.{Float, nan, add, sub, mul, div, neg, le, ofBits, ofInt, binary64}
+use lib.ListN.{replicate}
+use lib.Ieee.{Float, nan, add, sub, mul, div, neg, le, ofBits, ofInt}
 use Rattle.tables.specs.Mesh.{Mesh}
 use Rattle.tables.specs.Rows.{over, zeroed}
 use Rattle.tables.specs.declared.Counts.{Counts}

@@ -2,14 +2,14 @@
 --     joining-fit              the law of position_rules, at the darts of a closed mesh
 --     binary64-firstRows       the intervals of the first rows
 use mathlib.Core.Path.{_≡_, refl, sym, _∙_, ap, subst}
-use mathlib.Core.Bool.{Bool, true, false, cond}
+use mathlib.Core.Bool.{true}
 use mathlib.Core.List.{List}
 use Prim.Native.Nat.{ℕ, _+_, _-_, _≤_, _<_}
 use native.Mathlib.Nat.{min-le-left}
 use native.Mathlib.Omega.{arith}
 use native.Mathlib.Decide.{decLt, ℕ-discrete}
 use borrow.Author.Tests.{eq-eqb, ne-eqb, lt-ltb, le-ltb}
-use lib.Dec.{T, eqb, ltb}
+use lib.Dec.{T}
 use lib.ListN.{length, getD, take, length-take, List·getD-eq-default}
 use lib.Seq.{getD-take}
 use lib.Ieee.{Float, nan, add, fits, binary64}
@@ -26,7 +26,7 @@ use Rattle.audited_meshes.specs.Rows.{HoldsClosed}
 use Rattle.audited_meshes.proofs.Audited.{faceWalk-is}
 use Rattle.audited_meshes.proofs.Holds.{audited-of-closed}
 use Rattle.refined_meshes.specs.Ring.{nextPlace, prevPlace}
-use Rattle.refined_meshes.proofs.Places.{dartAt, place, dartAt-place, place-below, nextPlace-below, prevPlace-below, dartAt-next, dartAt-prev}
+use Rattle.refined_meshes.proofs.Places.{place, dartAt-place, place-below, nextPlace-below, prevPlace-below, dartAt-next, dartAt-prev}
 use Rattle.refined_meshes.proofs.Perimeters.{perimeter-size, perimeter-edge}
 use Rattle.position_rules.specs.FacePoint.{around, facePointOf}
 use Rattle.position_rules.specs.Claims.{Found}

@@ -1,22 +1,20 @@
 -- Visits leave every table as long as it was. Assumes nothing.
-use mathlib.Core.Path.{_≡_, refl, sym, _∙_, ap}
+use mathlib.Core.Path.{_≡_, refl, _∙_}
 use mathlib.Core.Bool.{Bool, true, false}
 use mathlib.Core.List.{List, [], _∷_}
-use Prim.Native.Nat.{ℕ, zero, suc, _+_, _*_, _≤_}
+use Prim.Native.Nat.{ℕ, zero, suc, _+_, _*_}
 use lib.Dec.{ltb}
-use lib.ListN.{length, getD, set, length-set}
-use lib.Ieee.{Float}
+use lib.ListN.{length, getD, length-set}
 use Rattle.t_spline.specs.declared.TnurccEdge.{TnurccEdge}
 use Rattle.tables.specs.Mesh.{Mesh}
-use Rattle.tables.specs.Rows.{putRow, over}
 use Rattle.tables.specs.Records.{edgeWords}
-use Rattle.tables.proofs.Laws.{length-putRow, length-over}
-use Rattle.audited_meshes.specs.Walks.{edgesOf, passed, faceWalk}
+use Rattle.tables.proofs.Laws.{length-putRow}
+use Rattle.audited_meshes.specs.Walks.{passed, faceWalk}
 use Rattle.refined_meshes.specs.Turns.{turns}
 use Rattle.refined_meshes.specs.State.{State, edgeOf, putEdge, putPoint, putStart, putFace, take, copied}
 use Rattle.refined_meshes.specs.Split.{split, splitIf, splitWhole, originHalf, destinationHalf}
 use Rattle.refined_meshes.specs.Ring.{Ring, putJoin, putFirst, putSecond, putNewFace, putFacePoint}
-use Rattle.refined_meshes.specs.Visits.{foundOn, splitAll, ringOf, putRing, visitAlong, visit, visits, refinedRows}
+use Rattle.refined_meshes.specs.Visits.{splitAll, putRing, visitAlong, visit, visits, refinedRows}
 
 -- The tables of s' are as long as those of s.
 pub record AsLong (s s' : State) : Type 0 where

@@ -4,14 +4,12 @@
 --     AllPlaced, placed-all      what stands in the rows when all positions are put
 --     all-put                    all positions are put where every one is finite
 use mathlib.Core.Path.{_≡_, refl, sym, _∙_, ap}
-use mathlib.Core.Bool.{true}
 use mathlib.Core.List.{List}
 use mathlib.Core.Logic.{_≢_}
-use Prim.Native.Nat.{ℕ, zero, suc, _+_, _*_, _≤_, _<_}
+use Prim.Native.Nat.{ℕ, _*_, _≤_, _<_}
 use native.Mathlib.Omega.{arith}
-use lib.ListN.{length, getD}
+use lib.ListN.{length}
 use lib.Ieee.{Float}
-use Rattle.positions.specs.declared.Position.{Position}
 use Rattle.positions.specs.Position.{finitePosition}
 use Rattle.tables.specs.Mesh.{Mesh, none}
 use Rattle.tables.specs.Records.{positionAt}
@@ -22,7 +20,7 @@ use Rattle.position_rules.specs.FacePoint.{facePointOf}
 use Rattle.position_rules.specs.Rules.{edgePointOf, oldPointOf}
 use Rattle.position_rules.specs.Places.{edgePointAt, facePointAt}
 use Rattle.position_rules.proofs.Claims.{edgePoint-stands, oldPoint-stands}
-use Rattle.steps.specs.Positions.{Placing, on, facePointRow, edgePointRow, placed, placedAll, facePointRule, edgePointRule, oldPointRule}
+use Rattle.steps.specs.Positions.{on, facePointRow, edgePointRow, placed, placedAll, facePointRule, edgePointRule, oldPointRule}
 use Rattle.steps.specs.OneStep.{AllFinite}
 use Rattle.steps.proofs.Placing.{PutAt, placed-begun, length-placed, placed-other, placed-at, placed-whole}
 

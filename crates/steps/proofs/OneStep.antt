@@ -1,13 +1,12 @@
 -- An accepted step makes the refinement. The visits make it on kinds; each position is put, finite, into its row; halves and joining
 -- intervals are finite with sign bit clear. Assumes nothing.
 use mathlib.Core.Path.{_≡_, refl, sym, _∙_, ap, subst}
-use mathlib.Core.Bool.{Bool, true, false, _&&_, cond}
+use mathlib.Core.Bool.{Bool, true, false, cond}
 use mathlib.Core.List.{List}
-use mathlib.Core.Logic.{_⊎_, inl, inr, _≢_}
+use mathlib.Core.Logic.{_⊎_, inl, inr}
 use Prim.Native.Nat.{ℕ, _≤_, _<_}
 use native.Mathlib.Omega.{arith}
 use lib.Dec.{T, ltb}
-use lib.ListN.{length, getD}
 use lib.Ieee.{Float, fits, binary64}
 use lib.Ieee.Fits.{add-fits, mul-fits}
 use lib.Ieee.Scale.{finite}
@@ -18,9 +17,8 @@ use Rattle.tables.specs.Records.{positionAt}
 use Rattle.tables.specs.declared.Counts.{Counts}
 use Rattle.tables.proofs.Laws.{length-over}
 use Rattle.closed_meshes.specs.Mesh.{Dart, edge, flip, face}
-use Rattle.closed_meshes.specs.Closed.{Closed}
 use Rattle.closed_meshes.specs.Refinement.{NewPoint, old, mid, facePoint, NewEdge, org, dst, join, refined}
-use Rattle.closed_meshes.specs.Renumbering.{Isomorphism, Row}
+use Rattle.closed_meshes.specs.Renumbering.{Row}
 use Rattle.closed_meshes.proofs.Counting.{row-path}
 use Rattle.closed_meshes.proofs.Isomorphisms.{to-injective, onto, carries-over}
 use Rattle.closed_meshes.proofs.Refinement.{stays-closed}
@@ -30,7 +28,7 @@ use Rattle.audited_meshes.specs.Rows.{Fit, HoldsClosed}
 use Rattle.audited_meshes.proofs.Holds.{audited-of-closed}
 use Rattle.refined_meshes.specs.State.{State, withPositions, copied}
 use Rattle.refined_meshes.specs.Split.{half}
-use Rattle.refined_meshes.specs.Order.{EachOnce, turnIn}
+use Rattle.refined_meshes.specs.Order.{turnIn}
 use Rattle.refined_meshes.specs.Visits.{refinedRows}
 use Rattle.refined_meshes.specs.Refines.{found, Refines}
 use Rattle.refined_meshes.proofs.Refines.{visits-refine}
@@ -38,17 +36,15 @@ use Rattle.position_rules.specs.FacePoint.{facePointOf}
 use Rattle.position_rules.specs.Rules.{edgePointOf, oldPointOf}
 use Rattle.position_rules.specs.Claims.{Found}
 use Rattle.position_rules.proofs.Floats.{half-fit}
-use Rattle.steps.specs.declared.Stepped.the-variants.{Refined}
 use Rattle.steps.specs.Positions.{on, facePointRow, edgePointRow, placedAll}
-use Rattle.steps.specs.Step.{refinedCounts, firstRows, overRows, whole, made, step}
+use Rattle.steps.specs.Step.{refinedCounts, firstRows, overRows, whole, step}
 use Rattle.steps.specs.OneStep.{Refinement, Binary64, OneStep}
-use Rattle.steps.specs.Rows.{Room}
-use Rattle.steps.proofs.Rows.{points-fit, edges-fit, faces-fit, Exact, exact-firstRows, room-firstRows, room-of-exact, room-of-holds, holds-same, holds-firstRows, SameRows, firstRows-overRows, same-overRows, room-overRows, position-same}
+use Rattle.steps.proofs.Rows.{points-fit, edges-fit, faces-fit, Exact, exact-firstRows, room-of-exact, room-of-holds, holds-same, holds-firstRows, SameRows, firstRows-overRows, same-overRows, room-overRows, position-same}
 use Rattle.steps.proofs.NewPositions.{PointRows, AllPlaced, placed-all, length-all}
-use Rattle.steps.proofs.Lengths.{AsLong, long-refinedRows}
+use Rattle.steps.proofs.Lengths.{long-refinedRows}
 use Rattle.steps.proofs.Joining.{joining-fit, binary64-firstRows}
 use Rattle.steps.proofs.SameRefinement.{faces-fewer, refines-same}
-use Rattle.steps.proofs.Grounds.{Within, Taken, taken, Begun, made-is}
+use Rattle.steps.proofs.Grounds.{taken, made-is}
 
 -- the three coordinates of a finite position
 finite-parts :

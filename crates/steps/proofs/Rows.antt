@@ -1,22 +1,21 @@
 -- The rows that counts count: what stands in them, and that an audit looks at nothing else. Assumes nothing.
 --     SameRows c m m'       the words and numbers of these rows are the same in both tables
 --     holds-same            what holds of the mesh in the one holds of the mesh in the other
-use mathlib.Core.Path.{_≡_, refl, sym, _∙_, ap, subst}
-use mathlib.Core.Bool.{true}
+use mathlib.Core.Path.{_≡_, refl, sym, _∙_, ap}
 use mathlib.Core.List.{List}
-use Prim.Native.Nat.{ℕ, _+_, _*_, _/_, _≤_, _<_, min}
-use native.Mathlib.Nat.{le-min, min-le-left, min-le-right, le-div-iff-mul-le, le-trans}
+use Prim.Native.Nat.{ℕ, _+_, _*_, _/_, _≤_, _<_}
+use native.Mathlib.Nat.{le-min, min-le-left, min-le-right}
 use native.Mathlib.Omega.{arith}
 use lib.ListN.{length, getD, take, drop, length-take}
 use lib.Seq.{getD-take, length-take-le, take-append-le, take-all}
-use lib.Ieee.{Float, nan}
+use lib.Ieee.{nan}
 use Rattle.tables.specs.Mesh.{Mesh}
 use Rattle.tables.specs.Rows.{over}
 use Rattle.tables.specs.Records.{positionAt}
 use Rattle.tables.specs.declared.Counts.{Counts}
 use Rattle.closed_meshes.specs.Mesh.{Mesh as MeshOver}
 use Rattle.closed_meshes.specs.Renumbering.{Row}
-use Rattle.audited_meshes.specs.Audit.{pointRows, edgeRows, faceRows, audit}
+use Rattle.audited_meshes.specs.Audit.{pointRows, edgeRows, faceRows}
 use Rattle.audited_meshes.specs.Rows.{place, Stands, Fit, HoldsClosed}
 use Rattle.audited_meshes.proofs.Rows.{place-below}
 use Rattle.steps.specs.Step.{firstRows, overRows}
@@ -48,16 +47,6 @@ pub record SameRows (c : Counts) (m m' : Mesh) : Type 0 where
   pub edges : (i : ℕ) → i < c .edges * 8 → getD (m' .edges) i 0 ≡ getD (m .edges) i 0
   pub intervals : (i : ℕ) → i < c .edges → getD (m' .intervals) i nan ≡ getD (m .intervals) i nan
   pub faces : (i : ℕ) → i < c .faces * 5 → getD (m' .faces) i 0 ≡ getD (m .faces) i 0
-
-pub same-sym : {c : Counts} {m m' : Mesh} → SameRows c m m' → SameRows c m' m
-same-sym s =
-    record {
-      positions = λ i h. sym (s .positions i h);
-      points = λ i h. sym (s .points i h);
-      edges = λ i h. sym (s .edges i h);
-      intervals = λ i h. sym (s .intervals i h);
-      faces = λ i h. sym (s .faces i h);
-    }
 
 -- Tables are the same in the rows that are taken of them.
 pub same-firstRows : (c : Counts) (m : Mesh) → SameRows c m (firstRows c m)

@@ -1,8 +1,7 @@
 -- The laws of borders. Assumes nothing.
---     padded-set, getD-padded, length-padded     one more element is stored, one is read, the length
+--     padded-set, getD-padded                    one more element is stored, one is read
 --     length-again, getD-again, getD-again-more  the points followed by the first k again: how many, the points, the first again
 --     four-again                                 what stands after the first four were stored behind the last
---     border-tables                              the border of a face in the tables of edges and faces alone
 --     border-walk, border-point, border-point-again                  the border by the walk, and its points by their places where it comes back
 use mathlib.Core.Path.{_≡_, refl, sym, _∙_, ap, subst}
 use mathlib.Core.List.{List, [], _∷_, _++_, append-assoc, map}
@@ -10,11 +9,10 @@ use Prim.Native.Nat.{ℕ, zero, suc, _+_, _-_, _<_, _≤_}
 use native.Mathlib.Nat.{le-of-suc-le-suc}
 use native.Mathlib.Omega.{arith}
 use native.Mathlib.Decide.{decLt}
-use lib.ListN.{length, getD, set, replicate, length-append, length-replicate, List·getD-append, length-map}
+use lib.ListN.{length, getD, set, replicate, length-append, List·getD-append, length-map}
 use lib.Seq.{set-append-seam, getD-at}
 use Rattle.tables.specs.Mesh.{Mesh}
-use Rattle.audited_meshes.specs.Walks.{Walk, back, lost, firstPoint, faceWalk}
-use Rattle.walks.specs.Steps.{faceTables}
+use Rattle.audited_meshes.specs.Walks.{back, firstPoint, faceWalk}
 use Rattle.walks.specs.Border.{padded, again, borderOf, border}
 
 less-one : (k n : ℕ) → n < k → k - n ≡ suc (k - suc n)
@@ -41,10 +39,6 @@ getD-zeros j (x ∷ xs) (suc i) = getD-zeros j xs i
 pub getD-padded : (k : ℕ) (xs : List ℕ) (i : ℕ) → getD (padded k xs) i 0 ≡ getD xs i 0
 unfolding padded
 getD-padded k xs i = getD-zeros (k - length xs) xs i
-
-pub length-padded : (k : ℕ) (xs : List ℕ) → length xs ≤ k → length (padded k xs) ≡ k
-unfolding padded
-length-padded k xs l = length-append xs (replicate (k - length xs) 0) ∙ rw length-replicate (omega arith)
 
 pub length-again : (k : ℕ) (ps : List ℕ) → length (again k ps) ≡ length ps + k
 unfolding again
@@ -99,14 +93,6 @@ module _ (ps : List ℕ) (n : ℕ) (h : n ≤ 64) (q : length ps ≡ n) where
       let pc : c ≡ padded 68 (again 2 ps) = hc ∙ rw pb (once-more 1 (n + 1) (omega arith) (omega arith)) in
       let pd : d ≡ padded 68 (again 3 ps) = hd ∙ rw pc (once-more 2 (n + 2) (omega arith) (omega arith)) in
       he ∙ rw pd (once-more 3 (n + 3) (omega arith) (omega arith))
-
-pub border-tables : (m : Mesh) (ne f : ℕ) → border (faceTables (m .edges) (m .faces)) ne f ≡ border m ne f
-unfolding border faceWalk
-border-tables m ne f = go (faceWalk m ne f)
-  where
-    go : (w : Walk) → borderOf (faceTables (m .edges) (m .faces)) f w ≡ borderOf m f w
-    go (back es) = refl
-    go lost = refl
 
 pub border-walk : (m : Mesh) (ne f : ℕ) → border m ne f ≡ borderOf m f (faceWalk m ne f)
 unfolding border
