@@ -1,14 +1,15 @@
 // Whether a visiting order is each face once (document 01, ground 31).
 // The entries are marked in a local table of 65,536 places, one pass for each 65,536 faces, so that no memory is lent and
 // a mesh within the ceilings takes one pass.
-// Contract: `each_face_once`. Definitions: `specs/Orders.antt`.
+// Contract: `each_face_once`. Definitions: `eachFaceOnce` of `steps`, specs/Step.antt; `specs/Orders.antt` for the passes.
 ghost use mathlib.Core.Path.{_≡_};
-ghost use mathlib.Core.Bool.{true, _&&_};
+ghost use mathlib.Core.Bool.{true};
 ghost use mathlib.Core.Logic.{_↔_};
 ghost use Prim.Native.Nat.{ℕ, _+_, _≤_, _<_};
-ghost use lib.Dec.{eqb, ltb};
+ghost use lib.Dec.{ltb};
 ghost use lib.ListN.{length, getD};
 ghost use Rattle.audited_meshes.specs.Folds.{every, distinct};
+ghost use Rattle.steps.specs.Step.{eachFaceOnce};
 ghost use Rattle.orders.specs.Orders.{fresh, noted, ApartAbove};
 use tables::index;
 
@@ -17,7 +18,7 @@ const WINDOW: usize = 65536;
 
 // Whether an order names each of nf faces once: as many entries as faces, each a face, no face twice.
 pub fn each_face_once(order: &[u32], nf: usize) -> bool
-    ensures { λ r. ⌜ r ≡ (eqb (length (now (order .entry))) nf && every nf (λ i. ltb (getD (now (order .entry)) i 0) nf) && distinct (now (order .entry))) ⌝ }
+    ensures { λ r. ⌜ r ≡ eachFaceOnce nf (now (order .entry)) ⌝ }
 {
     if order.len() != nf {
         return false;

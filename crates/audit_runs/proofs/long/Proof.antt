@@ -1,3 +1,4 @@
+-- long meets its contract.
 use borrow.Author.Needs.{needs}
 use Rattle.audit_runs.proofs.long.Statement.{statement}
 use Rattle.audit_runs.proofs.long.Tie as tie

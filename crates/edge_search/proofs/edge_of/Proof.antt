@@ -1,5 +1,5 @@
-use Rattle.edge_search.proofs.Chains.{linkTo-edge}
 -- edge_of meets its contract.
+use Rattle.edge_search.proofs.Chains.{linkTo-edge}
 use borrow.Author.Needs.{needs}
 use Rattle.edge_search.proofs.edge_of.Statement.{statement}
 use Rattle.edge_search.proofs.edge_of.Tie as tie

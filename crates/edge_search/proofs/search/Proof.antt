@@ -1,9 +1,9 @@
+-- search meets its contract. The invariant: the edges that the chain has still to pass and the one found so far give what all edges
+-- give; links fall, so the link is the measure.
 use Prim.Native.Nat.{suc}
 use mathlib.Core.Path.{_≡_}
 use native.Mathlib.Omega.{arith}
 use Rattle.edge_search.proofs.Searching.{search-less}
--- search meets its contract. The invariant: the edges that the chain has still to pass and the one found so far give what all edges
--- give; links fall, so the link is the measure.
 use Rattle.edge_search.proofs.Searching.{Searching, search-start, search-turn, search-end}
 use Rattle.edge_search.proofs.search.Statement.{statement}
 use Rattle.edge_search.proofs.search.Tie as tie

@@ -1,3 +1,4 @@
+-- main meets its contract.
 use lib.ListN.{length, length-take}
 use native.Mathlib.Omega.{arith}
 use mathlib.Core.Path.{_≡_}

@@ -1,3 +1,4 @@
+-- store_edge_words meets its contract: each word in its place of the row.
 use native.Mathlib.Omega.{arith}
 use lib.ListN.{length-set}
 use borrow.Author.Needs.{needs}

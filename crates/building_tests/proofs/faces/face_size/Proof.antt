@@ -1,6 +1,6 @@
+-- face_size meets its contract.
 use Rattle.building_tests.proofs.Laws.{size-read}
 use Prim.Native.Nat.{_+_, _*_}
--- face_size meets its contract.
 use native.Mathlib.Omega.{arith}
 use borrow.Author.Needs.{needs}
 use Rattle.building_tests.proofs.faces.face_size.Statement.{statement}

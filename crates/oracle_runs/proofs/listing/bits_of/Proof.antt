@@ -1,3 +1,4 @@
+-- bits_of meets its contract.
 use borrow.Author.Tests.{not-false}
 use mathlib.Core.Path.{_∙_, sym}
 use Rattle.intervals.proofs.Laws.{finite-number}

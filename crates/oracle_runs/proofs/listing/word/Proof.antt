@@ -1,3 +1,4 @@
+-- word meets its contract.
 use native.Mathlib.Omega.{arith}
 use borrow.Author.Needs.{needs}
 use Rattle.oracle_runs.proofs.listing.word.Statement.{statement}

@@ -1,3 +1,4 @@
+-- make meets its contract.
 use borrow.Author.Needs.{needs}
 use Rattle.oracle_runs.proofs.stepped.make.Statement.{statement}
 use Rattle.oracle_runs.proofs.stepped.make.Tie as tie

@@ -1,3 +1,4 @@
+-- tell_step meets its contract.
 use lib.Seq.{length-take-le}
 use mathlib.Core.Path.{sym}
 use native.Mathlib.Omega.{arith}

@@ -1,3 +1,4 @@
+-- count_changes meets its contract.
 use lib.Seq.{length-take-le}
 use mathlib.Core.Path.{sym}
 use native.Mathlib.Omega.{arith}

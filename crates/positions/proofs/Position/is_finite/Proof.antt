@@ -1,3 +1,4 @@
+-- is_finite meets its contract: each test decides one of the definition's.
 use mathlib.Core.Path.{sym, _∙_}
 use borrow.Author.Needs.{needs}
 use Rattle.positions.proofs.Position.is_finite.Statement.{statement}

@@ -1,3 +1,4 @@
+-- placed meets its contract: the two answers are the two cases of the definition.
 use mathlib.Core.Path.{sym, _∙_}
 use borrow.Author.Needs.{needs}
 use Rattle.positions.proofs.Position.placed.Statement.{statement}
