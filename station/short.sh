@@ -15,6 +15,14 @@ if [ ! -d "$sources" ]; then
     echo "station: not compared with the Rust, its sources are not in $sources"
     exit 0
 fi
+said=$(mktemp)
+trap 'rm -f "$said"' EXIT
+# proved here with several crates at a time; library.sh then makes the archive alone
+if ! (cd "$here/.." && rt check station) >"$said" 2>&1; then
+    cat "$said"
+    exit 1
+fi
+tail -n 1 "$said"
 "$here/run.sh"
 "$here/harness.sh" tampered
 "$here/harness.sh" compare 2000 "${1:-1}"

@@ -7,4 +7,3 @@ pub mod Floats
 pub mod Joins
 pub mod Sums
 pub mod Windows
-pub mod Clockwise

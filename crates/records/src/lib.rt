@@ -33,7 +33,7 @@ pub fn store_position(positions: &mut [f64], p: usize, place: Position)
     positions[b + 2] = place.z;
 }
 
-// Loads all of an edge but its interval, for what looks at its ends, sides and neighbours alone.
+// Loads all of an edge but its interval, which is 0 here, for what looks at its ends, sides and neighbours alone.
 pub fn load_edge_words(edges: &[u32], e: usize) -> TnurccEdge
     requires { ⌜ e * 8 + 8 ≤ length (now edges) ⌝ }
     ensures { λ r. ⌜ r ≡ edgeWordsAt (now (edges .entry)) e ⌝ }

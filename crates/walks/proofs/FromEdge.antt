@@ -2,19 +2,23 @@
 -- of edges es; i and j are the row numbers that the code compares, p and n what it answers. Assumes nothing.
 --     face-left, face-right, face-neither       the face is on the left of the edge, on its right, on neither side
 --     point-origin, point-dest, point-neither   the point is the origin of the edge, its destination, neither end
---     acw-origin, acw-dest                      the next edge anticlockwise, where the point is the origin, where it is not
+--     at-origin, at-dest                        the next edge about a point, anticlockwise or clockwise, as `choice` says of the end at
+--                                               which the point is: the point is the origin of the edge; it is not
 use mathlib.Core.Path.{_≡_, sym, _∙_, ap}
-use mathlib.Core.List.{List, []}
+use mathlib.Core.Bool.{cond}
+use mathlib.Core.List.{List}
 use Prim.Native.Nat.{ℕ, _+_, _*_, _<_}
 use borrow.Author.Tests.{lt-ltb, eq-eqb, ne-eqb}
+use lib.Dec.{eqb}
 use lib.ListN.{getD}
 use Rattle.t_spline.specs.Edge.{connectionOf, acwAtEnd, acwOnSide, pointAtEnd}
 use Rattle.t_spline.specs.declared.TnurccEdge.{TnurccEdge}
+use Rattle.t_spline.specs.declared.TnurccConnection.{TnurccConnection}
+use Rattle.t_spline.specs.declared.TnurccVertexEnd.{TnurccVertexEnd}
 use Rattle.t_spline.specs.declared.TnurccVertexEnd.the-variants.{Origin, Dest}
 use Rattle.t_spline.specs.declared.TnurccFaceSide.the-variants.{Left, Right}
 use Rattle.tables.specs.Records.{edgeWordsAt}
-use Rattle.audited_meshes.specs.Walks.{acwOfPoint}
-use Rattle.walks.specs.Steps.{faceTables, faceStep, pointStep}
+use Rattle.walks.specs.Steps.{faceStep, pointStep}
 use Rattle.walks.specs.declared.Step.the-variants.{To, Lost}
 
 module _ (es : List ℕ) (e : ℕ) {edge : TnurccEdge} (loaded : edge ≡ edgeWordsAt es e) where
@@ -40,11 +44,17 @@ module _ (es : List ℕ) (e : ℕ) {edge : TnurccEdge} (loaded : edge ≡ edgeWo
     origin-is : i ≡ getD es (e * 8) 0
     origin-is = origin ∙ ap (λ (x : TnurccEdge). x .origin) loaded
 
-    pub acw-origin : {n : ℕ} → i ≡ p → n ≡ connectionOf edge (acwAtEnd Origin) → n ≡ acwOfPoint (faceTables es []) p e
-    acw-origin h hn = rw (hn, loaded) (simp (eq-eqb _ p (sym origin-is ∙ h)))
+    module _ (choice : TnurccVertexEnd → TnurccConnection) where
+      -- the neighbour that is chosen
+      abbrev about : ℕ
+      about =
+          cond (eqb (getD es (e * 8) 0) p) (connectionOf (edgeWordsAt es e) (choice Origin)) (connectionOf (edgeWordsAt es e) (choice Dest))
 
-    pub acw-dest : {n : ℕ} → (i ≡ p → ⊥) → n ≡ connectionOf edge (acwAtEnd Dest) → n ≡ acwOfPoint (faceTables es []) p e
-    acw-dest h hn = rw (hn, loaded) (simp (ne-eqb _ p (λ q. h (origin-is ∙ q))))
+      pub at-origin : {n : ℕ} → i ≡ p → n ≡ connectionOf edge (choice Origin) → n ≡ about
+      at-origin h hn = rw (hn, loaded) (rw (eq-eqb _ p (sym origin-is ∙ h)))
+
+      pub at-dest : {n : ℕ} → (i ≡ p → ⊥) → n ≡ connectionOf edge (choice Dest) → n ≡ about
+      at-dest h hn = rw (hn, loaded) (rw (ne-eqb _ p (λ q. h (origin-is ∙ q))))
 
     module _ (ne : ℕ) (below : e < ne) where
       pub point-origin : {q n : ℕ} → i ≡ p → q ≡ pointAtEnd edge Dest → n ≡ connectionOf edge (acwAtEnd Origin) → To q n ≡ pointStep es ne p e
