@@ -50,13 +50,7 @@ fn six_terms(s: Terms, t: Terms) -> f64
 }
 
 // The terms of the edge at place i of a border, about p.
-fn terms_at(
-    edges: &[u32],
-    intervals: &[f64],
-    border: &[u32; 64],
-    p: u32,
-    i: usize,
-) -> Terms
+fn terms_at(edges: &[u32], intervals: &[f64], border: &[u32; 64], p: u32, i: usize) -> Terms
     requires { ⌜ i < 64 ⌝ }
     requires { ⌜ EdgeFits (now edges) (now intervals) (getD (now border) i 0) ⌝ }
     ensures { λ r. ⌜ r ≡ termsAbout (now (edges .entry)) (now (intervals .entry)) p (getD (now (border .entry)) i 0) ⌝ }
