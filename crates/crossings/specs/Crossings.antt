@@ -5,10 +5,12 @@
 --     numberOf r               the number that is answered: 0 for an edge, else that of the ground
 --     Ready m c d              neither 42 nor 30 holds: the depth is finite, and the tables are a closed mesh
 --     Crossed m ne d r         r is an edge of ne that crosses, or the word that none does; which of several edges is free
---     Finds m c d r            r is an answer to the depth d on the mesh m with the counts c
+--     Finds m c d r            r answers the depth d on the mesh m with the counts c, whichever edge it names
+--     firstFrom test k e       the first of the k numbers from e on that pass the test
+--     find m c d               the answer of the finder: as `Finds` says, with the lowest-numbered of the edges that cross
 use mathlib.Core.Path.{_≡_}
-use mathlib.Core.Bool.{Bool, true, false, _&&_, _||_}
-use Prim.Native.Nat.{ℕ, _<_}
+use mathlib.Core.Bool.{Bool, true, false, cond, _&&_, _||_}
+use Prim.Native.Nat.{ℕ, zero, suc, _<_}
 use lib.Ieee.{Float, le}
 use lib.Ieee.Scale.{finite}
 use Rattle.tables.specs.Mesh.{Mesh, z, origin, dest}
@@ -47,3 +49,13 @@ Finds m c d NotFiniteDepth = finite d ≡ false
 Finds m c d NotClosed = (finite d ≡ true) × (audit m (c .points) (c .edges) (c .faces) ≡ false)
 Finds m c d Nowhere = Ready m c d × Crossed m (c .edges) d Nowhere
 Finds m c d (At e) = Ready m c d × Crossed m (c .edges) d (At e)
+
+unfoldable pub firstFrom : (ℕ → Bool) → ℕ → ℕ → Crossing
+firstFrom test zero e = Nowhere
+firstFrom test (suc k) e = cond (test e) (At e) (firstFrom test k (suc e))
+
+abbrev pub find : Mesh → Counts → Float → Crossing
+find m c d =
+    cond (finite d)
+    (cond (audit m (c .points) (c .edges) (c .faces)) (firstFrom (λ e. crosses m d e) (c .edges) 0) NotClosed)
+    NotFiniteDepth
