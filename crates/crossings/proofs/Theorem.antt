@@ -48,7 +48,7 @@ exactly m c d Nowhere (ready, none) =
       nowhere = (λ e. (ready, none), λ h. refl);
       somewhere = (differ (λ e. omega arith), λ h. let (e, l, t) = h .1 in clash t (none e l));
     }
-exactly m c d (At e) (ready, (l, t)) =
+exactly m c d (At e) (ready, l, t) =
     record {
       not-finite = (differ (λ e. omega arith), λ h. clash (ready .0) h);
       not-closed = (differ (λ e. omega arith), λ h. clash (ready .1) (h .1));
@@ -78,7 +78,7 @@ module _ (m : Mesh) (c : Counts) (d : Float) where
   first-is-first = first-is (λ e. crosses m d e) (c .edges) 0
 
   finds-of-first : (r : Crossing) → Ready m c d → IsFirst r → Finds m c d r
-  finds-of-first (At e) ready (l, t, none) = (ready, (omega arith, t))
+  finds-of-first (At e) ready (l, t, none) = (ready, omega arith, t)
   finds-of-first Nowhere ready none = (ready, λ e l. none e (omega arith) (omega arith))
   finds-of-first NotFiniteDepth ready h = absurd h
   finds-of-first NotClosed ready h = absurd h
@@ -111,7 +111,7 @@ lowest-exactly m c d e = (lowest, found)
   where
     lowest : find m c d ≡ At e → Lowest m c d e
     lowest h =
-        let (ready, (l, t)) = subst (λ (r : Crossing). Finds m c d r) h (find-finds m c d) in
+        let (ready, l, t) = subst (λ (r : Crossing). Finds m c d r) h (find-finds m c d) in
         let none = subst (λ (r : Crossing). IsFirst m c d r) (sym (find-first m c d ready) ∙ h) (first-is-first m c d) .2 in
         record { ready = ready; in-range = l; crossing = t; none-lower = λ i g. none i (omega arith) g }
 

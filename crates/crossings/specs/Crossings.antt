@@ -4,8 +4,7 @@
 --     crosses m d e            edge e of the mesh m crosses the depth d: its ends span it
 --     numberOf r               the number that is answered: 0 for an edge, else that of the ground
 --     Ready m c d              neither 42 nor 30 holds: the depth is finite, and the tables are a closed mesh
---     Crossed m ne d r         r is an edge of ne that crosses, or the word that none does; which of several edges is free
---     Finds m c d r            r answers the depth d on the mesh m with the counts c, whichever edge it names
+--     Finds m c d r            r answers the depth d on the mesh m with the counts c; which of several edges it names is free
 --     firstFrom test k e       the first of the k numbers from e on that pass the test
 --     find m c d               the answer of the finder: as `Finds` says, with the lowest-numbered of the edges that cross
 use mathlib.Core.Path.{_≡_}
@@ -37,18 +36,12 @@ numberOf Nowhere = 41
 abbrev pub Ready : Mesh → Counts → Float → Type 0
 Ready m c d = (finite d ≡ true) × (audit m (c .points) (c .edges) (c .faces) ≡ true)
 
-abbrev pub Crossed : Mesh → ℕ → Float → Crossing → Type 0
-Crossed m ne d (At e) = (e < ne) × (crosses m d e ≡ true)
-Crossed m ne d Nowhere = (e : ℕ) → e < ne → crosses m d e ≡ false
-Crossed m ne d NotFiniteDepth = ⊥
-Crossed m ne d NotClosed = ⊥
-
--- 42 first, then 30, then what a search among the edges may answer
+-- 42 first, then 30, then 41 or an edge
 abbrev pub Finds : Mesh → Counts → Float → Crossing → Type 0
 Finds m c d NotFiniteDepth = finite d ≡ false
 Finds m c d NotClosed = (finite d ≡ true) × (audit m (c .points) (c .edges) (c .faces) ≡ false)
-Finds m c d Nowhere = Ready m c d × Crossed m (c .edges) d Nowhere
-Finds m c d (At e) = Ready m c d × Crossed m (c .edges) d (At e)
+Finds m c d Nowhere = Ready m c d × ((e : ℕ) → e < c .edges → crosses m d e ≡ false)
+Finds m c d (At e) = Ready m c d × (e < c .edges) × (crosses m d e ≡ true)
 
 unfoldable pub firstFrom : (ℕ → Bool) → ℕ → ℕ → Crossing
 firstFrom test zero e = Nowhere
