@@ -15,8 +15,9 @@ use mathlib.Core.List.{List, []}
 use Prim.Native.Nat.{ℕ, _+_, _*_, _≤_, _<_}
 use lib.Ieee.{Float}
 use lib.ListN.{length}
+use Rattle.tables.specs.Layout.{edgeWidth}
 use Rattle.tables.specs.Mesh.{Mesh}
-use Rattle.built_meshes.specs.Lists.{size}
+use Rattle.built_meshes.specs.Lists.{size, mostListed}
 use Rattle.built_meshes.specs.Faces.{inRange}
 use Rattle.built_meshes.specs.Perimeters.{State, Ring, Step, on, stopped}
 use Rattle.building_tests.specs.Lent.{lists}
@@ -45,10 +46,10 @@ stateOf m (Faces.On k) = on (stateAt m k)
 stateOf m (Faces.Stopped g) = stopped g m
 
 pub record Lent (np : ℕ) (ls : List ℕ) (be : List Float) (es : List ℕ) (is : List Float) (ch : List ℕ) : Type 0 where
-  pub edge-rows : length ls * 8 ≤ length es
+  pub edge-rows : length ls * edgeWidth ≤ length es
   pub interval-rows : length ls ≤ length is
   pub link-rows : np + length ls * 2 ≤ length ch
-  pub few : length ls ≤ 16384
+  pub few : length ls ≤ mostListed
   pub beside : length be ≡ length ls
 
 pub record Placed (np : ℕ) (ls : List ℕ) (a n : ℕ) : Type 0 where

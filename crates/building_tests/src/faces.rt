@@ -13,6 +13,7 @@ ghost use Rattle.building_tests.specs.Lent.{lists};
 use built_meshes::Ground;
 use built_meshes::Verdict;
 use positions::is_small;
+use tables::LONGEST_PERIMETER;
 use tables::index;
 
 // The number of listed points of all four sides of face f.
@@ -31,7 +32,7 @@ pub fn size_fits(n: usize) -> bool
     if n < 3 {
         return false;
     }
-    n <= 64
+    n <= LONGEST_PERIMETER
 }
 
 // Whether n listed points are below np.

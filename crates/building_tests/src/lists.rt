@@ -13,6 +13,7 @@ ghost use Rattle.building_tests.specs.Lent.{lists, limitsOf};
 use crate::Bounds;
 use intervals::interval_fits;
 use positions::is_finite;
+use tables::POSITION_WIDTH;
 use tables::index;
 
 // The sum of all words.
@@ -40,7 +41,7 @@ pub fn counts_fit(
     ensures { λ r. ⌜ r ≡ countsFit (limitsOf bounds) (lists (now (coordinates .entry)) (now (sides .entry)) (now (listed .entry)) (now (beside .entry))) ⌝ }
 {
     let most = bounds.most();
-    if most.points < coordinates.len() / 3 {
+    if most.points < coordinates.len() / POSITION_WIDTH {
         return false;
     }
     if most.faces < sides.len() / 4 {
@@ -49,7 +50,7 @@ pub fn counts_fit(
     if most.listed < listed.len() {
         return false;
     }
-    if coordinates.len() % 3 != 0 {
+    if coordinates.len() % POSITION_WIDTH != 0 {
         return false;
     }
     if sides.len() % 4 != 0 {

@@ -1,7 +1,7 @@
 -- What is handed to building, and its grounds 2, 3 and 4.
 --     Lists                   coordinates, 3 a point; side lengths, 4 a face; listed points; the interval beside each
 --     Limits                  the most points, faces and listed points
---     general, refine         the limits of building, and those of the program refine
+--     general, refine         the limits of building, and those of the program refine: mostPoints and so on are their numbers
 --     pointsOf, facesOf       how many points and faces the lists give
 --     side l f k              the length of side k of face f, from 0
 --     size l f                the number of listed points of all four sides of face f
@@ -17,6 +17,7 @@ use lib.Dec.{eqb, leb}
 use lib.ListN.{length, getD}
 use lib.Ieee.{Float, nan}
 use lib.Ieee.Scale.{finite}
+use Rattle.tables.specs.Layout.{positionWidth}
 use Rattle.tables.specs.Mesh.{Mesh}
 use Rattle.closed_meshes.specs.Renumbering.{sumTo}
 use Rattle.audited_meshes.specs.Folds.{every}
@@ -33,14 +34,32 @@ pub record Limits : Type 0 where
   pub faces : ℕ
   pub listed : ℕ
 
+abbrev pub mostPoints : ℕ
+mostPoints = 4096
+
+abbrev pub mostFaces : ℕ
+mostFaces = 4096
+
+abbrev pub mostListed : ℕ
+mostListed = 16384
+
 abbrev pub general : Limits
-general = record { points = 4096; faces = 4096; listed = 16384 }
+general = record { points = mostPoints; faces = mostFaces; listed = mostListed }
+
+abbrev pub refinePoints : ℕ
+refinePoints = 64
+
+abbrev pub refineFaces : ℕ
+refineFaces = 64
+
+abbrev pub refineListed : ℕ
+refineListed = 256
 
 abbrev pub refine : Limits
-refine = record { points = 64; faces = 64; listed = 256 }
+refine = record { points = refinePoints; faces = refineFaces; listed = refineListed }
 
 abbrev pub pointsOf : Lists → ℕ
-pointsOf l = length (l .coordinates) / 3
+pointsOf l = length (l .coordinates) / positionWidth
 
 abbrev pub facesOf : Lists → ℕ
 facesOf l = length (l .sides) / 4
@@ -59,7 +78,8 @@ unfoldable pub countsFit : Limits → Lists → Bool
 unfolding sumTo
 countsFit c l =
     leb (pointsOf l) (c .points) && leb (facesOf l) (c .faces) && leb (length (l .listed)) (c .listed)
-    && eqb (length (l .coordinates) % 3) 0 && eqb (length (l .sides) % 4) 0 && eqb (length (l .listed)) (length (l .intervals))
+    && eqb (length (l .coordinates) % positionWidth) 0 && eqb (length (l .sides) % 4) 0
+    && eqb (length (l .listed)) (length (l .intervals))
     && eqb (sumTo (length (l .sides)) (λ k. getD (l .sides) k 0)) (length (l .listed))
 
 unfoldable pub numbersFit : Lists → Bool

@@ -16,6 +16,8 @@ use position_rules::intervals::c2;
 use positions::Placed;
 use positions::Position;
 use records::load_position;
+use tables::LONGEST_BORDER;
+use tables::LONGEST_PERIMETER;
 use tables::index;
 use walks::t_nurcc_face::put_border;
 
@@ -58,7 +60,7 @@ fn around(n: usize, j: usize) -> usize
 fn terms_at(
     edges: &[u32],
     intervals: &[f64],
-    border: &[u32; 64],
+    border: &[u32; LONGEST_PERIMETER],
     n: usize,
     p: u32,
     j: usize,
@@ -79,8 +81,8 @@ fn window_sum(
     positions: &[f64],
     edges: &[u32],
     intervals: &[f64],
-    points: &[u32; 68],
-    border: &[u32; 64],
+    points: &[u32; LONGEST_BORDER],
+    border: &[u32; LONGEST_PERIMETER],
     n: usize,
 ) -> WeightedSum
     requires { ⌜ BorderFits (now edges) (now intervals) (now border) n ⌝ }
@@ -119,8 +121,8 @@ pub fn face_point(
     requires { ⌜ FacePointFits (now positions) (now edges) (now intervals) (now faces) ne f ⌝ }
     ensures { λ r. ⌜ r ≡ placedAt (facePointOf (faceMesh (now (positions .entry)) (now (edges .entry)) (now (intervals .entry)) (now (faces .entry))) ne f) ⌝ }
 {
-    let mut perimeter = [0u32; 64];
-    let mut points = [0u32; 68];
+    let mut perimeter = [0u32; LONGEST_PERIMETER];
+    let mut points = [0u32; LONGEST_BORDER];
     let n = put_border(edges, faces, ne, f, &mut perimeter, &mut points);
     let s = window_sum(positions, edges, intervals, &points, &perimeter, n);
     s.sum.over(s.weight).placed()

@@ -1,14 +1,17 @@
--- How the tables are laid out: how wide a row is, where its words stand, and how far rows go.
---     positionWidth pointWidth edgeWidth faceWidth   the numbers of a position, the words of a point, of an edge and of a face
+-- How the tables are laid out: how wide a row is, where its words stand, and how far the rows go.
+--     positionWidth                            the numbers of a position
+--     pointWidth edgeWidth faceWidth           the words of a point, of an edge, of a face
 --     yNumber zNumber                          the places of y and z in a position
---     startWord markWord                       the places of a point's words
---     destWord leftFaceWord rightFaceWord leftCwWord leftAcwWord rightCwWord rightAcwWord   the places of an edge's words
---     firstCornerWord                               the place of a face's first corner
+--     startWord markWord                       the places of a point's start edge and mark
+--     destWord                                 the place of an edge's destination
+--     leftFaceWord rightFaceWord               the places of its faces
+--     leftCwWord leftAcwWord rightCwWord rightAcwWord   the places of its neighbours
+--     firstCornerWord                          the place of a face's first corner
 --     longestPerimeter                         the most edges of a face
 --     longestBorder                            the most points of a border, where the first four stand once more at the end
 --     pointCeiling edgeCeiling faceCeiling     the most points, edges and faces that a step makes
--- The first word of a row stands at the row's own place: the coordinate x, a point's valence, an edge's origin and a face's start
--- edge. src/lib.rt has each of these numbers under the same name.
+-- The first word of a row stands where the row begins, and has no name here: the coordinate x, a point's valence, an edge's origin
+-- and a face's start edge. The code has the same numbers under the same names (src/lib.rt).
 use Prim.Native.Nat.{ℕ, _+_}
 
 abbrev pub positionWidth : ℕ

@@ -14,7 +14,8 @@ use mathlib.Core.List.{List}
 use Prim.Native.Nat.{ℕ, _+_, _*_}
 use lib.ListN.{getD}
 use lib.Ieee.{Float, nan}
-use Rattle.tables.specs.Layout.{positionWidth, yNumber, zNumber, pointWidth, startWord, markWord, edgeWidth, destWord, leftFaceWord, rightFaceWord, leftCwWord, leftAcwWord, rightCwWord, rightAcwWord, faceWidth, firstCornerWord}
+use Rattle.tables.specs.Layout.{positionWidth, yNumber, zNumber, pointWidth, startWord, markWord, faceWidth, firstCornerWord}
+use Rattle.tables.specs.Layout.{edgeWidth, destWord, leftFaceWord, rightFaceWord, leftCwWord, leftAcwWord, rightCwWord, rightAcwWord}
 
 pub record Mesh : Type 0 where
   pub positions : List Float

@@ -15,7 +15,8 @@ use Rattle.positions.specs.declared.Position.{Position}
 use Rattle.t_spline.specs.declared.TnurccControlPoint.{TnurccControlPoint}
 use Rattle.t_spline.specs.declared.TnurccEdge.{TnurccEdge}
 use Rattle.t_spline.specs.declared.TnurccFace.{TnurccFace}
-use Rattle.tables.specs.Layout.{positionWidth, yNumber, zNumber, pointWidth, startWord, markWord, edgeWidth, destWord, leftFaceWord, rightFaceWord, leftCwWord, leftAcwWord, rightCwWord, rightAcwWord, faceWidth}
+use Rattle.tables.specs.Layout.{positionWidth, yNumber, zNumber, pointWidth, startWord, markWord, faceWidth}
+use Rattle.tables.specs.Layout.{edgeWidth, destWord, leftFaceWord, rightFaceWord, leftCwWord, leftAcwWord, rightCwWord, rightAcwWord}
 
 abbrev pub placeOf : Position → List Float
 placeOf p = p .x ∷ p .y ∷ p .z ∷ []
@@ -30,7 +31,12 @@ faceWords f =
     f .edge ∷ getD (f .corners) 0 0 ∷ getD (f .corners) 1 0 ∷ getD (f .corners) 2 0 ∷ getD (f .corners) 3 0 ∷ []
 
 abbrev pub positionAt : List Float → ℕ → Position
-positionAt ps p = record { x = getD ps (p * positionWidth) nan; y = getD ps (p * positionWidth + yNumber) nan; z = getD ps (p * positionWidth + zNumber) nan }
+positionAt ps p =
+    record {
+      x = getD ps (p * positionWidth) nan;
+      y = getD ps (p * positionWidth + yNumber) nan;
+      z = getD ps (p * positionWidth + zNumber) nan;
+    }
 
 abbrev pub pointAt : List Float → List ℕ → ℕ → TnurccControlPoint
 pointAt ps ws p =
@@ -45,7 +51,9 @@ pointAt ps ws p =
 abbrev pub edgeOver : List ℕ → Float → ℕ → TnurccEdge
 edgeOver es d e =
     record {
-      connections = getD es (e * edgeWidth + leftCwWord) 0 ∷ getD es (e * edgeWidth + leftAcwWord) 0 ∷ getD es (e * edgeWidth + rightCwWord) 0 ∷ getD es (e * edgeWidth + rightAcwWord) 0 ∷ [];
+      connections =
+          getD es (e * edgeWidth + leftCwWord) 0 ∷ getD es (e * edgeWidth + leftAcwWord) 0
+          ∷ getD es (e * edgeWidth + rightCwWord) 0 ∷ getD es (e * edgeWidth + rightAcwWord) 0 ∷ [];
       «face_left» = getD es (e * edgeWidth + leftFaceWord) 0;
       «face_right» = getD es (e * edgeWidth + rightFaceWord) 0;
       origin = getD es (e * edgeWidth) 0;

@@ -3,7 +3,8 @@
 // right face, then the neighbours LeftCw, LeftAcw, RightCw, RightAcw). Intervals: 1 number an edge. Faces: 5 words (start
 // edge, four corners).
 // Not here: rows loaded and stored as records by value (`records`), what a closed mesh is (`audited_meshes`).
-// Definitions: `specs/Mesh.antt`, `specs/Rows.antt`, `specs/Records.antt`. Laws for callers: `proofs/Laws.antt`.
+// The widths of the rows and the places of their words stand here as constants; the first word of a row stands where the row begins.
+// Definitions: `specs/Layout.antt`, `specs/Mesh.antt`, `specs/Rows.antt`, `specs/Records.antt`. Laws for callers: `proofs/Laws.antt`.
 ghost use mathlib.Core.Path.{_≡_};
 ghost use Prim.Native.Nat.{_≤_, min};
 ghost use lib.ListN.{length};
