@@ -25,7 +25,7 @@ use tables::face_rows;
 use tables::point_rows;
 
 // Whether the counts fit the lent rows.
-pub fn counts_fit(
+fn counts_fit(
     positions: &[f64],
     points: &[u32],
     edges: &[u32],
@@ -45,7 +45,7 @@ pub fn counts_fit(
 }
 
 // The tests of single rows.
-pub fn rows_fit(
+fn rows_fit(
     positions: &[f64],
     points: &[u32],
     edges: &[u32],
@@ -73,7 +73,7 @@ pub fn rows_fit(
 }
 
 // The sums and the walks.
-pub fn walks_fit(points: &[u32], edges: &[u32], faces: &[u32], counts: Counts) -> bool
+fn walks_fit(points: &[u32], edges: &[u32], faces: &[u32], counts: Counts) -> bool
     requires { ⌜ counts .points * pointWidth ≤ length (now points) ⌝ }
     requires { ⌜ counts .edges * edgeWidth ≤ length (now edges) ⌝ }
     requires { ⌜ counts .faces * faceWidth ≤ length (now faces) ⌝ }

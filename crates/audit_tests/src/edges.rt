@@ -28,7 +28,7 @@ use walks::t_nurcc_control_point::acw_of_point;
 use walks::t_nurcc_control_point::touches;
 
 // Whether two row numbers are below n and two below k.
-pub fn are_below(a: u32, b: u32, c: u32, d: u32, n: usize, k: usize) -> bool
+fn are_below(a: u32, b: u32, c: u32, d: u32, n: usize, k: usize) -> bool
     ensures { λ r. ⌜ r ≡ (ltb a n && ltb b n && ltb c k && ltb d k) ⌝ }
 {
     if n <= index(a) {
@@ -44,7 +44,7 @@ pub fn are_below(a: u32, b: u32, c: u32, d: u32, n: usize, k: usize) -> bool
 }
 
 // Whether the references of edge e are in range.
-pub fn edge_in_range(edges: &[u32], np: usize, ne: usize, nf: usize, e: usize) -> bool
+fn edge_in_range(edges: &[u32], np: usize, ne: usize, nf: usize, e: usize) -> bool
     requires { ⌜ e * edgeWidth + edgeWidth ≤ length (now edges) ⌝ }
     ensures { λ r. ⌜ r ≡ edgeInRange (faceTables (now (edges .entry)) []) np ne nf e ⌝ }
 {
@@ -71,7 +71,7 @@ pub fn edge_in_range(edges: &[u32], np: usize, ne: usize, nf: usize, e: usize) -
 
 // Whether edge a borders face f and has the link back to edge e there: the link at place `back` of its words if f is on its left,
 // two places further if it is on its right.
-pub fn links_back(edges: &[u32], back: usize, f: u32, a: usize, e: usize) -> bool
+fn links_back(edges: &[u32], back: usize, f: u32, a: usize, e: usize) -> bool
     requires { ⌜ a * edgeWidth + edgeWidth ≤ length (now edges) ⌝ }
     requires { ⌜ back ≤ leftAcwWord ⌝ }
     ensures { λ r. ⌜ r ≡ linksBack (now (edges .entry)) back f a e ⌝ }
@@ -88,7 +88,7 @@ pub fn links_back(edges: &[u32], back: usize, f: u32, a: usize, e: usize) -> boo
 }
 
 // Whether edge a touches point p, borders face f and links back to edge e by its clockwise link there.
-pub fn acw_links(edges: &[u32], p: u32, f: u32, a: usize, e: usize) -> bool
+fn acw_links(edges: &[u32], p: u32, f: u32, a: usize, e: usize) -> bool
     requires { ⌜ a * edgeWidth + edgeWidth ≤ length (now edges) ⌝ }
     ensures { λ r. ⌜ r ≡ acwLinks (faceTables (now (edges .entry)) []) e p f a ⌝ }
 {
@@ -99,7 +99,7 @@ pub fn acw_links(edges: &[u32], p: u32, f: u32, a: usize, e: usize) -> bool
 }
 
 // Whether the links of edge e lead to edges that link back. They are in range.
-pub fn is_linked(edges: &[u32], ne: usize, e: usize) -> bool
+fn is_linked(edges: &[u32], ne: usize, e: usize) -> bool
     requires { ⌜ ne * edgeWidth ≤ length (now edges) ⌝ }
     requires { ⌜ e < ne ⌝ }
     requires { ⌜ leftCw (faceTables (now edges) []) e < ne ⌝ }
@@ -142,7 +142,7 @@ pub fn is_linked(edges: &[u32], ne: usize, e: usize) -> bool
 }
 
 // The test of edge e.
-pub fn edge_fit(edges: &[u32], intervals: &[f64], np: usize, ne: usize, nf: usize, e: usize) -> bool
+fn edge_fit(edges: &[u32], intervals: &[f64], np: usize, ne: usize, nf: usize, e: usize) -> bool
     requires { ⌜ ne * edgeWidth ≤ length (now edges) ⌝ }
     requires { ⌜ ne ≤ length (now intervals) ⌝ }
     requires { ⌜ e < ne ⌝ }
@@ -181,7 +181,7 @@ pub fn edges_fit(edges: &[u32], intervals: &[f64], np: usize, ne: usize, nf: usi
 }
 
 // Whether no edge about point p but e, among as many as its valence from its start edge, touches point q.
-pub fn is_alone(points: &[u32], edges: &[u32], ne: usize, e: usize, p: usize, q: usize) -> bool
+fn is_alone(points: &[u32], edges: &[u32], ne: usize, e: usize, p: usize, q: usize) -> bool
     requires { ⌜ p * pointWidth + pointWidth ≤ length (now points) ⌝ }
     requires { ⌜ ne * edgeWidth ≤ length (now edges) ⌝ }
     ensures { λ r. ⌜ r ≡ aloneAt (pointTables (now (points .entry)) (now (edges .entry))) ne e p q ⌝ }
@@ -200,7 +200,7 @@ pub fn is_alone(points: &[u32], edges: &[u32], ne: usize, e: usize, p: usize, q:
 }
 
 // Whether i is an edge below ne, and e itself or no edge at point q.
-pub fn is_free(edges: &[u32], ne: usize, e: usize, q: usize, i: usize) -> bool
+fn is_free(edges: &[u32], ne: usize, e: usize, q: usize, i: usize) -> bool
     requires { ⌜ ne * edgeWidth ≤ length (now edges) ⌝ }
     ensures { λ r. ⌜ r ≡ free (faceTables (now (edges .entry)) []) ne e q i ⌝ }
 {
@@ -214,7 +214,7 @@ pub fn is_free(edges: &[u32], ne: usize, e: usize, q: usize, i: usize) -> bool
 }
 
 // Whether no other edge joins the two ends of edge e, seen from the end of smaller valence.
-pub fn is_one_edge(points: &[u32], edges: &[u32], np: usize, ne: usize, e: usize) -> bool
+fn is_one_edge(points: &[u32], edges: &[u32], np: usize, ne: usize, e: usize) -> bool
     requires { ⌜ np * pointWidth ≤ length (now points) ⌝ }
     requires { ⌜ ne * edgeWidth ≤ length (now edges) ⌝ }
     requires { ⌜ e < ne ⌝ }

@@ -23,7 +23,7 @@ use tables::index;
 use walks::t_nurcc_face::put_border;
 
 // Whether a corner is a point number or the none mark.
-pub fn corner_fit(word: u32, np: usize) -> bool
+fn corner_fit(word: u32, np: usize) -> bool
     ensures { λ r. ⌜ r ≡ (ltb word np || eqb word none) ⌝ }
 {
     if index(word) < np {
@@ -33,7 +33,7 @@ pub fn corner_fit(word: u32, np: usize) -> bool
 }
 
 // The test of face f.
-pub fn face_fit(faces: &[u32], np: usize, ne: usize, f: usize) -> bool
+fn face_fit(faces: &[u32], np: usize, ne: usize, f: usize) -> bool
     requires { ⌜ f * faceWidth + faceWidth ≤ length (now faces) ⌝ }
     ensures { λ r. ⌜ r ≡ faceFit (faceTables [] (now (faces .entry))) np ne f ⌝ }
 {
@@ -69,7 +69,7 @@ pub fn faces_fit(faces: &[u32], np: usize, ne: usize, nf: usize) -> bool
 }
 
 // Whether the point at place i is at none of the places before it.
-pub fn is_new(points: &[u32; LONGEST_BORDER], i: usize) -> bool
+fn is_new(points: &[u32; LONGEST_BORDER], i: usize) -> bool
     requires { ⌜ i ≤ 67 ⌝ }
     ensures { λ r. ⌜ r ≡ every i (λ j. apart (now (points .entry)) i j) ⌝ }
 {
@@ -85,7 +85,7 @@ pub fn is_new(points: &[u32; LONGEST_BORDER], i: usize) -> bool
 }
 
 // Whether no point stands twice in the first n places.
-pub fn are_distinct(points: &[u32; LONGEST_BORDER], n: usize) -> bool
+fn are_distinct(points: &[u32; LONGEST_BORDER], n: usize) -> bool
     requires { ⌜ n ≤ longestPerimeter ⌝ }
     ensures { λ r. ⌜ r ≡ every n (λ i. every i (λ j. apart (now (points .entry)) i j)) ⌝ }
 {
@@ -100,7 +100,7 @@ pub fn are_distinct(points: &[u32; LONGEST_BORDER], n: usize) -> bool
 }
 
 // The number of edges of face f; 0 if its walk does not come back, passes fewer than 3 edges or a point twice.
-pub fn face_size(edges: &[u32], faces: &[u32], ne: usize, f: usize) -> usize
+fn face_size(edges: &[u32], faces: &[u32], ne: usize, f: usize) -> usize
     requires { ⌜ ne * edgeWidth ≤ length (now edges) ⌝ }
     requires { ⌜ f * faceWidth + faceWidth ≤ length (now faces) ⌝ }
     ensures { λ r. ⌜ r ≡ faceSize (faceTables (now (edges .entry)) (now (faces .entry))) ne f ⌝ }

@@ -20,7 +20,7 @@ use walks::Passed;
 use walks::t_nurcc_iter::point_walk;
 
 // The test of point p.
-pub fn point_fit(positions: &[f64], points: &[u32], ne: usize, p: usize) -> bool
+fn point_fit(positions: &[f64], points: &[u32], ne: usize, p: usize) -> bool
     requires { ⌜ p * positionWidth + positionWidth ≤ length (now positions) ⌝ }
     requires { ⌜ p * pointWidth + pointWidth ≤ length (now points) ⌝ }
     ensures { λ r. ⌜ r ≡ pointFit (pointRows (now (positions .entry)) (now (points .entry))) ne p ⌝ }
@@ -92,7 +92,7 @@ pub fn point_walks_fit(points: &[u32], edges: &[u32], ne: usize, np: usize) -> b
 }
 
 // Whether the walk about point p comes back after its valence.
-pub fn point_walk_fits(points: &[u32], edges: &[u32], ne: usize, p: usize) -> bool
+fn point_walk_fits(points: &[u32], edges: &[u32], ne: usize, p: usize) -> bool
     requires { ⌜ p * pointWidth + pointWidth ≤ length (now points) ⌝ }
     requires { ⌜ ne * edgeWidth ≤ length (now edges) ⌝ }
     ensures { λ r. ⌜ r ≡ walkFits (pointTables (now (points .entry)) (now (edges .entry))) ne p ⌝ }

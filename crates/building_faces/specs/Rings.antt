@@ -17,7 +17,7 @@ use lib.Ieee.{Float}
 use lib.ListN.{length}
 use Rattle.tables.specs.Layout.{edgeWidth}
 use Rattle.tables.specs.Mesh.{Mesh}
-use Rattle.built_meshes.specs.Lists.{size, mostListed}
+use Rattle.built_meshes.specs.Lists.{size, general}
 use Rattle.built_meshes.specs.Faces.{inRange}
 use Rattle.built_meshes.specs.Perimeters.{State, Ring, Step, on, stopped}
 use Rattle.building_tests.specs.Lent.{lists}
@@ -49,7 +49,7 @@ pub record Lent (np : ℕ) (ls : List ℕ) (be : List Float) (es : List ℕ) (is
   pub edge-rows : length ls * edgeWidth ≤ length es
   pub interval-rows : length ls ≤ length is
   pub link-rows : np + length ls * 2 ≤ length ch
-  pub few : length ls ≤ mostListed
+  pub few : length ls ≤ general .listed
   pub beside : length be ≡ length ls
 
 pub record Placed (np : ℕ) (ls : List ℕ) (a n : ℕ) : Type 0 where

@@ -8,7 +8,7 @@ ghost use mathlib.Core.List.{List, []};
 ghost use Prim.Native.Nat.{ℕ, _+_, _*_, _/_, _≤_, _<_};
 ghost use lib.Ieee.{Float};
 ghost use lib.ListN.{length};
-ghost use Rattle.built_meshes.specs.Lists.{offset, mostFaces};
+ghost use Rattle.built_meshes.specs.Lists.{offset, general};
 ghost use Rattle.built_meshes.specs.Perimeters.{Ring, State, Step, on, nextPlace, turn, places, closedUp};
 ghost use Rattle.built_meshes.specs.Building.{facePassed, facesFrom};
 ghost use Rattle.building_tests.specs.Lent.{lists};
@@ -268,7 +268,7 @@ pub fn enter_faces(
 ) -> Faced
     requires { ⌜ Standing np (now points) (now edges) (now chain) 0 ⌝ }
     requires { ⌜ Lent np (now listed) (now beside) (now edges) (now intervals) (now chain) ⌝ }
-    requires { ⌜ length (now sides) / 4 ≤ mostFaces ⌝ }
+    requires { ⌜ length (now sides) / 4 ≤ general .faces ⌝ }
     requires { ⌜ length (now sides) / 4 * faceWidth ≤ length (now faces) ⌝ }
     requires { ⌜ offset (lists [] (now sides) [] []) (length (now sides) / 4) ≡ length (now listed) ⌝ }
     ensures { λ r. ⌜ ((cs : List Float) (ps : List Float) → length cs / positionWidth ≡ np → _≡_ {A = Step State} (stateOf (meshOf ps (now (points .exit)) (now (edges .exit)) (now (intervals .exit)) (now (faces .exit))) r) (facesFrom (length (now (sides .entry)) / 4) (lists cs (now (sides .entry)) (now (listed .entry)) (now (beside .entry))) 0 0 (on (stateAt (meshOf ps (now (points .entry)) (now (edges .entry)) (now (intervals .entry)) (now (faces .entry))) 0)))) ⌝ }

@@ -17,7 +17,7 @@ use tables::POSITION_WIDTH;
 use tables::index;
 
 // The sum of all words.
-pub fn sum_of(words: &[u32]) -> usize
+fn sum_of(words: &[u32]) -> usize
     requires { ⌜ length (now words) ≤ 16387 ⌝ }
     ensures { λ r. ⌜ r ≡ sumTo (length (now (words .entry))) (λ k. getD (now (words .entry)) k 0) ⌝ }
 {
@@ -63,7 +63,7 @@ pub fn counts_fit(
 }
 
 // Whether all coordinates are finite.
-pub fn all_finite(coordinates: &[f64]) -> bool
+fn all_finite(coordinates: &[f64]) -> bool
     ensures { λ r. ⌜ r ≡ every (length (now (coordinates .entry))) (λ k. finite (getD (now (coordinates .entry)) k nan)) ⌝ }
 {
     let mut k = 0;
@@ -77,7 +77,7 @@ pub fn all_finite(coordinates: &[f64]) -> bool
 }
 
 // Whether all intervals are finite with their sign bit clear.
-pub fn all_fit(beside: &[f64]) -> bool
+fn all_fit(beside: &[f64]) -> bool
     ensures { λ r. ⌜ r ≡ every (length (now (beside .entry))) (λ k. intervalFit (getD (now (beside .entry)) k nan)) ⌝ }
 {
     let mut k = 0;

@@ -23,7 +23,7 @@ use walks::Passed;
 use walks::t_nurcc_iter::point_walk;
 
 // Whether each of ne edges has a face on its right.
-pub fn no_missing_face(edges: &[u32], ne: usize) -> bool
+fn no_missing_face(edges: &[u32], ne: usize) -> bool
     requires { ⌜ ne * edgeWidth ≤ length (now edges) ⌝ }
     ensures { λ r. ⌜ r ≡ noMissingFace (pointTables [] (now (edges .entry))) ne ⌝ }
 {
@@ -38,7 +38,7 @@ pub fn no_missing_face(edges: &[u32], ne: usize) -> bool
 }
 
 // Whether each of np points has an edge.
-pub fn every_edged(points: &[u32], np: usize) -> bool
+fn every_edged(points: &[u32], np: usize) -> bool
     requires { ⌜ np * pointWidth ≤ length (now points) ⌝ }
     ensures { λ r. ⌜ r ≡ everyEdged (pointTables (now (points .entry)) []) np ⌝ }
 {
@@ -53,7 +53,7 @@ pub fn every_edged(points: &[u32], np: usize) -> bool
 }
 
 // Whether the walk about point p passes as many edges as its valence.
-pub fn walk_passes_all(points: &[u32], edges: &[u32], ne: usize, p: usize) -> bool
+fn walk_passes_all(points: &[u32], edges: &[u32], ne: usize, p: usize) -> bool
     requires { ⌜ p * pointWidth + pointWidth ≤ length (now points) ⌝ }
     requires { ⌜ ne * edgeWidth ≤ length (now edges) ⌝ }
     ensures { λ r. ⌜ r ≡ not (ltb (passed (pointWalk (pointTables (now (points .entry)) (now (edges .entry))) ne (valence (pointTables (now (points .entry)) []) p) p)) (valence (pointTables (now (points .entry)) []) p)) ⌝ }
@@ -66,7 +66,7 @@ pub fn walk_passes_all(points: &[u32], edges: &[u32], ne: usize, p: usize) -> bo
 }
 
 // Whether no walk about one of np points misses an edge.
-pub fn no_missed_edge(points: &[u32], edges: &[u32], np: usize, ne: usize) -> bool
+fn no_missed_edge(points: &[u32], edges: &[u32], np: usize, ne: usize) -> bool
     requires { ⌜ np * pointWidth ≤ length (now points) ⌝ }
     requires { ⌜ ne * edgeWidth ≤ length (now edges) ⌝ }
     ensures { λ r. ⌜ r ≡ noMissedEdge (pointTables (now (points .entry)) (now (edges .entry))) np ne ⌝ }
@@ -100,7 +100,7 @@ pub fn whole_verdict(points: &[u32], edges: &[u32], np: usize, ne: usize) -> Ver
 }
 
 // The mark of a point by its valence.
-pub fn mark_of(v: u32) -> u32
+fn mark_of(v: u32) -> u32
     ensures { λ r. ⌜ r ≡ markOf v ⌝ }
 {
     if v == 4 { 0 } else { 1 }

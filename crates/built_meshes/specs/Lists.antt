@@ -1,7 +1,7 @@
 -- What is handed to building, and its grounds 2, 3 and 4.
 --     Lists                   coordinates, 3 a point; side lengths, 4 a face; listed points; the interval beside each
 --     Limits                  the most points, faces and listed points
---     general, refine         the limits of building, and those of the program refine: mostPoints and so on are their numbers
+--     general, refine         the limits of building, and those of the program refine
 --     pointsOf, facesOf       how many points and faces the lists give
 --     side l f k              the length of side k of face f, from 0
 --     size l f                the number of listed points of all four sides of face f
@@ -34,29 +34,11 @@ pub record Limits : Type 0 where
   pub faces : ℕ
   pub listed : ℕ
 
-abbrev pub mostPoints : ℕ
-mostPoints = 4096
-
-abbrev pub mostFaces : ℕ
-mostFaces = 4096
-
-abbrev pub mostListed : ℕ
-mostListed = 16384
-
 abbrev pub general : Limits
-general = record { points = mostPoints; faces = mostFaces; listed = mostListed }
-
-abbrev pub refinePoints : ℕ
-refinePoints = 64
-
-abbrev pub refineFaces : ℕ
-refineFaces = 64
-
-abbrev pub refineListed : ℕ
-refineListed = 256
+general = record { points = 4096; faces = 4096; listed = 16384 }
 
 abbrev pub refine : Limits
-refine = record { points = refinePoints; faces = refineFaces; listed = refineListed }
+refine = record { points = 64; faces = 64; listed = 256 }
 
 abbrev pub pointsOf : Lists → ℕ
 pointsOf l = length (l .coordinates) / positionWidth

@@ -107,7 +107,7 @@ fn edge_of(link: u32) -> Found
 }
 
 // The first of the k edges that join the points p and q, from the one that has fewer edges.
-pub fn find_edge(
+fn find_edge(
     points: &[u32],
     edges: &[u32],
     chain: &[u32],

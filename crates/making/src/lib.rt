@@ -16,7 +16,7 @@ use visiting::refined_rows;
 
 // Makes the refined mesh of the mesh with these counts, visiting its faces in the order, and says whether all its positions are
 // finite.
-pub fn make(
+fn make(
     positions: &[f64],
     points: &[u32],
     edges: &[u32],

@@ -30,7 +30,7 @@ fn mixed(remainder: u64, b: u8) -> u64 {
 }
 
 // Writes bytes, or takes them into the remainder.
-pub fn put(s: Sink, t: &[u8]) -> Sink {
+fn put(s: Sink, t: &[u8]) -> Sink {
     if s.told {
         io::write_all(STDOUT_FILENO, t);
         return s;
@@ -48,7 +48,7 @@ pub fn put(s: Sink, t: &[u8]) -> Sink {
 }
 
 // A space and a number.
-pub fn put_number(s: Sink, n: u64) -> Sink {
+fn put_number(s: Sink, n: u64) -> Sink {
     let mut t = [0u8; 20];
     let k = io::decimal(n, &mut t);
     let s = put(s, b" ");

@@ -28,7 +28,7 @@ use tables::FIRST_CORNER_WORD;
 use tables::index;
 
 // Puts the face points of the first nf faces into their rows, and says whether all are finite.
-pub fn place_face_points(
+fn place_face_points(
     positions: &[f64],
     edges: &[u32],
     intervals: &[f64],
@@ -61,7 +61,7 @@ pub fn place_face_points(
 }
 
 // Puts the edge points of the first ne edges into their rows, and says whether all are finite.
-pub fn place_edge_points(
+fn place_edge_points(
     positions: &[f64],
     edges: &[u32],
     intervals: &[f64],
@@ -93,7 +93,7 @@ pub fn place_edge_points(
 }
 
 // Puts the old points into their rows, and says whether all are finite.
-pub fn place_old_points(
+fn place_old_points(
     positions: &[f64],
     points: &[u32],
     edges: &[u32],

@@ -19,7 +19,7 @@ pub fn acw_about(edges: &[u32], p: usize, e: usize) -> usize
 }
 
 // The edge one step clockwise about p from e.
-pub fn cw_about(edges: &[u32], p: usize, e: usize) -> usize
+fn cw_about(edges: &[u32], p: usize, e: usize) -> usize
     requires { ⌜ e * edgeWidth + edgeWidth ≤ length (now edges) ⌝ }
     ensures { λ r. ⌜ r ≡ cwAbout (now (edges .entry)) p e ⌝ }
 {

@@ -1,5 +1,5 @@
 -- What the program `refine` writes for the bytes of a text (document 01, "Mesh text").
---     lent                    the tables that it lends, and its scratch: zeros, with rows for lentPoints, lentEdges and lentFaces
+--     lent                    the tables that it lends, and its scratch: zeros, with rows for 256 points, 512 edges and 256 faces
 --     outputBytes             the most bytes of an output
 --     pointLine ps            where point 0 is, by the table of positions ps
 --     groundLine ns           the line of a ground, by document 01's numbers of the answer
@@ -31,26 +31,17 @@ use Rattle.steps.specs.declared.Stepped.the-variants.{Refined, NotClosed, NotEa
 use Rattle.runs.specs.Runs.{numbered}
 use Rattle.mesh_answers.specs.Lines.{meshLine, stepLine, atLine, refusedLine}
 
-abbrev pub lentPoints : ℕ
-lentPoints = 256
-
-abbrev pub lentEdges : ℕ
-lentEdges = 512
-
-abbrev pub lentFaces : ℕ
-lentFaces = 256
-
 abbrev pub outputBytes : ℕ
 outputBytes = 256
 
 unfoldable pub lent : Mesh
 lent =
     record {
-      positions = replicate (lentPoints * positionWidth) (ofBits binary64 0);
-      points = replicate (lentPoints * pointWidth) 0;
-      edges = replicate (lentEdges * edgeWidth) 0;
-      intervals = replicate lentEdges (ofBits binary64 0);
-      faces = replicate (lentFaces * faceWidth) 0;
+      positions = replicate (256 * positionWidth) (ofBits binary64 0);
+      points = replicate (256 * pointWidth) 0;
+      edges = replicate (512 * edgeWidth) 0;
+      intervals = replicate 512 (ofBits binary64 0);
+      faces = replicate (256 * faceWidth) 0;
     }
 
 abbrev pub pointLine : List Float → List ℕ

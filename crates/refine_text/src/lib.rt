@@ -9,7 +9,7 @@ ghost use mathlib.Core.List.{_++_};
 ghost use Prim.Native.Nat.{_≤_};
 ghost use lib.ListN.{length};
 ghost use Rattle.tables.specs.Mesh.{meshOf};
-ghost use Rattle.built_meshes.specs.Lists.{refineFaces};
+ghost use Rattle.built_meshes.specs.Lists.{refine as refineLimits};
 ghost use Rattle.steps.specs.Step.{step};
 ghost use Rattle.mesh_answers.specs.Lines.{meshLine, Written};
 ghost use Rattle.refine_outputs.specs.Output.{lent, linesOf, numberedStep, outputFrom, Writing, refine, outputBytes};
@@ -86,7 +86,7 @@ fn numbered_step(
     faces: &mut [u32],
     counts: Counts,
 ) -> Stepped
-    requires { ⌜ counts .faces ≤ refineFaces ⌝ }
+    requires { ⌜ counts .faces ≤ refineLimits .faces ⌝ }
     ensures { λ r. ⌜
         SteppedTo r (meshOf (now (positions .exit)) (now (points .exit)) (now (edges .exit)) (now (intervals .exit)) (now (faces .exit)))
         (numberedStep counts
@@ -116,7 +116,7 @@ fn write_built(
     faces: &mut [u32],
     counts: Counts,
 ) -> usize
-    requires { ⌜ counts .faces ≤ refineFaces ⌝ }
+    requires { ⌜ counts .faces ≤ refineLimits .faces ⌝ }
     requires { ⌜ outputBytes ≤ length (now out) ⌝ }
     ensures { λ r. ⌜
         Written (now (out .entry)) 0

@@ -34,7 +34,7 @@ use tables::RIGHT_FACE_WORD;
 use tables::index;
 
 // The joining edge to the midpoint of place i.
-pub fn join_edge(
+fn join_edge(
     firsts: &[u32; LONGEST_PERIMETER],
     seconds: &[u32; LONGEST_PERIMETER],
     mids: &[u32; LONGEST_PERIMETER],

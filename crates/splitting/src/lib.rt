@@ -26,14 +26,14 @@ use tables::START_WORD;
 use tables::index;
 
 // Half of an interval.
-pub fn half(d: f64) -> f64
+fn half(d: f64) -> f64
     ensures { λ r. ⌜ r ≡ half d ⌝ }
 {
     d * 0.5
 }
 
 // The half of an edge at its origin: p is the midpoint, h the row of the other half.
-pub fn origin_half(edge: TnurccEdge, p: u32, h: u32) -> TnurccEdge
+fn origin_half(edge: TnurccEdge, p: u32, h: u32) -> TnurccEdge
     ensures { λ r. ⌜ r ≡ originHalf p h edge ⌝ }
 {
     TnurccEdge {
@@ -47,7 +47,7 @@ pub fn origin_half(edge: TnurccEdge, p: u32, h: u32) -> TnurccEdge
 }
 
 // The half of an edge at its destination: p is the midpoint, e the row of the other half.
-pub fn destination_half(edge: TnurccEdge, p: u32, e: u32) -> TnurccEdge
+fn destination_half(edge: TnurccEdge, p: u32, e: u32) -> TnurccEdge
     ensures { λ r. ⌜ r ≡ destinationHalf p e edge ⌝ }
 {
     TnurccEdge {
@@ -99,7 +99,7 @@ fn put_ends(points: &mut [u32], p: u32, e: u32, d: u32, h: u32)
 }
 
 // Splits the edge e: the next row of edges becomes its destination half, the next row of points its midpoint.
-pub fn split_edge(
+fn split_edge(
     points: &mut [u32],
     edges: &mut [u32],
     intervals: &mut [f64],
@@ -126,7 +126,7 @@ pub fn split_edge(
 }
 
 // Splits the edge e unless it is split already: a whole edge ends in one of the np old points.
-pub fn split_whole(
+fn split_whole(
     points: &mut [u32],
     edges: &mut [u32],
     intervals: &mut [f64],

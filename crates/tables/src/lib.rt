@@ -102,7 +102,7 @@ pub fn face_rows(faces: &[u32]) -> usize
 }
 
 // The lesser of two numbers.
-pub fn least(a: usize, b: usize) -> usize
+fn least(a: usize, b: usize) -> usize
     ensures { λ r. ⌜ r ≡ min a b ⌝ }
 {
     if a <= b { a } else { b }

@@ -10,7 +10,7 @@ ghost use lib.ListN.{length, take};
 ghost use Rattle.tables.specs.Layout.{positionWidth};
 ghost use Rattle.tables.specs.Mesh.{meshOf};
 ghost use Rattle.building_tests.specs.Lent.{lists, limitsOf};
-ghost use Rattle.built_meshes.specs.Lists.{mostPoints, mostFaces, mostListed};
+ghost use Rattle.built_meshes.specs.Lists.{general};
 ghost use Rattle.built_meshes.specs.Building.{build};
 ghost use Rattle.text_meshes.specs.TextBuilding.{Outcome, toldOutcome, buildTextIf, buildText};
 use building::build;
@@ -86,10 +86,10 @@ fn read_and_build(
     intervals: &mut [f64],
     faces: &mut [u32],
 ) -> TextBuilt
-    requires { ⌜ positionWidth * mostPoints ≤ length (now coordinates) ⌝ }
-    requires { ⌜ 4 * mostFaces ≤ length (now sides) ⌝ }
-    requires { ⌜ mostListed ≤ length (now listed) ⌝ }
-    requires { ⌜ mostListed ≤ length (now beside) ⌝ }
+    requires { ⌜ positionWidth * general .points ≤ length (now coordinates) ⌝ }
+    requires { ⌜ 4 * general .faces ≤ length (now sides) ⌝ }
+    requires { ⌜ general .listed ≤ length (now listed) ⌝ }
+    requires { ⌜ general .listed ≤ length (now beside) ⌝ }
     ensures { λ r. ⌜
         _≡_ {A = Outcome}
         (record { answer = r; tables = meshOf (now (positions .exit)) (now (points .exit)) (now (edges .exit)) (now (intervals .exit)) (now (faces .exit)) })

@@ -183,7 +183,7 @@ fn visit_along(
 }
 
 // Visits the face f of the mesh with the counts `old`; answers the rows taken then.
-pub fn visit(
+fn visit(
     oldedges: &[u32],
     oldfaces: &[u32],
     points: &mut [u32],
@@ -224,7 +224,7 @@ pub fn visit(
 }
 
 // Visits the faces in the order; answers the rows taken then.
-pub fn visits(
+fn visits(
     oldedges: &[u32],
     oldfaces: &[u32],
     points: &mut [u32],
