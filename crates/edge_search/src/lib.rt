@@ -15,7 +15,7 @@ ghost use Rattle.tables.specs.Layout.{pointWidth, edgeWidth};
 ghost use Rattle.tables.specs.Mesh.{Mesh, meshOf, none};
 ghost use Rattle.built_meshes.specs.Edges.{joins, edgeBetween, touched, newEdge};
 ghost use Rattle.edge_search.specs.Chains.{edgeTable, linkTo, Newest, olderLink, chainedEdge, Chained, Standing, Room};
-ghost use Rattle.edge_search.specs.Places.{EnteredBy, FilledBy, StandingAfter};
+ghost use Rattle.edge_search.specs.Places.{edgesAfter, EnteredBy, FilledBy};
 use built_meshes::Found;
 use built_meshes::Ground;
 use records::store_edge;
@@ -231,7 +231,7 @@ pub fn enter(
     requires { ⌜ p < np ⌝ }
     requires { ⌜ q < np ⌝ }
     ensures { λ r. ⌜ ((ps : List Float) (fs : List ℕ) → EnteredBy r (meshOf ps (now (points .entry)) (now (edges .entry)) (now (intervals .entry)) fs) (meshOf ps (now (points .exit)) (now (edges .exit)) (now (intervals .exit)) fs) k f p q v) ⌝ }
-    ensures { λ r. ⌜ StandingAfter np (now (points .exit)) (now (edges .exit)) (now (chain .exit)) r ⌝ }
+    ensures { λ r. ⌜ Standing np (now (points .exit)) (now (edges .exit)) (now (chain .exit)) (edgesAfter r k) ⌝ }
 {
     match find_edge(points, edges, chain, np, k, p, q) {
         Found::At(e) => fill_edge(edges, k, f, e, p),
