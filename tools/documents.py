@@ -28,7 +28,6 @@ ABOUT = {
     "edge_links": "connecting two edges",
     "tables": "the five tables",
     "t_nurcc_edge": "connecting two rows",
-    "walks": "borders and walks in tables",
     "audited_meshes": "the audit",
     "text_numbers": "forms on bytes, decimal and hexadecimal numbers",
     "mesh_lines": "the lines of mesh text 1",

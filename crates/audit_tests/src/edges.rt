@@ -9,8 +9,8 @@ ghost use Rattle.tables.specs.Mesh.{origin, dest, leftCw, leftAcw, rightCw, rig
 ghost use Rattle.audited_meshes.specs.Folds.{every};
 ghost use Rattle.audited_meshes.specs.Audit.{edgeInRange, linked, acwLinks};
 ghost use Rattle.audited_meshes.specs.Quick.{edgeFit, free, aloneAt, oneEdge};
-ghost use Rattle.walks.specs.Steps.{faceTables, pointTables};
-ghost use Rattle.audit_tests.specs.Parts.{edgeRows, linksBack};
+ghost use Rattle.tables.specs.Parts.{faceTables, pointTables, edgeTables};
+ghost use Rattle.audit_tests.specs.Parts.{linksBack};
 use intervals::interval_fits;
 use tables::index;
 use walks::t_nurcc_control_point::acw_of_point;
@@ -110,7 +110,7 @@ pub fn edge_fit(edges: &[u32], intervals: &[f64], np: usize, ne: usize, nf: usiz
     requires { ⌜ ne * 8 ≤ length (now edges) ⌝ }
     requires { ⌜ ne ≤ length (now intervals) ⌝ }
     requires { ⌜ e < ne ⌝ }
-    ensures { λ r. ⌜ r ≡ edgeFit (edgeRows (now (edges .entry)) (now (intervals .entry))) np ne nf e ⌝ }
+    ensures { λ r. ⌜ r ≡ edgeFit (edgeTables (now (edges .entry)) (now (intervals .entry))) np ne nf e ⌝ }
 {
     let b = e * 8;
     if !edge_in_range(edges, np, ne, nf, e) {
@@ -132,7 +132,7 @@ pub fn edge_fit(edges: &[u32], intervals: &[f64], np: usize, ne: usize, nf: usiz
 pub fn edges_fit(edges: &[u32], intervals: &[f64], np: usize, ne: usize, nf: usize) -> bool
     requires { ⌜ ne * 8 ≤ length (now edges) ⌝ }
     requires { ⌜ ne ≤ length (now intervals) ⌝ }
-    ensures { λ r. ⌜ r ≡ every ne (λ e. edgeFit (edgeRows (now (edges .entry)) (now (intervals .entry))) np ne nf e) ⌝ }
+    ensures { λ r. ⌜ r ≡ every ne (λ e. edgeFit (edgeTables (now (edges .entry)) (now (intervals .entry))) np ne nf e) ⌝ }
 {
     let mut e = 0;
     while e < ne {

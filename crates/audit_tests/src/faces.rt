@@ -8,7 +8,7 @@ ghost use lib.ListN.{length};
 ghost use Rattle.tables.specs.Mesh.{none};
 ghost use Rattle.audited_meshes.specs.Folds.{every};
 ghost use Rattle.audited_meshes.specs.Quick.{faceFit};
-ghost use Rattle.walks.specs.Steps.{faceTables};
+ghost use Rattle.tables.specs.Parts.{faceTables};
 ghost use Rattle.audit_tests.specs.Parts.{apart, faceSize, facesWalked};
 use t_spline::NONE;
 use tables::index;

@@ -8,8 +8,8 @@ ghost use Rattle.closed_meshes.specs.Renumbering.{sumTo};
 ghost use Rattle.tables.specs.Mesh.{valence};
 ghost use Rattle.audited_meshes.specs.Folds.{every};
 ghost use Rattle.audited_meshes.specs.Quick.{pointFit};
-ghost use Rattle.walks.specs.Steps.{pointTables};
-ghost use Rattle.audit_tests.specs.Parts.{pointRows, walkFits};
+ghost use Rattle.tables.specs.Parts.{pointTables, positionTables};
+ghost use Rattle.audit_tests.specs.Parts.{walkFits};
 use records::load_position;
 use tables::index;
 use walks::Passed;
@@ -19,7 +19,7 @@ use walks::t_nurcc_iter::point_walk;
 pub fn point_fit(positions: &[f64], points: &[u32], ne: usize, p: usize) -> bool
     requires { ⌜ p * 3 + 3 ≤ length (now positions) ⌝ }
     requires { ⌜ p * 3 + 3 ≤ length (now points) ⌝ }
-    ensures { λ r. ⌜ r ≡ pointFit (pointRows (now (positions .entry)) (now (points .entry))) ne p ⌝ }
+    ensures { λ r. ⌜ r ≡ pointFit (positionTables (now (positions .entry)) (now (points .entry))) ne p ⌝ }
 {
     let b = p * 3;
     if ne <= index(points[b + 1]) {
@@ -41,7 +41,7 @@ pub fn point_fit(positions: &[f64], points: &[u32], ne: usize, p: usize) -> bool
 pub fn points_fit(positions: &[f64], points: &[u32], ne: usize, np: usize) -> bool
     requires { ⌜ np * 3 ≤ length (now positions) ⌝ }
     requires { ⌜ np * 3 ≤ length (now points) ⌝ }
-    ensures { λ r. ⌜ r ≡ every np (λ p. pointFit (pointRows (now (positions .entry)) (now (points .entry))) ne p) ⌝ }
+    ensures { λ r. ⌜ r ≡ every np (λ p. pointFit (positionTables (now (positions .entry)) (now (points .entry))) ne p) ⌝ }
 {
     let mut p = 0;
     while p < np {

@@ -1,12 +1,9 @@
 // Ground 4, and the rows that it counts made zero.
 ghost use mathlib.Core.Path.{_≡_};
-ghost use mathlib.Core.Bool.{_&&_};
 ghost use Prim.Native.Nat.{_*_, _≤_};
-ghost use lib.Dec.{leb};
 ghost use lib.ListN.{length};
 ghost use Rattle.tables.specs.Mesh.{Mesh, meshOf};
-ghost use Rattle.audited_meshes.specs.Audit.{pointRows, edgeRows, faceRows};
-ghost use Rattle.building_whole.specs.Zeroing.{zeroedTo};
+ghost use Rattle.tables.specs.Counted.{countsOf, rowsFor, zeroedRows};
 use tables::edge_rows;
 use tables::face_rows;
 use tables::point_rows;
@@ -24,15 +21,16 @@ pub fn rows_fit(
     nl: usize,
     nf: usize,
 ) -> bool
-    ensures { λ r. ⌜ _≡_ r (leb np (pointRows (meshOf (now (positions .entry)) (now (points .entry)) (now (edges .entry)) (now (intervals .entry)) (now (faces .entry)))) && leb nf (faceRows (meshOf (now (positions .entry)) (now (points .entry)) (now (edges .entry)) (now (intervals .entry)) (now (faces .entry)))) && leb nl (edgeRows (meshOf (now (positions .entry)) (now (points .entry)) (now (edges .entry)) (now (intervals .entry)) (now (faces .entry))))) ⌝ }
+    ensures { λ r. ⌜ r ≡ rowsFor (countsOf np nl nf)
+        (meshOf (now (positions .entry)) (now (points .entry)) (now (edges .entry)) (now (intervals .entry)) (now (faces .entry))) ⌝ }
 {
     if point_rows(positions, points) < np {
         return false;
     }
-    if face_rows(faces) < nf {
+    if edge_rows(edges, intervals) < nl {
         return false;
     }
-    nl <= edge_rows(edges, intervals)
+    nf <= face_rows(faces)
 }
 
 // Makes the rows of np points, nl edges and nf faces zero.
@@ -51,7 +49,7 @@ pub fn zero_rows(
     requires { ⌜ nl * 8 ≤ length (now edges) ⌝ }
     requires { ⌜ nl ≤ length (now intervals) ⌝ }
     requires { ⌜ nf * 5 ≤ length (now faces) ⌝ }
-    ensures { λ _. ⌜ _≡_ {A = Mesh} (meshOf (now (positions .exit)) (now (points .exit)) (now (edges .exit)) (now (intervals .exit)) (now (faces .exit))) (zeroedTo np nl nf (meshOf (now (positions .entry)) (now (points .entry)) (now (edges .entry)) (now (intervals .entry)) (now (faces .entry)))) ⌝ }
+    ensures { λ _. ⌜ _≡_ {A = Mesh} (meshOf (now (positions .exit)) (now (points .exit)) (now (edges .exit)) (now (intervals .exit)) (now (faces .exit))) (zeroedRows (countsOf np nl nf) (meshOf (now (positions .entry)) (now (points .entry)) (now (edges .entry)) (now (intervals .entry)) (now (faces .entry)))) ⌝ }
 {
     zero_numbers(positions, np * 3);
     zero_words(points, np * 3);

@@ -13,13 +13,13 @@ use lib.Ieee.{nan}
 use lib.Ieee.Scale.{finite}
 use lib.ListN.{length, getD, set, take, drop, length-set, List·getD-append}
 use lib.Seq.{getD-set-same, getD-set-other, getD-take, length-take-le}
-use Rattle.t_spline.specs.Edge.{none, faceFromSide}
+use Rattle.t_spline.specs.Edge.{none}
+use Rattle.t_spline.specs.Ends.{faceFromSide}
 use Rattle.t_spline.specs.declared.TnurccFaceSide.{TnurccFaceSide}
 use Rattle.t_spline.specs.declared.TnurccFaceSide.the-variants.{Left, Right}
-use Rattle.tables.specs.Mesh.{Mesh, z, valence, start, mark}
+use Rattle.tables.specs.Mesh.{Mesh, z, valence, start, mark, pointRows, edgeRows, faceRows}
 use Rattle.tables.specs.Rows.{over}
 use Rattle.audited_meshes.specs.Walks.{passed, pointWalk}
-use Rattle.audited_meshes.specs.Audit.{pointRows, edgeRows, faceRows}
 use Rattle.audited_meshes.specs.Audited.{Audited}
 use Rattle.audited_meshes.proofs.Folds.{below-suc}
 use Rattle.built_meshes.specs.Lists.{Lists, Limits, pointsOf, facesOf}

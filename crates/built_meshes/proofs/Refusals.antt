@@ -10,14 +10,15 @@ use native.Mathlib.Decide.{decLt}
 use lib.Dec.{eqb, ltb}
 use lib.ListN.{length}
 use borrow.Author.Tests.{eqb-true, ltb-true, not-false}
-use Rattle.t_spline.specs.Edge.{none, faceFromSide}
+use Rattle.t_spline.specs.Edge.{none}
+use Rattle.t_spline.specs.Ends.{faceFromSide}
 use Rattle.t_spline.specs.declared.TnurccFaceSide.{TnurccFaceSide}
 use Rattle.t_spline.specs.declared.TnurccFaceSide.the-variants.{Left, Right}
 use Rattle.tables.specs.Mesh.{Mesh, valence, start, origin, dest, rightFace}
 use Rattle.closed_meshes.specs.Renumbering.{sumTo}
 use Rattle.audited_meshes.specs.Folds.{one, occurrences}
-use Rattle.audited_meshes.specs.Walks.{Walk, back, lost, passed, edgesOf, touches, acwOfPoint, pointWalk}
-use Rattle.audited_meshes.specs.Audited.{Touches, PointWalked}
+use Rattle.audited_meshes.specs.Walks.{Walk, back, lost, passed, edgesOf, touches, acwOfPoint, pointWalk, Touches}
+use Rattle.audited_meshes.specs.Audited.{PointWalked}
 use Rattle.audited_meshes.proofs.Folds.{below-suc, length-sumTo}
 use Rattle.audited_meshes.proofs.Tests.{not-is, eqb-is, ltb-is, every-is}
 use Rattle.audited_meshes.proofs.Walks.{passes-on}

@@ -13,12 +13,13 @@ use lib.ListN.{length}
 use lib.Ieee.{ofBits, binary64}
 use Rattle.t_spline.specs.declared.TnurccEdge.{TnurccEdge}
 use Rattle.tables.specs.Mesh.{Mesh, none}
+use Rattle.tables.specs.Counted.{zeroedRows}
 use Rattle.tables.specs.Records.{edgeAt}
 use Rattle.tables.specs.declared.Counts.{Counts}
 use Rattle.audited_meshes.specs.Audit.{audit}
-use Rattle.built_meshes.specs.Lists.{Lists, Limits, pointsOf, facesOf}
+use Rattle.built_meshes.specs.Lists.{Lists, Limits, pointsOf, facesOf, rowsOf}
 use Rattle.built_meshes.specs.Answers.{numberOf}
-use Rattle.built_meshes.specs.Building.{zeroedRows, build}
+use Rattle.built_meshes.specs.Building.{build}
 use Rattle.built_meshes.specs.Beyond.{Within}
 use Rattle.built_meshes.specs.Grounds.{Holds}
 use Rattle.built_meshes.specs.declared.Ground.{Ground}
@@ -27,7 +28,7 @@ use Rattle.built_meshes.specs.declared.Built.the-variants.{Accepted, Ref
 pub record Refused-by (c : Limits) (l : Lists) (m : Mesh) (g : Ground) : Type 0 where
   pub holds : Holds c l m g
   pub untouched : numberOf g < 10 → build c l m .tables ≡ m
-  pub zeroed : 10 ≤ numberOf g → build c l m .tables ≡ zeroedRows l m
+  pub zeroed : 10 ≤ numberOf g → build c l m .tables ≡ zeroedRows (rowsOf l) m
 
 abbrev pub Refusals-hold : Type 0
 Refusals-hold = (c : Limits) (l : Lists) (m : Mesh) → c .faces ≤ none → (g : Ground) → build c l m .answer ≡ Refused g → Refused-by c l m g

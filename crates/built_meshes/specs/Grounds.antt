@@ -10,12 +10,11 @@ use lib.ListN.{length, getD}
 use lib.Ieee.{nan}
 use lib.Ieee.Scale.{finite}
 use Rattle.positions.specs.Position.{small}
-use Rattle.tables.specs.Mesh.{Mesh, valence}
+use Rattle.tables.specs.Mesh.{Mesh, valence, pointRows, edgeRows, faceRows}
 use Rattle.closed_meshes.specs.Renumbering.{sumTo}
 use Rattle.audited_meshes.specs.Folds.{occurrences}
-use Rattle.audited_meshes.specs.Walks.{edgesOf, pointWalk}
-use Rattle.audited_meshes.specs.Audit.{pointRows, edgeRows, faceRows, intervalFit}
-use Rattle.audited_meshes.specs.Audited.{Touches}
+use Rattle.audited_meshes.specs.Walks.{edgesOf, pointWalk, Touches}
+use Rattle.audited_meshes.specs.Audit.{intervalFit}
 use Rattle.built_meshes.specs.Lists.{Lists, Limits, pointsOf, facesOf, size, offset}
 use Rattle.built_meshes.specs.Faces.{apart}
 use Rattle.built_meshes.specs.Perimeters.{State, on}

@@ -3,7 +3,8 @@
 // Not here: connecting two rows of a table (`t_nurcc_edge`).
 // Contracts cite `specs/Connect.antt`. Laws of the table: `proofs/LinkTable.antt`.
 ghost use mathlib.Core.Path.{_≡_};
-ghost use Rattle.edge_links.specs.Connect.{linksOf, vertexState, linked, served, connected, shareFace, joinable};
+ghost use Rattle.edge_links.specs.Connect.{linksOf, vertexState, linked, served, connected};
+ghost use Rattle.edge_links.specs.Joinable.{shareFace, joinable};
 use t_spline::TnurccConnection;
 use t_spline::TnurccEdge;
 use t_spline::t_nurcc_edge::same_face;

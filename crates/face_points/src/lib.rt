@@ -7,7 +7,8 @@ ghost use mathlib.Core.Path.{_≡_};
 ghost use Prim.Native.Nat.{_+_, _<_};
 ghost use lib.ListN.{getD};
 ghost use Rattle.positions.specs.Position.{placedAt};
-ghost use Rattle.position_rules.specs.FacePoint.{windowSum, around, facePointOf, faceMesh};
+ghost use Rattle.position_rules.specs.FacePoint.{windowSum, around, facePointOf};
+ghost use Rattle.tables.specs.Parts.{withoutPoints};
 ghost use Rattle.position_rules.specs.Fits.{EdgeFits, BorderFits, PointsFit, FacePointFits};
 ghost use Rattle.face_points.specs.Terms.{termsAbout, six};
 use position_rules::WeightedSum;
@@ -117,7 +118,7 @@ pub fn face_point(
     f: usize,
 ) -> Placed
     requires { ⌜ FacePointFits (now positions) (now edges) (now intervals) (now faces) ne f ⌝ }
-    ensures { λ r. ⌜ r ≡ placedAt (facePointOf (faceMesh (now (positions .entry)) (now (edges .entry)) (now (intervals .entry)) (now (faces .entry))) ne f) ⌝ }
+    ensures { λ r. ⌜ r ≡ placedAt (facePointOf (withoutPoints (now (positions .entry)) (now (edges .entry)) (now (intervals .entry)) (now (faces .entry))) ne f) ⌝ }
 {
     let mut perimeter = [0u32; 64];
     let mut points = [0u32; 68];

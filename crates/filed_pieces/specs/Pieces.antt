@@ -7,10 +7,10 @@
 use mathlib.Core.Path.{_≡_}
 use mathlib.Core.List.{List, [], _∷_, _++_, map}
 use Prim.Native.Nat.{ℕ, _*_}
-use lib.ListN.{length, replicate}
+use lib.ListN.{replicate}
 use Rattle.tables.specs.Mesh.{Mesh}
 use Rattle.tables.specs.declared.Counts.{Counts}
-use Rattle.built_meshes.specs.Lists.{Lists, general, pointsOf, facesOf}
+use Rattle.built_meshes.specs.Lists.{Lists, general, rowsOf}
 use Rattle.built_meshes.specs.Answers.{numbersOf}
 use Rattle.built_meshes.specs.Building.{Outcome, build}
 use Rattle.built_meshes.specs.Pieces.{unit, two, nought, tiny, aboveTiny, cube, backToBack, even}
@@ -41,10 +41,6 @@ used c =
       faces = replicate (c .faces * 5) 7;
     }
 
--- the rows that ground 4 counts: twice the edges of an accepted mesh, so that a step from as many has room too
-abbrev pub rowsOf : Lists → Counts
-rowsOf l = record { points = pointsOf l; edges = length (l .listed); faces = facesOf l }
-
 abbrev pub stepped : Outcome → Mesh → List (List ℕ)
 stepped o t = steppedIf (o .answer) (o .tables) t
   where
@@ -52,6 +48,7 @@ stepped o t = steppedIf (o .answer) (o .tables) t
     steppedIf (Accepted c) m t = numbersOf (Accepted c) ∷ stepNumbers (step m c (numbered (c .faces)) t .answer) ∷ []
     steppedIf (Refused g) m t = numbersOf (Refused g) ∷ []
 
+-- The rows that ground 4 counts are twice the edges of an accepted mesh, so that a step from as many has room too.
 unfoldable pub answersTo : Asked → Lists → List (List ℕ)
 answersTo toBuild l = numbersOf (build general l (used (rowsOf l)) .answer) ∷ []
 answersTo toRefine l = stepped (build general l (used (refinedCounts (rowsOf l)))) (used (refinedCounts (rowsOf l)))

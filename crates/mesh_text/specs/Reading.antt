@@ -1,36 +1,21 @@
 -- What reading a text answers, and what it leaves in the lent lists.
---     coordinates lengths listedPoints intervals m   the four lists that a text stands for
 --     counts m                     how many points, faces and listed points
 --     Lists                        the four lent lists
 --     within c limits xs ls ps ds  the counts are within the limits and the rooms of the lists
 --     readInto s limits l          the answer, and the lists after it
-use mathlib.Core.List.{List, map}
+use mathlib.Core.List.{List}
 use mathlib.Core.Bool.{Bool, _&&_, cond}
 use Prim.Native.Nat.{ℕ, _*_}
 use lib.ListN.{length}
 use lib.Seq.{sets}
 use lib.Dec.{leb}
 use lib.Ieee.{Float}
-use Rattle.text_numbers.specs.Numbers.{float}
 use Rattle.text_numbers.specs.Form.{given}
-use Rattle.mesh_lines.specs.Grammar.{flat, sidePoints, sideIntervals}
 use Rattle.mesh_text.specs.Text.{Mesh, text}
+use Rattle.mesh_text.specs.Lists.{coordinates, lengths, listedPoints, intervals}
 use Rattle.mesh_text.specs.declared.Counts.{Counts}
 use Rattle.mesh_text.specs.declared.Reading.{Reading}
 use Rattle.mesh_text.specs.declared.Reading.the-variants as Reading
-
-abbrev pub coordinates : Mesh → List Float
-coordinates m = flat (map float) (m .points)
-
--- of each side, how many points it lists
-abbrev pub lengths : Mesh → List ℕ
-lengths m = flat (map length) (m .faces)
-
-abbrev pub listedPoints : Mesh → List ℕ
-listedPoints m = flat (flat sidePoints) (m .faces)
-
-abbrev pub intervals : Mesh → List Float
-intervals m = flat (flat sideIntervals) (m .faces)
 
 abbrev pub counts : Mesh → Counts
 counts m = record { points = length (m .points); faces = length (m .faces); listed = length (listedPoints m) }

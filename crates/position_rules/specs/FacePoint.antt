@@ -6,11 +6,10 @@
 --     windowSum            the sums over the first windows
 --     facePoint            the weighted sum of the middle points p2 over the sum of the weights, of n windows
 --     around n j           the place j, counted round n places
---     faceMesh ps es is fs a mesh of which the points' own words are not looked at
 --     facePointAbout       the face point of the face that a walk went about
 --     facePointOf m ne f   the face point of face f, by the walk about it along the edges below ne
 use mathlib.Core.Bool.{cond}
-use mathlib.Core.List.{List, [], map}
+use mathlib.Core.List.{List, map}
 use Prim.Native.Nat.{ℕ, _+_, _-_}
 use lib.Dec.{ltb}
 use lib.ListN.{getD, length}
@@ -19,8 +18,8 @@ use Rattle.positions.specs.declared.Position.{Position}
 use Rattle.positions.specs.Position.{zeros, quotient}
 use Rattle.tables.specs.Mesh.{Mesh}
 use Rattle.tables.specs.Records.{positionAt}
+use Rattle.audited_meshes.specs.Folds.{again}
 use Rattle.audited_meshes.specs.Walks.{faceWalk, edgesOf, firstPoint}
-use Rattle.walks.specs.Border.{again}
 use Rattle.refined_meshes.specs.Turns.{turns}
 use Rattle.position_rules.specs.declared.WeightedSum.{WeightedSum}
 use Rattle.position_rules.specs.Intervals.{A2, C2, threeTerms}
@@ -49,9 +48,6 @@ overWeight s = quotient (s .sum) (s .weight)
 
 unfoldable pub facePoint : List Float → List ℕ → List Float → (ℕ → ℕ) → (ℕ → ℕ) → ℕ → Position
 facePoint ps es is pt ed n = overWeight (windowSum ps es is pt ed n)
-
-abbrev pub faceMesh : List Float → List ℕ → List Float → List ℕ → Mesh
-faceMesh ps es is fs = record { positions = ps; points = []; edges = es; intervals = is; faces = fs }
 
 abbrev pub around : ℕ → ℕ → ℕ
 around n j = cond (ltb j n) j (j - n)

@@ -15,7 +15,7 @@ use Rattle.t_spline.specs.declared.TnurccEdge.{TnurccEdge}
 use Rattle.t_spline.specs.Edge.{commonFace}
 use Rattle.tables.specs.Records.{edgeAt}
 use Rattle.audited_meshes.specs.Walks.{back, faceWalk}
-use Rattle.walks.specs.Steps.{faceTables}
+use Rattle.tables.specs.Parts.{faceTables}
 use Rattle.position_rules.specs.Intervals.{acwAbout}
 
 pub record EdgesFit (es : List ℕ) (is : List Float) (ne : ℕ) : Type 0 where

@@ -7,7 +7,7 @@ ghost use mathlib.Core.Path.{_≡_};
 ghost use Prim.Native.Nat.{_+_, _≤_};
 ghost use lib.ListN.{length};
 ghost use Rattle.runs.specs.Runs.{numbered};
-ghost use Rattle.mesh_answers.specs.Lines.{Written};
+ghost use Rattle.mesh_answers.specs.Writing.{Written};
 ghost use Rattle.refine_outputs.specs.Output.{pointLine, stepLines};
 ghost use Rattle.refine_outputs.specs.FirstPoint.{PointThere, PointReady};
 use mesh_answers::write_at;

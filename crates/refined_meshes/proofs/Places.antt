@@ -7,7 +7,7 @@ use native.Mathlib.Omega.{arith}
 use native.Mathlib.Decide.{decLt}
 use borrow.Author.Tests.{eq-eqb, ne-eqb}
 use Rattle.closed_meshes.specs.Mesh.{Mesh, Dart, face}
-use Rattle.closed_meshes.specs.Cycles.{steps}
+use Rattle.closed_meshes.specs.Borders.{steps}
 use Rattle.closed_meshes.specs.Closed.{Closed}
 use Rattle.closed_meshes.proofs.Cycles.{rank-steps, cls-steps-start, steps-len, steps-rank, rank-injective}
 use Rattle.refined_meshes.specs.Ring.{nextPlace, prevPlace}

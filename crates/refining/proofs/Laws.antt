@@ -13,7 +13,8 @@ use Rattle.tables.specs.Rows.{over}
 use Rattle.tables.specs.declared.Counts.{Counts}
 use Rattle.audited_meshes.specs.Audit.{audit}
 use Rattle.steps.specs.declared.Stepped.the-variants.{Refined, NotClosed, NotEachFaceOnce, NoRoom, NotFinite}
-use Rattle.steps.specs.Step.{Made, whole, notFinite, Outcome, refusal, ended, firstRows, zeroedRows, overRows, refinedCounts, eachFaceOnce, roomFor, stepIf, step}
+use Rattle.steps.specs.Step.{Made, whole, notFinite, Outcome, refusal, ended, refinedCounts, eachFaceOnce, roomFor, stepIf, step}
+use Rattle.tables.specs.Counted.{firstRows, zeroedRows, overRows}
 use Rattle.steps.specs.declared.Stepped.{Stepped}
 use Rattle.steps.specs.Rows.{Room}
 use Rattle.steps.proofs.Rows.{room-of-holds, holds-firstRows, room-firstRows, points-fit, edges-fit, faces-fit}

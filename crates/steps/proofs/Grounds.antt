@@ -15,10 +15,10 @@ use Prim.Native.Nat.{ℕ, _≤_, _<_}
 use native.Mathlib.Omega.{arith}
 use lib.ListN.{length, getD}
 use lib.Ieee.{Float}
-use Rattle.tables.specs.Mesh.{Mesh}
+use Rattle.tables.specs.Mesh.{Mesh, pointRows, edgeRows, faceRows}
 use Rattle.tables.specs.declared.Counts.{Counts}
 use Rattle.audited_meshes.specs.Folds.{distinct}
-use Rattle.audited_meshes.specs.Audit.{pointRows, edgeRows, faceRows, audit}
+use Rattle.audited_meshes.specs.Audit.{audit}
 use Rattle.audited_meshes.proofs.Tests.{and-is, eqb-is, ltb-is, leb-is, not-is, self-is, every-is}
 use Rattle.refined_meshes.specs.State.{State, withPositions}
 use Rattle.refined_meshes.specs.Order.{EachOnce}
@@ -26,7 +26,8 @@ use Rattle.refined_meshes.specs.Visits.{refinedRows}
 use Rattle.steps.specs.declared.Stepped.{Stepped}
 use Rattle.steps.specs.declared.Stepped.the-variants.{Refined, NotClosed, NotEachFaceOnce, NoRoom, NotFinite}
 use Rattle.steps.specs.Positions.{Placing, on, stopped, placedAll}
-use Rattle.steps.specs.Step.{numberOf, refinedCounts, eachFaceOnce, rowsFor, withinCeilings, roomFor, firstRows, overRows, Made, whole, notFinite, madeOf, placedRows, made, refusal, ended, stepIf, step}
+use Rattle.steps.specs.Step.{numberOf, refinedCounts, eachFaceOnce, withinCeilings, roomFor, Made, whole, notFinite, madeOf, placedRows, made, refusal, ended, stepIf, step}
+use Rattle.tables.specs.Counted.{rowsFor, firstRows, overRows}
 use Rattle.steps.specs.Rows.{Room}
 use Rattle.steps.specs.OneStep.{Refused, Untouched}
 use Rattle.steps.proofs.Rows.{room-of-rows}

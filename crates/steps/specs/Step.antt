@@ -3,28 +3,23 @@
 --     numberOf a               the number of the ground that is answered
 --     refinedCounts c          V, E, F become V + E + F, 4 E, 2 E
 --     eachFaceOnce nf order    the order is each of nf faces once
---     rowsFor c t              the tables t have the rows of a mesh with the counts c
 --     withinCeilings c         at most 65,536 points, 131,072 edges and 65,536 faces
 --     roomFor c m t            room for the mesh with the counts c, in the tables m and in scratch t
---     firstRows c t            the rows of the tables t that the counts c count: of a mesh with its counts, the mesh
---     zeroedRows c t           the tables t with these rows zeroed
---     overRows c n t           the tables t with these rows taken from n
 --     made m c order t         the refined mesh of m, made in the tables t; or the word that a position is not finite
 --     Outcome                  the answer, the tables afterwards, the scratch tables afterwards
 --     step m c order t         the step of the mesh in the tables m with the counts c, in the order handed in, by scratch t
--- All further rows are untouched: `zeroedRows` and `overRows` leave them as they are.
 use mathlib.Core.Bool.{Bool, true, false, _&&_}
 use mathlib.Core.List.{List, [], _∷_}
 use mathlib.Core.Option.{Option, none, some}
 use Prim.Native.Nat.{ℕ, _+_, _*_}
 use lib.Dec.{eqb, ltb, leb}
-use lib.ListN.{length, getD, take}
-use lib.Ieee.{Float, ofBits, binary64}
+use lib.ListN.{length, getD}
+use lib.Ieee.{Float}
 use Rattle.tables.specs.Mesh.{Mesh}
-use Rattle.tables.specs.Rows.{over, zeroed}
+use Rattle.tables.specs.Counted.{rowsFor, firstRows, zeroedRows, overRows}
 use Rattle.tables.specs.declared.Counts.{Counts}
 use Rattle.audited_meshes.specs.Folds.{every, distinct}
-use Rattle.audited_meshes.specs.Audit.{pointRows, edgeRows, faceRows, audit}
+use Rattle.audited_meshes.specs.Audit.{audit}
 use Rattle.refined_meshes.specs.State.{State, withPositions}
 use Rattle.refined_meshes.specs.Visits.{refinedRows}
 use Rattle.steps.specs.declared.Stepped.{Stepped}
@@ -56,47 +51,12 @@ unfoldable pub eachFaceOnce : ℕ → List ℕ → Bool
 unfolding every distinct
 eachFaceOnce nf order = eqb (length order) nf && every nf (λ i. ltb (getD order i 0) nf) && distinct order
 
-unfoldable pub rowsFor : Counts → Mesh → Bool
-rowsFor c t = leb (c .points) (pointRows t) && leb (c .edges) (edgeRows t) && leb (c .faces) (faceRows t)
-
 unfoldable pub withinCeilings : Counts → Bool
 withinCeilings c = leb (c .points) 65536 && leb (c .edges) 131072 && leb (c .faces) 65536
 
 unfoldable pub roomFor : Counts → Mesh → Mesh → Bool
 unfolding rowsFor withinCeilings
 roomFor c m t = rowsFor c m && rowsFor c t && withinCeilings c
-
-unfoldable pub firstRows : Counts → Mesh → Mesh
-firstRows c t =
-    record {
-      positions = take (c .points * 3) (t .positions);
-      points = take (c .points * 3) (t .points);
-      edges = take (c .edges * 8) (t .edges);
-      intervals = take (c .edges) (t .intervals);
-      faces = take (c .faces * 5) (t .faces);
-    }
-
-unfoldable pub zeroedRows : Counts → Mesh → Mesh
-unfolding zeroed
-zeroedRows c t =
-    record {
-      positions = zeroed (c .points * 3) (ofBits binary64 0) (t .positions);
-      points = zeroed (c .points * 3) 0 (t .points);
-      edges = zeroed (c .edges * 8) 0 (t .edges);
-      intervals = zeroed (c .edges) (ofBits binary64 0) (t .intervals);
-      faces = zeroed (c .faces * 5) 0 (t .faces);
-    }
-
-unfoldable pub overRows : Counts → Mesh → Mesh → Mesh
-unfolding over
-overRows c n t =
-    record {
-      positions = over (c .points * 3) (n .positions) (t .positions);
-      points = over (c .points * 3) (n .points) (t .points);
-      edges = over (c .edges * 8) (n .edges) (t .edges);
-      intervals = over (c .edges) (n .intervals) (t .intervals);
-      faces = over (c .faces * 5) (n .faces) (t .faces);
-    }
 
 pub data Made : Type 0 where
   whole : Mesh → Made

@@ -1,3 +1,5 @@
 pub mod Mesh
 pub mod Rows
+pub mod Counted
+pub mod Parts
 pub mod Records

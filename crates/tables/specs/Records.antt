@@ -6,10 +6,9 @@
 --     pointAt ps ws p              the control point p
 --     edgeAt es is e               the edge e
 --     edgeWordsAt es e             all of the edge e but its interval, which is +0
---     pointRows ps ws              how many whole control points both tables hold; edgeRows, faceRows likewise
 use mathlib.Core.List.{List, [], _∷_}
-use Prim.Native.Nat.{ℕ, _+_, _*_, _/_, min}
-use lib.ListN.{getD, length}
+use Prim.Native.Nat.{ℕ, _+_, _*_}
+use lib.ListN.{getD}
 use lib.Ieee.{Float, nan, binary64, ofBits}
 use Rattle.positions.specs.declared.Position.{Position}
 use Rattle.t_spline.specs.declared.TnurccControlPoint.{TnurccControlPoint}
@@ -57,12 +56,3 @@ edgeAt es is e = edgeOver es (getD is e nan) e
 
 abbrev pub edgeWordsAt : List ℕ → ℕ → TnurccEdge
 edgeWordsAt es e = edgeOver es (ofBits binary64 0) e
-
-abbrev pub pointRows : List Float → List ℕ → ℕ
-pointRows ps ws = min (length ps / 3) (length ws / 3)
-
-abbrev pub edgeRows : List ℕ → List Float → ℕ
-edgeRows es is = min (length es / 8) (length is)
-
-abbrev pub faceRows : List ℕ → ℕ
-faceRows fs = length fs / 5

@@ -3,13 +3,14 @@
 // right face, then the neighbours LeftCw, LeftAcw, RightCw, RightAcw). Intervals: 1 number an edge. Faces: 5 words (start
 // edge, four corners).
 // Not here: rows loaded and stored as records by value (`records`), what a closed mesh is (`audited_meshes`).
-// Definitions: `specs/Mesh.antt`, `specs/Rows.antt`, `specs/Records.antt`. Laws for callers: `proofs/Laws.antt`.
+// Definitions: `specs/Mesh.antt`, `specs/Rows.antt`, `specs/Records.antt`, `specs/Counted.antt`. Laws for callers: `proofs/Laws.antt`.
 ghost use mathlib.Core.Path.{_≡_};
+ghost use mathlib.Core.List.{[]};
 ghost use Prim.Native.Nat.{_≤_, min};
 ghost use lib.ListN.{length};
 ghost use lib.Ieee.{binary64, ofBits};
 ghost use Rattle.tables.specs.Rows.{over, zeroed};
-ghost use Rattle.tables.specs.Records.{pointRows, edgeRows, faceRows};
+ghost use Rattle.tables.specs.Mesh.{meshOf, pointRows, edgeRows, faceRows};
 
 // How many points, edges and faces a mesh has.
 pub struct Counts {
@@ -27,21 +28,21 @@ pub fn index(row: u32) -> usize
 
 // How many whole control points the two tables hold.
 pub fn point_rows(positions: &[f64], points: &[u32]) -> usize
-    ensures { λ r. ⌜ r ≡ pointRows (now (positions .entry)) (now (points .entry)) ⌝ }
+    ensures { λ r. ⌜ r ≡ pointRows (meshOf (now (positions .entry)) (now (points .entry)) [] [] []) ⌝ }
 {
     least(positions.len() / 3, points.len() / 3)
 }
 
 // How many whole edges the two tables hold.
 pub fn edge_rows(edges: &[u32], intervals: &[f64]) -> usize
-    ensures { λ r. ⌜ r ≡ edgeRows (now (edges .entry)) (now (intervals .entry)) ⌝ }
+    ensures { λ r. ⌜ r ≡ edgeRows (meshOf [] [] (now (edges .entry)) (now (intervals .entry)) []) ⌝ }
 {
     least(edges.len() / 8, intervals.len())
 }
 
 // How many whole faces the table holds.
 pub fn face_rows(faces: &[u32]) -> usize
-    ensures { λ r. ⌜ r ≡ faceRows (now (faces .entry)) ⌝ }
+    ensures { λ r. ⌜ r ≡ faceRows (meshOf [] [] [] [] (now (faces .entry))) ⌝ }
 {
     faces.len() / 5
 }

@@ -16,7 +16,8 @@ use Rattle.tables.specs.Mesh.{Mesh}
 use Rattle.text_numbers.specs.Form.{Found, found, none}
 use Rattle.text_numbers.proofs.Laws.{and-both}
 use Rattle.mesh_text.specs.Text.{text, Mesh as TextMesh}
-use Rattle.mesh_text.specs.Reading.{coordinates, lengths, listedPoints, intervals, counts, Lists, filled, within, Answer, readInto}
+use Rattle.mesh_text.specs.Reading.{counts, Lists, filled, within, Answer, readInto}
+use Rattle.mesh_text.specs.Lists.{coordinates, lengths, listedPoints, intervals}
 use Rattle.mesh_text.specs.declared.Counts.{Counts}
 use Rattle.mesh_text.specs.declared.Reading.{Reading}
 use Rattle.mesh_text.specs.declared.Reading.the-variants as Reading

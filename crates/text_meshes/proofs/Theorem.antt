@@ -14,7 +14,7 @@ use Rattle.closed_meshes.specs.Renumbering.{sumTo}
 use Rattle.text_numbers.specs.Form.{Found, found, none}
 use Rattle.text_numbers.proofs.Laws.{total}
 use Rattle.mesh_text.specs.Text.{text, Mesh as TextMesh}
-use Rattle.mesh_text.specs.Reading.{lengths, listedPoints}
+use Rattle.mesh_text.specs.Lists.{lengths, listedPoints}
 use Rattle.mesh_text.proofs.Read.{length-coordinates, length-lengths, length-intervals, total-lengths}
 use Rattle.built_meshes.specs.Lists.{Limits, countsFit}
 use Rattle.built_meshes.specs.Building.{build}
@@ -29,7 +29,8 @@ use Rattle.building_tests.specs.Lent.{limitsOf}
 use Rattle.building_tests.specs.declared.Bounds.{Bounds}
 use Rattle.building_tests.specs.declared.Bounds.the-variants.{General, Refine}
 use Rattle.text_meshes.specs.TextBuilding.{tooLong, listsOf, told, Outcome, toldOutcome, ofForm, buildTextIf, buildText}
-use Rattle.text_meshes.specs.Claims.{Stands-for, Over-text, many-bytes, Accepts-exactly, Not-text-exactly, Over-exactly, Untouched-early, Within-limits, Accepted-within}
+use Rattle.text_meshes.specs.Claims.{Stands-for, Over-text, many-bytes, Accepts-exactly, Not-text-exactly, Over-exactly}
+use Rattle.text_meshes.specs.Within.{Untouched-early, Within-limits, Accepted-within}
 use Rattle.text_meshes.specs.Claims as Claims
 use Rattle.text_meshes.specs.declared.TextBuilt.the-variants.{Accepted, NotText, Refused}
 

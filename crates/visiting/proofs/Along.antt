@@ -13,7 +13,7 @@ use lib.Ieee.{Float, nan, ofBits, binary64}
 use Rattle.tables.specs.declared.Counts.{Counts}
 use Rattle.tables.specs.Mesh.{Mesh}
 use Rattle.audited_meshes.specs.Walks.{edgesOf, passed, faceWalk}
-use Rattle.walks.specs.Steps.{faceTables}
+use Rattle.tables.specs.Parts.{faceTables}
 use Rattle.walks.specs.Border.{padded, border}
 use Rattle.walks.specs.declared.FaceBorder.{FaceBorder}
 use Rattle.walks.proofs.Laws.{getD-padded}

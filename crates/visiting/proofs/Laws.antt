@@ -16,7 +16,7 @@ use Rattle.tables.specs.Mesh.{Mesh}
 use Rattle.tables.specs.Rows.{over}
 use Rattle.audited_meshes.specs.Walks.{Walk, back, lost, edgesOf, passed, faceWalk}
 use Rattle.walks.specs.Border.{padded, border, borderOf}
-use Rattle.walks.specs.Steps.{faceTables}
+use Rattle.tables.specs.Parts.{faceTables}
 use Rattle.refined_meshes.specs.State.{State, copied}
 use Rattle.refined_meshes.specs.Ring.{firstHalfOf, secondHalfOf, putFirst, putSecond, putNewFace}
 use Rattle.refined_meshes.specs.Visits.{ringOf, putRing, visitAlong, visit, visits, refinedRows}

@@ -14,7 +14,7 @@ use Rattle.tables.specs.Mesh.{Mesh}
 use Rattle.audited_meshes.specs.Walks.{edgesOf, passed, faceWalk}
 use Rattle.walks.specs.Border.{padded, border}
 use Rattle.walks.specs.declared.FaceBorder.{FaceBorder}
-use Rattle.walks.specs.Steps.{faceTables}
+use Rattle.tables.specs.Parts.{faceTables}
 use Rattle.walks.proofs.Laws.{getD-padded}
 use Rattle.refined_meshes.specs.Turns.{filled}
 use Rattle.refined_meshes.specs.State.{State, edgeOf, take, putEdge, putPoint, putStart}

@@ -11,7 +11,8 @@ use Prim.Native.Nat.{ℕ, _+_, _*_, _<_}
 use borrow.Author.Tests.{lt-ltb, eq-eqb, ne-eqb}
 use lib.Dec.{eqb}
 use lib.ListN.{getD}
-use Rattle.t_spline.specs.Edge.{connectionOf, acwAtEnd, acwOnSide, pointAtEnd}
+use Rattle.t_spline.specs.Edge.{connectionOf}
+use Rattle.t_spline.specs.Ends.{acwAtEnd, acwOnSide, pointAtEnd}
 use Rattle.t_spline.specs.declared.TnurccEdge.{TnurccEdge}
 use Rattle.t_spline.specs.declared.TnurccConnection.{TnurccConnection}
 use Rattle.t_spline.specs.declared.TnurccVertexEnd.{TnurccVertexEnd}

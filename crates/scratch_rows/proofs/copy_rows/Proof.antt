@@ -1,7 +1,7 @@
 -- copy_rows meets its contract, table by table.
 use native.Mathlib.Omega.{arith}
 use borrow.Author.Needs.{needs}
-use Rattle.steps.specs.Step.{overRows}
+use Rattle.tables.specs.Counted.{overRows}
 use Rattle.scratch_rows.proofs.copy_rows.Statement.{statement}
 use Rattle.scratch_rows.proofs.copy_rows.Tie as tie
 

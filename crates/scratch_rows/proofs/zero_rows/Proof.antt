@@ -1,7 +1,7 @@
 -- zero_rows meets its contract, table by table.
 use native.Mathlib.Omega.{arith}
 use borrow.Author.Needs.{needs}
-use Rattle.steps.specs.Step.{zeroedRows}
+use Rattle.tables.specs.Counted.{zeroedRows}
 use Rattle.scratch_rows.proofs.zero_rows.Statement.{statement}
 use Rattle.scratch_rows.proofs.zero_rows.Tie as tie
 

@@ -8,7 +8,7 @@ use borrow.Author.Needs.{needs}
 use Rattle.audited_meshes.specs.Folds.{every}
 use Rattle.audit_tests.proofs.Laws.{every-none, every-more, every-stop, every-all}
 use Rattle.audited_meshes.specs.Quick.{oneEdge}
-use Rattle.walks.specs.Steps.{pointTables}
+use Rattle.tables.specs.Parts.{pointTables}
 use Rattle.audit_tests.proofs.edges.are_one_edges.Statement.{statement}
 use Rattle.audit_tests.proofs.edges.are_one_edges.Tie as tie
 

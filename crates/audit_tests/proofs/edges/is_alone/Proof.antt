@@ -4,7 +4,7 @@ use mathlib.Core.Path.{sym, _∙_}
 use native.Mathlib.Omega.{arith}
 use borrow.Author.Tests.{not-true, not-false}
 use borrow.Author.Needs.{needs}
-use Rattle.walks.specs.Steps.{pointTables}
+use Rattle.tables.specs.Parts.{pointTables}
 use Rattle.audit_tests.proofs.Alone.{Lonely, lonely-start, lonely-more, lonely-stop, lonely-end, free-below}
 use Rattle.audit_tests.proofs.edges.is_alone.Statement.{statement}
 use Rattle.audit_tests.proofs.edges.is_alone.Tie as tie

@@ -2,7 +2,7 @@
 use mathlib.Core.Path.{_∙_}
 use borrow.Author.Needs.{needs}
 use Rattle.audit_tests.proofs.Alone.{from-origin, from-dest}
-use Rattle.walks.specs.Steps.{pointTables}
+use Rattle.tables.specs.Parts.{pointTables}
 use Rattle.audit_tests.proofs.edges.is_one_edge.Statement.{statement}
 use Rattle.audit_tests.proofs.edges.is_one_edge.Tie as tie
 

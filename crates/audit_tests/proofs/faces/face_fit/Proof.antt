@@ -5,7 +5,7 @@ use native.Mathlib.Omega.{arith}
 use borrow.Author.Tests.{not-true, not-false}
 use borrow.Author.Needs.{needs}
 use Rattle.audit_tests.proofs.FaceTests.{face-start, face-corner, face-last}
-use Rattle.walks.specs.Steps.{faceTables}
+use Rattle.tables.specs.Parts.{faceTables}
 use Rattle.audit_tests.proofs.faces.face_fit.Statement.{statement}
 use Rattle.audit_tests.proofs.faces.face_fit.Tie as tie
 

@@ -3,7 +3,7 @@ use mathlib.Core.Bool.{true, false}
 use mathlib.Core.Path.{sym, _∙_}
 use borrow.Author.Needs.{needs}
 use Rattle.audit_tests.proofs.FaceTests.{size-within, size-short, size-is}
-use Rattle.walks.specs.Steps.{faceTables}
+use Rattle.tables.specs.Parts.{faceTables}
 use Rattle.audit_tests.proofs.faces.face_size.Statement.{statement}
 use Rattle.audit_tests.proofs.faces.face_size.Tie as tie
 

@@ -3,7 +3,7 @@
 use Prim.Native.Nat.{_≤_, _-_}
 use native.Mathlib.Omega.{arith}
 use borrow.Author.Needs.{needs}
-use Rattle.walks.specs.Steps.{faceTables}
+use Rattle.tables.specs.Parts.{faceTables}
 use Rattle.audit_tests.proofs.FaceTests.{Added, added-start, added-zero, added-past, added-more, added-all, size-small}
 use Rattle.audit_tests.proofs.faces.face_walks_fit.Statement.{statement}
 use Rattle.audit_tests.proofs.faces.face_walks_fit.Tie as tie

@@ -9,7 +9,7 @@ use borrow.Author.Needs.{needs}
 use Rattle.audited_meshes.specs.Folds.{every}
 use Rattle.audit_tests.proofs.Laws.{every-none, every-more, every-stop, every-all}
 use Rattle.audited_meshes.specs.Quick.{faceFit}
-use Rattle.walks.specs.Steps.{faceTables}
+use Rattle.tables.specs.Parts.{faceTables}
 use Rattle.audit_tests.proofs.faces.faces_fit.Statement.{statement}
 use Rattle.audit_tests.proofs.faces.faces_fit.Tie as tie
 

@@ -13,7 +13,8 @@ use borrow.Author.Tests.{leb-true}
 use Rattle.text_numbers.specs.Form.{Found, found, none}
 use Rattle.mesh_lines.specs.Grammar.{Listed, flat, sidePoints}
 use Rattle.mesh_text.specs.Text.{Mesh, text}
-use Rattle.mesh_text.specs.Reading.{coordinates, lengths, listedPoints, intervals, counts, Lists, within, readInto}
+use Rattle.mesh_text.specs.Reading.{counts, Lists, within, readInto}
+use Rattle.mesh_text.specs.Lists.{coordinates, lengths, listedPoints, intervals}
 use Rattle.mesh_lines.specs.Parts.{lengthWord, stored}
 use Rattle.mesh_text.specs.Parts.{lengthWords, totalOf, AtTotal}
 use Rattle.text_numbers.proofs.Laws.{and-both}

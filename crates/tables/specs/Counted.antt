@@ -1,0 +1,52 @@
+-- The rows of five tables that counts count. All further rows are untouched: `zeroedRows` and `overRows` leave them as they are.
+--     countsOf np ne nf        the counts of np points, ne edges and nf faces
+--     rowsFor c t              the tables t have the rows of a mesh with the counts c
+--     firstRows c t            the rows of the tables t that the counts c count: of a mesh with its counts, the mesh
+--     zeroedRows c t           the tables t with these rows zeroed
+--     overRows c n t           the tables t with these rows taken from n
+use mathlib.Core.Bool.{Bool, _&&_}
+use Prim.Native.Nat.{ℕ, _*_}
+use lib.Dec.{leb}
+use lib.ListN.{take}
+use lib.Ieee.{ofBits, binary64}
+use Rattle.tables.specs.Mesh.{Mesh, pointRows, edgeRows, faceRows}
+use Rattle.tables.specs.Rows.{over, zeroed}
+use Rattle.tables.specs.declared.Counts.{Counts}
+
+abbrev pub countsOf : ℕ → ℕ → ℕ → Counts
+countsOf np ne nf = record { points = np; edges = ne; faces = nf }
+
+unfoldable pub rowsFor : Counts → Mesh → Bool
+rowsFor c t = leb (c .points) (pointRows t) && leb (c .edges) (edgeRows t) && leb (c .faces) (faceRows t)
+
+unfoldable pub firstRows : Counts → Mesh → Mesh
+firstRows c t =
+    record {
+      positions = take (c .points * 3) (t .positions);
+      points = take (c .points * 3) (t .points);
+      edges = take (c .edges * 8) (t .edges);
+      intervals = take (c .edges) (t .intervals);
+      faces = take (c .faces * 5) (t .faces);
+    }
+
+unfoldable pub zeroedRows : Counts → Mesh → Mesh
+unfolding zeroed
+zeroedRows c t =
+    record {
+      positions = zeroed (c .points * 3) (ofBits binary64 0) (t .positions);
+      points = zeroed (c .points * 3) 0 (t .points);
+      edges = zeroed (c .edges * 8) 0 (t .edges);
+      intervals = zeroed (c .edges) (ofBits binary64 0) (t .intervals);
+      faces = zeroed (c .faces * 5) 0 (t .faces);
+    }
+
+unfoldable pub overRows : Counts → Mesh → Mesh → Mesh
+unfolding over
+overRows c n t =
+    record {
+      positions = over (c .points * 3) (n .positions) (t .positions);
+      points = over (c .points * 3) (n .points) (t .points);
+      edges = over (c .edges * 8) (n .edges) (t .edges);
+      intervals = over (c .edges) (n .intervals) (t .intervals);
+      faces = over (c .faces * 5) (n .faces) (t .faces);
+    }
