@@ -17,7 +17,8 @@ use Rattle.tables.specs.Mesh.{Mesh, none, meshOf}
 use Rattle.tables.specs.Rows.{over, zeroed}
 use Rattle.tables.specs.Counted.{countsOf, rowsFor, zeroedRows}
 use Rattle.tables.proofs.Laws.{length-zeroed}
-use Rattle.built_meshes.specs.Lists.{Lists, Limits, pointsOf, facesOf, rowsOf, offset, countsFit, numbersFit}
+use Rattle.built_meshes.specs.Lists.{Lists, pointsOf, facesOf, rowsOf, offset, countsFit, numbersFit}
+use Rattle.tables.specs.declared.Sizes.{Sizes}
 use Rattle.built_meshes.specs.Perimeters.{State, Step, on, stopped}
 use Rattle.built_meshes.specs.Building.{Outcome, refusal, wholeIf, facesFrom, answered, allFaces, buildIf, build}
 use Rattle.built_meshes.specs.Whole.{marked, finished, wholeVerdict}
@@ -79,7 +80,7 @@ limits-few Refine = (omega arith, omega arith, omega arith)
 
 pub rooms : (l : Lists) (m : Mesh) → Begun l m → Rooms l m
 rooms l m h =
-    let c : Limits = limitsOf (h .bounds) in
+    let c : Sizes = limitsOf (h .bounds) in
     let counted : Counted c l = counts-is c l (h .counts) in
     let roomy : Roomy l m = rows-is l m (h .rows) in
     let few = limits-few (h .bounds) in

@@ -2,7 +2,8 @@
 // Not here: ground 4 and grounds 20 to 22 (`building_whole`), grounds 14 and 15 (`edge_search`).
 // Definitions: `Lists` and `Faces` of `built_meshes`; `specs/Lent.antt`. Laws for callers: `proofs/Laws.antt`.
 ghost use mathlib.Core.Path.{_≡_};
-ghost use Rattle.building_tests.specs.Lent.{limitsOf, mostOf};
+ghost use Rattle.building_tests.specs.Lent.{limitsOf};
+use tables::Sizes;
 
 pub mod faces;
 pub mod lists;
@@ -13,24 +14,18 @@ pub enum Bounds {
     Refine,
 }
 
-// The most points, faces and listed points.
-pub struct Most {
-    pub points: usize,
-    pub faces: usize,
-    pub listed: usize,
-}
-
 impl Bounds {
-    pub fn most(self) -> Most
-        ensures { λ r. ⌜ mostOf r ≡ limitsOf self ⌝ }
+    // The most points, faces and listed points.
+    pub fn most(self) -> Sizes
+        ensures { λ r. ⌜ r ≡ limitsOf self ⌝ }
     {
         match self {
-            Bounds::General => Most {
+            Bounds::General => Sizes {
                 points: 4096,
                 faces: 4096,
                 listed: 16384,
             },
-            Bounds::Refine => Most {
+            Bounds::Refine => Sizes {
                 points: 64,
                 faces: 64,
                 listed: 256,

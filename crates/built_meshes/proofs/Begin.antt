@@ -20,7 +20,8 @@ use Rattle.closed_meshes.specs.Renumbering.{sumTo}
 use Rattle.audited_meshes.specs.Folds.{every}
 use Rattle.audited_meshes.specs.Audit.{intervalFit}
 use Rattle.audited_meshes.proofs.Tests.{and-is, eqb-is, leb-is, self-is, every-is}
-use Rattle.built_meshes.specs.Lists.{Lists, Limits, pointsOf, facesOf, rowsOf, offset, countsFit, numbersFit}
+use Rattle.built_meshes.specs.Lists.{Lists, pointsOf, facesOf, rowsOf, offset, countsFit, numbersFit}
+use Rattle.tables.specs.declared.Sizes.{Sizes}
 use Rattle.tables.specs.Counted.{rowsFor, zeroedRows}
 use Rattle.built_meshes.specs.Beyond.{Within}
 use Rattle.built_meshes.specs.Claims.{zeroEdge}
@@ -33,7 +34,7 @@ use Rattle.built_meshes.proofs.Faces.{every-false, and-false}
 
 -- ---- ground 2
 
-pub record Counted (c : Limits) (l : Lists) : Type 0 where
+pub record Counted (c : Sizes) (l : Lists) : Type 0 where
   pub points-few : pointsOf l ≤ c .points
   pub faces-few : facesOf l ≤ c .faces
   pub listed-few : length (l .listed) ≤ c .listed
@@ -42,7 +43,7 @@ pub record Counted (c : Limits) (l : Lists) : Type 0 where
   pub alike : length (l .listed) ≡ length (l .intervals)
   pub sum-alike : sumTo (length (l .sides)) (λ k. getD (l .sides) k 0) ≡ length (l .listed)
 
-pub counts-is : (c : Limits) (l : Lists) → countsFit c l ≡ true → Counted c l
+pub counts-is : (c : Sizes) (l : Lists) → countsFit c l ≡ true → Counted c l
 unfolding countsFit
 counts-is c l h =
     let z =
@@ -65,7 +66,7 @@ counts-is c l h =
       sum-alike = z .1;
     }
 
-pub counts-fail : (c : Limits) (l : Lists) → countsFit c l ≡ false → Over-counts c l
+pub counts-fail : (c : Sizes) (l : Lists) → countsFit c l ≡ false → Over-counts c l
 unfolding countsFit
 counts-fail c l h = go7 (and-false _ _ h)
   where
@@ -96,7 +97,7 @@ counts-fail c l h = go7 (and-false _ _ h)
     go7 (inl z) = go6 (and-false _ _ z)
     go7 (inr z) = sum-unlike (eqb-false _ _ z)
 
-pub counted-fits : (c : Limits) (l : Lists) → Counted c l → ¬ Over-counts c l
+pub counted-fits : (c : Sizes) (l : Lists) → Counted c l → ¬ Over-counts c l
 counted-fits c l h (many-points z) = omega (arith, h .points-few)
 counted-fits c l h (many-faces z) = omega (arith, h .faces-few)
 counted-fits c l h (many-listed z) = omega (arith, h .listed-few)
@@ -190,7 +191,7 @@ unfolding zeroed
 getD-zeroed n i z d xs h =
     List·getD-append (replicate n z) (drop n xs) d i (subst (λ k. i < k) (sym (length-replicate n z)) h) ∙ getD-replicate n i z d h
 
-module _ (c : Limits) (l : Lists) (m : Mesh) (counted' : Counted c l) (numbered : Numbered l) (roomy : Roomy l m) (few : c .faces ≤ none) where
+module _ (c : Sizes) (l : Lists) (m : Mesh) (counted' : Counted c l) (numbered : Numbered l) (roomy : Roomy l m) (few : c .faces ≤ none) where
   pub listed-all : offset l (facesOf l) ≡ length (l .listed)
   unfolding offset
   listed-all =

@@ -9,7 +9,8 @@ use lib.ListN.{length, replicate}
 use lib.Ieee.{Float, nan, inf, ofBits, neg, add, sub, le, lt, binary64}
 use Rattle.edge_links.specs.Connect.{linksOf}
 use Rattle.tables.specs.Mesh.{Mesh, none}
-use Rattle.built_meshes.specs.Lists.{Lists, Limits, general, refine, pointsOf, facesOf}
+use Rattle.built_meshes.specs.Lists.{Lists, general, refine, pointsOf, facesOf}
+use Rattle.tables.specs.declared.Sizes.{Sizes}
 use Rattle.built_meshes.specs.Answers.{numbersOf}
 use Rattle.built_meshes.specs.Building.{build}
 use Rattle.built_meshes.specs.Pieces.{unit, two, nought, backToBack}
@@ -30,7 +31,7 @@ justEnough l =
     }
 
 record Piece : Type 0 where
-  limits : Limits
+  limits : Sizes
   lists : Lists
   tables : Mesh
   answer : List ℕ
@@ -82,7 +83,7 @@ withCoordinates l xs = record { coordinates = xs; sides = l .sides; listed = l .
 abbrev points : ℕ → Lists
 points n = triangles n 0 []
 
-abbrev pieceIn : Limits → Lists → Mesh → List ℕ → Piece
+abbrev pieceIn : Sizes → Lists → Mesh → List ℕ → Piece
 pieceIn c l m ns = record { limits = c; lists = l; tables = m; answer = ns }
 
 abbrev noTables : Mesh

@@ -23,7 +23,8 @@ use Rattle.audited_meshes.proofs.Folds.{below-suc, length-sumTo}
 use Rattle.audited_meshes.proofs.Tests.{not-is, eqb-is, ltb-is, every-is}
 use Rattle.audited_meshes.proofs.Walks.{passes-on}
 use Rattle.audited_meshes.proofs.Audited.{touches-is, pointWalk-is}
-use Rattle.built_meshes.specs.Lists.{Lists, Limits, pointsOf, facesOf, size}
+use Rattle.built_meshes.specs.Lists.{Lists, pointsOf, facesOf, size}
+use Rattle.tables.specs.declared.Sizes.{Sizes}
 use Rattle.built_meshes.specs.Perimeters.{State, on}
 use Rattle.built_meshes.specs.Places.{IsPlace, Runs, Differ}
 use Rattle.built_meshes.specs.Answers.{numberOf}
@@ -64,7 +65,7 @@ record Hit (p e : ℕ) (t : State) : Type 0 where
   hits : Touches (t .mesh) p e
   misses : occurrences e (edgesOf (pointWalk (t .mesh) (t .edges) (valence (t .mesh) p) p)) ≡ 0
 
-module _ (c : Limits) (l : Lists) (m₀ : Mesh) (s : State) (all : Faces l (facesOf l) s) where
+module _ (c : Sizes) (l : Lists) (m₀ : Mesh) (s : State) (all : Faces l (facesOf l) s) where
   abbrev m : Mesh
   m = s .mesh
 

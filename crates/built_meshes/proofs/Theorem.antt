@@ -15,7 +15,8 @@ use Rattle.tables.specs.declared.Counts.{Counts}
 use Rattle.audited_meshes.specs.Folds.{one}
 use Rattle.audited_meshes.proofs.Folds.{sumTo-cong, sumTo-const}
 use Rattle.audited_meshes.proofs.Audited.{audit-is-audited}
-use Rattle.built_meshes.specs.Lists.{Lists, Limits, pointsOf, facesOf, rowsOf, countsFit, numbersFit}
+use Rattle.built_meshes.specs.Lists.{Lists, pointsOf, facesOf, rowsOf, countsFit, numbersFit}
+use Rattle.tables.specs.declared.Sizes.{Sizes}
 use Rattle.tables.specs.Counted.{rowsFor, zeroedRows}
 use Rattle.built_meshes.specs.Perimeters.{State, Step, on, stopped}
 use Rattle.built_meshes.specs.Answers.{numberOf}
@@ -45,7 +46,7 @@ counted-all m ne right =
     (λ e b. ap (λ t. suc (one (not t))) (ne-eqb (row m e .«face_right») none (right e b)))
     ∙ sumTo-const ne 2
 
-module _ (c : Limits) (l : Lists) (m : Mesh) (few : c .faces ≤ none) where
+module _ (c : Sizes) (l : Lists) (m : Mesh) (few : c .faces ≤ none) where
   data Came-out : Outcome → Type 0 where
     refuses-early : {g : Ground} → Holds c l m g → numberOf g < 10 → Came-out (refusal g m)
     refuses : {g : Ground} → Holds c l m g → 10 ≤ numberOf g → Within l m (zeroedRows (rowsOf l) m) → Came-out (refusal g (zeroedRows (rowsOf l) m))
@@ -170,7 +171,7 @@ tablesOf (on s) = s .mesh
 tablesOf (stopped g t) = t
 
 pub zeroed-after :
-    (c : Limits) (l : Lists) (m : Mesh) → c .faces ≤ none → countsFit c l ≡ true → numbersFit l ≡ true → rowsFor (rowsOf l) m ≡ true →
+    (c : Sizes) (l : Lists) (m : Mesh) → c .faces ≤ none → countsFit c l ≡ true → numbersFit l ≡ true → rowsFor (rowsOf l) m ≡ true →
     zeroedRows (rowsOf l) (tablesOf (allFaces l m)) ≡ zeroedRows (rowsOf l) m
 unfolding allFaces
 zeroed-after c l m few counts numbers rows =

@@ -8,7 +8,8 @@ use mathlib.Core.Bool.{Bool, true, false}
 use Prim.Native.Nat.{ℕ, zero, suc, _+_}
 use Rattle.tables.specs.Mesh.{Mesh}
 use Rattle.tables.specs.Counted.{rowsFor, zeroedRows}
-use Rattle.built_meshes.specs.Lists.{Lists, Limits, pointsOf, facesOf, rowsOf, size, countsFit, numbersFit}
+use Rattle.built_meshes.specs.Lists.{Lists, pointsOf, facesOf, rowsOf, size, countsFit, numbersFit}
+use Rattle.tables.specs.declared.Sizes.{Sizes}
 use Rattle.built_meshes.specs.Faces.{faceVerdict}
 use Rattle.built_meshes.specs.Perimeters.{State, Step, on, stopped, perimeter}
 use Rattle.built_meshes.specs.Whole.{wholeVerdict, finished}
@@ -67,6 +68,6 @@ buildIf true false rows l m = refusal UnfitNumber m
 buildIf true true false l m = refusal FewRows m
 buildIf true true true l m = answered l m (allFaces l m)
 
-unfoldable pub build : Limits → Lists → Mesh → Outcome
+unfoldable pub build : Sizes → Lists → Mesh → Outcome
 unfolding countsFit numbersFit rowsFor buildIf
 build c l m = buildIf (countsFit c l) (numbersFit l) (rowsFor (rowsOf l) m) l m

@@ -1,7 +1,6 @@
 -- What is handed to building, and its grounds 2 and 3.
 --     Lists                   coordinates, 3 a point; side lengths, 4 a face; listed points; the interval beside each
---     Limits                  the most points, faces and listed points
---     general, refine         the limits of building, and those of the program refine
+--     general, refine         the most points, faces and listed points of building, and of the program refine
 --     pointsOf, facesOf       how many points and faces the lists give
 --     rowsOf l                the rows that ground 4 counts: for the points, the faces, and for as many edges as points are listed
 --     side l f k              the length of side k of face f, from 0
@@ -18,6 +17,7 @@ use lib.ListN.{length, getD}
 use lib.Ieee.{Float, nan}
 use lib.Ieee.Scale.{finite}
 use Rattle.tables.specs.declared.Counts.{Counts}
+use Rattle.tables.specs.declared.Sizes.{Sizes}
 use Rattle.closed_meshes.specs.Renumbering.{sumTo}
 use Rattle.audited_meshes.specs.Folds.{every}
 use Rattle.audited_meshes.specs.Audit.{intervalFit}
@@ -28,15 +28,10 @@ pub record Lists : Type 0 where
   pub listed : List ℕ
   pub intervals : List Float
 
-pub record Limits : Type 0 where
-  pub points : ℕ
-  pub faces : ℕ
-  pub listed : ℕ
-
-abbrev pub general : Limits
+abbrev pub general : Sizes
 general = record { points = 4096; faces = 4096; listed = 16384 }
 
-abbrev pub refine : Limits
+abbrev pub refine : Sizes
 refine = record { points = 64; faces = 64; listed = 256 }
 
 abbrev pub pointsOf : Lists → ℕ
@@ -58,7 +53,7 @@ unfoldable pub offset : Lists → ℕ → ℕ
 unfolding sumTo
 offset l f = sumTo f (λ k. size l k)
 
-unfoldable pub countsFit : Limits → Lists → Bool
+unfoldable pub countsFit : Sizes → Lists → Bool
 unfolding sumTo
 countsFit c l =
     leb (pointsOf l) (c .points) && leb (facesOf l) (c .faces) && leb (length (l .listed)) (c .listed)

@@ -14,18 +14,12 @@ use mesh_lines::Lines;
 use mesh_lines::Run;
 use mesh_lines::faces;
 use mesh_lines::points;
+use tables::Sizes;
 use text_numbers::stands;
-
-// How many points, faces and listed points a text has, or may have.
-pub struct Counts {
-    pub points: usize,
-    pub faces: usize,
-    pub listed: usize,
-}
 
 // What reading a text answers. Not of the form is ground 1, over the limits ground 2.
 pub enum Reading {
-    Read(Counts),
+    Read(Sizes),
     NotText,
     OverLimits,
 }
@@ -82,7 +76,7 @@ fn sizes(s: &[u8]) -> Total
 }
 
 // Whether the counts are within the limits and within the rooms of the four lists.
-fn within(c: Counts, limits: Counts, xs: usize, ls: usize, ps: usize, ds: usize) -> bool
+fn within(c: Sizes, limits: Sizes, xs: usize, ls: usize, ps: usize, ds: usize) -> bool
     ensures { λ r. ⌜ r ≡ within c limits xs ls ps ds ⌝ }
 {
     if limits.points < c.points {
@@ -116,7 +110,7 @@ fn within(c: Counts, limits: Counts, xs: usize, ls: usize, ps: usize, ds: usize)
 // A text that is not of the form, or is over the limits or the room of the lists, leaves the lists as they are.
 pub fn read_text(
     s: &[u8],
-    limits: Counts,
+    limits: Sizes,
     xs: &mut [f64],
     ls: &mut [u32],
     ps: &mut [u32],
@@ -130,7 +124,7 @@ pub fn read_text(
     let Total::Of(points, faces, listed) = sizes(s) else {
         return Reading::NotText;
     };
-    let c = Counts {
+    let c = Sizes {
         points,
         faces,
         listed,

@@ -26,7 +26,7 @@ use Rattle.text_meshes.specs.Within.{AsLong, Within-limits}
 use Rattle.text_meshes.specs.declared.TextBuilt.{TextBuilt}
 use Rattle.text_meshes.specs.declared.TextBuilt.the-variants.{Accepted, NotText, Refused}
 use Rattle.text_meshes.proofs.Theorem.{accepted-within}
-use Rattle.steps.specs.Step.{refinedCounts, withinCeilings, roomFor, Made, whole, notFinite, made, ended, stepIf}
+use Rattle.steps.specs.Step.{refinedCounts, withinCeilings, roomFor, Made, whole, notFinite, made, ended, stepBy}
 use Rattle.tables.specs.Counted.{rowsFor, firstRows}
 use Rattle.steps.specs.declared.Stepped.{Stepped}
 use Rattle.steps.specs.declared.Stepped.the-variants.{Refined, NotClosed, NotEachFaceOnce, NoRoom, NotFinite}
@@ -76,7 +76,7 @@ ended-answer m c t notFinite = inr refl
 
 step-answer : (m : Mesh) (c : Counts) → Within-limits Refine lent m c
     → (numberedStep c m .answer ≡ Refined (refinedCounts c)) ⊎ (numberedStep c m .answer ≡ NotFinite)
-unfolding numberedStep stepIf
+unfolding numberedStep stepBy
 step-answer m c w =
     let hp = w .few-points in
     let he = w .few-edges in

@@ -10,9 +10,8 @@ use Rattle.tables.specs.declared.Counts.{Counts}
 use Rattle.audited_meshes.specs.Audit.{audit}
 use Rattle.audited_meshes.proofs.Audited.{audit-is-audited}
 use Rattle.steps.specs.declared.Stepped.the-variants.{Refined, NotClosed, NotEachFaceOnce, NoRoom}
-use Rattle.steps.specs.Step.{refinedCounts, eachFaceOnce, withinCeilings, roomFor}
+use Rattle.steps.specs.Step.{refinedCounts, eachFaceOnce, withinCeilings, roomFor, tested}
 use Rattle.tables.specs.Counted.{rowsFor}
-use Rattle.step_grounds.specs.Tested.{tested}
 
 module _ (m : Mesh) (c : Counts) (order : List ℕ) (t : Mesh) where
   abbrev Passes : Type 0

@@ -7,6 +7,7 @@
 --     roomFor c m t            room for the mesh with the counts c, in the tables m and in scratch t
 --     made m c order t         the refined mesh of m, made in the tables t; or the word that a position is not finite
 --     Outcome                  the answer, the tables afterwards, the scratch tables afterwards
+--     tested m c order t       the first of the grounds 30, 31 and 32 that holds, or the counts after the step
 --     step m c order t         the step of the mesh in the tables m with the counts c, in the order handed in, by scratch t
 use mathlib.Core.Bool.{Bool, true, false, _&&_}
 use mathlib.Core.List.{List, [], _∷_}
@@ -92,17 +93,26 @@ ended m c t (whole n) =
     record { answer = Refined c; tables = overRows c n m; scratch = zeroedRows c t }
 ended m c t notFinite = record { answer = NotFinite; tables = m; scratch = zeroedRows c t }
 
--- the step, with the answers of the tests for 30, 31 and 32
-unfoldable pub stepIf : Bool → Bool → Bool → Mesh → Counts → List ℕ → Mesh → Outcome
+-- by the answers of the tests for 30, 31 and 32, and the counts after the step
+abbrev pub testedIf : Bool → Bool → Bool → Counts → Stepped
+testedIf false once room c = NotClosed
+testedIf true false room c = NotEachFaceOnce
+testedIf true true false c = NoRoom
+testedIf true true true c = Refined c
+
+abbrev pub tested : Mesh → Counts → List ℕ → Mesh → Stepped
+tested m c order t =
+    testedIf (audit m (c .points) (c .edges) (c .faces)) (eachFaceOnce (c .faces) order) (roomFor (refinedCounts c) m t) (refinedCounts c)
+
+-- the step, by the answer of its tests
+unfoldable pub stepBy : Stepped → Mesh → Counts → List ℕ → Mesh → Outcome
 unfolding ended made firstRows
-stepIf false once room m c order t = refusal NotClosed m t
-stepIf true false room m c order t = refusal NotEachFaceOnce m t
-stepIf true true false m c order t = refusal NoRoom m t
-stepIf true true true m c order t =
-    ended m (refinedCounts c) t (made (firstRows c m) c order (firstRows (refinedCounts c) t))
+stepBy (Refined c') m c order t = ended m c' t (made (firstRows c m) c order (firstRows c' t))
+stepBy NotClosed m c order t = refusal NotClosed m t
+stepBy NotEachFaceOnce m c order t = refusal NotEachFaceOnce m t
+stepBy NoRoom m c order t = refusal NoRoom m t
+stepBy NotFinite m c order t = refusal NotFinite m t
 
 unfoldable pub step : Mesh → Counts → List ℕ → Mesh → Outcome
-unfolding audit eachFaceOnce roomFor stepIf
-step m c order t =
-    stepIf (audit m (c .points) (c .edges) (c .faces)) (eachFaceOnce (c .faces) order) (roomFor (refinedCounts c) m t) m c
-    order t
+unfolding audit eachFaceOnce roomFor stepBy
+step m c order t = stepBy (tested m c order t) m c order t

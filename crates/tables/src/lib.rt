@@ -19,6 +19,13 @@ pub struct Counts {
     pub faces: usize,
 }
 
+// How many points, faces and listed points the lists of a mesh or a text have, or may have.
+pub struct Sizes {
+    pub points: usize,
+    pub faces: usize,
+    pub listed: usize,
+}
+
 // A row number as an index.
 pub fn index(row: u32) -> usize
     ensures { λ r. ⌜ r ≡ row ⌝ }

@@ -16,7 +16,8 @@ use Rattle.refined_meshes.specs.Visits.{splitAll, visits}
 use Rattle.refined_meshes.specs.Fits.{VisitFits}
 use Rattle.splitting.specs.Scratch.{InRows, Room}
 use Rattle.ring_places.specs.declared.RingRows.{RingRows}
-use Rattle.ring_places.specs.Rings.{firstOf, secondOf, Small, Rows}
+use Rattle.ring_places.specs.Rings.{Small, Rows}
+use Rattle.refined_meshes.specs.Ring.{firstHalfOf, secondHalfOf}
 
 abbrev pub bare : Mesh → Mesh
 bare m = faceTables (m .edges) (m .faces)
@@ -41,8 +42,8 @@ pub record RingFits (oe pe : List ℕ) (rows : RingRows) (ps es : List ℕ) (is 
   pub faces : (rows .faces + (rows .size - 1)) * 5 ≤ length fs
   pub mesh-rows : Rows oe pe (rows .size)
   pub edge-rows : Rows es pe (rows .size)
-  pub firsts : (i : ℕ) → i < rows .size → firstOf oe es (rows .face) (getD pe i 0) * 8 + 8 ≤ length es
-  pub seconds : (i : ℕ) → i < rows .size → secondOf oe es (rows .face) (getD pe i 0) * 8 + 8 ≤ length es
+  pub firsts : (i : ℕ) → i < rows .size → firstHalfOf oe es (rows .face) (getD pe i 0) * 8 + 8 ≤ length es
+  pub seconds : (i : ℕ) → i < rows .size → secondHalfOf oe es (rows .face) (getD pe i 0) * 8 + 8 ≤ length es
 
 pub record AlongFits (oe : List ℕ) (np f : ℕ) (pe : List ℕ) (n : ℕ) (s : State) : Type 0 where
   pub some-places : 0 < n
@@ -58,8 +59,8 @@ pub record AlongFits (oe : List ℕ) (np f : ℕ) (pe : List ℕ) (n : ℕ) (s :
   pub face-below : f < 65536
   pub faces : (s .facesTaken + (n - 1)) * 5 ≤ length (s .faces)
   pub few-faces : s .facesTaken + n ≤ 65537
-  pub firsts : (i : ℕ) → i < n → firstOf oe (splitAll np pe n (take 1 0 0 s) .edges) f (getD pe i 0) * 8 + 8 ≤ length (s .edges)
-  pub seconds : (i : ℕ) → i < n → secondOf oe (splitAll np pe n (take 1 0 0 s) .edges) f (getD pe i 0) * 8 + 8 ≤ length (s .edges)
+  pub firsts : (i : ℕ) → i < n → firstHalfOf oe (splitAll np pe n (take 1 0 0 s) .edges) f (getD pe i 0) * 8 + 8 ≤ length (s .edges)
+  pub seconds : (i : ℕ) → i < n → secondHalfOf oe (splitAll np pe n (take 1 0 0 s) .edges) f (getD pe i 0) * 8 + 8 ≤ length (s .edges)
 
 pub record Fits (m : Mesh) (np ne nf : ℕ) (order : List ℕ) (s : State) : Type 0 where
   pub ceilings : Ceilings np ne nf
