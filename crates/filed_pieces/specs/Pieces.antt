@@ -8,7 +8,7 @@ use mathlib.Core.Path.{_≡_}
 use mathlib.Core.List.{List, [], _∷_, _++_, map}
 use Prim.Native.Nat.{ℕ, _*_}
 use lib.ListN.{replicate}
-use Rattle.tables.specs.Mesh.{Mesh}
+use Rattle.tables.specs.Mesh.{Mesh, meshOf}
 use Rattle.tables.specs.declared.Counts.{Counts}
 use Rattle.built_meshes.specs.Lists.{Lists, general, rowsOf}
 use Rattle.built_meshes.specs.Answers.{numbersOf}
@@ -33,13 +33,8 @@ pub record Piece : Type 0 where
 -- tables of so many rows, all words 7, all numbers 2
 abbrev pub used : Counts → Mesh
 used c =
-    record {
-      positions = replicate (c .points * 3) two;
-      points = replicate (c .points * 3) 7;
-      edges = replicate (c .edges * 8) 7;
-      intervals = replicate (c .edges) two;
-      faces = replicate (c .faces * 5) 7;
-    }
+    meshOf (replicate (c .points * 3) two) (replicate (c .points * 3) 7) (replicate (c .edges * 8) 7) (replicate (c .edges) two)
+    (replicate (c .faces * 5) 7)
 
 abbrev pub stepped : Outcome → Mesh → List (List ℕ)
 stepped o t = steppedIf (o .answer) (o .tables) t

@@ -14,7 +14,7 @@ use lib.Dec.{leb}
 use lib.ListN.{length, replicate}
 use lib.Seq.{sets}
 use lib.Ieee.{Float, ofBits, toBits, binary64}
-use Rattle.tables.specs.Mesh.{Mesh}
+use Rattle.tables.specs.Mesh.{Mesh, meshOf}
 use Rattle.tables.specs.Records.{positionAt}
 use Rattle.tables.specs.declared.Counts.{Counts}
 use Rattle.building_tests.specs.declared.Bounds.the-variants.{Refine}
@@ -31,13 +31,7 @@ use Rattle.mesh_answers.specs.Lines.{meshLine, stepLine, atLine, refusedLine}
 
 unfoldable pub lent : Mesh
 lent =
-    record {
-      positions = replicate 768 (ofBits binary64 0);
-      points = replicate 768 0;
-      edges = replicate 4096 0;
-      intervals = replicate 512 (ofBits binary64 0);
-      faces = replicate 1280 0;
-    }
+    meshOf (replicate 768 (ofBits binary64 0)) (replicate 768 0) (replicate 4096 0) (replicate 512 (ofBits binary64 0)) (replicate 1280 0)
 
 abbrev pub pointLine : List Float → List ℕ
 pointLine ps =

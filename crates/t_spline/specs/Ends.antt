@@ -1,4 +1,5 @@
 -- What stands at the ends and the sides of an edge, and its neighbours about them, as the Rust's methods give them.
+--     connectionAt i           the connection with a number; a number past the last one is read as the last
 --     acwAtEnd end             which neighbour is next anticlockwise about the point at that end; cwAtEnd: clockwise
 --     acwOnSide side           which neighbour is next anticlockwise about the face on that side; cwOnSide: clockwise
 --     pointAtEnd e end         the point at that end
@@ -22,6 +23,9 @@ use Rattle.t_spline.specs.declared.PointEnd.{PointEnd}
 use Rattle.t_spline.specs.declared.PointEnd.the-variants as PointEnds
 use Rattle.t_spline.specs.declared.FaceSide.{FaceSide}
 use Rattle.t_spline.specs.declared.FaceSide.the-variants as FaceSides
+
+abbrev pub connectionAt : ℕ → TnurccConnection
+connectionAt i = cond (eqb i 0) LeftCw (cond (eqb i 1) LeftAcw (cond (eqb i 2) RightCw RightAcw))
 
 abbrev pub acwAtEnd : TnurccVertexEnd → TnurccConnection
 acwAtEnd Origin = LeftCw

@@ -3,7 +3,8 @@
 // Not here: rows in tables (`tables`, `records`), connecting (`edge_links`, in tables `t_nurcc_edge`).
 // Contracts cite `specs/Connection.antt` and `specs/Edge.antt`.
 ghost use mathlib.Core.Path.{_≡_};
-ghost use Rattle.t_spline.specs.Connection.{indexOf, connectionAt};
+ghost use Rattle.t_spline.specs.Connection.{indexOf};
+ghost use Rattle.t_spline.specs.Ends.{connectionAt};
 use positions::Position;
 
 pub mod t_nurcc_edge;

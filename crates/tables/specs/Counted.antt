@@ -9,7 +9,7 @@ use Prim.Native.Nat.{ℕ, _*_}
 use lib.Dec.{leb}
 use lib.ListN.{take}
 use lib.Ieee.{ofBits, binary64}
-use Rattle.tables.specs.Mesh.{Mesh, pointRows, edgeRows, faceRows}
+use Rattle.tables.specs.Mesh.{Mesh, meshOf, pointRows, edgeRows, faceRows}
 use Rattle.tables.specs.Rows.{over, zeroed}
 use Rattle.tables.specs.declared.Counts.{Counts}
 
@@ -21,32 +21,17 @@ rowsFor c t = leb (c .points) (pointRows t) && leb (c .edges) (edgeRows t) && le
 
 unfoldable pub firstRows : Counts → Mesh → Mesh
 firstRows c t =
-    record {
-      positions = take (c .points * 3) (t .positions);
-      points = take (c .points * 3) (t .points);
-      edges = take (c .edges * 8) (t .edges);
-      intervals = take (c .edges) (t .intervals);
-      faces = take (c .faces * 5) (t .faces);
-    }
+    meshOf (take (c .points * 3) (t .positions)) (take (c .points * 3) (t .points)) (take (c .edges * 8) (t .edges))
+    (take (c .edges) (t .intervals)) (take (c .faces * 5) (t .faces))
 
 unfoldable pub zeroedRows : Counts → Mesh → Mesh
 unfolding zeroed
 zeroedRows c t =
-    record {
-      positions = zeroed (c .points * 3) (ofBits binary64 0) (t .positions);
-      points = zeroed (c .points * 3) 0 (t .points);
-      edges = zeroed (c .edges * 8) 0 (t .edges);
-      intervals = zeroed (c .edges) (ofBits binary64 0) (t .intervals);
-      faces = zeroed (c .faces * 5) 0 (t .faces);
-    }
+    meshOf (zeroed (c .points * 3) (ofBits binary64 0) (t .positions)) (zeroed (c .points * 3) 0 (t .points))
+    (zeroed (c .edges * 8) 0 (t .edges)) (zeroed (c .edges) (ofBits binary64 0) (t .intervals)) (zeroed (c .faces * 5) 0 (t .faces))
 
 unfoldable pub overRows : Counts → Mesh → Mesh → Mesh
 unfolding over
 overRows c n t =
-    record {
-      positions = over (c .points * 3) (n .positions) (t .positions);
-      points = over (c .points * 3) (n .points) (t .points);
-      edges = over (c .edges * 8) (n .edges) (t .edges);
-      intervals = over (c .edges) (n .intervals) (t .intervals);
-      faces = over (c .faces * 5) (n .faces) (t .faces);
-    }
+    meshOf (over (c .points * 3) (n .positions) (t .positions)) (over (c .points * 3) (n .points) (t .points))
+    (over (c .edges * 8) (n .edges) (t .edges)) (over (c .edges) (n .intervals) (t .intervals)) (over (c .faces * 5) (n .faces) (t .faces))

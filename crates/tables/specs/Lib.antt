@@ -3,3 +3,4 @@ pub mod Rows
 pub mod Counted
 pub mod Parts
 pub mod Records
+pub mod Loaded

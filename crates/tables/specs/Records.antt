@@ -1,22 +1,15 @@
 -- The records that stand in the rows of the tables.
---     placeOf p                    what a place takes in the table of positions
 --     edgeWords e                  what an edge takes in the table of edges; its interval stands in a table of its own
 --     faceWords f                  what a face takes in the table of faces
 --     positionAt ps p              the place of point p
---     pointAt ps ws p              the control point p
 --     edgeAt es is e               the edge e
---     edgeWordsAt es e             all of the edge e but its interval, which is +0
 use mathlib.Core.List.{List, [], _∷_}
 use Prim.Native.Nat.{ℕ, _+_, _*_}
 use lib.ListN.{getD}
-use lib.Ieee.{Float, nan, binary64, ofBits}
+use lib.Ieee.{Float, nan}
 use Rattle.positions.specs.declared.Position.{Position}
-use Rattle.t_spline.specs.declared.TnurccControlPoint.{TnurccControlPoint}
 use Rattle.t_spline.specs.declared.TnurccEdge.{TnurccEdge}
 use Rattle.t_spline.specs.declared.TnurccFace.{TnurccFace}
-
-abbrev pub placeOf : Position → List Float
-placeOf p = p .x ∷ p .y ∷ p .z ∷ []
 
 abbrev pub edgeWords : TnurccEdge → List ℕ
 edgeWords e =
@@ -29,15 +22,6 @@ faceWords f =
 
 abbrev pub positionAt : List Float → ℕ → Position
 positionAt ps p = record { x = getD ps (p * 3) nan; y = getD ps (p * 3 + 1) nan; z = getD ps (p * 3 + 2) nan }
-
-abbrev pub pointAt : List Float → List ℕ → ℕ → TnurccControlPoint
-pointAt ps ws p =
-    record {
-      point = positionAt ps p;
-      valence = getD ws (p * 3) 0;
-      «incoming_edge» = getD ws (p * 3 + 1) 0;
-      extraordinary = getD ws (p * 3 + 2) 0;
-    }
 
 -- the words of the edge e, with the interval d
 abbrev pub edgeOver : List ℕ → Float → ℕ → TnurccEdge
@@ -53,6 +37,3 @@ edgeOver es d e =
 
 abbrev pub edgeAt : List ℕ → List Float → ℕ → TnurccEdge
 edgeAt es is e = edgeOver es (getD is e nan) e
-
-abbrev pub edgeWordsAt : List ℕ → ℕ → TnurccEdge
-edgeWordsAt es e = edgeOver es (ofBits binary64 0) e

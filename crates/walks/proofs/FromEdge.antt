@@ -18,7 +18,7 @@ use Rattle.t_spline.specs.declared.TnurccConnection.{TnurccConnection}
 use Rattle.t_spline.specs.declared.TnurccVertexEnd.{TnurccVertexEnd}
 use Rattle.t_spline.specs.declared.TnurccVertexEnd.the-variants.{Origin, Dest}
 use Rattle.t_spline.specs.declared.TnurccFaceSide.the-variants.{Left, Right}
-use Rattle.tables.specs.Records.{edgeWordsAt}
+use Rattle.tables.specs.Loaded.{edgeWordsAt}
 use Rattle.walks.specs.Steps.{faceStep, pointStep}
 use Rattle.walks.specs.declared.Step.the-variants.{To, Lost}
 
