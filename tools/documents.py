@@ -24,7 +24,7 @@ STATED = """
 ABOUT = {
     "closed_meshes": "closed meshes over any rows, their refinement, names, what two meshes share",
     "positions": "positions, small and finite numbers",
-    "t_spline": "the ends, sides and neighbours of an edge",
+    "t_spline": "the neighbours and the faces of an edge",
     "edge_links": "connecting two edges",
     "tables": "the five tables",
     "t_nurcc_edge": "connecting two rows",
