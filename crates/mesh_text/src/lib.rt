@@ -1,6 +1,7 @@
 // Mesh text 1 (document 01, "Mesh text"): its grammar, and a reader of it.
 // Not here: its lines (`mesh_lines`), grounds 3 and later (building), the answers' lines (`mesh_answers`).
-// Contract: `read_text`. Definitions: `specs/Text.antt` (the grammar), `specs/Reading.antt` (the answer and the lists).
+// Contract: `read_text`. Definitions: `specs/Text.antt` (the grammar), `specs/Lists.antt` (the lists that
+// a text stands for), `specs/Reading.antt` (the answer and the lent lists).
 // Laws for callers: `proofs/Read.antt`.
 ghost use mathlib.Core.Path.{_≡_};
 ghost use Prim.Native.Nat.{_≤_};

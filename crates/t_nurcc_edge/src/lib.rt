@@ -1,6 +1,6 @@
 // Connecting two edges in the tables of a mesh.
 // Carries over `connect` of t_nurcc_edge/mod.rs; what looks at no table stands in `edge_links`.
-// Contract: `connect`. Definitions: `specs/Connected.antt`. Laws: `proofs/Laws.antt`, `proofs/Links.antt`.
+// Contract: `connect`. Definitions: `specs/Connected.antt`, `specs/Joinable.antt`. Laws: `proofs/Laws.antt`, `proofs/Links.antt`.
 ghost use mathlib.Core.Path.{_≡_};
 ghost use mathlib.Core.List.{List};
 ghost use mathlib.Core.Logic.{_≢_};

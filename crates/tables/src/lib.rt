@@ -3,7 +3,8 @@
 // right face, then the neighbours LeftCw, LeftAcw, RightCw, RightAcw). Intervals: 1 number an edge. Faces: 5 words (start
 // edge, four corners).
 // Not here: rows loaded and stored as records by value (`records`), what a closed mesh is (`audited_meshes`).
-// Definitions: `specs/Mesh.antt`, `specs/Rows.antt`, `specs/Records.antt`, `specs/Counted.antt`. Laws for callers: `proofs/Laws.antt`.
+// Definitions: `specs/Mesh.antt`, `specs/Rows.antt`, `specs/Records.antt`, `specs/Loaded.antt`,
+// `specs/Counted.antt`, `specs/Parts.antt`. Laws for callers: `proofs/Laws.antt`.
 ghost use mathlib.Core.Path.{_≡_};
 ghost use mathlib.Core.List.{[]};
 ghost use Prim.Native.Nat.{_≤_, min};
