@@ -13,7 +13,9 @@ use Rattle.tables.specs.Mesh.{Mesh, none, x, y, z, valence, start, mark, origin
 use Rattle.closed_meshes.specs.Renumbering.{sumTo}
 use Rattle.audited_meshes.specs.Folds.{every, occurrences, distinct}
 use Rattle.audited_meshes.specs.Walks.{Walk, back, lost, borders, touches, acwOfFace, acwOfPoint, cwOfFace, firstPoint, faceWalk, pointWalk}
-use Rattle.audited_meshes.specs.Audit.{pointRows, edgeRows, faceRows, countsFit, edgeInRange, inRange, intervalFit, numbersFit, sameEnds, edgesDiffer, acwLinks, cwLinks, linked, faceWalked, pointWalked, cornersFit, marksFit, audit}
+use Rattle.audited_meshes.specs.Audit.{pointRows, edgeRows, faceRows, countsFit, edgeInRange, inRange}
+use Rattle.audited_meshes.specs.Audit.{intervalFit, numbersFit, sameEnds, edgesDiffer, acwLinks, cwLinks}
+use Rattle.audited_meshes.specs.Audit.{linked, faceWalked, pointWalked, cornersFit, marksFit, audit}
 use Rattle.audited_meshes.specs.Audited.{Borders, Touches, SameEnds, Distinct, Passes, EdgeInRange, AcwLinks, CwLinks, FaceWalked, PointWalked}
 use Rattle.audited_meshes.specs.Claims.{AuditIsAudited}
 use Rattle.audited_meshes.proofs.Tests.{Is, and-is, or-is, not-is, if-is, eqb-is, ltb-is, leb-is, self-is, every-is}
