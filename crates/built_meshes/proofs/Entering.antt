@@ -37,7 +37,9 @@ use Rattle.built_meshes.specs.declared.Ground.the-variants.{EdgeTripleFa
 use Rattle.built_meshes.specs.declared.Found.{Found}
 use Rattle.built_meshes.specs.declared.Found.the-variants as Founds
 use Rattle.built_meshes.proofs.Connecting.{firstOf, secondOf, acwOf, cwOf}
-use Rattle.built_meshes.proofs.Rows.{row, withRight, row-newEdge, row-newEdge-other, valence-newEdge-first, valence-newEdge-second, valence-newEdge-other, start-newEdge-first, start-newEdge-second, start-newEdge-other, row-filled, row-filled-other}
+use Rattle.built_meshes.proofs.Rows.{row, withRight, row-newEdge, row-newEdge-other, valence-newEdge-first}
+use Rattle.built_meshes.proofs.Rows.{valence-newEdge-second, valence-newEdge-other, start-newEdge-first}
+use Rattle.built_meshes.proofs.Rows.{start-newEdge-second, start-newEdge-other, row-filled, row-filled-other}
 use Rattle.built_meshes.proofs.Places.{next-below, next-differs}
 use Rattle.built_meshes.proofs.Beyond.{behind-trans, behind-set, behind-putRow, behind-touched}
 use Rattle.built_meshes.proofs.Invariant.{Sits, Good, Invariant, Adds, Or-this, sits-added, sits-new, invariant-added}
@@ -406,8 +408,11 @@ module _ (l : Lists) (D C : ℕ → ℕ → Type 0) (m : Mesh) (ne : ℕ) (f₀ 
 
           old : valence new x ≡ valence m x → At-new (start m x)
           old same =
-              let s = v .start-is x k (subst (λ n. 0 < n) same h) in
-              (omega (arith, s .0), ⊎-elim (λ z. inl (ap (λ (r : TnurccEdge). r .origin) (there (start m x) (s .0)) ∙ z)) (λ z. inr (ap (λ (r : TnurccEdge). r .dest) (there (start m x) (s .0)) ∙ z)) (s .1))
+              let s = v .start-is x k (subst (λ n. 0 < n) same h) in (
+                omega (arith, s .0),
+                ⊎-elim (λ z. inl (ap (λ (r : TnurccEdge). r .origin) (there (start m x) (s .0)) ∙ z))
+                    (λ z. inr (ap (λ (r : TnurccEdge). r .dest) (there (start m x) (s .0)) ∙ z)) (s .1),
+              )
 
           go : Dec (x ≡ p) → Dec (x ≡ q) → At-new (start new x)
           go (yes i) d =

@@ -24,7 +24,9 @@ use Rattle.built_meshes.specs.Beyond.{Within}
 use Rattle.built_meshes.specs.Grounds.{Holds}
 use Rattle.built_meshes.specs.Claims.{Refused-by, Refusals-hold, Accepts-exactly, Audited-counts, Accepted-audited, Untouched-beyond}
 use Rattle.built_meshes.specs.declared.Ground.{Ground}
-use Rattle.built_meshes.specs.declared.Ground.the-variants.{OverCounts, UnfitNumber, FewRows, FaceSize, OutOfRange, PointTwice, NonRectangularFace, EdgeTripleFace, SameWay, MissingFace, NoEdge, MissedEdge}
+use Rattle.built_meshes.specs.declared.Ground.the-variants.{OverCounts, UnfitNumber, FewRows, FaceSize, OutOfRange}
+use Rattle.built_meshes.specs.declared.Ground.the-variants.{PointTwice, NonRectangularFace, EdgeTripleFace}
+use Rattle.built_meshes.specs.declared.Ground.the-variants.{SameWay, MissingFace, NoEdge, MissedEdge}
 use Rattle.built_meshes.specs.declared.Verdict.{Verdict}
 use Rattle.built_meshes.specs.declared.Built.the-variants.{Accepted, Refused}
 use Rattle.built_meshes.proofs.Rows.{row}
@@ -32,9 +34,13 @@ use Rattle.built_meshes.proofs.Beyond.{within-refl, within-trans, zeroe
 use Rattle.built_meshes.proofs.Entering.{counted}
 use Rattle.built_meshes.proofs.Perimeter.{Faces}
 use Rattle.built_meshes.proofs.Faces.{Fit-faces, Faces-came, stand, stop, faces-came}
-use Rattle.built_meshes.proofs.Begin.{row-zeroed, Counted, counts-is, counts-fail, counted-fits, Numbered, numbers-is, numbers-fail, numbered-fits, Roomy, rows-is, rows-fail, roomy-fits, listed-all, within-zeroed, ready, faces-none}
+use Rattle.built_meshes.proofs.Begin.{row-zeroed, Counted, counts-is, counts-fail, counted-fits, Numbered}
+use Rattle.built_meshes.proofs.Begin.{numbers-is, numbers-fail, numbered-fits, Roomy, rows-is, rows-fail}
+use Rattle.built_meshes.proofs.Begin.{roomy-fits, listed-all, within-zeroed, ready, faces-none}
 use Rattle.built_meshes.proofs.Finished.{within-finished, audited-finished}
-use Rattle.built_meshes.proofs.Refusals.{Whole-fit, Whole-verdict, whole-fit, whole-unfit, whole-verdict-is, no-face-size, no-out-of-range, no-point-twice, no-unlike-sums, no-triple, no-same-way, no-missing, no-no-edge, no-missed}
+use Rattle.built_meshes.proofs.Refusals.{Whole-fit, Whole-verdict, whole-fit, whole-unfit, whole-verdict-is}
+use Rattle.built_meshes.proofs.Refusals.{no-face-size, no-out-of-range, no-point-twice, no-unlike-sums}
+use Rattle.built_meshes.proofs.Refusals.{no-triple, no-same-way, no-missing, no-no-edge, no-missed}
 
 -- two sides of each edge, where none lacks its right face
 counted-all : (m : Mesh) (ne : ℕ) → ((e : ℕ) → e < ne → row m e .«face_right» ≢ none) → counted m ne ≡ 2 * ne
