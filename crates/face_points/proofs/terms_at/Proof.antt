@@ -7,16 +7,30 @@ use Rattle.face_points.proofs.terms_at.Statement.{statement}
 use Rattle.face_points.proofs.terms_at.Tie as tie
 
 mul-index : tie.Need-mul-index
-mul-index c = let l = lt-of-lt-of-le (around-below _ _ (c .before .before .before .pre .1)) (c .before .before .before .pre .0 .at-most-64) in let e = c .around .ensures in omega (arith, l, e)
+mul-index c =
+    let l = lt-of-lt-of-le (around-below _ _ (c .before .before .before .pre .1))
+    (c .before .before .before .pre .0 .at-most-64) in
+    let e = c .around .ensures in
+    omega (arith, l, e)
 
 element-copy-out-index : tie.Need-element-copy-out-index
-element-copy-out-index c = rw (c .around .ensures) (lt-of-lt-of-le (around-below _ _ (c .before .before .before .pre .1)) (c .before .before .before .pre .0 .at-most-64))
+element-copy-out-index c =
+    rw (c .around .ensures) (lt-of-lt-of-le (around-below _ _ (c .before .before .before .pre .1))
+    (c .before .before .before .pre .0 .at-most-64))
 
 terms-about-requires : tie.Need-terms-about-requires
-terms-about-requires c κs = rw (c .before .index .ensures, c .before .before .before .around .ensures) (border-fits _ _ _ _ _ (c .before .before .before .before .before .before .pre .0) (c .before .before .before .before .before .before .pre .1))
+terms-about-requires c κs =
+    let pre = c .before .before .before .before .before .before .pre in
+    rw (c .before .index .ensures, c .before .before .before .around .ensures) (border-fits _ _ _ _ _ (pre .0) (pre .1))
 
 returns : tie.Need-returns
-returns c = rw (c .terms-about .ensures, c .before .index2 .ensures, c .before .before .index .ensures, c .before .before .before .before .around .ensures)
+returns c =
+    rw (
+      c .terms-about .ensures,
+      c .before .index2 .ensures,
+      c .before .before .index .ensures,
+      c .before .before .before .before .around .ensures,
+    )
 
 pub terms-at-spec : {M : Type 1} → statement M
 terms-at-spec =

@@ -17,59 +17,108 @@ abbrev μ-loop : tie.MeasureT-loop
 μ-loop positions edges intervals points border n s₀ first₀ third₀ i₀ s first third i = n - i
 
 terms-at-requires : tie.Need-terms-at-requires Inv-loop μ-loop
-terms-at-requires c κs = (c .before .before .before .before .before .pre .0, omega (arith, c .before .before .before .before .before .pre .0 .at-least-3))
+terms-at-requires c κs =
+    let pre = c .before .before .before .before .before .pre in
+    (pre .0, omega (arith, pre .0 .at-least-3))
 
 terms-at-requires-2 : tie.Need-terms-at-requires-2 Inv-loop μ-loop
-terms-at-requires-2 c κs = (c .before .before .before .before .before .before .before .pre .0, omega (arith, c .before .before .before .before .before .before .before .pre .0 .at-least-3))
+terms-at-requires-2 c κs =
+    let pre = c .before .before .before .before .before .before .before .pre in
+    (pre .0, omega (arith, pre .0 .at-least-3))
 
 loop-holds : tie.Need-loop-holds Inv-loop μ-loop
 loop-holds c =
     let a = c .before .before .before .before .before .before .before .before .args in
-    summed-start (a .positions .now) (a .edges .now) (a .intervals .now) (a .points .now) (a .border .now) (a .n) _ _ _ (rw (c .before .before .before .before .origin .ensures)) (c .before .before .terms-at .ensures) (c .terms-at2 .ensures)
+    summed-start (a .positions .now) (a .edges .now) (a .intervals .now) (a .points .now) (a .border .now) (a .n) _ _ _
+    (rw (c .before .before .before .before .origin .ensures)) (c .before .before .terms-at .ensures)
+    (c .terms-at2 .ensures)
 
 terms-at-requires-3 : tie.Need-terms-at-requires-3 Inv-loop μ-loop
-terms-at-requires-3 c κs = (c .before .before .before .before .before .before .before .before .before .before .before .pre .0, omega (arith, c .before .before .before .before .before .before .before .before .before .before .before .pre .0 .at-least-3, c .before .loop-test .taken))
+terms-at-requires-3 c κs =
+    let pre = c .before .before .before .before .before .before .before .before .before .before .before .pre in
+    (pre .0, omega (arith, pre .0 .at-least-3, c .before .loop-test .taken))
 
 add-terms-at-3 : tie.Need-add-terms-at-3 Inv-loop μ-loop
-add-terms-at-3 c = omega (arith, c .before .before .loop-test .taken, c .before .before .before .before .before .before .before .before .before .before .before .before .pre .0 .at-most-64)
+add-terms-at-3 c =
+    let c8 = c .before .before .before .before .before .before .before .before in
+    let pre = c8 .before .before .before .before .pre in
+    omega (arith, c .before .before .loop-test .taken, pre .0 .at-most-64)
 
 mul-terms-at-2 : tie.Need-mul-terms-at-2 Inv-loop μ-loop
-mul-terms-at-2 c = omega (arith, c .before .before .loop-test .taken, c .before .before .before .before .before .before .before .before .before .before .before .before .pre .0 .at-most-64)
+mul-terms-at-2 c =
+    let c8 = c .before .before .before .before .before .before .before .before in
+    let pre = c8 .before .before .before .before .pre in
+    omega (arith, c .before .before .loop-test .taken, pre .0 .at-most-64)
 
 element-copy-out-terms-at-4 : tie.Need-element-copy-out-terms-at-4 Inv-loop μ-loop
-element-copy-out-terms-at-4 c = omega (arith, c .before .before .loop-test .taken, c .before .before .before .before .before .before .before .before .before .before .before .before .pre .0 .at-most-64)
+element-copy-out-terms-at-4 c =
+    let c8 = c .before .before .before .before .before .before .before .before in
+    let pre = c8 .before .before .before .before .pre in
+    omega (arith, c .before .before .loop-test .taken, pre .0 .at-most-64)
 
 add-terms-at-4 : tie.Need-add-terms-at-4 Inv-loop μ-loop
-add-terms-at-4 c = omega (arith, c .before .before .before .loop-test .taken, c .before .before .before .before .before .before .before .before .before .before .before .before .before .pre .0 .at-most-64)
+add-terms-at-4 c =
+    let c8 = c .before .before .before .before .before .before .before .before in
+    let pre = c8 .before .before .before .before .before .pre in
+    omega (arith, c .before .before .before .loop-test .taken, pre .0 .at-most-64)
 
 terms-at-requires-4 : tie.Need-terms-at-requires-4 Inv-loop μ-loop
-terms-at-requires-4 c κs = (c .before .before .before .before .before .before .before .before .before .before .before .before .before .pre .0, omega (arith, c .before .before .before .before .before .before .before .before .before .before .before .before .before .pre .0 .at-least-3, c .before .before .before .loop-test .taken))
+terms-at-requires-4 c κs =
+    let c8 = c .before .before .before .before .before .before .before .before in
+    let pre = c8 .before .before .before .before .before .pre in
+    (pre .0, omega (arith, pre .0 .at-least-3, c .before .before .before .loop-test .taken))
 
 add-index : tie.Need-add-index Inv-loop μ-loop
-add-index c = omega (arith, c .before .before .before .before .before .before .loop-test .taken, c .before .before .before .before .before .before .before .before .before .before .before .before .before .before .before .before .pre .0 .at-most-64)
+add-index c =
+    let c8 = c .before .before .before .before .before .before .before .before in
+    let pre = c8 .before .before .before .before .before .before .before .before .pre in
+    omega (arith, c .before .before .before .before .before .before .loop-test .taken, pre .0 .at-most-64)
 
 mul-index : tie.Need-mul-index Inv-loop μ-loop
-mul-index c = omega (arith, c .before .before .before .before .before .before .loop-test .taken, c .before .before .before .before .before .before .before .before .before .before .before .before .before .before .before .before .pre .0 .at-most-64)
+mul-index c =
+    let c8 = c .before .before .before .before .before .before .before .before in
+    let pre = c8 .before .before .before .before .before .before .before .before .pre in
+    omega (arith, c .before .before .before .before .before .before .loop-test .taken, pre .0 .at-most-64)
 
 element-copy-out-index : tie.Need-element-copy-out-index Inv-loop μ-loop
-element-copy-out-index c = omega (arith, c .before .before .before .before .before .before .loop-test .taken, c .before .before .before .before .before .before .before .before .before .before .before .before .before .before .before .before .pre .0 .at-most-64)
+element-copy-out-index c =
+    let c8 = c .before .before .before .before .before .before .before .before in
+    let pre = c8 .before .before .before .before .before .before .before .before .pre in
+    omega (arith, c .before .before .before .before .before .before .loop-test .taken, pre .0 .at-most-64)
 
 load-position-requires : tie.Need-load-position-requires Inv-loop μ-loop
-load-position-requires c κs = rw (c .index .ensures) (c .before .before .before .before .before .before .before .before .before .before .before .before .before .before .before .before .before .before .pre .1 .points-there _ (omega (arith, c .before .before .before .before .before .before .before .before .loop-test .taken)))
+load-position-requires c κs =
+    let c8 = c .before .before .before .before .before .before .before .before in
+    let c16 = c8 .before .before .before .before .before .before .before .before in
+    rw (c .index .ensures) (c16 .before .before .pre .1 .points-there _ (omega (arith, c8 .loop-test .taken)))
 
 add-i : tie.Need-add-i Inv-loop μ-loop
-add-i c = omega (arith, c .before .before .before .before .before .before .before .before .before .before .loop-test .taken, c .before .before .before .before .before .before .before .before .before .before .before .before .before .before .before .before .before .before .before .before .pre .0 .at-most-64)
+add-i c =
+    let c8 = c .before .before .before .before .before .before .before .before in
+    let c16 = c8 .before .before .before .before .before .before .before .before in
+    let pre = c16 .before .before .before .before .pre in
+    omega (arith, c8 .before .before .loop-test .taken, pre .0 .at-most-64)
 
 loop-again : tie.Need-loop-again Inv-loop μ-loop
 loop-again c =
-    let a = c .before .before .before .before .before .before .before .before .before .before .before .before .before .before .before .before .before .before .before .before .args in
-    summed-more (a .positions .now) (a .edges .now) (a .intervals .now) (a .points .now) (a .border .now) (a .n) _ _ _ _ (c .before .before .before .before .before .before .before .before .before .before .before .loop .inv) (c .before .before .before .before .before .before .before .before .before .before .loop-test .taken) _ _ (c .before .before .before .before .before .before .before .before .terms-at3 .ensures) (c .before .before .before .before .before .before .terms-at4 .ensures) _ _ (c .before .before .before .before .before .six-terms .ensures) (c .before .before .before .before .six-terms2 .ensures) _ _ (c .before .before .index .ensures) (c .before .load-position .ensures) _ (c .with-term .ensures)
+    let c8 = c .before .before .before .before .before .before .before .before in
+    let c16 = c8 .before .before .before .before .before .before .before .before in
+    let a = c16 .before .before .before .before .args in
+    let loop = c8 .before .before .before .loop in
+    summed-more (a .positions .now) (a .edges .now) (a .intervals .now) (a .points .now) (a .border .now) (a .n) _ _ _ _
+    (loop .inv) (c8 .before .before .loop-test .taken) _ _ (c8 .terms-at3 .ensures)
+    (c .before .before .before .before .before .before .terms-at4 .ensures) _ _
+    (c .before .before .before .before .before .six-terms .ensures)
+    (c .before .before .before .before .six-terms2 .ensures) _ _ (c .before .before .index .ensures)
+    (c .before .load-position .ensures) _ (c .with-term .ensures)
 
 returns : tie.Need-returns Inv-loop μ-loop
 returns c =
     let a = c .before .before .before .before .before .before .before .before .before .before .args in
     c .before .loop .inv .sum-is
-    ∙ ap (λ (k : ℕ). windowSum (a .positions .now) (a .edges .now) (a .intervals .now) (λ j. getD (a .points .now) j 0) (λ j. getD (a .border .now) (around (a .n) j) 0) k) (omega (arith, c .before .loop .inv .within, c .loop-test .left))
+    ∙ ap (λ (k : ℕ). windowSum (a .positions .now) (a .edges .now) (a .intervals .now) (λ j. getD (a .points .now) j 0)
+    (λ j. getD (a .border .now) (around (a .n) j) 0) k)
+    (omega (arith, c .before .loop .inv .within, c .loop-test .left))
 
 pub window-sum-spec : {M : Type 1} → statement M
 window-sum-spec =
