@@ -26,7 +26,8 @@ use Rattle.refined_meshes.specs.Visits.{refinedRows}
 use Rattle.steps.specs.declared.Stepped.{Stepped}
 use Rattle.steps.specs.declared.Stepped.the-variants.{Refined, NotClosed, NotEachFaceOnce, NoRoom, NotFinite}
 use Rattle.steps.specs.Positions.{Placing, on, stopped, placedAll}
-use Rattle.steps.specs.Step.{numberOf, refinedCounts, eachFaceOnce, rowsFor, withinCeilings, roomFor, firstRows, overRows, Made, whole, notFinite, madeOf, placedRows, made, refusal, ended, stepIf, step}
+use Rattle.steps.specs.Step.{numberOf, refinedCounts, eachFaceOnce, rowsFor, withinCeilings, roomFor, firstRows}
+use Rattle.steps.specs.Step.{overRows, Made, whole, notFinite, madeOf, placedRows, made, refusal, ended, stepIf, step}
 use Rattle.steps.specs.Rows.{Room}
 use Rattle.steps.specs.OneStep.{Refused, Untouched}
 use Rattle.steps.proofs.Rows.{room-of-rows}

@@ -39,7 +39,9 @@ use Rattle.position_rules.proofs.Floats.{half-fit}
 use Rattle.steps.specs.Positions.{on, facePointRow, edgePointRow, placedAll}
 use Rattle.steps.specs.Step.{refinedCounts, firstRows, overRows, whole, step}
 use Rattle.steps.specs.OneStep.{Refinement, Binary64, OneStep}
-use Rattle.steps.proofs.Rows.{points-fit, edges-fit, faces-fit, Exact, exact-firstRows, room-of-exact, room-of-holds, holds-same, holds-firstRows, SameRows, firstRows-overRows, same-overRows, room-overRows, position-same}
+use Rattle.steps.proofs.Rows.{points-fit, edges-fit, faces-fit, Exact, exact-firstRows}
+use Rattle.steps.proofs.Rows.{room-of-exact, room-of-holds, holds-same, holds-firstRows, SameRows}
+use Rattle.steps.proofs.Rows.{firstRows-overRows, same-overRows, room-overRows, position-same}
 use Rattle.steps.proofs.NewPositions.{PointRows, AllPlaced, placed-all, length-all}
 use Rattle.steps.proofs.Lengths.{long-refinedRows}
 use Rattle.steps.proofs.Joining.{joining-fit, binary64-firstRows}
