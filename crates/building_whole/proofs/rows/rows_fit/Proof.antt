@@ -8,10 +8,20 @@ returns : tie.Need-returns
 returns c = rw (lt-leb _ _ (rw (c .before .point-rows .ensures) at (c .if1 .taken)))
 
 returns-2 : tie.Need-returns-2
-returns-2 c = rw (le-leb _ _ (rw (c .before .before .before .point-rows .ensures) at (c .before .before .if1 .left)), lt-leb _ _ (rw (c .before .face-rows .ensures) at (c .if2 .taken)))
+returns-2 c =
+    rw (
+      le-leb _ _ (rw (c .before .before .before .point-rows .ensures) at (c .before .before .if1 .left)),
+      lt-leb _ _ (rw (c .before .face-rows .ensures) at (c .if2 .taken)),
+    )
 
 returns-3 : tie.Need-returns-3
-returns-3 c = rw (le-leb _ _ (rw (c .before .before .before .before .point-rows .ensures) at (c .before .before .before .if1 .left)), le-leb _ _ (rw (c .before .before .face-rows .ensures) at (c .before .if2 .left)), c .edge-rows .ensures)
+returns-3 c =
+    rw (
+      le-leb _ _
+          (rw (c .before .before .before .before .point-rows .ensures) at (c .before .before .before .if1 .left)),
+      le-leb _ _ (rw (c .before .before .face-rows .ensures) at (c .before .if2 .left)),
+      c .edge-rows .ensures,
+    )
 
 pub rows-fit-spec : {M : Type 1} → statement M
 rows-fit-spec =
