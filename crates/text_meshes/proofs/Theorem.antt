@@ -144,8 +144,10 @@ over-exactly b s m = (to (buildText b s m) (came b s m), from)
     to : (o : Outcome) → Came b s m o → o .answer ≡ Refused OverCounts → Over-text b s
     to o (bytes h) a = many-bytes h
     to o (formless h e) a = let z : _≡_ {A = ℕ} 0 1 = cc in absurd (omega arith)
-    to o (formed {t = t} h) a =
-        which t h (over-means (limitsOf b) s t (h .place) (h .form) (refusals-hold (limitsOf b) (listsOf t) m (few-faces b) OverCounts (told-refused (build (limitsOf b) (listsOf t) m .answer) a) .holds))
+    to o (formed {t = t} h) a = which t h
+        (over-means (limitsOf b) s t (h .place) (h .form)
+        (refusals-hold (limitsOf b) (listsOf t) m (few-faces b) OverCounts
+        (told-refused (build (limitsOf b) (listsOf t) m .answer) a) .holds))
 
     refuses : (t : TextMesh) → Stands-for b s t → Over-counts (limitsOf b) (listsOf t) → buildText b s m .answer ≡ Refused OverCounts
     refuses t h k = ap (λ (o : Outcome). o .answer) (of-lists b s m h) ∙ ap told (go (countsFit (limitsOf b) (listsOf t)) refl)
