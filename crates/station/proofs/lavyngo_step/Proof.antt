@@ -7,10 +7,17 @@ use Rattle.station.proofs.lavyngo_step.Tie as tie
 
 returns : tie.Need-returns
 returns c =
-    let a = c .before .before .before .before .before .before .before .before .before .before .before .before .before .before .before .before .before .before .before .before .before .before .before .before .before .before .before .before .before .before .before .before .before .before .before .before .before .before .before .before .before .before .before .before .before .before .args in
-    step-told (a .counts .now) (meshOf (a .positions .now) (a .points .now) (a .edges .now) (a .intervals .now) (a .faces .now))
-    (meshOf (a .places .now) (a .rows .now) (a .halves .now) (a .lengths .now) (a .quads .now)) (a .order .now) (c .before .before .before .before .before .before .before .before .before .before .before .before .before .before .before .before .before .before .before .before .before .before .before .before .before .before .before .before .before .before .before .before .before .load-counts .ensures)
-    (c .before .before .before .before .before .before .before .before .before .before .before .before .before .before .before .before .before .before .before .before .before .before .step .ensures .0) (c .tell-stepped .ensures .0) (c .tell-stepped .ensures .1)
+    let c8 = c .before .before .before .before .before .before .before .before in
+    let c16 = c8 .before .before .before .before .before .before .before .before in
+    let c24 = c16 .before .before .before .before .before .before .before .before in
+    let c32 = c24 .before .before .before .before .before .before .before .before in
+    let c40 = c32 .before .before .before .before .before .before .before .before in
+    let a = c40 .before .before .before .before .before .before .args in
+    let step = c16 .before .before .before .before .before .before .step in
+    step-told (a .counts .now)
+    (meshOf (a .positions .now) (a .points .now) (a .edges .now) (a .intervals .now) (a .faces .now))
+    (meshOf (a .places .now) (a .rows .now) (a .halves .now) (a .lengths .now) (a .quads .now)) (a .order .now)
+    (c32 .before .load-counts .ensures) (step .ensures .0) (c .tell-stepped .ensures .0) (c .tell-stepped .ensures .1)
 
 pub lavyngo-step-spec : {M : Type 1} → statement M
 lavyngo-step-spec =
