@@ -253,6 +253,11 @@ def repeated(toks):
     return False
 
 
+def searched(toks):
+    """Whether the answer leaves the proof to `search`: it looks into every name in scope, and would find less with more of them."""
+    return any(w == "search" for w, _ in toks[:1]) or any(a[0] == "=" and b[0] == "search" for a, b in zip(toks, toks[1:]))
+
+
 # -- Lines
 
 
@@ -402,7 +407,7 @@ def put_chunk(ch, out):
             if first:
                 out.put(it)
             elif s:
-                if not (out.fits(it) or is_step(it) or is_number(it) or it in AFTER):
+                if not out.fits(it) and it not in AFTER:
                     out.newline()
                 out.put(it)
             else:
@@ -513,10 +518,10 @@ def bound_unit(unit):
             toks = tokens(body)
         except Unfit:
             continue
-        if not (repeated(toks) or ".before" in body and wide(whole, WIDE)):
+        if not (repeated(toks) and not searched(toks) or ".before" in body and wide(whole, WIDE)):
             continue
         try:
-            new = with_bindings(*without_bindings(toks))
+            new = toks if searched(toks) else with_bindings(*without_bindings(toks))
             head = unit[unit.rfind("\n", 0, a) + 1 : a]
             if clause:
                 one = head + flat([(" " + new[0][0], False), *new[1:]])
