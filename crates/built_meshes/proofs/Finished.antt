@@ -86,7 +86,7 @@ behind-marked (suc k) ws n h =
 
 -- ---- positions
 
-getD-over : {A : Type 0} (n i : ℕ) (new xs : List A) (d : A) → i < n → n ≤ length new → getD (over n new xs) i d ≡ getD new i d
+pub getD-over : {A : Type 0} (n i : ℕ) (new xs : List A) (d : A) → i < n → n ≤ length new → getD (over n new xs) i d ≡ getD new i d
 unfolding over
 getD-over n i new xs d h fits =
     List·getD-append (take n new) (drop n xs) d i (rw (length-take-le n new fits) h) ∙ getD-take n new i d h

@@ -2,6 +2,7 @@ pub mod Connecting
 pub mod Rows
 pub mod Places
 pub mod Beyond
+pub mod Made
 pub mod Invariant
 pub mod Joining
 pub mod Entering
@@ -10,6 +11,7 @@ pub mod Faces
 pub mod Whole
 pub mod Begin
 pub mod Finished
+pub mod Builds
 pub mod Refusals
 pub mod Theorem
 pub mod Cases

@@ -23,7 +23,7 @@ use Rattle.audited_meshes.proofs.Folds.{below-suc, sumTo-cong}
 use Rattle.built_meshes.specs.Lists.{Lists, pointsOf, facesOf, size, offset}
 use Rattle.built_meshes.specs.Edges.{Entered, at, entered, joined}
 use Rattle.built_meshes.specs.Perimeters.{State, Ring, Step, on, stopped, nextPlace, chained, turned, turn, places, faceOf, withFace, closedUp, perimeter}
-use Rattle.built_meshes.specs.Places.{pointOf, nextOf}
+use Rattle.built_meshes.specs.Places.{pointOf, nextOf, Earlier}
 use Rattle.built_meshes.specs.Beyond.{Within}
 use Rattle.built_meshes.specs.declared.Ground.{Ground}
 use Rattle.built_meshes.proofs.Connecting.{Keeps}
@@ -155,7 +155,11 @@ module _ (l : Lists) (s : State) (k : ℕ) (kf : k < facesOf l) (sound : FaceSou
     entering =
         came l (Done l k i) (Chained l k i) (r .mesh) (r .edges) k i (a .invariant) (good i below) (getD (l .intervals) (offset l k + i) nan)
         (ready .intervals-fit (offset l k + i) (omega (arith, place-listed l k i kf below, ready .all-listed)))
-        (ready' .points-room) (omega (arith, room, ready' .edges-room)) (omega (arith, room, ready' .intervals-room)) room
+        (ready' .points-room) (omega (arith, room, ready' .edges-room)) (omega (arith, room, ready' .intervals-room)) room earlier refl
+      where
+        earlier : (f j : ℕ) → Done l k i f j → Earlier f j k i
+        earlier f j (inl h) = inl (h .0)
+        earlier f j (inr h) = inr h
 
     -- as many edges as places, at most
     few-edges : {m' : Mesh} {ne' e : ℕ} → Goes l (Done l k i) (Chained l k i) (r .mesh) (r .edges) k i m' ne' e → ne' ≤ length (l .listed)

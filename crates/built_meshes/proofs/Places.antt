@@ -2,11 +2,12 @@
 use mathlib.Core.Path.{_≡_, refl}
 use mathlib.Core.Bool.{Bool, true, false, cond}
 use mathlib.Core.Logic.{_⊎_, inl, inr, _≢_}
-use Prim.Native.Nat.{ℕ, zero, suc, _<_, _≤_}
+use Prim.Native.Nat.{ℕ, zero, suc, _-_, _<_, _≤_}
 use native.Mathlib.Omega.{arith}
 use lib.Dec.{eqb}
 use borrow.Author.Tests.{eqb-true, eqb-false}
 use Rattle.built_meshes.specs.Perimeters.{nextPlace}
+use Rattle.built_meshes.specs.Builds.{prevPlace}
 
 -- the place after a place is the one behind it, or the last place's is the first
 pub next-is : (n i : ℕ) → ((suc i ≡ n) × (nextPlace n i ≡ 0)) ⊎ ((suc i ≢ n) × (nextPlace n i ≡ suc i))
@@ -50,18 +51,14 @@ next-next-differs n i three l e = go (next-is n i) (next-is n (nextPlace n i))
     go (inr a) (inl b) = omega arith
     go (inr a) (inr b) = omega arith
 
--- each place is the next one of some place
-pub prev-exists : (n i : ℕ) → i < n → (j : ℕ) × (j < n) × (nextPlace n j ≡ i)
-prev-exists n zero h = last n h
+-- the place before a place, of which it is the next one
+pub prev-is : (n i : ℕ) → i < n → (prevPlace n i < n) × (nextPlace n (prevPlace n i) ≡ i)
+prev-is n zero h = (omega arith, go (next-is n (n - 1)))
   where
-    last : (n : ℕ) → 0 < n → (j : ℕ) × (j < n) × (nextPlace n j ≡ 0)
-    last zero h = absurd (omega arith)
-    last (suc j) h = (j, omega arith, go (next-is (suc j) j))
-      where
-        go : ((suc j ≡ suc j) × (nextPlace (suc j) j ≡ 0)) ⊎ ((suc j ≢ suc j) × (nextPlace (suc j) j ≡ suc j)) → nextPlace (suc j) j ≡ 0
-        go (inl z) = z .1
-        go (inr z) = absurd (z .0 refl)
-prev-exists n (suc j) h = (j, omega arith, go (next-is n j))
+    go : ((suc (n - 1) ≡ n) × (nextPlace n (n - 1) ≡ 0)) ⊎ ((suc (n - 1) ≢ n) × (nextPlace n (n - 1) ≡ suc (n - 1))) → nextPlace n (n - 1) ≡ 0
+    go (inl z) = z .1
+    go (inr z) = absurd (z .0 (omega arith))
+prev-is n (suc j) h = (omega arith, go (next-is n j))
   where
     go : ((suc j ≡ n) × (nextPlace n j ≡ 0)) ⊎ ((suc j ≢ n) × (nextPlace n j ≡ suc j)) → nextPlace n j ≡ suc j
     go (inl z) = absurd (omega arith)

@@ -24,11 +24,11 @@ use Rattle.audited_meshes.proofs.Walks.{passes-on}
 use Rattle.audited_meshes.proofs.Audited.{touches-is, pointWalk-is}
 use Rattle.built_meshes.specs.Lists.{Lists, Limits, pointsOf, facesOf, size}
 use Rattle.built_meshes.specs.Perimeters.{State, on}
-use Rattle.built_meshes.specs.Places.{IsPlace, Runs, Differ}
+use Rattle.built_meshes.specs.Places.{IsPlace, Runs, Between, Differ}
 use Rattle.built_meshes.specs.Answers.{numberOf}
 use Rattle.built_meshes.specs.Whole.{noMissingFace, everyEdged, noMissedEdge, wholeVerdict}
 use Rattle.built_meshes.specs.Building.{allFaces}
-use Rattle.built_meshes.specs.Grounds.{Holds, Between, Face-size, Out-of-range, Point-twice, Non-rectangular, Triple-face, Same-way, Missing-face, No-edge, Missed-edge}
+use Rattle.built_meshes.specs.Grounds.{Holds, Face-size, Out-of-range, Point-twice, Non-rectangular, Triple-face, Same-way, Missing-face, No-edge, Missed-edge}
 use Rattle.built_meshes.specs.declared.Ground.{Ground}
 use Rattle.built_meshes.specs.declared.Ground.the-variants.{MissingFace, NoEdge, MissedEdge}
 use Rattle.built_meshes.specs.declared.Verdict.{Verdict}

@@ -1,6 +1,7 @@
 -- The claims of building. Assumes nothing.
 --     build-came             what comes of building: a ground that holds, or an audited mesh of which no ground holds
 --     refusals-hold, accepts-exactly, accepted-audited, untouched-beyond     the claims of `specs/Claims.antt`
+--     accepted-builds        the claim of `specs/Builds.antt`
 --     zeroed-after           zeroing what stands after the faces leaves the same as zeroing the lent tables
 use mathlib.Core.Path.{_≡_, refl, sym, _∙_, ap, subst}
 use mathlib.Core.Bool.{Bool, true, false, not}
@@ -21,6 +22,7 @@ use Rattle.built_meshes.specs.Answers.{numberOf}
 use Rattle.built_meshes.specs.Whole.{wholeVerdict, finished}
 use Rattle.built_meshes.specs.Building.{zeroedRows, Outcome, refusal, wholeIf, answered, allFaces, buildIf, build}
 use Rattle.built_meshes.specs.Beyond.{Within}
+use Rattle.built_meshes.specs.Builds.{Builds, Accepted-builds}
 use Rattle.built_meshes.specs.Grounds.{Holds}
 use Rattle.built_meshes.specs.Claims.{Refused-by, Refusals-hold, Accepts-exactly, Audited-counts, Accepted-audited, Untouched-beyond}
 use Rattle.built_meshes.specs.declared.Ground.{Ground}
@@ -34,6 +36,7 @@ use Rattle.built_meshes.proofs.Perimeter.{Faces}
 use Rattle.built_meshes.proofs.Faces.{Fit-faces, Faces-came, stand, stop, faces-came}
 use Rattle.built_meshes.proofs.Begin.{row-zeroed, Counted, counts-is, counts-fail, counted-fits, Numbered, numbers-is, numbers-fail, numbered-fits, Roomy, rows-is, rows-fail, roomy-fits, listed-all, within-zeroed, ready, faces-none}
 use Rattle.built_meshes.proofs.Finished.{within-finished, audited-finished}
+use Rattle.built_meshes.proofs.Builds.{builds-finished}
 use Rattle.built_meshes.proofs.Refusals.{Whole-fit, Whole-verdict, whole-fit, whole-unfit, whole-verdict-is, no-face-size, no-out-of-range, no-point-twice, no-unlike-sums, no-triple, no-same-way, no-missing, no-no-edge, no-missed}
 
 -- two sides of each edge, where none lacks its right face
@@ -48,7 +51,7 @@ module _ (c : Limits) (l : Lists) (m : Mesh) (few : c .faces ≤ none) where
   data Came-out : Outcome → Type 0 where
     refuses-early : {g : Ground} → Holds c l m g → numberOf g < 10 → Came-out (refusal g m)
     refuses : {g : Ground} → Holds c l m g → 10 ≤ numberOf g → Within l m (zeroedRows l m) → Came-out (refusal g (zeroedRows l m))
-    accepts : {k : Counts} {t : Mesh} → Audited-counts l t k → Within l m t → ((g : Ground) → ¬ Holds c l m g) → Came-out (record { answer = Accepted k; tables = t })
+    accepts : {k : Counts} {t : Mesh} → Audited-counts l t k → Builds l t (k .edges) → Within l m t → ((g : Ground) → ¬ Holds c l m g) → Came-out (record { answer = Accepted k; tables = t })
 
   module _ (counted' : Counted c l) (numbered : Numbered l) (roomy : Roomy l m) where
     module _ (s : State) (stands : allFaces l m ≡ on s) (all : Faces l (facesOf l) s) (fit : Fit-faces c l m (facesOf l)) (within : Within l m (s .mesh))
@@ -80,6 +83,9 @@ module _ (c : Limits) (l : Lists) (m : Mesh) (few : c .faces ≤ none) where
             zero-beyond = λ e h b. later e h ∙ row-zeroed c l m counted' numbered roomy few e b;
           }
 
+      builds-after : Builds l (finished l (s .mesh)) (s .edges)
+      builds-after = builds-finished c l m counted' roomy s all within (w .right) (w .edged) (λ f b. fit .sound f b .at-least-3)
+
       within-after : Within l m (finished l (s .mesh))
       within-after = within-finished c l m counted' numbered roomy few s all fit within (w .right) (w .edged) (w .walked)
 
@@ -96,7 +102,7 @@ module _ (c : Limits) (l : Lists) (m : Mesh) (few : c .faces ≤ none) where
             ((x : ℕ) → s .edges ≤ x → row (s .mesh) x ≡ row (zeroedRows l m) x) →
             (x : Verdict) → Whole-verdict c l m s all x → Came-out (wholeIf l m s x)
         whole s stands all fit within later x (whole-fit w) =
-            accepts (audited-counts s stands all fit within later w) (within-after s stands all fit within later w) (nothing-holds s stands all fit within later w)
+            accepts (audited-counts s stands all fit within later w) (builds-after s stands all fit within later w) (within-after s stands all fit within later w) (nothing-holds s stands all fit within later w)
         whole s stands all fit within later x (whole-unfit {g = g} h n) = refuses {g = g} h (omega arith) zeros
 
         go : (x : Step State) → allFaces l m ≡ x → Faces-came c l m (record { mesh = zeroedRows l m; edges = 0 }) x → Came-out (answered l m x)
@@ -130,7 +136,7 @@ refusals-hold c l m few g answer = go (build c l m) refl (build-came c l m few) 
     go o e (refuses {g = g'} h n w) a =
         let same : g' ≡ g = cc in
         subst (λ g. Refused-by c l m g) same (record { holds = h; untouched = λ z. absurd (omega arith); zeroed = λ z. ap (λ (o : Outcome). o .tables) e })
-    go o e (accepts h w n) a = let z : _≡_ {A = ℕ} 0 1 = cc in absurd (omega arith)
+    go o e (accepts h b w n) a = let z : _≡_ {A = ℕ} 0 1 = cc in absurd (omega arith)
 
 pub accepts-exactly : Accepts-exactly
 accepts-exactly c l m few = (λ a. to (build c l m) (build-came c l m few) (a .0) (a .1), λ h. from (build c l m) (build-came c l m few) h)
@@ -138,12 +144,12 @@ accepts-exactly c l m few = (λ a. to (build c l m) (build-came c l m few) (a .0
     to : (o : Outcome) → Came-out c l m few o → (k : Counts) → o .answer ≡ Accepted k → (g : Ground) → ¬ Holds c l m g
     to o (refuses-early h n) k a = let z : _≡_ {A = ℕ} 0 1 = cc in absurd (omega arith)
     to o (refuses h n w) k a = let z : _≡_ {A = ℕ} 0 1 = cc in absurd (omega arith)
-    to o (accepts h w n) k a = n
+    to o (accepts h b w n) k a = n
 
     from : (o : Outcome) → Came-out c l m few o → ((g : Ground) → ¬ Holds c l m g) → (k : Counts) × (o .answer ≡ Accepted k)
     from o (refuses-early {g = g} h n) none' = absurd (none' g h)
     from o (refuses {g = g} h n w) none' = absurd (none' g h)
-    from o (accepts {k = k} h w n) none' = (k, refl)
+    from o (accepts {k = k} h b w n) none' = (k, refl)
 
 pub accepted-audited : Accepted-audited
 accepted-audited c l m few k answer = go (build c l m) (build-came c l m few) answer
@@ -151,7 +157,15 @@ accepted-audited c l m few k answer = go (build c l m) (build-came c l m few) an
     go : (o : Outcome) → Came-out c l m few o → o .answer ≡ Accepted k → Audited-counts l (o .tables) k
     go o (refuses-early h n) a = let z : _≡_ {A = ℕ} 0 1 = cc in absurd (omega arith)
     go o (refuses h n w) a = let z : _≡_ {A = ℕ} 0 1 = cc in absurd (omega arith)
-    go o (accepts {k = k'} {t = t} h w n) a = let same : k' ≡ k = cc in subst (λ k. Audited-counts l t k) same h
+    go o (accepts {k = k'} {t = t} h b w n) a = let same : k' ≡ k = cc in subst (λ k. Audited-counts l t k) same h
+
+pub accepted-builds : Accepted-builds
+accepted-builds c l m few k answer = go (build c l m) (build-came c l m few) answer
+  where
+    go : (o : Outcome) → Came-out c l m few o → o .answer ≡ Accepted k → Builds l (o .tables) (k .edges)
+    go o (refuses-early h n) a = let z : _≡_ {A = ℕ} 0 1 = cc in absurd (omega arith)
+    go o (refuses h n w) a = let z : _≡_ {A = ℕ} 0 1 = cc in absurd (omega arith)
+    go o (accepts {k = k'} {t = t} h b w n) a = let same : k' ≡ k = cc in subst (λ (k : Counts). Builds l t (k .edges)) same b
 
 pub untouched-beyond : Untouched-beyond
 untouched-beyond c l m few = go (build c l m) (build-came c l m few)
@@ -159,7 +173,7 @@ untouched-beyond c l m few = go (build c l m) (build-came c l m few)
     go : (o : Outcome) → Came-out c l m few o → Within l m (o .tables)
     go o (refuses-early h n) = within-refl l m
     go o (refuses h n w) = w
-    go o (accepts h w n) = w
+    go o (accepts h b w n) = w
 
 -- ---- for the code, which zeroes the tables as they stand when a ground stops it
 

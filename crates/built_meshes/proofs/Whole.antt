@@ -25,9 +25,10 @@ use Rattle.audited_meshes.proofs.Audited.{touches-is, pointWalk-is}
 use Rattle.built_meshes.specs.Lists.{Lists, pointsOf, facesOf, size}
 use Rattle.built_meshes.specs.Perimeters.{nextPlace}
 use Rattle.built_meshes.specs.Places.{pointOf, nextOf}
+use Rattle.built_meshes.specs.Builds.{prevPlace}
 use Rattle.built_meshes.proofs.Connecting.{firstOf, secondOf, acwOf, cwOf}
 use Rattle.built_meshes.proofs.Rows.{row}
-use Rattle.built_meshes.proofs.Places.{next-is, next-below, next-next-differs, prev-exists}
+use Rattle.built_meshes.proofs.Places.{next-is, next-below, next-next-differs, prev-is}
 use Rattle.built_meshes.proofs.Invariant.{FaceSound, Sits, Good, Invariant, sits-unique}
 use Rattle.built_meshes.proofs.Perimeter.{Done, Chained}
 
@@ -115,11 +116,12 @@ module _ (l : Lists) (m : Mesh) (ne : ℕ) (v : Invariant l (Done l (facesOf l) 
   prev-side s e b =
       let f = faceFromSide (row m e) s in
       let x = place-of s e b in
-      let j = prev-exists (size l f) (x .place) (x .place-below) in
-      let o = v .entered f (j .0) (inl (x .face-below, j .1)) in
+      let j = prev-is (size l f) (x .place) (x .place-below) in
+      let h = prevPlace (size l f) (x .place) in
+      let o = v .entered f h (inl (x .face-below, j .0)) in
       let t = o .1 in
-      let first : firstOf s (row m e) ≡ nextOf l f (j .0) = sym (x .begins) ∙ ap (λ i. pointOf l f i) (sym (j .2)) in
-      let links = v .linked f (j .0) (inl (x .face-below, j .1)) (t .on-side) (o .0) s e (t .below) b (t .face-is) refl (t .first-is) first in
+      let first : firstOf s (row m e) ≡ nextOf l f h = sym (x .begins) ∙ ap (λ i. pointOf l f i) (sym (j .1)) in
+      let links = v .linked f h (inl (x .face-below, j .0)) (t .on-side) (o .0) s e (t .below) b (t .face-is) refl (t .first-is) first in
       record {
         other = o .0;
         side = t .on-side;

@@ -19,7 +19,7 @@ use Rattle.audited_meshes.specs.Audited.{Touches}
 use Rattle.built_meshes.specs.Lists.{Lists, Limits, pointsOf, facesOf, size, offset}
 use Rattle.built_meshes.specs.Faces.{apart}
 use Rattle.built_meshes.specs.Perimeters.{State, on}
-use Rattle.built_meshes.specs.Places.{pointOf, IsPlace, Runs, Differ}
+use Rattle.built_meshes.specs.Places.{pointOf, IsPlace, Runs, Between, Differ}
 use Rattle.built_meshes.specs.Building.{allFaces}
 use Rattle.built_meshes.specs.declared.Ground.{Ground}
 use Rattle.built_meshes.specs.declared.Ground.the-variants.{OverCounts, UnfitNumber, FewRows, FaceSize, OutOfRange, PointTwice, NonRectangularFace, EdgeTripleFace, SameWay, MissingFace, NoEdge, MissedEdge}
@@ -72,10 +72,6 @@ pub record Non-rectangular (l : Lists) : Type 0 where
   pub face : ℕ
   pub is-face : face < facesOf l
   pub not-small : small (apart l face (offset l face)) ≡ false
-
--- a place joins the points p and q
-abbrev pub Between : Lists → ℕ → ℕ → ℕ → ℕ → Type 0
-Between l f i p q = Runs l f i p q ⊎ Runs l f i q p
 
 -- 14: an edge has two faces already: three places join the same two points
 pub record Triple-face (l : Lists) : Type 0 where

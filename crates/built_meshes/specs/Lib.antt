@@ -7,6 +7,7 @@ pub mod Whole
 pub mod Building
 pub mod Places
 pub mod Beyond
+pub mod Builds
 pub mod Grounds
 pub mod Claims
 pub mod Pieces
