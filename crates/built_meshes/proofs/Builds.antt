@@ -17,10 +17,10 @@ use Rattle.tables.specs.Mesh.{Mesh, valence, mark, origin, dest, leftFace, righ
 use Rattle.audited_meshes.specs.Audited.{Touches}
 use Rattle.built_meshes.specs.Lists.{Lists, Limits, pointsOf, facesOf, size}
 use Rattle.built_meshes.specs.Perimeters.{State, nextPlace}
-use Rattle.built_meshes.specs.Places.{pointOf, nextOf, IsPlace, Runs, Between, Earlier}
+use Rattle.built_meshes.specs.Places.{pointOf, prevPlace, nextOf, IsPlace, Runs, Between, Earlier}
 use Rattle.built_meshes.specs.Whole.{markOf, marked, finished}
 use Rattle.built_meshes.specs.Beyond.{Within}
-use Rattle.built_meshes.specs.Builds.{First, prevPlace, Edge-of, Beside, Builds}
+use Rattle.built_meshes.specs.Builds.{First, Edge-of, Beside, Builds}
 use Rattle.built_meshes.proofs.Connecting.{firstOf, secondOf, acwOf, cwOf}
 use Rattle.built_meshes.proofs.Rows.{row}
 use Rattle.built_meshes.proofs.Places.{next-below, prev-is}

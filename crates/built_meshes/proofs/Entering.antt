@@ -100,8 +100,10 @@ module _ (l : Lists) (D : ℕ → ℕ → Type 0) (p q : ℕ) where
     -- places entered run both ways between the points
     both-ways :
         (f i g j : ℕ) → D f i → pointOf l f i ≡ p → nextOf l f i ≡ q → D g j → pointOf l g j ≡ q → nextOf l g j ≡ p → Why EdgeTripleFace
-    -- a place entered runs this way
-    this-way : (f i : ℕ) → D f i → pointOf l f i ≡ p → nextOf l f i ≡ q → Why SameWay
+    -- a place entered runs this way, and none runs back
+    this-way :
+        (f i : ℕ) → D f i → pointOf l f i ≡ p → nextOf l f i ≡ q → ((g j : ℕ) → D g j → pointOf l g j ≡ q → nextOf l g j ≡ p → ⊥) →
+        Why SameWay
 
 module _ (l : Lists) (D C : ℕ → ℕ → Type 0) (m : Mesh) (ne : ℕ) (f₀ i₀ : ℕ) where
   -- the place is in, at an edge
@@ -564,9 +566,15 @@ module _ (l : Lists) (D C : ℕ → ℕ → Type 0) (m : Mesh) (ne : ℕ) (f₀ 
     triple e b (inl h) a = both-sides Left Right e b (h .0) (h .1) (h .1) (h .0) (v .left-face e b) a
     triple e b (inr h) a = both-sides Right Left e b (h .1) (h .0) (h .0) (h .1) a (v .left-face e b)
 
-    same-way : (e : ℕ) → e < ne → Joins m p q e → row m e .origin ≡ p → Why l D p q SameWay
-    same-way e b (inl h) o = let x = v .placed Left e b (v .left-face e b) in this-way _ (x .0) (x .1) (x .2 ∙ h .0) (x .3 ∙ h .1)
-    same-way e b (inr h) o = absurd (differ (sym o ∙ h .0))
+    same-way : (e : ℕ) → e < ne → Joins m p q e → row m e .«face_right» ≡ none → row m e .origin ≡ p → Why l D p q SameWay
+    same-way e b (inl h) free o =
+        let x = v .placed Left e b (v .left-face e b) in
+        this-way _ (x .0) (x .1) (x .2 ∙ h .0) (x .3 ∙ h .1)
+        (λ g j d begins ends.
+        let t = v .entered g j d in
+        let same = v .one-side (t .1 .on-side) (t .0) Right e (t .1 .below) b (t .1 .first-is ∙ begins ∙ sym (h .1)) (t .1 .second-is ∙ ends ∙ sym (h .0)) in
+        v .good g j d .a-face (sym (t .1 .face-is) ∙ ap₂ (λ s x. faceFromSide (row m x) s) (same .0) (same .1) ∙ free))
+    same-way e b (inr h) free o = absurd (differ (sym o ∙ h .0))
 
     turns-back : (e : ℕ) → Joins m p q e → row m e .origin ≢ p → (row m e .origin ≡ q) × (row m e .dest ≡ p)
     turns-back e (inl h) n = absurd (n (h .0))
@@ -578,7 +586,7 @@ module _ (l : Lists) (D C : ℕ → ℕ → Type 0) (m : Mesh) (ne : ℕ) (f₀ 
       where
         at-edge : (e : ℕ) → e < ne → Joins m p q e → (a b : Bool) → eqb (rightFace m e) none ≡ a → eqb (origin m e) p ≡ b → Came (enteredAt m ne f₀ e a b)
         at-edge e k j false b h h' = stops (triple e k j (eqb-false (rightFace m e) none h))
-        at-edge e k j true true h h' = stops (same-way e k j (eqb-true (origin m e) p h'))
+        at-edge e k j true true h h' = stops (same-way e k j (eqb-true (rightFace m e) none h) (eqb-true (origin m e) p h'))
         at-edge e k j true false h h' =
             let turn = turns-back e j (eqb-false (origin m e) p h') in
             goes (goes-filled e k (eqb-true (rightFace m e) none h) (turn .0) (turn .1))

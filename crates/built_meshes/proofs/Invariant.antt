@@ -42,6 +42,10 @@ pub record Sits (l : Lists) (m : Mesh) (ne f i e : ℕ) : Type 0 where
   pub first-is : firstOf on-side (row m e) ≡ pointOf l f i
   pub second-is : secondOf on-side (row m e) ≡ nextOf l f i
 
+-- no two of the places run the same way
+abbrev pub One-way : Lists → (ℕ → ℕ → Type 0) → Type 0
+One-way l D = (f i g j : ℕ) → D f i → D g j → pointOf l f i ≡ pointOf l g j → nextOf l f i ≡ nextOf l g j → (f ≡ g) × (i ≡ j)
+
 -- a place of a sound face
 pub record Good (l : Lists) (f i : ℕ) : Type 0 where
   pub sound : FaceSound l f
@@ -56,7 +60,7 @@ pub record Invariant (l : Lists) (D C : ℕ → ℕ → Type 0) (m : Mesh) (ne :
       (s : TnurccFaceSide) (e : ℕ) → e < ne → faceFromSide (row m e) s ≢ none →
       (i : ℕ) × D (faceFromSide (row m e) s) i × (pointOf l (faceFromSide (row m e) s) i ≡ firstOf s (row m e))
       × (nextOf l (faceFromSide (row m e) s) i ≡ secondOf s (row m e))
-  pub one-way : (f i g j : ℕ) → D f i → D g j → pointOf l f i ≡ pointOf l g j → nextOf l f i ≡ nextOf l g j → (f ≡ g) × (i ≡ j)
+  pub one-way : One-way l D
   pub left-face : (e : ℕ) → e < ne → row m e .«face_left» ≢ none
   pub origin-in : (e : ℕ) → e < ne → row m e .origin < pointsOf l
   pub dest-in : (e : ℕ) → e < ne → row m e .dest < pointsOf l

@@ -7,8 +7,10 @@ pub mod Invariant
 pub mod Joining
 pub mod Entering
 pub mod Perimeter
+pub mod Before
 pub mod Faces
 pub mod Whole
+pub mod Turning
 pub mod Begin
 pub mod Finished
 pub mod Builds

@@ -7,7 +7,7 @@ use native.Mathlib.Omega.{arith}
 use lib.Dec.{eqb}
 use borrow.Author.Tests.{eqb-true, eqb-false}
 use Rattle.built_meshes.specs.Perimeters.{nextPlace}
-use Rattle.built_meshes.specs.Builds.{prevPlace}
+use Rattle.built_meshes.specs.Places.{prevPlace}
 
 -- the place after a place is the one behind it, or the last place's is the first
 pub next-is : (n i : ℕ) → ((suc i ≡ n) × (nextPlace n i ≡ 0)) ⊎ ((suc i ≢ n) × (nextPlace n i ≡ suc i))

@@ -24,8 +24,7 @@ use Rattle.audited_meshes.proofs.Walks.{occurrences-here, passes-on, passes-onc
 use Rattle.audited_meshes.proofs.Audited.{touches-is, pointWalk-is}
 use Rattle.built_meshes.specs.Lists.{Lists, pointsOf, facesOf, size}
 use Rattle.built_meshes.specs.Perimeters.{nextPlace}
-use Rattle.built_meshes.specs.Places.{pointOf, nextOf}
-use Rattle.built_meshes.specs.Builds.{prevPlace}
+use Rattle.built_meshes.specs.Places.{pointOf, prevPlace, nextOf}
 use Rattle.built_meshes.proofs.Connecting.{firstOf, secondOf, acwOf, cwOf}
 use Rattle.built_meshes.proofs.Rows.{row}
 use Rattle.built_meshes.proofs.Places.{next-is, next-below, next-next-differs, prev-is}

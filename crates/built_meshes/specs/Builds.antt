@@ -1,6 +1,5 @@
 -- What an accepted build leaves, said of the lists alone (document 01, "Building").
 --     First l f i             at place i of face f its two points stand together for the first time
---     prevPlace n i           the place before place i of a perimeter of n places
 --     Edge-of l t ne f i e    e is the edge of place i of face f: the face is on its left and the place runs from its origin to its
 --                             destination, or the face is on its right and the place runs back
 --     Beside l t ne f i a c   the edges a and c are those of the next and of the previous place
@@ -8,7 +7,7 @@
 --     Accepted-builds         the claim: so is every build that is accepted
 use mathlib.Core.Path.{_≡_}
 use mathlib.Core.Logic.{_⊎_, _≢_}
-use Prim.Native.Nat.{ℕ, zero, suc, _+_, _-_, _<_, _≤_}
+use Prim.Native.Nat.{ℕ, _+_, _<_, _≤_}
 use lib.ListN.{length, getD}
 use lib.Ieee.{nan}
 use Rattle.tables.specs.Mesh.{Mesh, none, valence, start, mark, origin, dest, leftFace, rightFace, leftCw, leftAcw, rightCw, rightAcw, interval, faceStart, corner}
@@ -19,17 +18,13 @@ use Rattle.audited_meshes.specs.Walks.{touches}
 use Rattle.audited_meshes.specs.Audited.{Touches}
 use Rattle.built_meshes.specs.Lists.{Lists, Limits, pointsOf, facesOf, size, offset}
 use Rattle.built_meshes.specs.Perimeters.{nextPlace}
-use Rattle.built_meshes.specs.Places.{pointOf, nextOf, IsPlace, Runs, Between, Earlier}
+use Rattle.built_meshes.specs.Places.{pointOf, prevPlace, nextOf, IsPlace, Runs, Between, Earlier}
 use Rattle.built_meshes.specs.Building.{build}
 use Rattle.built_meshes.specs.declared.Built.the-variants.{Accepted}
 
 pub record First (l : Lists) (f i : ℕ) : Type 0 where
   pub is-place : IsPlace l f i
   pub none-earlier : (g j : ℕ) → Earlier g j f i → ¬ Between l g j (pointOf l f i) (nextOf l f i)
-
-abbrev pub prevPlace : ℕ → ℕ → ℕ
-prevPlace n zero = n - 1
-prevPlace n (suc i) = i
 
 abbrev pub Edge-of : Lists → Mesh → ℕ → ℕ → ℕ → ℕ → Type 0
 Edge-of l t ne f i e =
