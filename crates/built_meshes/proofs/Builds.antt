@@ -3,13 +3,10 @@
 --     edge-of                 the edge of a place, from its side
 --     builds-finished         the tables when all is built
 use mathlib.Core.Path.{_≡_, refl, sym, _∙_, ap, subst}
-use mathlib.Core.Logic.{_⊎_, inl, inr, _≢_}
+use mathlib.Core.Logic.{_⊎_, inl, inr, ⊎-elim, _≢_}
 use Prim.Native.Nat.{ℕ, zero, suc, _+_, _*_, _<_, _≤_}
 use native.Mathlib.Omega.{arith}
 use native.Mathlib.Decide.{ℕ-discrete, decLt}
-use lib.Ieee.{nan}
-use lib.ListN.{length, getD}
-use borrow.Author.Tests.{eq-eqb, ne-eqb}
 use Rattle.t_spline.specs.Edge.{none, faceFromSide}
 use Rattle.t_spline.specs.declared.TnurccFaceSide.{TnurccFaceSide}
 use Rattle.t_spline.specs.declared.TnurccFaceSide.the-variants.{Left, Right}
@@ -18,7 +15,7 @@ use Rattle.audited_meshes.specs.Audited.{Touches}
 use Rattle.built_meshes.specs.Lists.{Lists, Limits, pointsOf, facesOf, size}
 use Rattle.built_meshes.specs.Perimeters.{State, nextPlace}
 use Rattle.built_meshes.specs.Places.{pointOf, prevPlace, nextOf, IsPlace, Runs, Between, Earlier}
-use Rattle.built_meshes.specs.Whole.{markOf, marked, finished}
+use Rattle.built_meshes.specs.Whole.{finished}
 use Rattle.built_meshes.specs.Beyond.{Within}
 use Rattle.built_meshes.specs.Builds.{First, Edge-of, Beside, Builds}
 use Rattle.built_meshes.proofs.Connecting.{firstOf, secondOf, acwOf, cwOf}
@@ -28,7 +25,7 @@ use Rattle.built_meshes.proofs.Made.{Maker, Meets}
 use Rattle.built_meshes.proofs.Invariant.{Sits, Invariant}
 use Rattle.built_meshes.proofs.Perimeter.{Done, Chained, Faces}
 use Rattle.built_meshes.proofs.Begin.{Counted, Roomy}
-use Rattle.built_meshes.proofs.Finished.{mark-marked, valence-marked, getD-over, faces-finished}
+use Rattle.built_meshes.proofs.Finished.{valence-marked, position-finished, mark-finished, faces-finished}
 use Rattle.built_meshes.proofs.Whole.{place-of, sides-differ}
 
 pub earlier-or : {A : Type 0} (f i g j : ℕ) → (Earlier f i g j → A) → ((f ≡ g) × (i ≡ j) → A) → (Earlier g j f i → A) → A
@@ -115,14 +112,6 @@ module _ (l : Lists) (m : Mesh) (ne : ℕ) (v : Invariant l (Done l (facesOf l) 
           (λ z. absurd (sides-differ l m ne v right e b (z .0 ∙ sym face)))
           (λ z. absurd (maker e b .none-earlier f i (inl (h .is-place)) z (inr (sym first, sym second))))
 
--- ---- marks
-
-mark-4 : (n : ℕ) → n ≡ 4 → markOf n ≡ 0
-mark-4 n h = rw (eq-eqb n 4 h)
-
-mark-other : (n : ℕ) → n ≢ 4 → markOf n ≡ 1
-mark-other n h = rw (ne-eqb n 4 h)
-
 module _ (c : Limits) (l : Lists) (m₀ : Mesh) (counted' : Counted c l) (roomy : Roomy l m₀) (s : State) (all : Faces l (facesOf l) s)
     (within : Within l m₀ (s .mesh)) (right : (e : ℕ) → e < s .edges → row (s .mesh) e .«face_right» ≢ none)
     (edged : (p : ℕ) → p < pointsOf l → valence (s .mesh) p ≢ 0) (sizes : (f : ℕ) → f < facesOf l → 3 ≤ size l f) where
@@ -143,22 +132,19 @@ module _ (c : Limits) (l : Lists) (m₀ : Mesh) (counted' : Counted c l) (roomy 
   unfolding finished
   valence-after p = valence-marked (pointsOf l) p (s .mesh .points)
 
-  mark-after : (p : ℕ) → p < pointsOf l → mark after p ≡ markOf (valence after p)
-  unfolding finished
-  mark-after p b =
-      mark-marked (pointsOf l) p (s .mesh .points) b (rw (within .points .0) (omega (arith, roomy .points-enough))) ∙ ap markOf (sym (valence-after p))
+  mark-after : (p : ℕ) → p < pointsOf l → ((valence after p ≡ 4) × (mark after p ≡ 0)) ⊎ ((valence after p ≢ 4) × (mark after p ≡ 1))
+  mark-after p b = mark-finished l (s .mesh) p b (rw (within .points .0) (omega (arith, roomy .points-enough)))
 
   pub builds-finished : Builds l after (s .edges)
   unfolding finished
   builds-finished =
       record {
-        position = λ k b.
-            getD-over (pointsOf l * 3) k (l .coordinates) (s .mesh .positions) nan (omega (arith, counted' .points-whole)) (omega arith);
+        position = position-finished l (s .mesh) (counted' .points-whole);
         valence-is = v .valence-is;
         start-touches = λ p b. v .start-is p b (let h = edged p b in rw (valence-after p) (omega arith));
         start-highest = v .made .highest;
-        ordinary = λ p b h. mark-after p b ∙ mark-4 (valence after p) h;
-        extraordinary = λ p b h. mark-after p b ∙ mark-other (valence after p) h;
+        ordinary = λ p b h. ⊎-elim (λ z. z .1) (λ z. absurd (z .0 h)) (mark-after p b);
+        extraordinary = λ p b h. ⊎-elim (λ z. absurd (h (z .0))) (λ z. z .1) (mark-after p b);
         place = v .made .place;
         first = first' l after (s .edges) v right';
         all-first = all-first' l after (s .edges) v right';

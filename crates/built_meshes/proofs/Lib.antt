@@ -17,3 +17,4 @@ pub mod Builds
 pub mod Refusals
 pub mod Theorem
 pub mod Cases
+pub mod Pyramid
