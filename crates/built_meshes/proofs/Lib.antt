@@ -16,5 +16,6 @@ pub mod Finished
 pub mod Builds
 pub mod Refusals
 pub mod Theorem
+pub mod LentContent
 pub mod Cases
 pub mod Pyramid

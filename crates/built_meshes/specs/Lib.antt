@@ -10,4 +10,5 @@ pub mod Beyond
 pub mod Builds
 pub mod Grounds
 pub mod Claims
+pub mod LentContent
 pub mod Pieces
