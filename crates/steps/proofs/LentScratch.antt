@@ -31,13 +31,14 @@ use Rattle.steps.specs.declared.Stepped.{Stepped}
 use Rattle.steps.specs.declared.Stepped.the-variants.{Refined, NotClosed, NotEachFaceOnce, NoRoom, NotFinite}
 use Rattle.steps.specs.Positions.{on, facePointRow, edgePointRow, placedAll}
 use Rattle.steps.specs.Step.{refinedCounts, firstRows, overRows, whole, made, step}
-use Rattle.steps.specs.OneStep.{Binary64}
 use Rattle.steps.specs.FirstGround.{Short, No-room, Due}
 use Rattle.steps.specs.LentScratch.{Same-numbers, Same-mesh, Shows-nothing, Lent-scratch}
-use Rattle.steps.proofs.Rows.{SameRows, same-firstRows, points-fit, edges-fit, faces-fit, Exact, exact-firstRows, room-of-exact, holds-firstRows, position-same}
+use Rattle.steps.proofs.Rows.{SameRows, same-overRows, room-of-holds, points-fit, edges-fit, faces-fit, Exact, exact-firstRows, room-of-exact, holds-firstRows, position-same}
 use Rattle.steps.proofs.Grounds.{taken, made-is}
 use Rattle.steps.proofs.NewPositions.{AllPlaced, PointRows, placed-all}
-use Rattle.steps.proofs.OneStep.{point-rows, one-step}
+use Rattle.steps.proofs.Lengths.{exact-made}
+use Rattle.steps.proofs.SameRefinement.{faces-fewer}
+use Rattle.steps.proofs.OneStep.{point-rows}
 use Rattle.steps.proofs.FirstGround.{first-ground}
 
 -- ---- what is made of one mesh in two scratch tables
@@ -141,6 +142,17 @@ module _
           corners f (suc (suc (suc zero))) b h = ap (λ w. w .corner3) (faces-same f b)
           corners f (suc (suc (suc (suc k)))) b h = absurd (omega arith)
 
+-- what is made has just the rows of the mesh after the step
+exact-alone :
+    (m : Mesh) (c : Counts) (h : HoldsClosed m (c .points) (c .edges) (c .faces)) → c .faces ≤ none → (order : List ℕ) → EachOnce (c .faces) order →
+    (t : Mesh) → Exact (refinedCounts c) t → (qs : List Float) → placedAll m c (refinedRows m (c .points) (c .edges) (c .faces) order t) (t .positions) ≡ on qs →
+    Exact (refinedCounts c) (withPositions qs (refinedRows m (c .points) (c .edges) (c .faces) order t))
+exact-alone m c h few order once t x qs e =
+    let r = room-of-exact x in
+    let v = visits-refine m (c .points) (c .edges) (c .faces) h order once t (points-fit r) (edges-fit r) (faces-fit r) (t .positions) in
+    exact-made m c (room-of-holds h) (audited-of-closed m (h .mesh) (h .stands) (h .closed) (h .fit)) few (faces-fewer v) order t x
+    (point-rows m c h order t (t .positions) v) qs e
+
 -- ---- rows that are the same
 
 edge-same : {c : Counts} {a b : Mesh} → SameRows c a b → (e : ℕ) → e < c .edges → edgeAt (b .edges) (b .intervals) e ≡ edgeAt (a .edges) (a .intervals) e
@@ -215,20 +227,11 @@ due-same m c order t t' s NoRoom d = (d .0, d .1, room-same (refinedCounts c) m 
 due-same m c order t t' s NotFinite d = (d .0, d .1, λ h. d .2 (room-same (refinedCounts c) m t' t (numbers-back s) h), d .3)
 due-same m c order t t' s (Refined k) d = (d .0, d .1, λ h. d .2 (room-same (refinedCounts c) m t' t (numbers-back s) h), d .3, d .4)
 
-module _ (m : Mesh) (c : Counts) (order : List ℕ) (t t' : Mesh) (numbers : Binary64 c m) (s : Same-numbers t t') where
+module _ (m : Mesh) (c : Counts) (order : List ℕ) (t t' : Mesh) (s : Same-numbers t t') where
   answer-same : step m c order t' .answer ≡ step m c order t .answer
   answer-same =
       let a = step m c order t .answer in
       first-ground m c order t' a .1 (due-same m c order t t' s a (first-ground m c order t a .0 refl))
-
-  -- what is made in scratch stands in the first rows of the tables
-  stands-there : (t : Mesh) (k : Counts) → step m c order t .answer ≡ Refined k → (n : Mesh) →
-      made (firstRows c m) c order (firstRows (refinedCounts c) t) ≡ whole n → HoldsClosed m (c .points) (c .edges) (c .faces) →
-      Same-mesh (refinedCounts c) n (step m c order t .tables)
-  stands-there t k e n is h =
-      let w : whole n ≡ whole (firstRows (refinedCounts c) (step m c order t .tables)) = sym is ∙ one-step m c order t h numbers k e .in-order in
-      let same : n ≡ firstRows (refinedCounts c) (step m c order t .tables) = cc in
-      mesh-sym (subst (λ n. Same-mesh (refinedCounts c) (step m c order t .tables) n) (sym same) (mesh-of-rows (same-firstRows (refinedCounts c) (step m c order t .tables))))
 
   refined-same : (k : Counts) → step m c order t .answer ≡ Refined k → Same-mesh k (step m c order t .tables) (step m c order t' .tables)
   refined-same k e =
@@ -245,11 +248,17 @@ module _ (m : Mesh) (c : Counts) (order : List ℕ) (t t' : Mesh) (numbers : Bin
       let made-same =
       made-alike (firstRows c m) c h1 few order (x .once) u u' (exact-firstRows (refinedCounts c) t (x .scratch-room)) (exact-firstRows (refinedCounts c) t' (x' .scratch-room))
       (b .positions) (b' .positions) (b .put) (b' .put) in
+      let exact = subst (Exact (refinedCounts c)) (sym (b .mesh)) (exact-alone (firstRows c m) c h1 few order (x .once) u (exact-firstRows (refinedCounts c) t (x .scratch-room)) (b .positions) (b .put)) in
+      let exact' = subst (Exact (refinedCounts c)) (sym (b' .mesh)) (exact-alone (firstRows c m) c h1 few order (x' .once) u' (exact-firstRows (refinedCounts c) t' (x' .scratch-room)) (b' .positions) (b' .put)) in
       let one = withPositions (b .positions) (refinedRows (firstRows c m) (c .points) (c .edges) (c .faces) order u) in
       let between : Same-mesh (refinedCounts c) (x .mesh) (x' .mesh) =
       subst (λ n. Same-mesh (refinedCounts c) n (x' .mesh)) (sym (b .mesh)) (subst (λ n. Same-mesh (refinedCounts c) one n) (sym (b' .mesh)) made-same) in
+      let there : Same-mesh (refinedCounts c) (overRows (refinedCounts c) (x .mesh) m) (overRows (refinedCounts c) (x' .mesh) m) =
+      mesh-trans (mesh-sym (mesh-of-rows (same-overRows (refinedCounts c) (x .mesh) m exact)))
+      (mesh-trans between (mesh-of-rows (same-overRows (refinedCounts c) (x' .mesh) m exact'))) in
       subst (λ k. Same-mesh k (step m c order t .tables) (step m c order t' .tables)) (sym (x .counts))
-      (mesh-trans (mesh-sym (stands-there t k e (x .mesh) (x .is-made) h)) (mesh-trans between (stands-there t' k e' (x' .mesh) (x' .is-made) h)))
+      (subst (λ n. Same-mesh (refinedCounts c) n (step m c order t' .tables)) (sym (x .tables))
+      (subst (λ n. Same-mesh (refinedCounts c) (overRows (refinedCounts c) (x .mesh) m) n) (sym (x' .tables)) there))
 
 pub lent-scratch : Lent-scratch
-lent-scratch m c order t t' numbers s = record { answer = answer-same m c order t t' numbers s; refined = refined-same m c order t t' numbers s }
+lent-scratch m c order t t' s = record { answer = answer-same m c order t t' s; refined = refined-same m c order t t' s }

@@ -14,7 +14,6 @@ use Rattle.audited_meshes.specs.Audit.{pointRows, edgeRows, faceRows}
 use Rattle.steps.specs.declared.Stepped.{Stepped}
 use Rattle.steps.specs.declared.Stepped.the-variants.{Refined}
 use Rattle.steps.specs.Step.{step}
-use Rattle.steps.specs.OneStep.{Binary64}
 
 pub record Same-numbers (t t' : Mesh) : Type 0 where
   pub points : pointRows t' ≡ pointRows t
@@ -35,4 +34,4 @@ pub record Shows-nothing (m : Mesh) (c : Counts) (order : List ℕ) (t t' : Mesh
   pub refined : (k : Counts) → step m c order t .answer ≡ Refined k → Same-mesh k (step m c order t .tables) (step m c order t' .tables)
 
 abbrev pub Lent-scratch : Type 0
-Lent-scratch = (m : Mesh) (c : Counts) (order : List ℕ) (t t' : Mesh) → Binary64 c m → Same-numbers t t' → Shows-nothing m c order t t'
+Lent-scratch = (m : Mesh) (c : Counts) (order : List ℕ) (t t' : Mesh) → Same-numbers t t' → Shows-nothing m c order t t'
