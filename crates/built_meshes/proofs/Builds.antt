@@ -4,14 +4,13 @@
 --     builds-finished         the tables when all is built
 use mathlib.Core.Path.{_≡_, refl, sym, _∙_, ap, subst}
 use mathlib.Core.Logic.{_⊎_, inl, inr, ⊎-elim, _≢_}
-use Prim.Native.Nat.{ℕ, zero, suc, _+_, _*_, _<_, _≤_}
+use Prim.Native.Nat.{ℕ, _<_, _≤_}
 use native.Mathlib.Omega.{arith}
 use native.Mathlib.Decide.{ℕ-discrete, decLt}
 use Rattle.t_spline.specs.Edge.{none, faceFromSide}
 use Rattle.t_spline.specs.declared.TnurccFaceSide.{TnurccFaceSide}
 use Rattle.t_spline.specs.declared.TnurccFaceSide.the-variants.{Left, Right}
 use Rattle.tables.specs.Mesh.{Mesh, valence, mark, origin, dest, leftFace, rightFace}
-use Rattle.audited_meshes.specs.Audited.{Touches}
 use Rattle.built_meshes.specs.Lists.{Lists, Limits, pointsOf, facesOf, size}
 use Rattle.built_meshes.specs.Perimeters.{State, nextPlace}
 use Rattle.built_meshes.specs.Places.{pointOf, prevPlace, nextOf, IsPlace, Runs, Between, Earlier}

@@ -1,10 +1,10 @@
 -- Every `connect` of building finds a state: neighbouring edges of a perimeter share its face and the point between them. Assumes nothing.
 --     joinable-sits           the edges of a place and of the next one can be connected
 --     always-connects         the claim of `specs/Connects.antt`
-use mathlib.Core.Path.{_≡_, refl, sym, _∙_, ap, subst}
+use mathlib.Core.Path.{_≡_, refl, sym, _∙_, subst}
 use mathlib.Core.Bool.{Bool, true, false, _&&_, cond, false≢true}
 use mathlib.Core.Logic.{_⊎_, inl, inr, _≢_}
-use Prim.Native.Nat.{ℕ, zero, suc, _+_, _<_, _≤_}
+use Prim.Native.Nat.{ℕ, zero, suc, _+_, _<_}
 use native.Mathlib.Omega.{arith}
 use lib.Dec.{eqb, ltb}
 use lib.Ieee.{nan}
@@ -14,19 +14,19 @@ use Rattle.t_spline.specs.Edge.{none, faceFromSide, sameFace}
 use Rattle.t_spline.specs.declared.TnurccEdge.{TnurccEdge}
 use Rattle.t_spline.specs.declared.TnurccFaceSide.{TnurccFaceSide}
 use Rattle.t_spline.specs.declared.TnurccFaceSide.the-variants.{Left, Right}
-use Rattle.edge_links.specs.Connect.{vertexState, shareFace, joinable}
+use Rattle.edge_links.specs.Connect.{vertexState, shareFace}
 use Rattle.tables.specs.Mesh.{Mesh}
 use Rattle.t_nurcc_edge.specs.Connected.{joinableRows}
 use Rattle.closed_meshes.specs.Renumbering.{sumTo}
 use Rattle.built_meshes.specs.Lists.{Lists, Limits, pointsOf, facesOf, size, offset}
 use Rattle.built_meshes.specs.Faces.{faceVerdict}
-use Rattle.built_meshes.specs.Edges.{Entered, at, refused, entered}
-use Rattle.built_meshes.specs.Perimeters.{State, Ring, Step, on, stopped, nextPlace, turn, places}
+use Rattle.built_meshes.specs.Edges.{Entered, entered}
+use Rattle.built_meshes.specs.Perimeters.{State, Ring, Step, on, nextPlace, turn, places}
 use Rattle.built_meshes.specs.Places.{pointOf, nextOf}
 use Rattle.built_meshes.specs.Building.{zeroedRows, facePassed}
 use Rattle.built_meshes.specs.Connects.{turnConnects, placesConnect, closeConnects, begun, faceConnects, facesConnect, Always-connects}
 use Rattle.built_meshes.specs.declared.Verdict.{Verdict}
-use Rattle.built_meshes.specs.declared.Verdict.the-variants.{Fit, Unfit}
+use Rattle.built_meshes.specs.declared.Verdict.the-variants.{Fit}
 use Rattle.built_meshes.proofs.Connecting.{firstOf, secondOf}
 use Rattle.built_meshes.proofs.Rows.{row}
 use Rattle.built_meshes.proofs.Invariant.{FaceSound, Sits}

@@ -11,7 +11,6 @@ use Rattle.tables.specs.Mesh.{Mesh, valence, start, mark, faceStart, corner}
 use Rattle.tables.specs.Records.{positionAt, edgeAt}
 use Rattle.tables.specs.declared.Counts.{Counts}
 use Rattle.audited_meshes.specs.Audit.{pointRows, edgeRows, faceRows}
-use Rattle.steps.specs.declared.Stepped.{Stepped}
 use Rattle.steps.specs.declared.Stepped.the-variants.{Refined}
 use Rattle.steps.specs.Step.{step}
 
