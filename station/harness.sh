@@ -6,6 +6,7 @@
 #     station/harness.sh fuzz [CASES [SEED]]        random and damaged lists, texts and tables (50,000, seed 1)
 #     station/harness.sh tampered                   changed bits in what the library leaves, which must be found
 #     station/harness.sh bench [FACES]              times; the Rust is run on meshes of up to so many faces (all)
+#     station/harness.sh obj [FACES]                a shuffled mesh of about so many faces as an OBJ (3,000)
 #     station/harness.sh profile [STEPS]            steps of the torus of 64 by 64, for a profiler
 #     station/harness.sh stack                      the stack that each function takes
 #
@@ -13,16 +14,16 @@
 set -eu
 here=$(cd "$(dirname "$0")" && pwd)
 root=$here/..
+. "$root/tools/needed.sh"
+needed station/harness.sh rt cc rustc sources
 out=$here/target
 library=$root/target/staticlib/libstation.a
 oracle=$root/oracle/target/liboracle.rlib
 
 "$here/library.sh"
-if [ ! -f "$oracle" ] || [ -n "$(find "$root/oracle/src" "$root/oracle/build.sh" -newer "$oracle" -type f)" ]; then
-    "$root/oracle/build.sh"
-fi
+"$root/oracle/build.sh"
 mkdir -p "$out"
-if [ ! -f "$out/station" ] || [ -n "$(find "$here/src" "$library" "$oracle" -newer "$out/station" -type f)" ]; then
+if [ ! -f "$out/station" ] || [ -n "$(find "$here/src" "$here/lavyngo.rs" "$library" "$oracle" -newer "$out/station" -type f)" ]; then
     rustc --edition 2024 -O --crate-name station --extern oracle="$oracle" -C link-arg="$library" \
         -o "$out/station" "$here/src/main.rs"
 fi

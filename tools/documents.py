@@ -15,21 +15,21 @@ ROOT = Path(__file__).resolve().parent.parent
 # The files that state the claims, and those that the contracts of `build`, `build_text`, `audit`, `step`, `refine`, `find_depth` and
 # of the functions for C cite.
 STATED = """
-    audited_meshes/Audit audited_meshes/Claims built_meshes/Building built_meshes/Claims building_tests/Lent
+    audited_meshes/Audit audited_meshes/Claims built_meshes/Building built_meshes/Builds built_meshes/Claims built_meshes/Connects
+    built_meshes/LentContent building_tests/Lent
     closed_meshes/Refinement closed_meshes/Renumbering crossings/Claims filed_pieces/Pieces refine_outputs/Claims refine_outputs/Output
-    refined_meshes/Refines runs/Runs station/Station steps/OneStep steps/Step text_meshes/Claims text_meshes/TextBuilding
+    refined_meshes/Refines runs/Runs station/Station steps/FirstGround steps/LentScratch steps/OneStep steps/Step text_meshes/Claims text_meshes/TextBuilding
 """.split()
 
 # What each crate's definitions are about, in the order of the table.
 ABOUT = {
     "closed_meshes": "closed meshes over any rows, their refinement, names, what two meshes share",
     "positions": "positions, small and finite numbers",
-    "t_spline": "the ends, sides and neighbours of an edge",
+    "t_spline": "the neighbours and the faces of an edge",
     "edge_links": "connecting two edges",
     "perimeters": "the places beside a place of a perimeter",
     "tables": "the five tables",
     "t_nurcc_edge": "connecting two rows",
-    "walks": "borders and walks in tables",
     "audited_meshes": "the audit",
     "text_numbers": "forms on bytes, decimal and hexadecimal numbers",
     "mesh_lines": "the lines of mesh text 1",

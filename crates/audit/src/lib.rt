@@ -1,20 +1,22 @@
 // Whether tables of any content, with counts of any size, are a closed mesh (document 01, "Audit").
 // It is near linear in the mesh, has no memory but locals and writes nothing.
 // Not here: what is asked (`audited_meshes`: `audit`, and its quick form, which this code follows), the tests of its rows and
-// walks (`audit_tests`).
+// walks (`audit_tests`, `audit_edges`, `audit_faces`).
 // Contract: `audit`. Definitions: `specs/Parts.antt`. Laws: `proofs/Whole.antt`.
 ghost use mathlib.Core.Path.{_≡_};
 ghost use mathlib.Core.List.{[]};
 ghost use Prim.Native.Nat.{ℕ, _*_, _≤_, _<_};
 ghost use lib.ListN.{length};
+ghost use Rattle.tables.specs.Layout.{positionWidth, pointWidth, edgeWidth, faceWidth};
 ghost use Rattle.tables.specs.Mesh.{origin, dest, meshOf};
-ghost use Rattle.audited_meshes.specs.Audit.{countsFit, audit};
-ghost use Rattle.walks.specs.Steps.{faceTables};
+ghost use Rattle.tables.specs.Counted.{countsOf, rowsFor};
+ghost use Rattle.audited_meshes.specs.Audit.{audit};
+ghost use Rattle.tables.specs.Parts.{faceTables};
 ghost use Rattle.audit.specs.Parts.{rowsFit, walksFit};
-use audit_tests::edges::are_one_edges;
-use audit_tests::edges::edges_fit;
-use audit_tests::faces::face_walks_fit;
-use audit_tests::faces::faces_fit;
+use audit_edges::are_one_edges;
+use audit_edges::edges_fit;
+use audit_faces::face_walks_fit;
+use audit_faces::faces_fit;
 use audit_tests::points::point_walks_fit;
 use audit_tests::points::points_fit;
 use audit_tests::points::valences_fit;
@@ -24,7 +26,7 @@ use tables::face_rows;
 use tables::point_rows;
 
 // Whether the counts fit the lent rows.
-pub fn counts_fit(
+fn counts_fit(
     positions: &[f64],
     points: &[u32],
     edges: &[u32],
@@ -32,7 +34,7 @@ pub fn counts_fit(
     faces: &[u32],
     counts: Counts,
 ) -> bool
-    ensures { λ r. ⌜ r ≡ countsFit (meshOf (now (positions .entry)) (now (points .entry)) (now (edges .entry)) (now (intervals .entry)) (now (faces .entry))) (counts .points) (counts .edges) (counts .faces) ⌝ }
+    ensures { λ r. ⌜ r ≡ rowsFor (countsOf (counts .points) (counts .edges) (counts .faces)) (meshOf (now (positions .entry)) (now (points .entry)) (now (edges .entry)) (now (intervals .entry)) (now (faces .entry))) ⌝ }
 {
     if point_rows(positions, points) < counts.points {
         return false;
@@ -44,7 +46,7 @@ pub fn counts_fit(
 }
 
 // The tests of single rows.
-pub fn rows_fit(
+fn rows_fit(
     positions: &[f64],
     points: &[u32],
     edges: &[u32],
@@ -52,11 +54,11 @@ pub fn rows_fit(
     faces: &[u32],
     counts: Counts,
 ) -> bool
-    requires { ⌜ counts .points * 3 ≤ length (now positions) ⌝ }
-    requires { ⌜ counts .points * 3 ≤ length (now points) ⌝ }
-    requires { ⌜ counts .edges * 8 ≤ length (now edges) ⌝ }
+    requires { ⌜ counts .points * positionWidth ≤ length (now positions) ⌝ }
+    requires { ⌜ counts .points * pointWidth ≤ length (now points) ⌝ }
+    requires { ⌜ counts .edges * edgeWidth ≤ length (now edges) ⌝ }
     requires { ⌜ counts .edges ≤ length (now intervals) ⌝ }
-    requires { ⌜ counts .faces * 5 ≤ length (now faces) ⌝ }
+    requires { ⌜ counts .faces * faceWidth ≤ length (now faces) ⌝ }
     ensures { λ r. ⌜ r ≡ rowsFit (now (positions .entry)) (now (points .entry)) (now (edges .entry)) (now (intervals .entry)) (now (faces .entry)) (counts .points) (counts .edges) (counts .faces) ⌝ }
 {
     let np = counts.points;
@@ -72,10 +74,10 @@ pub fn rows_fit(
 }
 
 // The sums and the walks.
-pub fn walks_fit(points: &[u32], edges: &[u32], faces: &[u32], counts: Counts) -> bool
-    requires { ⌜ counts .points * 3 ≤ length (now points) ⌝ }
-    requires { ⌜ counts .edges * 8 ≤ length (now edges) ⌝ }
-    requires { ⌜ counts .faces * 5 ≤ length (now faces) ⌝ }
+fn walks_fit(points: &[u32], edges: &[u32], faces: &[u32], counts: Counts) -> bool
+    requires { ⌜ counts .points * pointWidth ≤ length (now points) ⌝ }
+    requires { ⌜ counts .edges * edgeWidth ≤ length (now edges) ⌝ }
+    requires { ⌜ counts .faces * faceWidth ≤ length (now faces) ⌝ }
     requires { ⌜ ((e : ℕ) → e < counts .edges → (origin (faceTables (now edges) []) e < counts .points) × (dest (faceTables (now edges) []) e < counts .points)) ⌝ }
     ensures { λ r. ⌜ r ≡ walksFit (now (points .entry)) (now (edges .entry)) (now (faces .entry)) (counts .points) (counts .edges) (counts .faces) ⌝ }
 {

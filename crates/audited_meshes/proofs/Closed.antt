@@ -7,7 +7,7 @@ use Prim.Native.Nat.{ℕ, _≤_, _<_}
 use native.Mathlib.Omega.{arith}
 use native.Mathlib.Decide.{decLt}
 use lib.ListN.{length, getD, length-map}
-use Rattle.closed_meshes.specs.Mesh.{Mesh as MeshOver, Dart, lft, rgt, edge, flip, first, second, face, acw, cw}
+use Rattle.closed_meshes.specs.Mesh.{MeshOver, Dart, lft, rgt, edge, flip, first, second, face, acw, cw}
 use Rattle.closed_meshes.specs.Closed.{Closed}
 use Rattle.closed_meshes.specs.Cycles.{Cycles}
 use Rattle.closed_meshes.specs.Renumbering.{Row}
@@ -15,13 +15,15 @@ use Rattle.closed_meshes.proofs.Counting.{row-path}
 use Rattle.closed_meshes.proofs.Darts.{edge-flip, first-flip}
 use Rattle.tables.specs.Mesh.{Mesh, valence, start, faceStart}
 use Rattle.audited_meshes.specs.Folds.{occurrences}
-use Rattle.audited_meshes.specs.Walks.{acwOfFace, cwOfFace, acwOfPoint, firstPoint}
-use Rattle.audited_meshes.specs.Audited.{Borders, Touches, AcwLinks, CwLinks, FaceWalked, PointWalked, Audited}
+use Rattle.audited_meshes.specs.Walks.{acwOfFace, cwOfFace, acwOfPoint, firstPoint, Touches}
+use Rattle.audited_meshes.specs.Audited.{Borders, AcwLinks, CwLinks, FaceWalked, PointWalked, Audited}
 use Rattle.audited_meshes.proofs.Walks.{passes-head, passes-on}
 use Rattle.audited_meshes.proofs.Positions.{position, position-below, getD-position, getD-map-below, passes-step, passes-moves}
 use Rattle.audited_meshes.proofs.Cycles.{cycles-of-walks}
 use Rattle.audited_meshes.proofs.Rows.{rows, rows-stand}
-use Rattle.audited_meshes.proofs.Darts.{number, num, Seen, acwOfFace-dart, cwOfFace-dart, acwOfPoint-dart, firstPoint-dart, borders-dart, touches-first, dart-of-borders, dart-of-touches, settled-on-face, settled-at-point}
+use Rattle.audited_meshes.proofs.Darts.{number, num, Seen, acwOfFace-dart, cwOfFace-dart, acwOfPoint-dart}
+use Rattle.audited_meshes.proofs.Darts.{firstPoint-dart, borders-dart, touches-first, dart-of-borders}
+use Rattle.audited_meshes.proofs.Darts.{dart-of-touches, settled-on-face, settled-at-point}
 
 module _ (m : Mesh) {np ne nf : ℕ} (a : Audited m np ne nf) where
   abbrev t : MeshOver (Row np) (Row ne) (Row nf)

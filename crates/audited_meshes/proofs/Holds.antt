@@ -8,15 +8,15 @@ use mathlib.Core.Option
 use Prim.Native.Nat.{ℕ, zero, suc, _<_}
 use native.Mathlib.Omega.{arith}
 use lib.ListN.{length, getD, length-map}
-use Rattle.closed_meshes.specs.Mesh.{Mesh as MeshOver, Place, place0, place1, place2, place3, Dart, lft, rgt, edge, flip, first, second, face, acw, cw}
+use Rattle.closed_meshes.specs.Mesh.{MeshOver, Place, place0, place1, place2, place3, Dart, lft, rgt, edge, flip, first, second, face, acw, cw}
 use Rattle.closed_meshes.specs.Closed.{Closed}
 use Rattle.closed_meshes.specs.Renumbering.{Row}
 use Rattle.closed_meshes.proofs.Counting.{row-path}
 use Rattle.closed_meshes.proofs.Darts.{edge-flip, flip-flip, face-next, face-prev}
 use Rattle.tables.specs.Mesh.{Mesh, none, start, origin, dest, leftFace, rightFace, leftCw, leftAcw, rightCw, rightAcw, faceStart, corner}
-use Rattle.audited_meshes.specs.Folds.{occurrences}
-use Rattle.audited_meshes.specs.Walks.{acwOfFace, cwOfFace, acwOfPoint, firstPoint}
-use Rattle.audited_meshes.specs.Audited.{Borders, Touches, SameEnds, Distinct, Passes, EdgeInRange, AcwLinks, CwLinks, FaceWalked, PointWalked, Audited}
+use Rattle.audited_meshes.specs.Folds.{occurrences, Distinct}
+use Rattle.audited_meshes.specs.Walks.{acwOfFace, cwOfFace, acwOfPoint, firstPoint, Touches}
+use Rattle.audited_meshes.specs.Audited.{Borders, SameEnds, Passes, EdgeInRange, AcwLinks, CwLinks, FaceWalked, PointWalked, Audited}
 use Rattle.audited_meshes.specs.Rows.{place, cornerWord, Stands, Fit}
 use Rattle.audited_meshes.specs.Claims.{AuditIsClosed}
 use Rattle.audited_meshes.proofs.Walks.{passes-once}
@@ -24,7 +24,9 @@ use Rattle.audited_meshes.proofs.Positions.{getD-map-below}
 use Rattle.audited_meshes.proofs.Cycles.{ClassWalk, walk-of-cycle}
 use Rattle.audited_meshes.proofs.Audited.{audit-is-audited}
 use Rattle.audited_meshes.proofs.Rows.{rows, rows-stand, rows-fit}
-use Rattle.audited_meshes.proofs.Darts.{number, num, Seen, acwOfFace-dart, cwOfFace-dart, acwOfPoint-dart, firstPoint-dart, borders-dart, touches-first, dart-of-borders, dart-of-touches, settled-on-face, settled-at-point}
+use Rattle.audited_meshes.proofs.Darts.{number, num, Seen, acwOfFace-dart, cwOfFace-dart, acwOfPoint-dart}
+use Rattle.audited_meshes.proofs.Darts.{firstPoint-dart, borders-dart, touches-first, dart-of-borders}
+use Rattle.audited_meshes.proofs.Darts.{dart-of-touches, settled-on-face, settled-at-point}
 use Rattle.audited_meshes.proofs.Closed.{closed-rows}
 
 -- the place with a number

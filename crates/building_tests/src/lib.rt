@@ -1,11 +1,25 @@
-// The tests that building makes before it enters an edge: grounds 2 and 3 on the lists that are lent, grounds 10 to 13 on one face.
-// Not here: ground 4 and grounds 20 to 22 (`building_whole`), grounds 14 and 15 (`edge_search`).
-// Definitions: `Lists` and `Faces` of `built_meshes`; `specs/Lent.antt`. Laws for callers: `proofs/Laws.antt`.
+// The limits of building, and the tests that it makes of one face before it enters an edge: grounds 10 to 13.
+// Not here: grounds 2 and 3 (`building_lists`), 4 (`building_rows`), 14 and 15 (`edge_search`), 20 to 22 (`building_whole`).
+// Definitions: `Faces` of `built_meshes`; `specs/Lent.antt`. Laws for callers: `proofs/Laws.antt`.
 ghost use mathlib.Core.Path.{_≡_};
-ghost use Rattle.building_tests.specs.Lent.{limitsOf, mostOf};
+ghost use Rattle.building_tests.specs.Lent.{limitsOf};
+use tables::Sizes;
 
 pub mod faces;
-pub mod lists;
+
+// The limits of building: the most points, faces and listed points.
+pub const MOST_POINTS: usize = 4096;
+
+pub const MOST_FACES: usize = 4096;
+
+pub const MOST_LISTED: usize = 16384;
+
+// The limits of the program `refine`.
+pub const REFINE_POINTS: usize = 64;
+
+pub const REFINE_FACES: usize = 64;
+
+pub const REFINE_LISTED: usize = 256;
 
 // Which limits hold: those of building, or those of the program `refine`.
 pub enum Bounds {
@@ -13,27 +27,21 @@ pub enum Bounds {
     Refine,
 }
 
-// The most points, faces and listed points.
-pub struct Most {
-    pub points: usize,
-    pub faces: usize,
-    pub listed: usize,
-}
-
 impl Bounds {
-    pub fn most(self) -> Most
-        ensures { λ r. ⌜ mostOf r ≡ limitsOf self ⌝ }
+    // The most points, faces and listed points.
+    pub fn most(self) -> Sizes
+        ensures { λ r. ⌜ r ≡ limitsOf self ⌝ }
     {
         match self {
-            Bounds::General => Most {
-                points: 4096,
-                faces: 4096,
-                listed: 16384,
+            Bounds::General => Sizes {
+                points: MOST_POINTS,
+                faces: MOST_FACES,
+                listed: MOST_LISTED,
             },
-            Bounds::Refine => Most {
-                points: 64,
-                faces: 64,
-                listed: 256,
+            Bounds::Refine => Sizes {
+                points: REFINE_POINTS,
+                faces: REFINE_FACES,
+                listed: REFINE_LISTED,
             },
         }
     }

@@ -1,29 +1,32 @@
 -- The tables when all is built pass the audit. Assumes nothing.
 --     valence-marked, start-marked, mark-marked     the words of a point after the marks
+--     position-finished, mark-finished              positions are the coordinates, marks are 0 at valence 4
 --     faces-finished                                all places are in still
 --     audited-finished                              the audit's clauses
 use mathlib.Core.Path.{_≡_, refl, sym, _∙_, ap, subst}
 use mathlib.Core.Bool.{Bool, true, false, cond}
-use mathlib.Core.Logic.{_⊎_, inl, inr, _≢_}
+use mathlib.Core.Logic.{_⊎_, inl, inr, ⊎-elim, _≢_}
 use mathlib.Core.List.{List}
-use Prim.Native.Nat.{ℕ, zero, suc, _+_, _*_, _<_, _≤_}
+use Prim.Native.Nat.{ℕ, zero, suc, _+_, _*_, _%_, _<_, _≤_}
 use native.Mathlib.Omega.{arith}
 use lib.Dec.{eqb}
+use borrow.Author.Tests.{eqb-true, eqb-false}
 use lib.Ieee.{nan}
 use lib.Ieee.Scale.{finite}
 use lib.ListN.{length, getD, set, take, drop, length-set, List·getD-append}
 use lib.Seq.{getD-set-same, getD-set-other, getD-take, length-take-le}
-use Rattle.t_spline.specs.Edge.{none, faceFromSide}
+use Rattle.t_spline.specs.Edge.{none}
+use Rattle.t_spline.specs.Ends.{faceFromSide}
 use Rattle.t_spline.specs.declared.TnurccFaceSide.{TnurccFaceSide}
 use Rattle.t_spline.specs.declared.TnurccFaceSide.the-variants.{Left, Right}
-use Rattle.tables.specs.Mesh.{Mesh, z, valence, start, mark}
+use Rattle.tables.specs.Mesh.{Mesh, z, valence, start, mark, pointRows, edgeRows, faceRows}
 use Rattle.tables.specs.Rows.{over}
 use Rattle.audited_meshes.specs.Walks.{passed, pointWalk}
-use Rattle.audited_meshes.specs.Audit.{pointRows, edgeRows, faceRows}
 use Rattle.audited_meshes.specs.Audited.{Audited}
 use Rattle.audited_meshes.proofs.Folds.{below-suc}
-use Rattle.built_meshes.specs.Lists.{Lists, Limits, pointsOf, facesOf}
-use Rattle.built_meshes.specs.Perimeters.{State}
+use Rattle.built_meshes.specs.Lists.{Lists, pointsOf, facesOf}
+use Rattle.tables.specs.declared.Sizes.{Sizes}
+use Rattle.built_meshes.specs.Perimeters.{BuildState}
 use Rattle.built_meshes.specs.Whole.{markOf, marked, finished}
 use Rattle.built_meshes.specs.Beyond.{Behind, Within}
 use Rattle.built_meshes.proofs.Connecting.{Keeps}
@@ -70,12 +73,13 @@ mark-marked (suc k) p ws b fits =
     (getD-set-same (marked k ws) (k * 3 + 2) (markOf (getD (marked k ws) (k * 3) 0)) 0 (rw (length-marked k ws) (omega arith))
     ∙ ap markOf (valence-marked k k ws)))
 
-markOf-fit : (v : ℕ) → (markOf v ≡ 0) ⊎ (markOf v ≡ 1)
-markOf-fit v = go (eqb v 4)
+-- the mark is 0 exactly at valence 4, else 1
+markOf-is : (n : ℕ) → ((n ≡ 4) × (markOf n ≡ 0)) ⊎ ((n ≢ 4) × (markOf n ≡ 1))
+markOf-is n = go (eqb n 4) refl
   where
-    go : (b : Bool) → (_≡_ {A = ℕ} (cond b 0 1) 0) ⊎ (_≡_ {A = ℕ} (cond b 0 1) 1)
-    go true = inl refl
-    go false = inr refl
+    go : (b : Bool) → eqb n 4 ≡ b → ((n ≡ 4) × (_≡_ {A = ℕ} (cond b 0 1) 0)) ⊎ ((n ≢ 4) × (_≡_ {A = ℕ} (cond b 0 1) 1))
+    go true h = inl (eqb-true n 4 h, refl)
+    go false h = inr (eqb-false n 4 h, refl)
 
 behind-marked : (k : ℕ) (ws : List ℕ) (n : ℕ) → k ≤ n → Behind (n * 3) ws (marked k ws)
 unfolding marked
@@ -94,6 +98,17 @@ getD-over n i new xs d h fits =
 -- ---- all places are in still
 
 module _ (l : Lists) (m : Mesh) where
+  -- positions are the coordinates
+  pub position-finished : length (l .coordinates) % 3 ≡ 0 → (k : ℕ) → k < length (l .coordinates) → getD (finished l m .positions) k nan ≡ getD (l .coordinates) k nan
+  unfolding finished
+  position-finished whole k b = getD-over (pointsOf l * 3) k (l .coordinates) (m .positions) nan (omega arith) (omega arith)
+
+  pub mark-finished :
+      (p : ℕ) → p < pointsOf l → pointsOf l * 3 ≤ length (m .points) →
+      ((valence (finished l m) p ≡ 4) × (mark (finished l m) p ≡ 0)) ⊎ ((valence (finished l m) p ≢ 4) × (mark (finished l m) p ≡ 1))
+  unfolding finished
+  mark-finished p b fits = rw (mark-marked (pointsOf l) p (m .points) b fits, valence-marked (pointsOf l) p (m .points)) (markOf-is (getD (m .points) (p * 3) 0))
+
   valence-finished : (p : ℕ) → valence (finished l m) p ≡ valence m p
   unfolding finished
   valence-finished p = valence-marked (pointsOf l) p (m .points)
@@ -111,7 +126,7 @@ module _ (l : Lists) (m : Mesh) where
   unfolding pointWalk finished
   walk-finished ne p = rw (valence-finished p, start-finished p)
 
-module _ (l : Lists) (k : ℕ) (s : State) (all : Faces l k s) where
+module _ (l : Lists) (k : ℕ) (s : BuildState) (all : Faces l k s) where
   pub faces-finished : Faces l k (record { mesh = finished l (s .mesh); edges = s .edges })
   unfolding finished counted
   faces-finished =
@@ -128,8 +143,8 @@ module _ (l : Lists) (k : ℕ) (s : State) (all : Faces l k s) where
 
 -- ---- the audit's clauses
 
-module _ (c : Limits) (l : Lists) (m₀ : Mesh) (counted' : Counted c l) (numbered : Numbered l) (roomy : Roomy l m₀) (few : c .faces ≤ none)
-    (s : State) (all : Faces l (facesOf l) s) (fit : Fit-faces c l m₀ (facesOf l)) (within : Within l m₀ (s .mesh))
+module _ (c : Sizes) (l : Lists) (m₀ : Mesh) (counted' : Counted c l) (numbered : Numbered l) (roomy : Roomy l m₀) (few : c .faces ≤ none)
+    (s : BuildState) (all : Faces l (facesOf l) s) (fit : Fit-faces c l m₀ (facesOf l)) (within : Within l m₀ (s .mesh))
     (right : (e : ℕ) → e < s .edges → row (s .mesh) e .«face_right» ≢ none) (edged : (p : ℕ) → p < pointsOf l → valence (s .mesh) p ≢ 0)
     (walked : (p : ℕ) → p < pointsOf l → valence (s .mesh) p ≤ passed (pointWalk (s .mesh) (s .edges) (valence (s .mesh) p) p)) where
   abbrev after : Mesh
@@ -173,17 +188,13 @@ module _ (c : Limits) (l : Lists) (m₀ : Mesh) (counted' : Counted c l) (number
   faces-fit = rw (within-finished .faces .0) (roomy .faces-enough)
 
   coordinate-finite : (p j : ℕ) → p < pointsOf l → j < 3 → finite (getD (after .positions) (p * 3 + j) nan) ≡ true
-  unfolding finished
   coordinate-finite p j b h =
-      rw (getD-over (pointsOf l * 3) (p * 3 + j) (l .coordinates) (s .mesh .positions) nan (omega arith) (omega arith))
-      (numbered .coordinates-finite (p * 3 + j) (omega arith))
+      rw (position-finished l (s .mesh) (counted' .points-whole) (p * 3 + j) (omega arith)) (numbered .coordinates-finite (p * 3 + j) (omega arith))
 
   mark-fits : (p : ℕ) → p < pointsOf l → (mark after p ≡ 0) ⊎ (mark after p ≡ 1)
-  unfolding finished
   mark-fits p b =
-      subst (λ k. (k ≡ 0) ⊎ (k ≡ 1))
-      (sym (mark-marked (pointsOf l) p (s .mesh .points) b (rw (within .points .0) (omega (arith, roomy .points-enough)))))
-      (markOf-fit (getD (s .mesh .points) (p * 3) 0))
+      ⊎-elim (λ h. inl (h .1)) (λ h. inr (h .1))
+      (mark-finished l (s .mesh) p b (rw (within .points .0) (omega (arith, roomy .points-enough))))
 
   few' : (f : ℕ) → f < facesOf l → f ≢ none
   few' f b h = omega (arith, counted' .faces-few)
@@ -192,39 +203,39 @@ module _ (c : Limits) (l : Lists) (m₀ : Mesh) (counted' : Counted c l) (number
   edged' p b h = edged p b (sym (valence-finished l (s .mesh) p) ∙ h)
 
   pub audited-finished : Audited after (pointsOf l) (s .edges) (facesOf l)
-  audited-finished =
-      record {
-        points-fit = points-fit;
-        edges-fit = edges-fit;
-        faces-fit = faces-fit;
-        start-in-range = λ p b. v .start-is p b (let h = edged' p b in omega arith) .0;
-        edge-in-range = λ e b.
-            record {
-              origin-in-range = v .origin-in e b;
-              dest-in-range = v .dest-in e b;
-              leftFace-in-range = face-in Left e b;
-              rightFace-in-range = face-in Right e b;
-              leftCw-in-range = cw-below l after (s .edges) v right' Left e b;
-              leftAcw-in-range = acw-below l after (s .edges) v right' Left e b;
-              rightCw-in-range = cw-below l after (s .edges) v right' Right e b;
-              rightAcw-in-range = acw-below l after (s .edges) v right' Right e b;
-            };
-        faceStart-in-range = λ f b. faces' .starts f b .below;
-        x-finite = λ p b. subst (λ k. finite (getD (after .positions) k nan) ≡ true) (let z : p * 3 + 0 ≡ p * 3 = omega arith in z) (coordinate-finite p 0 b (omega arith));
-        y-finite = λ p b. coordinate-finite p 1 b (omega arith);
-        z-finite = λ p b. coordinate-finite p 2 b (omega arith);
-        interval-fit = v .interval-fit;
-        ends-differ = v .ends-differ;
-        sides-differ = sides-differ l after (s .edges) v right';
-        one-edge = one-edge l after (s .edges) v right';
-        left-acw = acw-links l after (s .edges) v right' Left;
-        right-acw = acw-links l after (s .edges) v right' Right;
-        left-cw = cw-links l after (s .edges) v right' Left;
-        right-cw = cw-links l after (s .edges) v right' Right;
-        face-walked = λ f b. face-walk l after (s .edges) v right' f b (fit .sound f b) (faces' .starts f b) (few' f b);
-        point-walked = λ p b.
-            point-walk l after (s .edges) v right' p b (edged' p b)
-            (subst (λ w. valence after p ≤ passed w) (sym (walk-finished l (s .mesh) (s .edges) p)) (subst (λ n. n ≤ passed (pointWalk (s .mesh) (s .edges) (valence (s .mesh) p) p)) (sym (valence-finished l (s .mesh) p)) (walked p b)));
-        corner-fit = λ f k b h. inr (faces' .corners f k b h);
-        mark-fit = mark-fits;
-      }
+  audited-finished = record {
+    points-fit = points-fit;
+    edges-fit = edges-fit;
+    faces-fit = faces-fit;
+    start-in-range = λ p b. v .start-is p b (let h = edged' p b in omega arith) .0;
+    edge-in-range = λ e b. record {
+      origin-in-range = v .origin-in e b;
+      dest-in-range = v .dest-in e b;
+      leftFace-in-range = face-in Left e b;
+      rightFace-in-range = face-in Right e b;
+      leftCw-in-range = cw-below l after (s .edges) v right' Left e b;
+      leftAcw-in-range = acw-below l after (s .edges) v right' Left e b;
+      rightCw-in-range = cw-below l after (s .edges) v right' Right e b;
+      rightAcw-in-range = acw-below l after (s .edges) v right' Right e b;
+    };
+    faceStart-in-range = λ f b. faces' .starts f b .below;
+    x-finite = λ p b. subst (λ k. finite (getD (after .positions) k nan) ≡ true)
+        (let z : p * 3 + 0 ≡ p * 3 = omega arith in z) (coordinate-finite p 0 b (omega arith));
+    y-finite = λ p b. coordinate-finite p 1 b (omega arith);
+    z-finite = λ p b. coordinate-finite p 2 b (omega arith);
+    interval-fit = v .interval-fit;
+    ends-differ = v .ends-differ;
+    sides-differ = sides-differ l after (s .edges) v right';
+    one-edge = one-edge l after (s .edges) v right';
+    left-acw = acw-links l after (s .edges) v right' Left;
+    right-acw = acw-links l after (s .edges) v right' Right;
+    left-cw = cw-links l after (s .edges) v right' Left;
+    right-cw = cw-links l after (s .edges) v right' Right;
+    face-walked = λ f b. face-walk l after (s .edges) v right' f b (fit .sound f b) (faces' .starts f b) (few' f b);
+    point-walked = λ p b. point-walk l after (s .edges) v right' p b (edged' p b)
+        (subst (λ w. valence after p ≤ passed w) (sym (walk-finished l (s .mesh) (s .edges) p))
+        (subst (λ n. n ≤ passed (pointWalk (s .mesh) (s .edges) (valence (s .mesh) p) p))
+        (sym (valence-finished l (s .mesh) p)) (walked p b)));
+    corner-fit = λ f k b h. inr (faces' .corners f k b h);
+    mark-fit = mark-fits;
+  }

@@ -14,19 +14,20 @@ use native.Mathlib.Omega.{arith}
 use lib.Dec.{eqb}
 use Rattle.perimeters.specs.Places.{nextPlace}
 use Rattle.perimeters.proofs.Laws.{next-below, next-injective}
-use Rattle.t_spline.specs.Edge.{none, faceFromSide}
+use Rattle.t_spline.specs.Edge.{none}
+use Rattle.t_spline.specs.Ends.{faceFromSide}
 use Rattle.t_spline.specs.declared.TnurccFaceSide.{TnurccFaceSide}
 use Rattle.tables.specs.Mesh.{Mesh, valence, start, origin, dest, interval}
 use Rattle.closed_meshes.specs.Renumbering.{sumTo}
-use Rattle.audited_meshes.specs.Folds.{one}
-use Rattle.audited_meshes.specs.Walks.{touches}
+use Rattle.audited_meshes.specs.Folds.{oneIf}
+use Rattle.audited_meshes.specs.Walks.{touches, Touches}
 use Rattle.audited_meshes.specs.Audit.{intervalFit}
-use Rattle.audited_meshes.specs.Audited.{Touches}
 use Rattle.audited_meshes.proofs.Folds.{sumTo-cong}
 use Rattle.built_meshes.specs.Lists.{Lists, pointsOf, size}
 use Rattle.built_meshes.specs.Places.{pointOf, nextOf}
 use Rattle.built_meshes.proofs.Connecting.{firstOf, secondOf, acwOf, cwOf, Keeps, first-kept, second-kept, face-kept}
 use Rattle.built_meshes.proofs.Rows.{row}
+use Rattle.built_meshes.proofs.Made.{Made, made-on}
 
 pub record FaceSound (l : Lists) (f : ℕ) : Type 0 where
   pub at-least-3 : 3 ≤ size l f
@@ -40,6 +41,10 @@ pub record Sits (l : Lists) (m : Mesh) (ne f i e : ℕ) : Type 0 where
   pub face-is : faceFromSide (row m e) on-side ≡ f
   pub first-is : firstOf on-side (row m e) ≡ pointOf l f i
   pub second-is : secondOf on-side (row m e) ≡ nextOf l f i
+
+-- no two of the places run the same way
+abbrev pub One-way : Lists → (ℕ → ℕ → Type 0) → Type 0
+One-way l D = (f i g j : ℕ) → D f i → D g j → pointOf l f i ≡ pointOf l g j → nextOf l f i ≡ nextOf l g j → (f ≡ g) × (i ≡ j)
 
 -- a place of a sound face
 pub record Good (l : Lists) (f i : ℕ) : Type 0 where
@@ -55,7 +60,7 @@ pub record Invariant (l : Lists) (D C : ℕ → ℕ → Type 0) (m : Mesh) (ne :
       (s : TnurccFaceSide) (e : ℕ) → e < ne → faceFromSide (row m e) s ≢ none →
       (i : ℕ) × D (faceFromSide (row m e) s) i × (pointOf l (faceFromSide (row m e) s) i ≡ firstOf s (row m e))
       × (nextOf l (faceFromSide (row m e) s) i ≡ secondOf s (row m e))
-  pub one-way : (f i g j : ℕ) → D f i → D g j → pointOf l f i ≡ pointOf l g j → nextOf l f i ≡ nextOf l g j → (f ≡ g) × (i ≡ j)
+  pub one-way : One-way l D
   pub left-face : (e : ℕ) → e < ne → row m e .«face_left» ≢ none
   pub origin-in : (e : ℕ) → e < ne → row m e .origin < pointsOf l
   pub dest-in : (e : ℕ) → e < ne → row m e .dest < pointsOf l
@@ -63,9 +68,10 @@ pub record Invariant (l : Lists) (D C : ℕ → ℕ → Type 0) (m : Mesh) (ne :
   pub one-side :
       (s : TnurccFaceSide) (e : ℕ) (t : TnurccFaceSide) (o : ℕ) → e < ne → o < ne →
       firstOf s (row m e) ≡ firstOf t (row m o) → secondOf s (row m e) ≡ secondOf t (row m o) → (s ≡ t) × (e ≡ o)
-  pub valence-is : (p : ℕ) → p < pointsOf l → valence m p ≡ sumTo ne (λ e. one (touches m p e))
+  pub valence-is : (p : ℕ) → p < pointsOf l → valence m p ≡ sumTo ne (λ e. oneIf (touches m p e))
   pub start-is : (p : ℕ) → p < pointsOf l → 0 < valence m p → (start m p < ne) × Touches m p (start m p)
   pub interval-fit : (e : ℕ) → e < ne → intervalFit (row m e .«knot_interval») ≡ true
+  pub made : Made l D m ne
   pub linked :
       (f i : ℕ) → C f i → (s : TnurccFaceSide) (e : ℕ) (t : TnurccFaceSide) (o : ℕ) → e < ne → o < ne →
       faceFromSide (row m e) s ≡ f → faceFromSide (row m o) t ≡ f → firstOf s (row m e) ≡ pointOf l f i → firstOf t (row m o) ≡ nextOf l f i →
@@ -169,13 +175,16 @@ module _ (l : Lists) (D C : ℕ → ℕ → Type 0) (m : Mesh) (ne : ℕ) (v : I
           one-side = λ s e t o b b' h k.
               v .one-side s e t o b b' (sym (first-kept s (keeps e b)) ∙ h ∙ first-kept t (keeps o b')) (sym (second-kept s (keeps e b)) ∙ k ∙ second-kept t (keeps o b'));
           valence-is = λ p b.
-              valence-same p ∙ v .valence-is p b ∙ sumTo-cong ne (λ e. one (touches m p e)) (λ e. one (touches m' p e)) (λ e k. ap one (sym (touches-kept p e k)));
+              valence-same p ∙ v .valence-is p b ∙ sumTo-cong ne (λ e. oneIf (touches m p e)) (λ e. oneIf (touches m' p e)) (λ e k. ap oneIf (sym (touches-kept p e k)));
           start-is = λ p b h.
               let at = v .start-is p b (subst (λ n. 0 < n) (valence-same p) h) in (
                 subst (λ x. x < ne) (sym (start-same p)) (at .0),
                 subst (λ x. Touches m' p x) (sym (start-same p)) (Touches-kept p (start m p) (at .0) (at .1)),
               );
           interval-fit = λ e b. rw (keeps e b .interval) (v .interval-fit e b);
+          made =
+              made-on l D D (λ f i d. d) (λ g j f i d d' h. d) m m' ne (v .made)
+              (λ e b. record { origin = keeps e b .origin; dest = keeps e b .dest; left = keeps e b .left; interval = keeps e b .interval }) start-same;
           linked = λ f i c s e t o b b' face face' first first'.
               linked' f i c s e t o b b' (sym (face-kept s (keeps e b)) ∙ face) (sym (face-kept t (keeps o b')) ∙ face')
               (sym (first-kept s (keeps e b)) ∙ first) (sym (first-kept t (keeps o b')) ∙ first');
@@ -330,9 +339,10 @@ module _ (l : Lists) (D C : ℕ → ℕ → Type 0) (m : Mesh) (ne : ℕ) (v : I
         pub one-side :
             (s : TnurccFaceSide) (e : ℕ) (t : TnurccFaceSide) (o : ℕ) → e < ne' → o < ne' →
             firstOf s (row m' e) ≡ firstOf t (row m' o) → secondOf s (row m' e) ≡ secondOf t (row m' o) → (s ≡ t) × (e ≡ o)
-        pub valence-is : (p : ℕ) → p < pointsOf l → valence m' p ≡ sumTo ne' (λ e. one (touches m' p e))
+        pub valence-is : (p : ℕ) → p < pointsOf l → valence m' p ≡ sumTo ne' (λ e. oneIf (touches m' p e))
         pub start-is : (p : ℕ) → p < pointsOf l → 0 < valence m' p → (start m' p < ne') × Touches m' p (start m' p)
         pub interval-fit : (e : ℕ) → e < ne' → intervalFit (row m' e .«knot_interval») ≡ true
+        pub made : Made l (Or-this D f₀ i₀) m' ne'
 
       pub invariant-added : Rest → Invariant l (Or-this D f₀ i₀) C m' ne'
       unfolding Placed
@@ -351,6 +361,7 @@ module _ (l : Lists) (D C : ℕ → ℕ → Type 0) (m : Mesh) (ne : ℕ) (v : I
             valence-is = r .valence-is;
             start-is = r .start-is;
             interval-fit = r .interval-fit;
+            made = r .made;
             linked = linked-added;
           }
 
@@ -374,5 +385,8 @@ invariant-as l D C D' C' m ne to from chain v =
       valence-is = v .valence-is;
       start-is = v .start-is;
       interval-fit = v .interval-fit;
+      made =
+          made-on l D D' to (λ g j f i d d' h. from g j d) m m ne (v .made)
+          (λ e b. record { origin = refl; dest = refl; left = refl; interval = refl }) (λ p. refl);
       linked = λ f i c. v .linked f i (chain f i c);
     }

@@ -20,18 +20,18 @@ use Rattle.tables.specs.Mesh.{Mesh, faceStart, corner}
 use Rattle.tables.specs.Records.{faceWords}
 use Rattle.closed_meshes.specs.Renumbering.{sumTo}
 use Rattle.audited_meshes.specs.Audit.{intervalFit}
-use Rattle.audited_meshes.specs.Folds.{one}
+use Rattle.audited_meshes.specs.Folds.{oneIf}
 use Rattle.audited_meshes.proofs.Folds.{below-suc, sumTo-cong}
 use Rattle.built_meshes.specs.Lists.{Lists, pointsOf, facesOf, size, offset}
 use Rattle.built_meshes.specs.Edges.{Entered, at, entered, joined}
-use Rattle.built_meshes.specs.Perimeters.{State, Ring, Step, on, stopped, chained, turned, turn, places, faceOf, withFace, closedUp, perimeter}
-use Rattle.built_meshes.specs.Places.{pointOf, nextOf}
+use Rattle.built_meshes.specs.Perimeters.{BuildState, FaceState, Progress, on, stopped, chained, turned, turn, places, faceOf, withFace, closedUp, perimeter}
+use Rattle.built_meshes.specs.Places.{pointOf, nextOf, Earlier}
 use Rattle.built_meshes.specs.Beyond.{Within}
 use Rattle.built_meshes.specs.declared.Ground.{Ground}
 use Rattle.built_meshes.proofs.Connecting.{Keeps}
 use Rattle.built_meshes.proofs.Rows.{row, row-joined-rest, faceStart-withFace, faceStart-withFace-other, corner-withFace, corner-withFace-other}
 use Rattle.built_meshes.proofs.Beyond.{behind-putRow, behind-connected, within-refl, within-trans}
-use Rattle.built_meshes.proofs.Invariant.{FaceSound, Sits, Good, Invariant, Or-this, sits-kept, invariant-kept, invariant-as}
+use Rattle.built_meshes.proofs.Invariant.{FaceSound, Sits, One-way, Good, Invariant, Or-this, sits-kept, invariant-kept, invariant-as}
 use Rattle.built_meshes.proofs.Joining.{keeps-refl, invariant-joined, sits-joined, right-joined}
 use Rattle.built_meshes.proofs.Entering.{Why, Goes, Came, goes, stops, came, counted}
 
@@ -79,7 +79,7 @@ counted-above m (suc k) = omega (arith, counted-above m k)
 
 counted-same : (m m' : Mesh) (k : ℕ) → ((x : ℕ) → row m' x .«face_right» ≡ row m x .«face_right») → counted m' k ≡ counted m k
 unfolding counted
-counted-same m m' k h = sumTo-cong k _ _ (λ x l. ap (λ f. suc (one (not (eqb f none)))) (h x))
+counted-same m m' k h = sumTo-cong k _ _ (λ x l. ap (λ f. suc (oneIf (not (eqb f none)))) (h x))
 
 -- ---- places done
 
@@ -108,17 +108,17 @@ done-whole l k f j (inl h) = below-suc f k (h .0) (λ lt. inl (lt, h .1)) (λ sa
 done-whole l k f j (inr h) = absurd (omega (arith, h .1))
 
 -- the state s, with all places of the faces below k in
-pub record Faces (l : Lists) (k : ℕ) (s : State) : Type 0 where
+pub record Faces (l : Lists) (k : ℕ) (s : BuildState) : Type 0 where
   pub invariant : Invariant l (Done l k 0) (Chained l k 0) (s .mesh) (s .edges)
   pub counts : counted (s .mesh) (s .edges) ≡ offset l k
   pub starts : (f : ℕ) → f < k → Sits l (s .mesh) (s .edges) f 0 (faceStart (s .mesh) f)
   pub corners : (f c : ℕ) → f < k → c < 4 → corner (s .mesh) f c ≡ none
 
-module _ (l : Lists) (s : State) (k : ℕ) (kf : k < facesOf l) (sound : FaceSound l k) (ready : Ready l (s .mesh)) where
-  a-face : k ≢ none
+module _ (l : Lists) (s : BuildState) (k : ℕ) (kf : k < facesOf l) (sound : FaceSound l k) (ready : Ready l (s .mesh)) where
+  pub a-face : k ≢ none
   a-face h = omega (arith, ready .faces-few)
 
-  pub record Around (i : ℕ) (r : Ring) : Type 0 where
+  pub record Around (i : ℕ) (r : FaceState) : Type 0 where
     pub invariant : Invariant l (Done l k i) (Chained l k i) (r .mesh) (r .edges)
     pub counts : counted (r .mesh) (r .edges) ≡ offset l k + i
     pub within : Within l (s .mesh) (r .mesh)
@@ -130,25 +130,29 @@ module _ (l : Lists) (s : State) (k : ℕ) (kf : k < facesOf l) (sound : FaceSou
     pub sits-still : (f j x : ℕ) → f ≢ none → Sits l (s .mesh) (s .edges) f j x → Sits l (r .mesh) (r .edges) f j x
 
   -- the face goes on, or it stopped at a place
-  pub data Round (i : ℕ) : Step Ring → Type 0 where
-    round : {r : Ring} → Around i r → Round i (on r)
-    halts : {g : Ground} {m : Mesh} (j : ℕ) → j < size l k → Why l (Done l k j) (pointOf l k j) (nextOf l k j) g → Within l (s .mesh) m → Round i (stopped g m)
+  pub data Round (i : ℕ) : Progress FaceState → Type 0 where
+    round : {r : FaceState} → Around i r → Round i (on r)
+    halts : {g : Ground} {m : Mesh} (j : ℕ) → j < size l k → Why l (Done l k j) (pointOf l k j) (nextOf l k j) g → One-way l (Done l k j) → Within l (s .mesh) m → Round i (stopped g m)
 
   good : (i : ℕ) → i < size l k → Good l k i
   good i h = record { sound = sound; is-below = h; a-face = a-face }
 
-  module _ (i : ℕ) (below : i < size l k) (r : Ring) (a : Around i r) where
+  module _ (i : ℕ) (below : i < size l k) (r : FaceState) (a : Around i r) where
     room : r .edges < length (l .listed)
     room = omega (arith, counted-above (r .mesh) (r .edges), a .counts, place-listed l k i kf below, ready .all-listed)
 
     ready' : Ready l (r .mesh)
     ready' = ready-same l (a .within) ready
 
-    entering : Came l (Done l k i) (Chained l k i) (r .mesh) (r .edges) k i (entered (r .mesh) (r .edges) k (pointOf l k i) (nextOf l k i) (getD (l .intervals) (offset l k + i) nan))
+    pub entering : Came l (Done l k i) (Chained l k i) (r .mesh) (r .edges) k i (entered (r .mesh) (r .edges) k (pointOf l k i) (nextOf l k i) (getD (l .intervals) (offset l k + i) nan))
     entering =
         came l (Done l k i) (Chained l k i) (r .mesh) (r .edges) k i (a .invariant) (good i below) (getD (l .intervals) (offset l k + i) nan)
         (ready .intervals-fit (offset l k + i) (omega (arith, place-listed l k i kf below, ready .all-listed)))
-        (ready' .points-room) (omega (arith, room, ready' .edges-room)) (omega (arith, room, ready' .intervals-room)) room
+        (ready' .points-room) (omega (arith, room, ready' .edges-room)) (omega (arith, room, ready' .intervals-room)) room earlier refl
+      where
+        earlier : (f j : ℕ) → Done l k i f j → Earlier f j k i
+        earlier f j (inl h) = inl (h .0)
+        earlier f j (inr h) = inr h
 
     -- as many edges as places, at most
     few-edges : {m' : Mesh} {ne' e : ℕ} → Goes l (Done l k i) (Chained l k i) (r .mesh) (r .edges) k i m' ne' e → ne' ≤ length (l .listed)
@@ -172,7 +176,7 @@ module _ (l : Lists) (s : State) (k : ℕ) (kf : k < facesOf l) (sound : FaceSou
       at-place : (j : ℕ) → j ≡ i → Sits l m' ne' k j e
       at-place j h = subst (λ j. Sits l m' ne' k j e) (sym h) (t .sits)
 
-  turn-first : (r : Ring) (a : Around 0 r) (below : 0 < size l k) {m' : Mesh} {ne' e : ℕ} → Goes l (Done l k 0) (Chained l k 0) (r .mesh) (r .edges) k 0 m' ne' e →
+  turn-first : (r : FaceState) (a : Around 0 r) (below : 0 < size l k) {m' : Mesh} {ne' e : ℕ} → Goes l (Done l k 0) (Chained l k 0) (r .mesh) (r .edges) k 0 m' ne' e →
       Around 1 (record { mesh = m'; edges = ne'; first = e; before = e })
   turn-first r a below {m'} {ne'} {e} t =
       record {
@@ -192,7 +196,7 @@ module _ (l : Lists) (s : State) (k : ℕ) (kf : k < facesOf l) (sound : FaceSou
       chain f j (inl h) = inl h
       chain f j (inr h) = absurd (omega (arith, h .1))
 
-  turn-next : (i : ℕ) (r : Ring) (a : Around (suc i) r) (below : suc i < size l k) {m' : Mesh} {ne' e : ℕ} →
+  turn-next : (i : ℕ) (r : FaceState) (a : Around (suc i) r) (below : suc i < size l k) {m' : Mesh} {ne' e : ℕ} →
       Goes l (Done l k (suc i)) (Chained l k (suc i)) (r .mesh) (r .edges) k (suc i) m' ne' e →
       Around (suc (suc i)) (record { mesh = joined m' e (r .before); edges = ne'; first = r .first; before = e })
   unfolding joined
@@ -202,7 +206,10 @@ module _ (l : Lists) (s : State) (k : ℕ) (kf : k < facesOf l) (sound : FaceSou
             invariant-as l D (Or-this (Chained l k (suc i)) k i) (Done l k (suc (suc i))) (Chained l k (suc (suc i))) (joined m' e (r .before)) ne'
             (done-suc l k (suc i)) (suc-done l k (suc i)) chain
             (invariant-joined l D (Chained l k (suc i)) m' ne' (t .invariant) (enough (suc i) below r a t) k i e (r .before) g sits-o sits-e done done');
-        counts = counted-same m' (joined m' e (r .before)) ne' (right-joined l D (Chained l k (suc i)) m' ne' (t .invariant) (enough (suc i) below r a t) k i e (r .before) g sits-o sits-e done done') ∙ counts-entry (suc i) below r a t;
+        counts =
+            counted-same m' (joined m' e (r .before)) ne'
+            (right-joined l D (Chained l k (suc i)) m' ne' (t .invariant) (enough (suc i) below r a t) k i e (r .before) g sits-o sits-e done done')
+            ∙ counts-entry (suc i) below r a t;
         within =
             within-trans l (within-trans l (a .within) (t .within))
             (record {
@@ -249,32 +256,32 @@ module _ (l : Lists) (s : State) (k : ℕ) (kf : k < facesOf l) (sound : FaceSou
       chain f j (inl h) = inl (inl h)
       chain f j (inr h) = below-suc j i (omega (arith, h .1)) (λ lt. inl (inr (h .0, omega arith))) (λ same. inr (h .0, same))
 
-  turn-came : (i : ℕ) (r : Ring) → Around i r → (below : i < size l k) → Round (suc i) (turn l k (offset l k) (size l k) i r)
+  pub turn-came : (i : ℕ) (r : FaceState) → Around i r → (below : i < size l k) → Round (suc i) (turn l k (offset l k) (size l k) i r)
   unfolding turn turned
   turn-came i r a below = go i a below (entered (r .mesh) (r .edges) k (pointOf l k i) (nextOf l k i) (getD (l .intervals) (offset l k + i) nan)) (entering i below r a)
     where
       go : (i : ℕ) → Around i r → i < size l k → (x : Entered) → Came l (Done l k i) (Chained l k i) (r .mesh) (r .edges) k i x → Round (suc i) (turned r i x)
       go zero a below x (goes t) = round (turn-first r a below t)
       go (suc i) a below x (goes t) = round (turn-next i r a below t)
-      go i a below x (stops w) = halts i below w (a .within)
+      go i a below x (stops w) = halts i below w (a .invariant .one-way) (a .within)
 
-  places-came : (c i : ℕ) (x : Step Ring) → i + c ≡ size l k → Round i x → Round (size l k) (places c l k (offset l k) (size l k) i x)
+  pub places-came : (c i : ℕ) (x : Progress FaceState) → i + c ≡ size l k → Round i x → Round (size l k) (places c l k (offset l k) (size l k) i x)
   unfolding places
   places-came zero i x h r = subst (λ n. Round n x) (let same : i ≡ size l k = omega arith in same) r
   places-came (suc c) i x h (round {r = r} a) =
       places-came c (suc i) (turn l k (offset l k) (size l k) i r) (omega arith) (turn-came i r a (omega arith))
-  places-came (suc c) i x h (halts j b w o) = halts j b w o
+  places-came (suc c) i x h (halts j b w u o) = halts j b w u o
 
   -- the face is in, or it stopped at a place
-  pub data Perimeter-came : Step State → Type 0 where
+  pub data Perimeter-came : Progress BuildState → Type 0 where
     whole :
-        {t : State} → Faces l (suc k) t → Within l (s .mesh) (t .mesh) → s .edges ≤ t .edges →
+        {t : BuildState} → Faces l (suc k) t → Within l (s .mesh) (t .mesh) → s .edges ≤ t .edges →
         ((x : ℕ) → t .edges ≤ x → row (t .mesh) x ≡ row (s .mesh) x) → Perimeter-came (on t)
     halted :
-        {g : Ground} {m : Mesh} (j : ℕ) → j < size l k → Why l (Done l k j) (pointOf l k j) (nextOf l k j) g → Within l (s .mesh) m →
+        {g : Ground} {m : Mesh} (j : ℕ) → j < size l k → Why l (Done l k j) (pointOf l k j) (nextOf l k j) g → One-way l (Done l k j) → Within l (s .mesh) m →
         Perimeter-came (stopped g m)
 
-  module _ (all : Faces l k s) (r : Ring) (a : Around (size l k) r) (j : ℕ) (last : suc j ≡ size l k) where
+  module _ (all : Faces l k s) (r : FaceState) (a : Around (size l k) r) (j : ℕ) (last : suc j ≡ size l k) where
     ready-r : Ready l (r .mesh)
     ready-r = ready-same l (a .within) ready
 
@@ -284,7 +291,7 @@ module _ (l : Lists) (s : State) (k : ℕ) (kf : k < facesOf l) (sound : FaceSou
     room-r : r .edges * 8 ≤ length (r .mesh .edges)
     room-r = omega (arith, few-r, ready-r .edges-room)
 
-    wraps : nextPlace (size l k) j ≡ 0
+    pub wraps : nextPlace (size l k) j ≡ 0
     wraps = next-last (size l k) j last
 
     sits-last : Sits l (r .mesh) (r .edges) k j (r .before)
@@ -383,35 +390,40 @@ module _ (l : Lists) (s : State) (k : ℕ) (kf : k < facesOf l) (sound : FaceSou
     later-closed x h =
         row-joined-rest (r .mesh) (r .first) (r .before) x (λ z. omega (arith, sits-first .below)) (λ z. omega (arith, sits-last .below)) ∙ a .later x h
 
+  -- no place is in yet
+  abbrev pub begin : FaceState
+  begin = record { mesh = s .mesh; edges = s .edges; first = 0; before = 0 }
+
+  pub around-begun : Faces l k s → Around 0 begin
+  around-begun all =
+      record {
+        invariant = all .invariant;
+        counts = omega (arith, all .counts);
+        within = within-refl l (s .mesh);
+        grows = omega arith;
+        later = λ x h. refl;
+        faces-still = refl;
+        first-sits = λ h. absurd (omega arith);
+        before-sits = λ j h. absurd (omega arith);
+        sits-still = λ f j x h t. t;
+      }
+
+  pub last-place : (j : ℕ) × (suc j ≡ size l k)
+  last-place = go (size l k) (sound .at-least-3)
+    where
+      go : (n : ℕ) → 3 ≤ n → (j : ℕ) × (suc j ≡ n)
+      go zero h = absurd (omega arith)
+      go (suc j) h = (j, refl)
+
   pub perimeter-came : Faces l k s → Perimeter-came (perimeter l k (offset l k) s)
   unfolding perimeter closedUp
-  perimeter-came all = go (places (size l k) l k (offset l k) (size l k) 0 (on begin)) (places-came (size l k) 0 (on begin) (omega arith) (round around))
+  perimeter-came all =
+      go (places (size l k) l k (offset l k) (size l k) 0 (on begin)) (places-came (size l k) 0 (on begin) (omega arith) (round (around-begun all)))
     where
-      begin : Ring
-      begin = record { mesh = s .mesh; edges = s .edges; first = 0; before = 0 }
-
-      around : Around 0 begin
-      around =
-          record {
-            invariant = all .invariant;
-            counts = omega (arith, all .counts);
-            within = within-refl l (s .mesh);
-            grows = omega arith;
-            later = λ x h. refl;
-            faces-still = refl;
-            first-sits = λ h. absurd (omega arith);
-            before-sits = λ j h. absurd (omega arith);
-            sits-still = λ f j x h t. t;
-          }
-
       last : (j : ℕ) × (suc j ≡ size l k)
-      last = go (size l k) (sound .at-least-3)
-        where
-          go : (n : ℕ) → 3 ≤ n → (j : ℕ) × (suc j ≡ n)
-          go zero h = absurd (omega arith)
-          go (suc j) h = (j, refl)
+      last = last-place
 
-      go : (x : Step Ring) → Round (size l k) x → Perimeter-came (closedUp k x)
+      go : (x : Progress FaceState) → Round (size l k) x → Perimeter-came (closedUp k x)
       go x (round {r = r} a) =
           whole (faces-closed all r a (last .0) (last .1)) (within-closed all r a (last .0) (last .1)) (a .grows) (later-closed all r a (last .0) (last .1))
-      go x (halts j b w o) = halted j b w o
+      go x (halts j b w u o) = halted j b w u o

@@ -8,8 +8,8 @@ use Prim.Native.Nat.{ℕ, _<_}
 use lib.Ieee.{Float, le}
 use lib.Ieee.Scale.{finite}
 use Rattle.tables.specs.Mesh.{Mesh, z, origin, dest, start}
-use Rattle.audited_meshes.specs.Walks.{acwOfPoint}
-use Rattle.audited_meshes.specs.Audited.{Audited, Touches, Passes, last, more}
+use Rattle.audited_meshes.specs.Walks.{acwOfPoint, Touches}
+use Rattle.audited_meshes.specs.Audited.{Audited, Passes, last, more}
 use Rattle.crossings.specs.Crossings.{between, crosses}
 use Rattle.crossings.specs.Claims.{Joins, Chain, there, along}
 use Rattle.crossings.proofs.Order.{le-total}

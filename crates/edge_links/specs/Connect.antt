@@ -2,17 +2,16 @@
 --     agreeing              the eight agreeing pairs of states: the Rust's comment table
 --     linksOf f v           the links that a face state and a vertex state set, or that the states mismatch
 --     vertexState e o       the first vertex state that holds of two edges; 4 where they share no point
---     linked i j ls p       the pair of edges, of rows i and j, with the links set
+--     withLinks i j ls p    the pair of edges, of rows i and j, with the links set
 --     served b f v i j p    the same for one face state, if b says that it holds
 --     connected i e j o     both edges after all face states were served, in the Rust's order
---     joinable e o          whether the two share a face and a point: a mismatched state makes no link and counts too
 -- Face states: 0 left of both, 1 right of both, 2 left of the first and right of the other, 3 the other way round.
 -- Vertex states: 0 origin of the first and destination of the other, 1 the other way round, 2 origin of both,
 -- 3 destination of both.
 use mathlib.Core.Bool.{Bool, true, false, _&&_, cond}
 use mathlib.Core.List.{List, [], _∷_}
 use Prim.Native.Nat.{ℕ}
-use lib.Dec.{eqb, ltb}
+use lib.Dec.{eqb}
 use Rattle.t_spline.specs.Edge.{withConnection, sameFace}
 use Rattle.t_spline.specs.declared.TnurccEdge.{TnurccEdge}
 use Rattle.t_spline.specs.declared.TnurccConnection.{TnurccConnection}
@@ -56,12 +55,12 @@ vertexState e o =
     (cond (eqb (e .origin) (o .origin)) 2
     (cond (eqb (e .dest) (o .dest)) 3 4)))
 
-abbrev pub linked : ℕ → ℕ → Links → Pair → Pair
-linked i j (Both c d) p = record { first = withConnection (p .first) j c; other = withConnection (p .other) i d }
-linked i j Mismatch p = p
+abbrev pub withLinks : ℕ → ℕ → Links → Pair → Pair
+withLinks i j (Both c d) p = record { first = withConnection (p .first) j c; other = withConnection (p .other) i d }
+withLinks i j Mismatch p = p
 
 abbrev pub served : Bool → ℕ → ℕ → ℕ → ℕ → Pair → Pair
-served true f v i j p = linked i j (linksOf f v) p
+served true f v i j p = withLinks i j (linksOf f v) p
 served false f v i j p = p
 
 abbrev pub connected : ℕ → TnurccEdge → ℕ → TnurccEdge → Pair
@@ -71,13 +70,3 @@ connected i e j o =
     (served (sameFace (e .«face_left») (o .«face_right»)) 2 (vertexState e o) i j
     (served (sameFace (e .«face_left») (o .«face_left»)) 0 (vertexState e o) i j
     (record { first = e; other = o }))))
-
--- some face state holds
-abbrev pub shareFace : TnurccEdge → TnurccEdge → Bool
-shareFace e o =
-    cond (sameFace (e .«face_left») (o .«face_left»)) true
-    (cond (sameFace (e .«face_left») (o .«face_right»)) true
-    (cond (sameFace (e .«face_right») (o .«face_left»)) true (sameFace (e .«face_right») (o .«face_right»))))
-
-abbrev pub joinable : TnurccEdge → TnurccEdge → Bool
-joinable e o = cond (shareFace e o) (ltb (vertexState e o) 4) false

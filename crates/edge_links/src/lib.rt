@@ -1,9 +1,10 @@
 // Connecting two edges, by value: the constant table of links, and the states that look into it.
 // Carries over the part of `connect` of t_nurcc_edge/mod.rs that looks at no table.
 // Not here: connecting two rows of a table (`t_nurcc_edge`).
-// Contracts cite `specs/Connect.antt`. Laws of the table: `proofs/LinkTable.antt`.
+// Contracts cite `specs/Connect.antt` and `specs/Joinable.antt`. Laws of the table: `proofs/LinkTable.antt`.
 ghost use mathlib.Core.Path.{_≡_};
-ghost use Rattle.edge_links.specs.Connect.{linksOf, vertexState, linked, served, connected, shareFace, joinable};
+ghost use Rattle.edge_links.specs.Connect.{linksOf, vertexState, withLinks, served, connected};
+ghost use Rattle.edge_links.specs.Joinable.{shareFace, joinable};
 use t_spline::TnurccConnection;
 use t_spline::TnurccEdge;
 use t_spline::t_nurcc_edge::same_face;
@@ -112,7 +113,7 @@ impl Pair {
     }
 
     // Whether the two edges have a face in common.
-    pub fn shares_face(self) -> bool
+    fn shares_face(self) -> bool
         ensures { λ r. ⌜ r ≡ shareFace (self .first) (self .other) ⌝ }
     {
         if same_face(self.first.face_left, self.other.face_left) {
@@ -128,8 +129,8 @@ impl Pair {
     }
 
     // The pair, of the rows `i` and `j`, with the links set.
-    pub fn with_links(self, links: Links, i: u32, j: u32) -> Pair
-        ensures { λ r. ⌜ r ≡ linked i j links self ⌝ }
+    fn with_links(self, links: Links, i: u32, j: u32) -> Pair
+        ensures { λ r. ⌜ r ≡ withLinks i j links self ⌝ }
     {
         match links {
             Links::Both(own, other) => Pair {
@@ -141,7 +142,7 @@ impl Pair {
     }
 
     // The pair after one face state was served, if it holds.
-    pub fn serve(self, holds: bool, face: usize, vert: usize, i: u32, j: u32) -> Pair
+    fn serve(self, holds: bool, face: usize, vert: usize, i: u32, j: u32) -> Pair
         ensures { λ r. ⌜ r ≡ served holds face vert i j self ⌝ }
     {
         if holds {

@@ -1,20 +1,22 @@
 -- What the program `refine` writes for the bytes of a text (document 01, "Mesh text").
---     lent                    the tables that it lends, and its scratch: zeros, with rows for 256 points, 512 edges and 256 faces
+--     zeroTables              the tables that it lends, and its scratch: zeros, with rows for 256 points, 512 edges and 256 faces
+--     outputBytes             the most bytes of an output
 --     pointLine ps            where point 0 is, by the table of positions ps
 --     groundLine ns           the line of a ground, by document 01's numbers of the answer
 --     stepLines c a ps        the lines after a step of a mesh with the counts c, by its answer and the positions that it left
 --     numberedStep c m        the step of the mesh with the counts c in the tables m, its faces visited in numbered order
 --     output s                the whole output
 --     Writing                 how many bytes are written, and the lent bytes afterwards
---     refine s out            the output at the front of the bytes that are lent; nothing where these are fewer than 256
+--     refine s out            the output at the front of the bytes that are lent; nothing where these are fewer than outputBytes
 use mathlib.Core.Bool.{Bool, true, false}
 use mathlib.Core.List.{List, [], _∷_, _++_}
-use Prim.Native.Nat.{ℕ, zero, suc}
+use Prim.Native.Nat.{ℕ, zero, suc, _*_}
 use lib.Dec.{leb}
 use lib.ListN.{length, replicate}
 use lib.Seq.{sets}
 use lib.Ieee.{Float, ofBits, toBits, binary64}
-use Rattle.tables.specs.Mesh.{Mesh}
+use Rattle.tables.specs.Layout.{positionWidth, pointWidth, edgeWidth, faceWidth}
+use Rattle.tables.specs.Mesh.{Mesh, meshOf}
 use Rattle.tables.specs.Records.{positionAt}
 use Rattle.tables.specs.declared.Counts.{Counts}
 use Rattle.building_tests.specs.declared.Bounds.the-variants.{Refine}
@@ -22,22 +24,20 @@ use Rattle.text_meshes.specs.TextBuilding.{buildText}
 use Rattle.text_meshes.specs.TextBuilding as text
 use Rattle.text_meshes.specs.declared.TextBuilt.{TextBuilt}
 use Rattle.text_meshes.specs.declared.TextBuilt.the-variants.{Accepted, NotText, Refused}
-use Rattle.steps.specs.Step.{step, Outcome as StepOutcome}
+use Rattle.steps.specs.Step.{step, StepOutcome}
 use Rattle.steps.specs.Step as steps
 use Rattle.steps.specs.declared.Stepped.{Stepped}
 use Rattle.steps.specs.declared.Stepped.the-variants.{Refined, NotClosed, NotEachFaceOnce, NoRoom, NotFinite}
 use Rattle.runs.specs.Runs.{numbered}
 use Rattle.mesh_answers.specs.Lines.{meshLine, stepLine, atLine, refusedLine}
 
-unfoldable pub lent : Mesh
-lent =
-    record {
-      positions = replicate 768 (ofBits binary64 0);
-      points = replicate 768 0;
-      edges = replicate 4096 0;
-      intervals = replicate 512 (ofBits binary64 0);
-      faces = replicate 1280 0;
-    }
+abbrev pub outputBytes : ℕ
+outputBytes = 256
+
+unfoldable pub zeroTables : Mesh
+zeroTables =
+    meshOf (replicate (256 * positionWidth) (ofBits binary64 0)) (replicate (256 * pointWidth) 0) (replicate (512 * edgeWidth) 0)
+    (replicate 512 (ofBits binary64 0)) (replicate (256 * faceWidth) 0)
 
 abbrev pub pointLine : List Float → List ℕ
 pointLine ps =
@@ -54,24 +54,24 @@ groundLine (g ∷ ns) = refusedLine g
 
 abbrev pub stepLines : Counts → Stepped → List Float → List ℕ
 stepLines c (Refined c') ps = stepLine (c' .points) (c' .edges) (c' .faces) ++ pointLines (c .points) ps
-stepLines c NotClosed ps = groundLine (steps.numbersOf NotClosed)
-stepLines c NotEachFaceOnce ps = groundLine (steps.numbersOf NotEachFaceOnce)
-stepLines c NoRoom ps = groundLine (steps.numbersOf NoRoom)
-stepLines c NotFinite ps = groundLine (steps.numbersOf NotFinite)
+stepLines c NotClosed ps = groundLine (steps.stepNumbers NotClosed)
+stepLines c NotEachFaceOnce ps = groundLine (steps.stepNumbers NotEachFaceOnce)
+stepLines c NoRoom ps = groundLine (steps.stepNumbers NoRoom)
+stepLines c NotFinite ps = groundLine (steps.stepNumbers NotFinite)
 
 abbrev pub linesOf : Counts → StepOutcome → List ℕ
 linesOf c o = stepLines c (o .answer) (o .tables .positions)
 
 unfoldable pub numberedStep : Counts → Mesh → StepOutcome
-unfolding step numbered lent
-numberedStep c m = step m c (numbered (c .faces)) lent
+unfolding step numbered zeroTables
+numberedStep c m = step m c (numbered (c .faces)) zeroTables
 
 -- by the answer of building, and the tables m that it left
 unfoldable pub outputIf : TextBuilt → Mesh → List ℕ
 unfolding numberedStep
 outputIf (Accepted c) m = meshLine (c .points) (c .edges) (c .faces) ++ linesOf c (numberedStep c m)
-outputIf NotText m = groundLine (text.numbersOf NotText)
-outputIf (Refused g) m = groundLine (text.numbersOf (Refused g))
+outputIf NotText m = groundLine (text.textNumbers NotText)
+outputIf (Refused g) m = groundLine (text.textNumbers (Refused g))
 
 -- by the tables m
 unfoldable pub outputFrom : List ℕ → Mesh → List ℕ
@@ -79,17 +79,17 @@ unfolding buildText outputIf
 outputFrom s m = let o = buildText Refine s m in outputIf (o .answer) (o .tables)
 
 unfoldable pub output : List ℕ → List ℕ
-unfolding outputFrom lent
-output s = outputFrom s lent
+unfolding outputFrom zeroTables
+output s = outputFrom s zeroTables
 
 pub record Writing : Type 0 where
-  pub length : ℕ
+  pub count : ℕ
   pub out : List ℕ
 
 abbrev pub writingIf : Bool → List ℕ → List ℕ → Writing
-writingIf true xs out = record { length = length xs; out = sets out 0 xs }
-writingIf false xs out = record { length = 0; out = out }
+writingIf true xs out = record { count = length xs; out = sets out 0 xs }
+writingIf false xs out = record { count = 0; out = out }
 
 unfoldable pub refine : List ℕ → List ℕ → Writing
 unfolding output
-refine s out = writingIf (leb 256 (length out)) (output s) out
+refine s out = writingIf (leb outputBytes (length out)) (output s) out

@@ -7,24 +7,28 @@ use mathlib.Core.Bool.{Bool, true, false}
 use mathlib.Core.Logic.{_≢_}
 use Prim.Native.Nat.{ℕ, _+_, _-_, _<_}
 use native.Mathlib.Omega.{arith}
-use Rattle.closed_meshes.specs.Mesh.{Mesh as MeshOver, Dart, lft, rgt, edge, face}
+use Rattle.closed_meshes.specs.Mesh.{MeshOver, Dart, lft, rgt, edge, face}
 use Rattle.closed_meshes.specs.Closed.{Closed}
 use Rattle.closed_meshes.specs.Refinement.{NewPoint, facePoint, NewEdge, org, dst, join, firstHalf, secondHalf}
 use Rattle.closed_meshes.specs.Renumbering.{Bijection, Row}
 use Rattle.closed_meshes.proofs.NewDarts.{start-half, end-half, inward, outward}
 use Rattle.tables.specs.Mesh.{Mesh}
 use Rattle.refined_meshes.specs.Turns.{turns}
-use Rattle.refined_meshes.specs.State.{State, putEdge, putPoint, putFace, take}
+use Rattle.refined_meshes.specs.State.{State, putEdge, putPoint, putFace, takeRows}
 use Rattle.refined_meshes.specs.Ring.{Ring, joinRow, putJoin, putFirst, putSecond, putNewFace, putFacePoint}
 use Rattle.refined_meshes.specs.Visits.{putRing}
 use Rattle.refined_meshes.specs.Fits.{RoomFor}
 use Rattle.refined_meshes.proofs.Places.{dartAt}
 use Rattle.refined_meshes.proofs.Numbering.{pointNo, edgeNo, faceNo, pointNo-injective, pointNo-fits}
 use Rattle.refined_meshes.proofs.Words.{ends, side, pointOf, faceOf, room-putPoint, pointOf-putPoint, pointOf-putPoint-other}
-use Rattle.refined_meshes.proofs.Target.{endsAt, firstSide, secondSide, outSide, inSide, centreAt, faceAt, rowOf, row-start, row-end, kind, oldDart, starting, inner, outer, ending, kind-start, kind-end, oldDart-start, oldDart-end}
+use Rattle.refined_meshes.proofs.Target.{endsAt, firstSide, secondSide, outSide, inSide, centreAt, faceAt}
+use Rattle.refined_meshes.proofs.Target.{rowOf, row-start, row-end, kind, oldDart, starting, inner, outer}
+use Rattle.refined_meshes.proofs.Target.{ending, kind-start, kind-end, oldDart-start, oldDart-end}
 use Rattle.refined_meshes.proofs.Turns.{turns-cong, turns-view}
 use Rattle.refined_meshes.proofs.Ring.{RingIs, joinAt, halfAt, newFaceAt, join-at, first-at, second-at, face-at}
-use Rattle.refined_meshes.proofs.Loops.{parts, not-on, joins, joins-fit, joins-same, joins-other, sideAt, halves, halves-fit, halves-ends, halves-same, halves-other, newFaces, newFaces-fit, newFaces-same, newFaces-other}
+use Rattle.refined_meshes.proofs.Loops.{parts, not-on, joins, joins-fit, joins-same, joins-other, sideAt}
+use Rattle.refined_meshes.proofs.Loops.{halves, halves-fit, halves-ends, halves-same, halves-other}
+use Rattle.refined_meshes.proofs.Loops.{newFaces, newFaces-fit, newFaces-same, newFaces-other}
 
 -- a side of an edge
 abbrev dartOver : {E : Type 0} → Bool → E → Dart E
@@ -98,13 +102,13 @@ module _ (m : Mesh) {np ne nf : ℕ} {t : MeshOver (Row np) (Row ne) (Row nf)} (
       last-below : n - 1 < n
       last-below = omega (arith, c .size-low f)
 
-      ring-is : putRing m r s ≡ take 0 n (n - 1) s5
+      ring-is : putRing m r s ≡ takeRows 0 n (n - 1) s5
       unfolding putRing putFacePoint
       ring-is =
-          ap (λ x. take 0 (r .size) (r .size - 1) (putPoint (r .centre) (r .size) (joinRow r (r .size - 1)) 0 x)) stages
-          ∙ ap (λ k. take 0 k (k - 1) (putPoint (r .centre) k (joinRow r (k - 1)) 0 s4)) (is .size-is)
-          ∙ ap (λ j. take 0 n (n - 1) (putPoint (r .centre) n j 0 s4)) (is .join-is (n - 1) last-below)
-          ∙ ap (λ p. take 0 n (n - 1) (putPoint p n (edgeNo c order (join (dartAt c f (n - 1)))) 0 s4)) (is .centre-is)
+          ap (λ x. takeRows 0 (r .size) (r .size - 1) (putPoint (r .centre) (r .size) (joinRow r (r .size - 1)) 0 x)) stages
+          ∙ ap (λ k. takeRows 0 k (k - 1) (putPoint (r .centre) k (joinRow r (k - 1)) 0 s4)) (is .size-is)
+          ∙ ap (λ j. takeRows 0 n (n - 1) (putPoint (r .centre) n j 0 s4)) (is .join-is (n - 1) last-below)
+          ∙ ap (λ p. takeRows 0 n (n - 1) (putPoint p n (edgeNo c order (join (dartAt c f (n - 1)))) 0 s4)) (is .centre-is)
 
       -- The tables that a loop does not write stay.
       edges-stay : (i : ℕ) → ends s5 i ≡ ends s3 i
@@ -221,24 +225,24 @@ module _ (m : Mesh) {np ne nf : ℕ} {t : MeshOver (Row np) (Row ne) (Row nf)} (
       faces-last i = refl
 
       -- taking rows changes no word
-      side-take : (d : Dart ℕ) → side (take 0 n (n - 1) s5) d ≡ side s5 d
+      side-take : (d : Dart ℕ) → side (takeRows 0 n (n - 1) s5) d ≡ side s5 d
       unfolding side
       side-take (lft i) = refl
       side-take (rgt i) = refl
 
-      ends-take : (i : ℕ) → ends (take 0 n (n - 1) s5) i ≡ ends s5 i
+      ends-take : (i : ℕ) → ends (takeRows 0 n (n - 1) s5) i ≡ ends s5 i
       unfolding ends
       ends-take i = refl
 
-      face-take : (i : ℕ) → faceOf (take 0 n (n - 1) s5) i ≡ faceOf s5 i
+      face-take : (i : ℕ) → faceOf (takeRows 0 n (n - 1) s5) i ≡ faceOf s5 i
       unfolding faceOf
       face-take i = refl
 
-      point-take : (i : ℕ) → pointOf (take 0 n (n - 1) s5) i ≡ pointOf s5 i
+      point-take : (i : ℕ) → pointOf (takeRows 0 n (n - 1) s5) i ≡ pointOf s5 i
       unfolding pointOf
       point-take i = refl
 
-      ringed-taken : Ringed f s (take 0 n (n - 1) s5)
+      ringed-taken : Ringed f s (takeRows 0 n (n - 1) s5)
       unfolding sideAt
       ringed-taken =
           record {

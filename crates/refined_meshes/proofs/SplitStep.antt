@@ -5,7 +5,7 @@ use mathlib.Core.Logic.{_⊎_, inl, inr, _≢_}
 use Prim.Native.Nat.{ℕ, _+_, _*_, _≤_, _<_}
 use native.Mathlib.Omega.{arith}
 use native.Mathlib.Decide.{ℕ-discrete}
-use Rattle.closed_meshes.specs.Mesh.{Mesh as MeshOver, Dart, lft, rgt, edge, face}
+use Rattle.closed_meshes.specs.Mesh.{MeshOver, Dart, lft, rgt, edge, face}
 use Rattle.closed_meshes.specs.Closed.{Closed}
 use Rattle.closed_meshes.specs.Refinement.{NewPoint, old, mid, facePoint, NewEdge, org, dst, join}
 use Rattle.closed_meshes.specs.Renumbering.{Bijection, Row}
@@ -13,12 +13,14 @@ use Rattle.closed_meshes.proofs.Counting.{row-path}
 use Rattle.closed_meshes.proofs.NewDarts.{start-half, end-half, inward, outward}
 use Rattle.tables.specs.Mesh.{Mesh, mark}
 use Rattle.refined_meshes.specs.State.{State}
-use Rattle.refined_meshes.specs.Split.{split}
+use Rattle.refined_meshes.specs.Split.{splitEdge}
 use Rattle.refined_meshes.proofs.Leads.{when}
 use Rattle.refined_meshes.proofs.Numbering.{pointNo, edgeNo, faceNo, pointNo-injective, edgeNo-injective, pointNo-fits, edgeNo-fits}
 use Rattle.refined_meshes.proofs.Words.{ends, side, pointOf}
 use Rattle.refined_meshes.proofs.Target.{endsOld, endsAt, midAt, rowOf, edge-rowOf}
-use Rattle.refined_meshes.proofs.Split.{room-split, ends-origin, left-origin, right-origin, ends-destination, ends-split-other, side-split-other, point-middle, point-destination, point-split-other, faceOf-split}
+use Rattle.refined_meshes.proofs.Split.{room-split, ends-origin, left-origin, right-origin}
+use Rattle.refined_meshes.proofs.Split.{ends-destination, ends-split-other, side-split-other}
+use Rattle.refined_meshes.proofs.Split.{point-middle, point-destination, point-split-other, faceOf-split}
 use Rattle.refined_meshes.proofs.Content.{link, Done, Latest, Unchanged, OldPoint, Content}
 
 module _ (m : Mesh) {np ne nf : ℕ} {t : MeshOver (Row np) (Row ne) (Row nf)} (c : Closed t) (order : Bijection (Row nf) (Row nf)) where
@@ -36,7 +38,7 @@ module _ (m : Mesh) {np ne nf : ℕ} {t : MeshOver (Row np) (Row ne) (Row nf)} (
       (later : (e' : Row ne) → S e' → edgeNo c order (dst e') ≤ edgeNo c order (dst e))
     where
       abbrev split-state : State
-      split-state = split (e .0) s
+      split-state = splitEdge (e .0) s
 
       e-below : e .0 < 4 * ne
       e-below = unfold edgeNo in edgeNo-fits c order (org e)

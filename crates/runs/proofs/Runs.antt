@@ -11,8 +11,8 @@ use Rattle.tables.specs.Records.{positionAt}
 use Rattle.tables.specs.declared.Counts.{Counts}
 use Rattle.closed_meshes.specs.Renumbering.{Row}
 use Rattle.closed_meshes.specs.Names.{givenPoint, givenNames}
-use Rattle.closed_meshes.specs.Shared.{Stage, Shared}
-use Rattle.closed_meshes.specs.Runs.{Run, begin, NamesDiffer}
+use Rattle.closed_meshes.specs.Shared.{Stage, Shared, NamesDiffer}
+use Rattle.closed_meshes.specs.Runs.{StepsTo, begin}
 use Rattle.closed_meshes.proofs.Counting.{row-path}
 use Rattle.closed_meshes.proofs.Groupoid.{isomorphism-trans}
 use Rattle.closed_meshes.proofs.Names.{names-differ}
@@ -20,10 +20,10 @@ use Rattle.closed_meshes.proofs.Runs.{Matching, matching-run}
 use Rattle.closed_meshes.proofs.TwoRuns.{shared-of-matching}
 use Rattle.audited_meshes.specs.Rows.{HoldsClosed}
 use Rattle.audited_meshes.proofs.Holds.{audited-of-closed, audit-is-closed}
-use Rattle.steps.specs.Step.{firstRows}
+use Rattle.tables.specs.Counted.{firstRows}
 use Rattle.steps.specs.OneStep.{Binary64}
 use Rattle.steps.proofs.Rows.{SameRows, same-of-firstRows, room-of-firstRows, room-of-holds, holds-same, position-same}
-use Rattle.runs.specs.Runs.{Lent, Handed, run, accepted, inNumberedOrder, lent, NamedMesh, stage, SameNames, NamedRun, TwoRuns, Demand3}
+use Rattle.runs.specs.Runs.{Lent, Handed, run, accepted, lent, NamedMesh, stage, SameNames, NamedRun, TwoRuns, Demand3}
 use Rattle.runs.proofs.Readings.{matching-same, first-reading, first-points-first}
 use Rattle.runs.proofs.Steps.{each-step}
 use Rattle.runs.proofs.Naming.{same-names-refl, same-names-sym, same-names-trans, Reached, reached, named, settled}
@@ -77,7 +77,7 @@ module _ {c : Counts} {m : Mesh} (numbers : Binary64 c m) {hs : List Handed} (n 
       (names-differ _ _ _ (n .begun .holds .mesh) (n .begun .holds .closed) (accepted (lent m c) hs) (stage (reached-end .mesh))
       (subst
       (λ x.
-      Run
+      StepsTo
       (record {
         Point = Row (c .points);
         Edge = Row (c .edges);
@@ -113,7 +113,7 @@ module _
           shared-of-matching
           (matching-trans (end-matches na n)
           (matching-trans
-          (matching-run begin-matches (subst (λ j. Run (stage (n .begun)) j (stage (reached-end na n .mesh))) k (reached-end na n .run)) (reached-end nb n' .run))
+          (matching-run begin-matches (subst (λ j. StepsTo (stage (n .begun)) j (stage (reached-end na n .mesh))) k (reached-end na n .run)) (reached-end nb n' .run))
           (matches-end nb n')))
           (end-differs nb n')
 
@@ -216,4 +216,4 @@ two-runs c a b h na e hsA hsB =
     }
 
 pub theorem : Demand3
-theorem c a b h numbers e ts hs = two-runs c a b (audit-is-closed _ _ _ _ .0 h) numbers e (inNumberedOrder (lent a c) ts) hs
+theorem c a b h numbers e hsA hsB order = two-runs c a b (audit-is-closed _ _ _ _ .0 h) numbers e hsA hsB

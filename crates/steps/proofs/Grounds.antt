@@ -15,18 +15,19 @@ use Prim.Native.Nat.{ℕ, _≤_, _<_}
 use native.Mathlib.Omega.{arith}
 use lib.ListN.{length, getD}
 use lib.Ieee.{Float}
-use Rattle.tables.specs.Mesh.{Mesh}
+use Rattle.tables.specs.Mesh.{Mesh, pointRows, edgeRows, faceRows}
 use Rattle.tables.specs.declared.Counts.{Counts}
 use Rattle.audited_meshes.specs.Folds.{distinct}
-use Rattle.audited_meshes.specs.Audit.{pointRows, edgeRows, faceRows, audit}
+use Rattle.audited_meshes.specs.Audit.{audit}
 use Rattle.audited_meshes.proofs.Tests.{and-is, eqb-is, ltb-is, leb-is, not-is, self-is, every-is}
 use Rattle.refined_meshes.specs.State.{State, withPositions}
 use Rattle.refined_meshes.specs.Order.{EachOnce}
 use Rattle.refined_meshes.specs.Visits.{refinedRows}
 use Rattle.steps.specs.declared.Stepped.{Stepped}
 use Rattle.steps.specs.declared.Stepped.the-variants.{Refined, NotClosed, NotEachFaceOnce, NoRoom, NotFinite}
-use Rattle.steps.specs.Positions.{Placing, on, stopped, placedAll}
-use Rattle.steps.specs.Step.{numberOf, refinedCounts, eachFaceOnce, rowsFor, withinCeilings, roomFor, firstRows, overRows, Made, whole, notFinite, madeOf, placedRows, made, refusal, ended, stepIf, step}
+use Rattle.steps.specs.Positions.{Placing, so-far, not-finite, placedAll}
+use Rattle.steps.specs.Step.{stepGround, refinedCounts, eachFaceOnce, withinCeilings, roomFor, Made, whole, notFinite, madeOf, placedRows, made, stepRefusal, ended, testedIf, stepBy, step}
+use Rattle.tables.specs.Counted.{rowsFor, firstRows, overRows}
 use Rattle.steps.specs.Rows.{Room}
 use Rattle.steps.specs.OneStep.{Refused, Untouched}
 use Rattle.steps.proofs.Rows.{room-of-rows}
@@ -81,7 +82,7 @@ module _ (m : Mesh) (c : Counts) (order : List ℕ) (t : Mesh) where
   -- The step by the answers of its tests.
   pub step-is :
       {a o r : Bool} → audit m (c .points) (c .edges) (c .faces) ≡ a → eachFaceOnce (c .faces) order ≡ o → roomFor (refinedCounts c) m t ≡ r →
-      step m c order t ≡ stepIf a o r m c order t
+      step m c order t ≡ stepBy (testedIf a o r (refinedCounts c)) m c order t
   unfolding step
   step-is ha ho hr = rw (ha, ho, hr)
 
@@ -89,11 +90,11 @@ module _ (m : Mesh) (c : Counts) (order : List ℕ) (t : Mesh) where
   pub step-made :
       audit m (c .points) (c .edges) (c .faces) ≡ true → eachFaceOnce (c .faces) order ≡ true → roomFor (refinedCounts c) m t ≡ true →
       (w : Made) → begun ≡ w → step m c order t ≡ ended m (refinedCounts c) t w
-  unfolding stepIf begun
+  unfolding stepBy begun
   step-made ha ho hr w e = step-is ha ho hr ∙ ap (ended m (refinedCounts c) t) e
 
   pub taken : (c' : Counts) → step m c order t .answer ≡ Refined c' → Taken m c order t c'
-  unfolding stepIf ended begun
+  unfolding stepBy ended begun
   taken c' e = go _ refl _ refl _ refl
     where
       mending : audit m (c .points) (c .edges) (c .faces) ≡ true → eachFaceOnce (c .faces) order ≡ true → roomFor (refinedCounts c) m t ≡ true → (w : Made) → begun ≡ w → Taken m c order t c'
@@ -133,16 +134,16 @@ module _ (m : Mesh) (c : Counts) (order : List ℕ) (t : Mesh) where
 
   -- A step that 30, 31 or 32 refuses leaves everything as found.
   refused-early :
-      (b : Stepped) (n : ℕ) → n < 33 → numberOf b ≡ some n → step m c order t ≡ refusal b m t → (g : ℕ) →
-      numberOf (step m c order t .answer) ≡ some g → Refused m c order t g
+      (b : Stepped) (n : ℕ) → n < 33 → stepGround b ≡ some n → step m c order t ≡ stepRefusal b m t → (g : ℕ) →
+      stepGround (step m c order t .answer) ≡ some g → Refused m c order t g
   refused-early b n l k q g e =
-      let z : some n ≡ some g = sym k ∙ ap (λ o. numberOf (o .answer)) (sym q) ∙ e in
+      let z : some n ≡ some g = sym k ∙ ap (λ o. stepGround (o .answer)) (sym q) ∙ e in
       let w : n ≡ g = cc in
       record { tables = ap (λ o. o .tables) q; scratch = λ i. ap (λ o. o .scratch) q; zeroed = λ i. absurd (omega arith) }
 
 -- A refused step leaves the tables as found, and scratch too but for 33.
 pub untouched : Untouched
-unfolding stepIf ended begun
+unfolding stepBy ended begun
 untouched m c order t g e = go _ refl _ refl _ refl
   where
     mending :
@@ -150,11 +151,11 @@ untouched m c order t g e = go _ refl _ refl _ refl
         (w : Made) → begun m c order t ≡ w → Refused m c order t g
     mending ha ho hr (whole n) hw =
         let q = step-made m c order t ha ho hr (whole n) hw in
-        let k : none ≡ some g = ap (λ o. numberOf (o .answer)) (sym q) ∙ e in
+        let k : none ≡ some g = ap (λ o. stepGround (o .answer)) (sym q) ∙ e in
         absurd (let z : _≡_ {A = ℕ} 0 1 = cc in omega arith)
     mending ha ho hr notFinite hw =
         let q = step-made m c order t ha ho hr notFinite hw in
-        let k : some 33 ≡ some g = ap (λ o. numberOf (o .answer)) (sym q) ∙ e in
+        let k : some 33 ≡ some g = ap (λ o. stepGround (o .answer)) (sym q) ∙ e in
         let w : 33 ≡ g = cc in
         record { tables = ap (λ o. o .tables) q; scratch = λ i. absurd (omega arith); zeroed = λ i. ap (λ o. o .scratch) q }
 
@@ -169,7 +170,7 @@ untouched m c order t g e = go _ refl _ refl _ refl
 -- The mesh that is made: the visits' rows, with all positions put.
 pub record Begun (m : Mesh) (c : Counts) (order : List ℕ) (t : Mesh) (n : Mesh) : Type 0 where
   pub positions : List Float
-  pub put : placedAll m c (refinedRows m (c .points) (c .edges) (c .faces) order t) (t .positions) ≡ on positions
+  pub put : placedAll m c (refinedRows m (c .points) (c .edges) (c .faces) order t) (t .positions) ≡ so-far positions
   pub mesh : n ≡ withPositions positions (refinedRows m (c .points) (c .edges) (c .faces) order t)
 
 pub made-is : (m : Mesh) (c : Counts) (order : List ℕ) (t n : Mesh) → made m c order t ≡ whole n → Begun m c order t n
@@ -180,5 +181,5 @@ made-is m c order t n e = go _ refl e
     s = refinedRows m (c .points) (c .edges) (c .faces) order t
 
     go : (r : Placing) → placedAll m c s (t .positions) ≡ r → madeOf s r ≡ whole n → Begun m c order t n
-    go (on qs) h e = record { positions = qs; put = h; mesh = cc }
-    go stopped h e = absurd (let z : _≡_ {A = ℕ} 0 1 = cc in omega arith)
+    go (so-far qs) h e = record { positions = qs; put = h; mesh = cc }
+    go not-finite h e = absurd (let z : _≡_ {A = ℕ} 0 1 = cc in omega arith)

@@ -16,7 +16,8 @@ use Rattle.refined_meshes.specs.Order.{EachOnce}
 use Rattle.refined_meshes.specs.Visits.{refinedRows}
 use Rattle.refined_meshes.proofs.Refines.{visits-refine}
 use Rattle.steps.specs.declared.Stepped.the-variants.{Refined, NotFinite}
-use Rattle.steps.specs.Step.{refinedCounts, firstRows, Made, whole, notFinite, madeOf, placedRows, made, ended, step}
+use Rattle.steps.specs.Step.{refinedCounts, Made, whole, notFinite, madeOf, placedRows, made, ended, step}
+use Rattle.tables.specs.Counted.{firstRows}
 use Rattle.steps.specs.OneStep.{AllFinite, Not-finite-exactly}
 use Rattle.steps.proofs.Rows.{points-fit, edges-fit, faces-fit, Exact, exact-firstRows, room-of-exact, holds-firstRows}
 use Rattle.steps.proofs.NewPositions.{PointRows, placed-all, all-put}
@@ -50,7 +51,7 @@ module _
         let b = all-put m c audited few s (refinedCounts c .points) rows (t .positions) room w in
         (withPositions (b .0) s, ap (madeOf s) (b .1))
 
-    finite-made : (n : Mesh) → made m c order t ≡ whole n → AllFinite m c
+    pub finite-made : (n : Mesh) → made m c order t ≡ whole n → AllFinite m c
     finite-made n e =
         let b = made-is m c order t n e in
         placed-all m c audited few s (refinedCounts c .points) rows (t .positions) room (b .positions) (b .put) .finite

@@ -6,7 +6,7 @@ use native.Mathlib.Omega.{arith}
 use borrow.Author.Tests.{not-true, not-false}
 use borrow.Author.Needs.{needs}
 use Rattle.audited_meshes.specs.Folds.{every}
-use Rattle.walks.specs.Steps.{pointTables}
+use Rattle.tables.specs.Parts.{pointTables}
 use Rattle.audit_tests.specs.Parts.{walkFits}
 use Rattle.audit_tests.proofs.Laws.{every-none, every-more, every-stop, every-all}
 use Rattle.audit_tests.proofs.points.point_walks_fit.Statement.{statement}
@@ -22,10 +22,16 @@ loop-holds : tie.Need-loop-holds Inv-loop μ-loop
 loop-holds c = (omega arith, every-none _)
 
 returns : tie.Need-returns Inv-loop μ-loop
-returns c = sym (every-stop _ _ _ (c .before .before .loop-test .taken) (sym (c .before .point-walk-fits .ensures) ∙ not-true _ (c .if1 .taken)))
+returns c =
+    sym (every-stop _ _ _ (c .before .before .loop-test .taken)
+    (sym (c .before .point-walk-fits .ensures) ∙ not-true _ (c .if1 .taken)))
 
 loop-again : tie.Need-loop-again Inv-loop μ-loop
-loop-again c = (omega arith, every-more _ _ (c .before .before .before .loop .inv .1) (sym (c .before .point-walk-fits .ensures) ∙ not-false _ (c .if1 .left)))
+loop-again c = (
+  omega arith,
+  every-more _ _ (c .before .before .before .loop .inv .1)
+      (sym (c .before .point-walk-fits .ensures) ∙ not-false _ (c .if1 .left)),
+)
 
 returns-2 : tie.Need-returns-2 Inv-loop μ-loop
 returns-2 c = sym (every-all _ _ _ (c .before .loop .inv .1) (omega arith))

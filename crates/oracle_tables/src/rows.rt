@@ -1,0 +1,154 @@
+// What stands in the rows of lent tables that hold no mesh. A row that still has the filling was not touched.
+ghost use mathlib.Core.Path.{_≡_};
+ghost use Prim.Native.Nat.{_≤_, _-_};
+ghost use lib.ListN.{length};
+use crate::fields::least;
+use crate::held::NUMBER;
+use crate::held::Tables;
+use crate::held::WORD;
+use crate::listing::bits_of;
+use libc::STDOUT_FILENO;
+use tables::Counts;
+use tables::EDGE_WIDTH;
+use tables::FACE_WIDTH;
+use tables::POINT_WIDTH;
+use tables::POSITION_WIDTH;
+
+// The counts of no rows.
+pub fn none() -> Counts {
+    Counts {
+        points: 0,
+        edges: 0,
+        faces: 0,
+    }
+}
+
+// How many words are zero from a place on.
+fn count_zero_words(words: &[u32], from: usize) -> usize
+    ensures { λ r. ⌜ r ≤ length (now (words .entry)) ⌝ }
+{
+    let mut i = from;
+    while i < words.len() {
+        if words[i] != 0 {
+            return i - from;
+        }
+        i += 1;
+    }
+    i - from
+}
+
+// How many numbers are +0 from a place on.
+fn count_zero_numbers(numbers: &[f64], from: usize) -> usize
+    ensures { λ r. ⌜ r ≤ length (now (numbers .entry)) ⌝ }
+{
+    let mut i = from;
+    while i < numbers.len() {
+        if bits_of(numbers[i]) != 0 {
+            return i - from;
+        }
+        i += 1;
+    }
+    i - from
+}
+
+// Whether all words from a place on are as filled.
+fn kept_words(words: &[u32], from: usize) -> bool {
+    let mut i = from;
+    while i < words.len() {
+        if words[i] != WORD {
+            return false;
+        }
+        i += 1;
+    }
+    true
+}
+
+// Whether all numbers from a place on are as filled.
+fn kept_numbers(numbers: &[f64], from: usize) -> bool {
+    let mut i = from;
+    while i < numbers.len() {
+        if numbers[i] != NUMBER {
+            return false;
+        }
+        i += 1;
+    }
+    true
+}
+
+// Writes how many words from a place on are zero, and whether all that follow are as filled.
+fn tell_words(words: &[u32], from: usize) -> bool
+    requires { ⌜ from ≤ 4294967296 ⌝ }
+{
+    let n = count_zero_words(words, from);
+    io::write_all(STDOUT_FILENO, b" ");
+    io::print_decimal(STDOUT_FILENO, n as u64);
+    kept_words(words, from + n)
+}
+
+// The same of numbers.
+fn tell_numbers(numbers: &[f64], from: usize) -> bool
+    requires { ⌜ from ≤ 4294967296 ⌝ }
+{
+    let n = count_zero_numbers(numbers, from);
+    io::write_all(STDOUT_FILENO, b" ");
+    io::print_decimal(STDOUT_FILENO, n as u64);
+    kept_numbers(numbers, from + n)
+}
+
+// Writes of the rows after so many words of the tables how many words or numbers are zero, and whether all that follow are as filled.
+pub fn tell_slices(
+    head: &[u8],
+    positions: &[f64],
+    points: &[u32],
+    edges: &[u32],
+    intervals: &[f64],
+    faces: &[u32],
+    counts: Counts,
+) {
+    let np = least(counts.points, 65536);
+    let ne = least(counts.edges, 65536);
+    let nf = least(counts.faces, 65536);
+    io::write_all(STDOUT_FILENO, head);
+    let a = tell_numbers(positions, np * POSITION_WIDTH);
+    let b = tell_words(points, np * POINT_WIDTH);
+    let c = tell_words(edges, ne * EDGE_WIDTH);
+    let d = tell_numbers(intervals, ne);
+    let e = tell_words(faces, nf * FACE_WIDTH);
+    if a && b && c && d && e {
+        io::write_all(STDOUT_FILENO, b" kept]\n");
+    } else {
+        io::write_all(STDOUT_FILENO, b" spoilt]\n");
+    }
+}
+
+// The same of the tables that the program holds.
+pub fn tell_rows(head: &[u8], t: Tables, counts: Counts) {
+    let positions = t.positions;
+    let points = t.points;
+    let edges = t.edges;
+    let intervals = t.intervals;
+    let faces = t.faces;
+    tell_slices(
+        head,
+        &positions,
+        &points,
+        &edges,
+        &intervals,
+        &faces,
+        counts,
+    );
+}
+
+// Whether all of the tables is as filled.
+pub fn is_kept(t: Tables) -> bool {
+    let positions = t.positions;
+    let points = t.points;
+    let edges = t.edges;
+    let intervals = t.intervals;
+    let faces = t.faces;
+    kept_numbers(&positions, 0)
+        && kept_words(&points, 0)
+        && kept_words(&edges, 0)
+        && kept_numbers(&intervals, 0)
+        && kept_words(&faces, 0)
+}
