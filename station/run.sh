@@ -1,6 +1,6 @@
 #!/bin/sh
-# Makes the static library, compiles and runs the two examples and those of the manual, and tests the header against the
-# library: station/run.sh
+# Makes the static library, compiles and runs the two examples and those of the manual, tests the header against the library,
+# and looks for integer divisions: station/run.sh
 # Needed: the Rattle kit, cc, rustc, python3.
 set -eu
 here=$(cd "$(dirname "$0")" && pwd)
@@ -34,6 +34,7 @@ expected() {
 "$here/library.sh"
 mkdir -p "$out/records"
 python3 "$here/declarations.py" "$root/crates/station/src/lib.rt" "$here/lavyngo.h"
+"$here/divisions.sh"
 
 cc -std=c11 -O2 -Wall -Wextra -Werror -o "$out/example_c" "$here/example.c" "$library"
 rustc --edition 2024 -O -C link-arg="$library" -o "$out/example_rs" "$here/example.rs"

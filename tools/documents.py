@@ -26,6 +26,7 @@ ABOUT = {
     "positions": "positions, small and finite numbers",
     "t_spline": "the ends, sides and neighbours of an edge",
     "edge_links": "connecting two edges",
+    "perimeters": "the places beside a place of a perimeter",
     "tables": "the five tables",
     "t_nurcc_edge": "connecting two rows",
     "walks": "borders and walks in tables",

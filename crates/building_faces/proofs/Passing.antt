@@ -38,9 +38,9 @@ places-stopped (suc j) l f a n i g m = refl
 places-turn : (l : Lists) (f a n i : ℕ) (r : Ring) (x : Step Ring) → i < n → x ≡ turn l f a n i r
     → places (n - (i + 1)) l f a n (i + 1) x ≡ places (n - i) l f a n i (on r)
 unfolding places
-places-turn l f a n i r x h s = rw (s, less n i h, add-one i)
+places-turn l f a n i r x h s = rw (add-one i, s, less n i h)
   where
-    less : (n i : ℕ) → i < n → n - i ≡ suc (n - (i + 1))
+    less : (n i : ℕ) → i < n → n - i ≡ suc (n - suc i)
     less n i h = omega arith
 
 module _ (np : ℕ) (ls : List ℕ) (be : List Float) (f a n k : ℕ) (pts₀ es₀ : List ℕ) (is₀ : List Float) (ch₀ : List ℕ) where

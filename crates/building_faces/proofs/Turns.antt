@@ -1,13 +1,14 @@
 -- A turn, the places of a perimeter and a face, over plain variables. Assumes nothing.
 use mathlib.Core.Path.{_≡_, refl, sym, ap}
-use mathlib.Core.Bool.{Bool, true, false, cond}
+use mathlib.Core.Bool.{Bool, true, false}
 use mathlib.Core.List.{List}
 use Prim.Native.Nat.{ℕ, zero, suc, _+_, _*_, _≤_, _<_}
 use native.Mathlib.Omega.{arith}
 use lib.Dec.{eqb, ltb}
 use lib.Ieee.{Float, nan}
 use lib.ListN.{length, getD}
-use borrow.Author.Tests.{ltb-true, eqb-false}
+use borrow.Author.Tests.{ltb-true}
+use Rattle.perimeters.specs.Places.{nextPlace}
 use Rattle.tables.specs.Mesh.{Mesh, none, origin, rightFace, meshOf}
 use Rattle.tables.specs.Rows.{putRow}
 use Rattle.tables.specs.Records.{faceWords}
@@ -16,7 +17,7 @@ use Rattle.t_nurcc_edge.proofs.Laws.{length-connectedRows}
 use Rattle.audited_meshes.proofs.Tests.{every-is, self-is}
 use Rattle.built_meshes.specs.Lists.{Lists}
 use Rattle.built_meshes.specs.Faces.{inRange}
-use Rattle.built_meshes.specs.Perimeters.{State, Ring, Step, on, stopped, nextPlace, turned, turn, faceOf, closedUp}
+use Rattle.built_meshes.specs.Perimeters.{State, Ring, Step, on, stopped, turned, turn, faceOf, closedUp}
 use Rattle.built_meshes.specs.Edges.{Entered, at, refused, edgeBetween, enteredAt, enteredIf, entered, joined, withEdges}
 use Rattle.built_meshes.specs.declared.Ground.{Ground}
 use Rattle.built_meshes.specs.declared.Found.{Found}
@@ -67,15 +68,6 @@ entered-counted m k f p q v {n} {c} {e} h = go (edgeBetween m k p q) refl h
 
 pub made-counted : (m n : Mesh) (k f p q : ℕ) (v : Float) (c e : ℕ) → EnteredBy (Made c e) m n k f p q v → Counted k c e
 made-counted m n k f p q v c e h = entered-counted m k f p q v (entering-at m n c e (entered m k f p q v) h)
-
--- ---- places
-
-pub next-below : (n i : ℕ) → i < n → nextPlace n i < n
-next-below n i l = go (eqb (suc i) n) refl
-  where
-    go : (b : Bool) → eqb (suc i) n ≡ b → cond b 0 (suc i) < n
-    go true h = omega arith
-    go false h = let d : suc i ≡ n → ⊥ = eqb-false (suc i) n h in omega arith
 
 -- a listed point of the perimeter is a point
 pub placed-point : (np : ℕ) (ls : List ℕ) (a n i : ℕ) → Placed np ls a n → i < n → getD ls (a + i) 0 < np

@@ -1,7 +1,7 @@
 // Faces entered into the tables: one place of a perimeter after the other, each edge connected to the one before and the first to
 // the last, then the face's row (document 01, "Building"; grounds 10 to 15).
 // Carries over the loop of `try_new` of t_nurcc/mod.rs.
-// Not here: the grounds of the lists and of the whole (`building_tests`, `building_whole`).
+// Not here: the places stepped (`perimeters`), the grounds of the lists and of the whole (`building_tests`, `building_whole`).
 // Definitions: `Perimeters` and `Building` of `built_meshes`; `specs/Rings.antt`. Laws: `proofs/Turns.antt`.
 ghost use mathlib.Core.Path.{_≡_};
 ghost use mathlib.Core.List.{List, []};
@@ -9,7 +9,7 @@ ghost use Prim.Native.Nat.{ℕ, _+_, _*_, _/_, _≤_, _<_};
 ghost use lib.Ieee.{Float};
 ghost use lib.ListN.{length};
 ghost use Rattle.built_meshes.specs.Lists.{offset};
-ghost use Rattle.built_meshes.specs.Perimeters.{Ring, State, Step, on, nextPlace, turn, places, closedUp};
+ghost use Rattle.built_meshes.specs.Perimeters.{Ring, State, Step, on, turn, places, closedUp};
 ghost use Rattle.built_meshes.specs.Building.{facePassed, facesFrom};
 ghost use Rattle.building_tests.specs.Lent.{lists};
 ghost use Rattle.edge_search.specs.Chains.{Standing};
@@ -21,6 +21,7 @@ use built_meshes::Ground;
 use built_meshes::Verdict;
 use edge_search::Entry;
 use edge_search::enter;
+use perimeters::next_place;
 use records::store_face;
 use t_nurcc_edge::connect;
 use t_spline::NONE;
@@ -44,14 +45,6 @@ pub enum Turned {
 pub enum Faced {
     On(u32),
     Stopped(Ground),
-}
-
-// The place after place i of n.
-fn next_place(n: usize, i: usize) -> usize
-    requires { ⌜ i < n ⌝ }
-    ensures { λ r. ⌜ r ≡ nextPlace n i ⌝ }
-{
-    if i + 1 == n { 0 } else { i + 1 }
 }
 
 // Enters place i of the perimeter of face f, and connects its edge to the one before.

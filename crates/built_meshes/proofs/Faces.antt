@@ -10,6 +10,8 @@ use native.Mathlib.Omega.{arith}
 use native.Mathlib.Decide.{decLt}
 use lib.Dec.{eqb, ltb, leb}
 use borrow.Author.Tests.{leb-false, ltb-false, eqb-true, not-false}
+use Rattle.perimeters.specs.Places.{nextPlace}
+use Rattle.perimeters.proofs.Laws.{next-below, next-differs}
 use Rattle.positions.specs.Position.{small}
 use Rattle.tables.specs.Mesh.{Mesh}
 use Rattle.closed_meshes.specs.Renumbering.{sumTo}
@@ -18,7 +20,7 @@ use Rattle.audited_meshes.proofs.Folds.{below-suc}
 use Rattle.audited_meshes.proofs.Tests.{Is, and-is, not-is, eqb-is, ltb-is, leb-is, every-is}
 use Rattle.built_meshes.specs.Lists.{Lists, Limits, pointsOf, facesOf, size, offset}
 use Rattle.built_meshes.specs.Faces.{sizeFit, inRange, noPointTwice, apart, sumsFit, faceVerdict}
-use Rattle.built_meshes.specs.Perimeters.{State, Step, on, stopped, nextPlace, perimeter}
+use Rattle.built_meshes.specs.Perimeters.{State, Step, on, stopped, perimeter}
 use Rattle.built_meshes.specs.Places.{pointOf, nextOf, Runs}
 use Rattle.built_meshes.specs.Answers.{numberOf}
 use Rattle.built_meshes.specs.Building.{faceIf, facePassed, facesFrom}
@@ -29,7 +31,6 @@ use Rattle.built_meshes.specs.declared.Ground.the-variants.{FaceSize, Ou
 use Rattle.built_meshes.specs.declared.Verdict.{Verdict}
 use Rattle.built_meshes.specs.declared.Verdict.the-variants.{Fit, Unfit}
 use Rattle.built_meshes.proofs.Rows.{row}
-use Rattle.built_meshes.proofs.Places.{next-below, next-differs}
 use Rattle.built_meshes.proofs.Beyond.{within-refl, within-trans}
 use Rattle.built_meshes.proofs.Invariant.{FaceSound}
 use Rattle.built_meshes.proofs.Entering.{Why, both-ways, this-way}

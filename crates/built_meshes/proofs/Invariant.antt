@@ -12,6 +12,8 @@ use mathlib.Core.Logic.{_⊎_, inl, inr, _≢_}
 use Prim.Native.Nat.{ℕ, _<_, _≤_}
 use native.Mathlib.Omega.{arith}
 use lib.Dec.{eqb}
+use Rattle.perimeters.specs.Places.{nextPlace}
+use Rattle.perimeters.proofs.Laws.{next-below, next-injective}
 use Rattle.t_spline.specs.Edge.{none, faceFromSide}
 use Rattle.t_spline.specs.declared.TnurccFaceSide.{TnurccFaceSide}
 use Rattle.tables.specs.Mesh.{Mesh, valence, start, origin, dest, interval}
@@ -22,11 +24,9 @@ use Rattle.audited_meshes.specs.Audit.{intervalFit}
 use Rattle.audited_meshes.specs.Audited.{Touches}
 use Rattle.audited_meshes.proofs.Folds.{sumTo-cong}
 use Rattle.built_meshes.specs.Lists.{Lists, pointsOf, size}
-use Rattle.built_meshes.specs.Perimeters.{nextPlace}
 use Rattle.built_meshes.specs.Places.{pointOf, nextOf}
 use Rattle.built_meshes.proofs.Connecting.{firstOf, secondOf, acwOf, cwOf, Keeps, first-kept, second-kept, face-kept}
 use Rattle.built_meshes.proofs.Rows.{row}
-use Rattle.built_meshes.proofs.Places.{next-below, next-injective}
 
 pub record FaceSound (l : Lists) (f : ℕ) : Type 0 where
   pub at-least-3 : 3 ≤ size l f

@@ -7,6 +7,8 @@ use Prim.Native.Nat.{ℕ, _*_, _<_, _≤_}
 use native.Mathlib.Omega.{arith}
 use native.Mathlib.Decide.{ℕ-discrete}
 use lib.ListN.{length}
+use Rattle.perimeters.specs.Places.{nextPlace}
+use Rattle.perimeters.proofs.Laws.{next-below, next-differs, next-next-differs}
 use Rattle.t_spline.specs.Edge.{faceFromSide}
 use Rattle.t_spline.specs.declared.TnurccEdge.{TnurccEdge}
 use Rattle.t_spline.specs.declared.TnurccFaceSide.{TnurccFaceSide}
@@ -14,11 +16,9 @@ use Rattle.t_spline.specs.declared.TnurccFaceSide.the-variants.{Left, Right}
 use Rattle.tables.specs.Mesh.{Mesh}
 use Rattle.built_meshes.specs.Lists.{Lists, size}
 use Rattle.built_meshes.specs.Edges.{joined}
-use Rattle.built_meshes.specs.Perimeters.{nextPlace}
 use Rattle.built_meshes.specs.Places.{pointOf, nextOf}
 use Rattle.built_meshes.proofs.Connecting.{firstOf, secondOf, acwOf, cwOf, Follows, Keeps, Wrote, connected-wrote, connected-links}
 use Rattle.built_meshes.proofs.Rows.{row, pair, row-joined-first, row-joined-other, row-joined-rest}
-use Rattle.built_meshes.proofs.Places.{next-below, next-differs, next-next-differs}
 use Rattle.built_meshes.proofs.Invariant.{Sits, Good, Invariant, same-side, same-side-second, side-second, sits-kept, invariant-kept, Or-this}
 
 pub keeps-refl : (e e' : TnurccEdge) → e' ≡ e → Keeps e e'

@@ -1,6 +1,5 @@
 pub mod Connecting
 pub mod Rows
-pub mod Places
 pub mod Beyond
 pub mod Invariant
 pub mod Joining

@@ -13,6 +13,8 @@ use Prim.Native.Nat.{ℕ, zero, suc, _+_, _*_, _<_, _≤_}
 use native.Mathlib.Omega.{arith}
 use lib.Ieee.{nan}
 use lib.ListN.{length, getD}
+use Rattle.perimeters.specs.Places.{nextPlace}
+use Rattle.perimeters.proofs.Laws.{next-more, next-last}
 use Rattle.t_spline.specs.Edge.{none}
 use Rattle.tables.specs.Mesh.{Mesh, faceStart, corner}
 use Rattle.tables.specs.Records.{faceWords}
@@ -22,13 +24,12 @@ use Rattle.audited_meshes.specs.Folds.{one}
 use Rattle.audited_meshes.proofs.Folds.{below-suc, sumTo-cong}
 use Rattle.built_meshes.specs.Lists.{Lists, pointsOf, facesOf, size, offset}
 use Rattle.built_meshes.specs.Edges.{Entered, at, entered, joined}
-use Rattle.built_meshes.specs.Perimeters.{State, Ring, Step, on, stopped, nextPlace, chained, turned, turn, places, faceOf, withFace, closedUp, perimeter}
+use Rattle.built_meshes.specs.Perimeters.{State, Ring, Step, on, stopped, chained, turned, turn, places, faceOf, withFace, closedUp, perimeter}
 use Rattle.built_meshes.specs.Places.{pointOf, nextOf}
 use Rattle.built_meshes.specs.Beyond.{Within}
 use Rattle.built_meshes.specs.declared.Ground.{Ground}
 use Rattle.built_meshes.proofs.Connecting.{Keeps}
 use Rattle.built_meshes.proofs.Rows.{row, row-joined-rest, faceStart-withFace, faceStart-withFace-other, corner-withFace, corner-withFace-other}
-use Rattle.built_meshes.proofs.Places.{next-is}
 use Rattle.built_meshes.proofs.Beyond.{behind-putRow, behind-connected, within-refl, within-trans}
 use Rattle.built_meshes.proofs.Invariant.{FaceSound, Sits, Good, Invariant, Or-this, sits-kept, invariant-kept, invariant-as}
 use Rattle.built_meshes.proofs.Joining.{keeps-refl, invariant-joined, sits-joined, right-joined}
@@ -136,14 +137,6 @@ module _ (l : Lists) (s : State) (k : ℕ) (kf : k < facesOf l) (sound : FaceSou
   good : (i : ℕ) → i < size l k → Good l k i
   good i h = record { sound = sound; is-below = h; a-face = a-face }
 
-  -- the place after place j is the next one
-  next-suc : (j : ℕ) → suc j < size l k → nextPlace (size l k) j ≡ suc j
-  next-suc j h = go (next-is (size l k) j)
-    where
-      go : ((suc j ≡ size l k) × (nextPlace (size l k) j ≡ 0)) ⊎ ((suc j ≢ size l k) × (nextPlace (size l k) j ≡ suc j)) → nextPlace (size l k) j ≡ suc j
-      go (inl z) = absurd (omega arith)
-      go (inr z) = z .1
-
   module _ (i : ℕ) (below : i < size l k) (r : Ring) (a : Around i r) where
     room : r .edges < length (l .listed)
     room = omega (arith, counted-above (r .mesh) (r .edges), a .counts, place-listed l k i kf below, ready .all-listed)
@@ -241,13 +234,13 @@ module _ (l : Lists) (s : State) (k : ℕ) (kf : k < facesOf l) (sound : FaceSou
       sits-o = t .sits-still k i (r .before) a-face (a .before-sits i refl)
 
       sits-e : Sits l m' ne' k (nextPlace (size l k) i) e
-      sits-e = at-place (suc i) below r a t (nextPlace (size l k) i) (next-suc i below)
+      sits-e = at-place (suc i) below r a t (nextPlace (size l k) i) (next-more (size l k) i below)
 
       done : Or-this (Done l k (suc i)) k (suc i) k i
       done = inl (inr (refl, omega arith))
 
       done' : Or-this (Done l k (suc i)) k (suc i) k (nextPlace (size l k) i)
-      done' = inr (refl, next-suc i below)
+      done' = inr (refl, next-more (size l k) i below)
 
       again : (f j x : ℕ) → Sits l m' ne' f j x → Sits l (joined m' e (r .before)) ne' f j x
       again = sits-joined l D (Chained l k (suc i)) m' ne' (t .invariant) (enough (suc i) below r a t) k i e (r .before) g sits-o sits-e done done'
@@ -291,24 +284,20 @@ module _ (l : Lists) (s : State) (k : ℕ) (kf : k < facesOf l) (sound : FaceSou
     room-r : r .edges * 8 ≤ length (r .mesh .edges)
     room-r = omega (arith, few-r, ready-r .edges-room)
 
-    next-last : nextPlace (size l k) j ≡ 0
-    next-last = go (next-is (size l k) j)
-      where
-        go : ((suc j ≡ size l k) × (nextPlace (size l k) j ≡ 0)) ⊎ ((suc j ≢ size l k) × (nextPlace (size l k) j ≡ suc j)) → nextPlace (size l k) j ≡ 0
-        go (inl z) = z .1
-        go (inr z) = absurd (z .0 last)
+    wraps : nextPlace (size l k) j ≡ 0
+    wraps = next-last (size l k) j last
 
     sits-last : Sits l (r .mesh) (r .edges) k j (r .before)
     sits-last = a .before-sits j last
 
     sits-first : Sits l (r .mesh) (r .edges) k (nextPlace (size l k) j) (r .first)
-    sits-first = subst (λ x. Sits l (r .mesh) (r .edges) k x (r .first)) (sym next-last) (a .first-sits (omega arith))
+    sits-first = subst (λ x. Sits l (r .mesh) (r .edges) k x (r .first)) (sym wraps) (a .first-sits (omega arith))
 
     last-done : Done l k (size l k) k j
     last-done = inr (refl, omega arith)
 
     first-done : Done l k (size l k) k (nextPlace (size l k) j)
-    first-done = inr (refl, omega (arith, next-last))
+    first-done = inr (refl, omega (arith, wraps))
 
     abbrev ring : Mesh
     ring = joined (r .mesh) (r .first) (r .before)

@@ -12,6 +12,8 @@ use native.Mathlib.Omega.{arith}
 use native.Mathlib.Decide.{ℕ-discrete, decLt}
 use lib.ListN.{length, getD, length-map}
 use borrow.Author.Tests.{eq-eqb, ne-eqb}
+use Rattle.perimeters.specs.Places.{nextPlace, prevPlace}
+use Rattle.perimeters.proofs.Laws.{next-more, next-last, next-below, next-next-differs, prev-below, next-prev}
 use Rattle.t_spline.specs.Edge.{none, faceFromSide}
 use Rattle.t_spline.specs.declared.TnurccFaceSide.{TnurccFaceSide}
 use Rattle.t_spline.specs.declared.TnurccFaceSide.the-variants.{Left, Right}
@@ -23,11 +25,9 @@ use Rattle.audited_meshes.proofs.Folds.{below-suc, sumTo-tight, length-sumTo}
 use Rattle.audited_meshes.proofs.Walks.{occurrences-here, passes-on, passes-once}
 use Rattle.audited_meshes.proofs.Audited.{touches-is, pointWalk-is}
 use Rattle.built_meshes.specs.Lists.{Lists, pointsOf, facesOf, size}
-use Rattle.built_meshes.specs.Perimeters.{nextPlace}
 use Rattle.built_meshes.specs.Places.{pointOf, nextOf}
 use Rattle.built_meshes.proofs.Connecting.{firstOf, secondOf, acwOf, cwOf}
 use Rattle.built_meshes.proofs.Rows.{row}
-use Rattle.built_meshes.proofs.Places.{next-is, next-below, next-next-differs, prev-exists}
 use Rattle.built_meshes.proofs.Invariant.{FaceSound, Sits, Good, Invariant, sits-unique}
 use Rattle.built_meshes.proofs.Perimeter.{Done, Chained}
 
@@ -115,11 +115,13 @@ module _ (l : Lists) (m : Mesh) (ne : ℕ) (v : Invariant l (Done l (facesOf l) 
   prev-side s e b =
       let f = faceFromSide (row m e) s in
       let x = place-of s e b in
-      let j = prev-exists (size l f) (x .place) (x .place-below) in
-      let o = v .entered f (j .0) (inl (x .face-below, j .1)) in
+      let j = prevPlace (size l f) (x .place) in
+      let jb = prev-below (size l f) (x .place) (x .place-below) in
+      let o = v .entered f j (inl (x .face-below, jb)) in
       let t = o .1 in
-      let first : firstOf s (row m e) ≡ nextOf l f (j .0) = sym (x .begins) ∙ ap (λ i. pointOf l f i) (sym (j .2)) in
-      let links = v .linked f (j .0) (inl (x .face-below, j .1)) (t .on-side) (o .0) s e (t .below) b (t .face-is) refl (t .first-is) first in
+      let first : firstOf s (row m e) ≡ nextOf l f j =
+      sym (x .begins) ∙ ap (λ i. pointOf l f i) (sym (next-prev (size l f) (x .place) (x .place-below))) in
+      let links = v .linked f j (inl (x .face-below, jb)) (t .on-side) (o .0) s e (t .below) b (t .face-is) refl (t .first-is) first in
       record {
         other = o .0;
         side = t .on-side;
@@ -248,11 +250,7 @@ module _ (l : Lists) (m : Mesh) (ne : ℕ) (v : Invariant l (Done l (facesOf l) 
         }
       where
         wraps : nextPlace (size l f) i ≡ 0
-        wraps = go (next-is (size l f) i)
-          where
-            go : ((suc i ≡ size l f) × (nextPlace (size l f) i ≡ 0)) ⊎ ((suc i ≢ size l f) × (nextPlace (size l f) i ≡ suc i)) → nextPlace (size l f) i ≡ 0
-            go (inl z) = z .1
-            go (inr z) = absurd (z .0 (omega arith))
+        wraps = next-last (size l f) i (omega arith)
 
         points' : (j : ℕ) → j < 1 → getD (firstPoint m f e ∷ []) j 0 ≡ pointOf l f (i + j)
         points' zero b = first-place i e x
@@ -260,11 +258,7 @@ module _ (l : Lists) (m : Mesh) (ne : ℕ) (v : Invariant l (Done l (facesOf l) 
     rest-of (suc c) i e h x = go (rest-of c (suc i) (acwOfFace m f e) (omega arith) step)
       where
         moves : nextPlace (size l f) i ≡ suc i
-        moves = pick (next-is (size l f) i)
-          where
-            pick : ((suc i ≡ size l f) × (nextPlace (size l f) i ≡ 0)) ⊎ ((suc i ≢ size l f) × (nextPlace (size l f) i ≡ suc i)) → nextPlace (size l f) i ≡ suc i
-            pick (inl z) = absurd (omega arith)
-            pick (inr z) = z .1
+        moves = next-more (size l f) i (omega arith)
 
         step : Sits l m ne f (suc i) (acwOfFace m f e)
         step = subst (λ i. Sits l m ne f i (acwOfFace m f e)) moves (step-sits i e (omega arith) x)

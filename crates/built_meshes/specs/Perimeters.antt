@@ -5,13 +5,12 @@
 --     Step                    going on, or stopped by a ground with the tables as they stand then
 --     turn, places            one place, and k places
 --     perimeter               a whole face: its places, the first edge connected to the last, its row
-use mathlib.Core.Bool.{cond}
 use mathlib.Core.List.{[], _∷_}
 use Prim.Native.Nat.{ℕ, zero, suc, _+_, _*_}
-use lib.Dec.{eqb}
 use lib.ListN.{getD}
 use lib.Ieee.{nan}
 use Rattle.t_spline.specs.declared.TnurccFace.{TnurccFace}
+use Rattle.perimeters.specs.Places.{nextPlace}
 use Rattle.tables.specs.Mesh.{Mesh, none}
 use Rattle.tables.specs.Rows.{putRow}
 use Rattle.tables.specs.Records.{faceWords}
@@ -33,10 +32,6 @@ pub record Ring : Type 0 where
 pub data Step (A : Type 0) : Type 0 where
   on : A → Step A
   stopped : Ground → Mesh → Step A
-
--- the place after place i of a perimeter of n places
-abbrev pub nextPlace : ℕ → ℕ → ℕ
-nextPlace n i = cond (eqb (suc i) n) 0 (suc i)
 
 -- place 0 has no place before it yet
 abbrev pub chained : ℕ → Mesh → ℕ → ℕ → Mesh

@@ -6,9 +6,9 @@
 --     Differ f i g j          the places are two
 use mathlib.Core.Path.{_≡_}
 use Prim.Native.Nat.{ℕ, _<_}
+use Rattle.perimeters.specs.Places.{nextPlace}
 use Rattle.built_meshes.specs.Lists.{Lists, facesOf, size, offset}
 use Rattle.built_meshes.specs.Faces.{listedAt}
-use Rattle.built_meshes.specs.Perimeters.{nextPlace}
 
 abbrev pub pointOf : Lists → ℕ → ℕ → ℕ
 pointOf l f i = listedAt l (offset l f) i

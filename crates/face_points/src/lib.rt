@@ -6,10 +6,12 @@
 ghost use mathlib.Core.Path.{_≡_};
 ghost use Prim.Native.Nat.{_+_, _<_};
 ghost use lib.ListN.{getD};
+ghost use Rattle.perimeters.specs.Places.{around};
 ghost use Rattle.positions.specs.Position.{placedAt};
-ghost use Rattle.position_rules.specs.FacePoint.{windowSum, around, facePointOf, faceMesh};
+ghost use Rattle.position_rules.specs.FacePoint.{windowSum, facePointOf, faceMesh};
 ghost use Rattle.position_rules.specs.Fits.{EdgeFits, BorderFits, PointsFit, FacePointFits};
 ghost use Rattle.face_points.specs.Terms.{termsAbout, six};
+use perimeters::next_place;
 use position_rules::WeightedSum;
 use position_rules::intervals::a2;
 use position_rules::intervals::c2;
@@ -47,34 +49,19 @@ fn six_terms(s: Terms, t: Terms) -> f64
     s.d + s.a2 + s.c2 + t.d + t.a2 + t.c2
 }
 
-// The place j, counted round n places.
-fn around(n: usize, j: usize) -> usize
-    ensures { λ r. ⌜ r ≡ around n j ⌝ }
+// The terms of the edge at place i of a border, about p.
+fn terms_at(edges: &[u32], intervals: &[f64], border: &[u32; 64], p: u32, i: usize) -> Terms
+    requires { ⌜ i < 64 ⌝ }
+    requires { ⌜ EdgeFits (now edges) (now intervals) (getD (now border) i 0) ⌝ }
+    ensures { λ r. ⌜ r ≡ termsAbout (now (edges .entry)) (now (intervals .entry)) p (getD (now (border .entry)) i 0) ⌝ }
 {
-    if j < n { j } else { j - n }
-}
-
-// The terms of the edge at the place j of a border, counted round, about p.
-fn terms_at(
-    edges: &[u32],
-    intervals: &[f64],
-    border: &[u32; 64],
-    n: usize,
-    p: u32,
-    j: usize,
-) -> Terms
-    requires { ⌜ BorderFits (now edges) (now intervals) (now border) n ⌝ }
-    requires { ⌜ j < n + n ⌝ }
-    ensures { λ r. ⌜ r ≡ termsAbout (now (edges .entry)) (now (intervals .entry)) p (getD (now (border .entry)) (around n j) 0) ⌝ }
-{
-    let i = around(n, j);
     let e = index(border[i]);
     terms_about(edges, intervals, index(p), e)
 }
 
 // The sum of the middle points of n windows at their weights. The weight of the window p0 .. p4 is p2p3 about p3, then p0p1
 // about p0; times p1p2 about p1, then p3p4 about p4. Two of these four are those of the window before it: p0p1 about p0 was its
-// p1p2 about p1, and p2p3 about p3 its p3p4 about p4. The Rust sums the weights from -0.
+// p1p2 about p1, and p2p3 about p3 its p3p4 about p4; k is the place of p2p3. The Rust sums the weights from -0.
 fn window_sum(
     positions: &[f64],
     edges: &[u32],
@@ -91,12 +78,14 @@ fn window_sum(
         sum: Position::origin(),
         weight: -0.0,
     };
-    let mut first = terms_at(edges, intervals, border, n, points[0], 0);
-    let mut third = terms_at(edges, intervals, border, n, points[3], 2);
+    let mut first = terms_at(edges, intervals, border, points[0], 0);
+    let mut third = terms_at(edges, intervals, border, points[3], 2);
+    let mut k = 2;
     let mut i = 0;
     while i < n {
-        let second = terms_at(edges, intervals, border, n, points[i + 1], i + 1);
-        let fourth = terms_at(edges, intervals, border, n, points[i + 4], i + 3);
+        let second = terms_at(edges, intervals, border, points[i + 1], next_place(n, i));
+        k = next_place(n, k);
+        let fourth = terms_at(edges, intervals, border, points[i + 4], k);
         let w = six_terms(third, first) * six_terms(second, fourth);
         let p = load_position(positions, index(points[i + 2]));
         s = s.with_term(p, w);

@@ -11,6 +11,7 @@ use native.Mathlib.Decide.{decLt}
 use lib.Dec.{eqb}
 use lib.ListN.{getD, length}
 use lib.Ieee.{Float}
+use Rattle.perimeters.specs.Places.{around}
 use Rattle.tables.specs.Mesh.{Mesh, leftFace}
 use Rattle.audited_meshes.specs.Walks.{back, edgesOf, faceWalk, firstPoint}
 use Rattle.walks.specs.Steps.{faceTables}
@@ -18,7 +19,7 @@ use Rattle.walks.specs.Border.{padded, again, borderOf, border}
 use Rattle.walks.specs.declared.FaceBorder.{FaceBorder}
 use Rattle.walks.proofs.Laws.{getD-padded, border-walk, border-point, border-point-again}
 use Rattle.position_rules.specs.declared.WeightedSum.{WeightedSum}
-use Rattle.position_rules.specs.FacePoint.{windowSum, overWeight, around, facePoint, facePointAbout, facePointOf, faceMesh}
+use Rattle.position_rules.specs.FacePoint.{windowSum, overWeight, facePoint, facePointAbout, facePointOf, faceMesh}
 use Rattle.position_rules.specs.Fits.{BorderFits, PointsFit, FacePointFits}
 
 cond-there : (b : Bool) (i j n : ℕ) → i * 3 + 3 ≤ n → j * 3 + 3 ≤ n → cond b i j * 3 + 3 ≤ n

@@ -2,33 +2,24 @@
 --     row-there, interval-there      the words and the interval of an edge that fits
 --     acw-fits, cw-fits              one step about a point comes to an edge that fits
 --     neighbours-fit                 the neighbours of an edge that fits have intervals
---     around-below, border-fits      a place counted round, and the edge of a border there
+--     border-fits                    the edge at a place of a border
 --     radial-edge-fits, radial-next-fits, face-between-fits      an edge about a point, the next one, the face between them
+use mathlib.Core.Path.{_≡_}
 use mathlib.Core.Bool.{Bool, true, false, cond}
 use mathlib.Core.List.{List}
-use Prim.Native.Nat.{ℕ, _+_, _-_, _*_, _≤_, _<_}
+use Prim.Native.Nat.{ℕ, _+_, _*_, _≤_, _<_}
 use native.Mathlib.Omega.{arith}
-use borrow.Author.Tests.{ltb-true, ltb-false}
-use mathlib.Core.Path.{_≡_, refl}
-use lib.Dec.{eqb, ltb}
+use lib.Dec.{eqb}
 use lib.ListN.{getD, length}
 use lib.Ieee.{Float}
 use Rattle.t_spline.specs.Edge.{commonFace}
 use Rattle.tables.specs.Records.{edgeAt}
 use Rattle.position_rules.specs.Intervals.{acwAbout, cwAbout}
-use Rattle.position_rules.specs.FacePoint.{around}
 use Rattle.position_rules.specs.Fits.{EdgesFit, EdgeFits, BorderFits, NeighboursFit, RadialFits}
 
 cond-below : (b : Bool) (i j n : ℕ) → i < n → j < n → cond b i j < n
 cond-below true i j n h k = h
 cond-below false i j n h k = k
-
-pub around-below : (n j : ℕ) → j < n + n → around n j < n
-around-below n j h = go (ltb j n) refl
-  where
-    go : (b : Bool) → ltb j n ≡ b → cond b j (j - n) < n
-    go true e = ltb-true j n e
-    go false e = omega (arith, ltb-false j n e)
 
 module _ (es : List ℕ) (is : List Float) where
   pub row-there : (e : ℕ) → EdgeFits es is e → e * 8 + 8 ≤ length es
@@ -60,8 +51,8 @@ module _ (es : List ℕ) (is : List Float) where
         rightAcw-there = omega (arith, h .fit .rightAcw-below e (h .below), h .fit .numbers);
       }
 
-  pub border-fits : (bs : List ℕ) (n j : ℕ) → BorderFits es is bs n → j < n + n → EdgeFits es is (getD bs (around n j) 0)
-  border-fits bs n j h l = record { rows = h .rows; fit = h .fit; below = h .edges-below (around n j) (around-below n j l) }
+  pub border-fits : (bs : List ℕ) (n j : ℕ) → BorderFits es is bs n → j < n → EdgeFits es is (getD bs j 0)
+  border-fits bs n j h l = record { rows = h .rows; fit = h .fit; below = h .edges-below j l }
 
 module _ (es : List ℕ) (is new : List Float) (es′ fs′ : List ℕ) where
   pub radial-edge-fits : (r : ℕ) → RadialFits es is r new es′ fs′ → EdgeFits es is r

@@ -8,22 +8,23 @@ use Prim.Native.Nat.{ℕ, zero, suc, _+_, _-_, _*_, _<_}
 use native.Mathlib.Nat.{le-refl}
 use native.Mathlib.Omega.{arith}
 use lib.Dec.{T}
-use borrow.Author.Tests.{lt-ltb}
 use lib.ListN.{getD, length}
 use lib.Ieee.{Float, nan, add, fits, binary64}
 use lib.Ieee.Scale.{finite}
 use lib.Ieee.Positive.{num, den}
+use Rattle.perimeters.specs.Places.{around}
+use Rattle.perimeters.proofs.Laws.{around-below, around-same}
 use Rattle.positions.specs.Position.{finitePosition}
 use Rattle.tables.specs.Mesh.{interval}
 use Rattle.audited_meshes.specs.Walks.{edgesOf, firstPoint}
 use Rattle.audited_meshes.specs.Audit.{intervalFit}
 use Rattle.walks.specs.Border.{again}
 use Rattle.position_rules.specs.Intervals.{A2, C2, threeTerms}
-use Rattle.position_rules.specs.FacePoint.{sixTerms, windowWeight, windowSum, overWeight, around, facePoint, facePointAbout, facePointOf}
+use Rattle.position_rules.specs.FacePoint.{sixTerms, windowWeight, windowSum, overWeight, facePoint, facePointAbout, facePointOf}
 use Rattle.position_rules.specs.Fits.{EdgesFit}
 use Rattle.position_rules.specs.Claims.{Found, JoiningFits}
 use Rattle.position_rules.proofs.Audited.{edges-fit, border-of}
-use Rattle.position_rules.proofs.Fits.{acw-below, cw-below, around-below}
+use Rattle.position_rules.proofs.Fits.{acw-below, cw-below}
 use Rattle.position_rules.proofs.Floats.{AtMost, add-fit, add-lost, add-lost-right, mul-lost, mul-lost-right, div-lost, sum-lost, half-fit}
 use Rattle.position_rules.proofs.Sums.{windowSum-more}
 
@@ -74,14 +75,11 @@ module _ (ps : List Float) (es : List ℕ) (is : List Float) (pt ed : ℕ → �
       subst (λ i. finitePosition (overWeight (windowSum ps es is pt ed i)) ≡ false) all
       (rw (div-lost _ _ (sum-x-lost k) (weight-lost k)))
 
-around-same : (n j : ℕ) → j < n → around n j ≡ j
-around-same n j l = rw (lt-ltb j n l)
-
 pub joining-fits : JoiningFits
 unfolding windowWeight facePointOf facePointAbout
 joining-fits m np ne nf f es w next previous a held l came b x y whole =
     add-fit next previous
-    (found-is _ next (a .interval-fit _ (below (w + 2) (omega (arith, border-of m np ne nf f es a l came .at-least-3)))) (held _) x .found-fit)
+    (found-is _ next (a .interval-fit _ (below (w + 2))) (held _) x .found-fit)
     (found-is _ previous (a .interval-fit _ (border-of m np ne nf f es a l came .edges-below w b)) (held _) y .found-fit)
     (go (finite (add binary64 next previous)) refl)
   where
@@ -91,14 +89,16 @@ joining-fits m np ne nf f es w next previous a held l came b x y whole =
     ed : ℕ → ℕ
     ed j = getD es (around (length es) j) 0
 
-    below : (j : ℕ) → j < length es + length es → getD es (around (length es) j) 0 < ne
-    below j k = border-of m np ne nf f es a l came .edges-below (around (length es) j) (around-below (length es) j k)
+    below : (j : ℕ) → getD es (around (length es) j) 0 < ne
+    below j =
+        let b = border-of m np ne nf f es a l came in
+        b .edges-below (around (length es) j) (around-below (length es) j (omega (arith, b .at-least-3)))
 
     lost : finite (add binary64 next previous) ≡ false → finite (windowWeight (m .edges) (m .intervals) pt ed w) ≡ false
     lost e =
         mul-lost _ _
         (six-lost (m .edges) (m .intervals) ne (edges-fit m np ne nf a) (a .interval-fit) held (pt (w + 3)) (ed (w + 2)) (pt w) (ed w) next previous
-        (below (w + 2) (omega (arith, border-of m np ne nf f es a l came .at-least-3))) (below w (omega arith)) x
+        (below (w + 2)) (below w) x
         (subst (λ j. Found (interval m (getD es j 0)) previous) (sym (around-same (length es) w b)) y) e)
 
     at-walk : facePointOf m ne f ≡ facePoint (m .positions) (m .edges) (m .intervals) pt ed (length es)

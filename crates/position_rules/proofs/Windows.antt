@@ -7,10 +7,11 @@ use mathlib.Core.Logic.{_⊎_, inl, inr, _↔_, _≢_}
 use Prim.Native.Nat.{ℕ, _+_, _-_, _<_, _≤_}
 use native.Mathlib.Omega.{arith}
 use native.Mathlib.Decide.{decLt}
-use borrow.Author.Tests.{lt-ltb, le-ltb}
 use lib.Dec.{ltb}
 use lib.ListN.{length, getD, List·getD-append}
 use lib.Seq.{getD-at}
+use Rattle.perimeters.specs.Places.{around}
+use Rattle.perimeters.proofs.Laws.{around-same, around-more}
 use Rattle.closed_meshes.specs.Mesh.{Dart, lft, rgt, second, face}
 use Rattle.closed_meshes.specs.Closed.{Closed}
 use Rattle.closed_meshes.specs.Renumbering.{Row}
@@ -24,7 +25,6 @@ use Rattle.audited_meshes.proofs.Closed.{closed-rows}
 use Rattle.walks.specs.Border.{again}
 use Rattle.walks.proofs.Back.{back-first, back-on, back-next}
 use Rattle.walks.proofs.Laws.{getD-padded, border-point, border-point-again}
-use Rattle.position_rules.specs.FacePoint.{around}
 use Rattle.position_rules.specs.Claims.{borderPoint, WindowEdges}
 use Rattle.position_rules.proofs.Audited.{border-of}
 
@@ -133,13 +133,13 @@ pub window-edges : WindowEdges
 window-edges m np ne nf f es a l came j e b k = go (decLt j (length es))
   where
     go : Dec (j < length es) → (Touches m (borderPoint m f es j) e × Touches m (borderPoint m f es (j + 1)) e) ↔ (e ≡ getD es (around (length es) j) 0)
-    go (yes h) = rw (lt-ltb j (length es) h) (first-round m np ne nf a f es l came j e h k)
+    go (yes h) = rw (around-same (length es) j h) (first-round m np ne nf a f es l came j e h k)
     go (no h) =
         let i : ℕ = j - length es in
         let here : j ≡ length es + i = omega arith in
         let there : j + 1 ≡ length es + (i + 1) = omega arith in
         let few : i < 3 = omega arith in
-        rw (le-ltb j (length es) (omega arith))
+        rw (around-more (length es) j (omega arith) (omega (arith, three m np ne nf a f es l came)))
         (subst₂ (λ (p q : ℕ). (Touches m p e × Touches m q e) ↔ (e ≡ getD es i 0))
         (sym (ap (borderPoint m f es) here ∙ point-again m np ne nf a f es l came i (omega arith)))
         (sym (ap (borderPoint m f es) there ∙ point-again m np ne nf a f es l came (i + 1) (omega arith)))

@@ -15,13 +15,14 @@ use Prim.Native.Nat.{ℕ, _+_, _≤_, _<_}
 use lib.Dec.{T}
 use lib.ListN.{getD, length}
 use lib.Ieee.{Float, add, mul, fits, ofBits, binary64}
+use Rattle.perimeters.specs.Places.{around}
 use Rattle.positions.specs.Position.{finitePosition}
 use Rattle.tables.specs.Mesh.{Mesh, none, start, interval}
 use Rattle.audited_meshes.specs.Walks.{back, faceWalk, pointWalk, firstPoint}
 use Rattle.audited_meshes.specs.Audit.{intervalFit}
 use Rattle.audited_meshes.specs.Audited.{Touches, Audited}
 use Rattle.walks.specs.Border.{again}
-use Rattle.position_rules.specs.FacePoint.{around, faceMesh, facePointOf}
+use Rattle.position_rules.specs.FacePoint.{faceMesh, facePointOf}
 use Rattle.position_rules.specs.EdgePoint.{edgePoint}
 use Rattle.position_rules.specs.OldPoint.{radialEdge, oldPoint}
 use Rattle.position_rules.specs.Rules.{edgePointOf, oldPointOf}

@@ -5,18 +5,16 @@
 --     windowWeight         the weight of the window p0 .. p4 that begins at place i
 --     windowSum            the sums over the first windows
 --     facePoint            the weighted sum of the middle points p2 over the sum of the weights, of n windows
---     around n j           the place j, counted round n places
 --     faceMesh ps es is fs a mesh of which the points' own words are not looked at
 --     facePointAbout       the face point of the face that a walk went about
 --     facePointOf m ne f   the face point of face f, by the walk about it along the edges below ne
-use mathlib.Core.Bool.{cond}
 use mathlib.Core.List.{List, [], map}
-use Prim.Native.Nat.{ℕ, _+_, _-_}
-use lib.Dec.{ltb}
+use Prim.Native.Nat.{ℕ, _+_}
 use lib.ListN.{getD, length}
 use lib.Ieee.{Float, nan, add, mul, neg, ofBits, binary64}
 use Rattle.positions.specs.declared.Position.{Position}
 use Rattle.positions.specs.Position.{zeros, quotient}
+use Rattle.perimeters.specs.Places.{around}
 use Rattle.tables.specs.Mesh.{Mesh}
 use Rattle.tables.specs.Records.{positionAt}
 use Rattle.audited_meshes.specs.Walks.{faceWalk, edgesOf, firstPoint}
@@ -52,9 +50,6 @@ facePoint ps es is pt ed n = overWeight (windowSum ps es is pt ed n)
 
 abbrev pub faceMesh : List Float → List ℕ → List Float → List ℕ → Mesh
 faceMesh ps es is fs = record { positions = ps; points = []; edges = es; intervals = is; faces = fs }
-
-abbrev pub around : ℕ → ℕ → ℕ
-around n j = cond (ltb j n) j (j - n)
 
 -- the points of the border followed by the first four again, and its edges round to the start
 unfoldable pub facePointAbout : Mesh → ℕ → List ℕ → Position

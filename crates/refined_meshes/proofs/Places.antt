@@ -2,40 +2,15 @@
 --     dartAt c f i       the dart at place i of the face f
 --     place c d          the place of the dart d on its face
 use mathlib.Core.Path.{_≡_, refl, sym, _∙_, ap}
-use Prim.Native.Nat.{ℕ, zero, suc, _+_, _-_, _<_}
+use Prim.Native.Nat.{ℕ, suc, _<_}
 use native.Mathlib.Omega.{arith}
 use native.Mathlib.Decide.{decLt}
-use borrow.Author.Tests.{eq-eqb, ne-eqb}
+use Rattle.perimeters.specs.Places.{nextPlace, prevPlace}
+use Rattle.perimeters.proofs.Laws.{next-more, next-last, prev-below, next-prev}
 use Rattle.closed_meshes.specs.Mesh.{Mesh, Dart, face}
 use Rattle.closed_meshes.specs.Cycles.{steps}
 use Rattle.closed_meshes.specs.Closed.{Closed}
 use Rattle.closed_meshes.proofs.Cycles.{rank-steps, cls-steps-start, steps-len, steps-rank, rank-injective}
-use Rattle.refined_meshes.specs.Ring.{nextPlace, prevPlace}
-
--- What the places beside i are.
-nextPlace-more : (n i : ℕ) → suc i < n → nextPlace n i ≡ suc i
-nextPlace-more n i h = let e : ¬ (i + 1 ≡ n) = omega arith in rw (ne-eqb (i + 1) n e) (omega arith)
-
-nextPlace-last : (n i : ℕ) → suc i ≡ n → nextPlace n i ≡ 0
-nextPlace-last n i h = let e : i + 1 ≡ n = omega arith in rw (eq-eqb (i + 1) n e)
-
-pub nextPlace-below : (n i : ℕ) → i < n → nextPlace n i < n
-nextPlace-below n i h = go (decLt (suc i) n)
-  where
-    go : Dec (suc i < n) → nextPlace n i < n
-    go (yes l) = rw (nextPlace-more n i l) l
-    go (no l) = rw (nextPlace-last n i (omega arith)) (omega arith)
-
-prevPlace-more : (n i : ℕ) → prevPlace n (suc i) ≡ i
-prevPlace-more n i = let e : ¬ (suc i ≡ 0) = omega arith in rw (ne-eqb (suc i) 0 e) (omega arith)
-
-pub prevPlace-below : (n i : ℕ) → i < n → prevPlace n i < n
-prevPlace-below n zero h = omega arith
-prevPlace-below n (suc i) h = rw (prevPlace-more n i) (omega arith)
-
-nextPlace-prevPlace : (n i : ℕ) → i < n → nextPlace n (prevPlace n i) ≡ i
-nextPlace-prevPlace n zero h = nextPlace-last n (n - 1) (omega arith)
-nextPlace-prevPlace n (suc i) h = rw (prevPlace-more n i) (nextPlace-more n i h)
 
 module _ {P E F : Type 0} {t : Mesh P E F} (c : Closed t) where
   unfoldable pub dartAt : F → ℕ → Dart E
@@ -75,13 +50,13 @@ module _ {P E F : Type 0} {t : Mesh P E F} (c : Closed t) where
   dartAt-next f i h = go (decLt (suc i) (c .size f))
     where
       go : Dec (suc i < c .size f) → dartAt f (nextPlace (c .size f) i) ≡ c .next (dartAt f i)
-      go (yes l) = rw (nextPlace-more (c .size f) i l)
+      go (yes l) = rw (next-more (c .size f) i l)
       go (no l) =
           let e : suc i ≡ c .size f = omega arith in
-          rw (nextPlace-last (c .size f) i e) (sym (ap (λ k. steps (c .next) k (c .faceDart f)) e ∙ steps-len (c .about-faces) f))
+          rw (next-last (c .size f) i e) (sym (ap (λ k. steps (c .next) k (c .faceDart f)) e ∙ steps-len (c .about-faces) f))
 
   pub dartAt-prev : (f : F) (i : ℕ) → i < c .size f → dartAt f (prevPlace (c .size f) i) ≡ c .prev (dartAt f i)
   dartAt-prev f i h =
-      let b : prevPlace (c .size f) i < c .size f = prevPlace-below (c .size f) i h in
+      let b : prevPlace (c .size f) i < c .size f = prev-below (c .size f) i h in
       sym (c .prev-next _) ∙ ap (c .prev) (sym (dartAt-next f (prevPlace (c .size f) i) b))
-      ∙ ap (λ k. c .prev (dartAt f k)) (nextPlace-prevPlace (c .size f) i h)
+      ∙ ap (λ k. c .prev (dartAt f k)) (next-prev (c .size f) i h)

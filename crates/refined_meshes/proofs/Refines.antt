@@ -10,6 +10,7 @@ use Prim.Native.Nat.{ℕ, _+_, _-_, _*_, _≤_, _<_}
 use native.Mathlib.Omega.{arith}
 use lib.Ieee.{Float}
 use borrow.Author.Tests.{ltb-true, ltb-false, lt-ltb, le-ltb}
+use Rattle.perimeters.proofs.Laws.{prev-first}
 use Rattle.closed_meshes.specs.Mesh.{Mesh as MeshOver, Place, place0, place1, place2, place3, Dart, lft, rgt, edge, flip, first, face, acw, cw}
 use Rattle.closed_meshes.specs.Closed.{Closed}
 use Rattle.closed_meshes.specs.Refinement.{NewPoint, old, mid, facePoint, NewEdge, org, dst, join, firstHalf, refined}
@@ -297,7 +298,9 @@ module _
         centred f = unfold pointOf centreAt in ap (λ w. w .start) (h .content .centre f (when-below c by-turns f))
 
         last : (f : Row nf) → dartAt c f (c .size f - 1) ≡ c .prev (c .faceDart f)
-        last f = dartAt-prev c f 0 (omega (arith, c .size-low f)) ∙ ap (c .prev) (dartAt-zero c f)
+        last f =
+            let some : 0 < c .size f = omega (arith, c .size-low f) in
+            ap (dartAt c f) (sym (prev-first (c .size f) 0 some refl)) ∙ dartAt-prev c f 0 some ∙ ap (c .prev) (dartAt-zero c f)
 
         starts :
             (p : Row np) → Unchanged m c by-turns (Past c by-turns nf 0) s p ⊎ Latest m c by-turns (Past c by-turns nf 0) s p

@@ -7,6 +7,8 @@ use Prim.Native.Nat.{ℕ, _<_}
 use lib.ListN.{getD}
 use lib.Ieee.{nan}
 use Rattle.t_spline.specs.declared.TnurccEdge.{TnurccEdge}
+use Rattle.perimeters.specs.Places.{nextPlace, prevPlace}
+use Rattle.perimeters.proofs.Laws.{next-below, prev-below}
 use Rattle.closed_meshes.specs.Mesh.{Mesh as MeshOver, Dart, edge, first, face}
 use Rattle.closed_meshes.specs.Closed.{Closed}
 use Rattle.closed_meshes.specs.Refinement.{mid, facePoint, NewEdge, join, firstHalf, secondHalf}
@@ -14,8 +16,8 @@ use Rattle.closed_meshes.specs.Renumbering.{Bijection, Row}
 use Rattle.tables.specs.Mesh.{Mesh}
 use Rattle.audited_meshes.specs.Walks.{firstPoint}
 use Rattle.refined_meshes.specs.State.{State, putEdge, putFace}
-use Rattle.refined_meshes.specs.Ring.{Ring, nextPlace, prevPlace, joinRow, faceRow, onLeft, putSide, putJoin, putFirst, putSecond, putNewFace}
-use Rattle.refined_meshes.proofs.Places.{dartAt, face-dartAt, dartAt-next, dartAt-prev, nextPlace-below, prevPlace-below}
+use Rattle.refined_meshes.specs.Ring.{Ring, joinRow, faceRow, onLeft, putSide, putJoin, putFirst, putSecond, putNewFace}
+use Rattle.refined_meshes.proofs.Places.{dartAt, face-dartAt, dartAt-next, dartAt-prev}
 use Rattle.refined_meshes.proofs.Numbering.{pointNo, edgeNo, faceNo}
 use Rattle.refined_meshes.proofs.Words.{Side, edgeFrom}
 use Rattle.refined_meshes.proofs.Target.{isLeft, found, endsAt, firstSide, secondSide, outSide, inSide}
@@ -54,18 +56,12 @@ module _ (m : Mesh) {np ne nf : ℕ} {t : MeshOver (Row np) (Row ne) (Row nf)} (
     abbrev here : Dart (Row ne)
     here = dartAt c f i
 
-    next-below : nextPlace (c .size f) i < c .size f
-    next-below = nextPlace-below (c .size f) i below
-
-    prev-below : prevPlace (c .size f) i < c .size f
-    prev-below = prevPlace-below (c .size f) i below
-
     -- what stands at the next place belongs to the next dart, and at the previous place to the previous one
     at-next : {A : Type 0} (x : ℕ → A) (g : Dart (Row ne) → A) → ((i : ℕ) → i < c .size f → x i ≡ g (dartAt c f i)) → x (nextPlace (r .size) i) ≡ g (c .next here)
-    at-next x g h = ap (λ k. x (nextPlace k i)) (is .size-is) ∙ h (nextPlace (c .size f) i) next-below ∙ ap g (dartAt-next c f i below)
+    at-next x g h = ap (λ k. x (nextPlace k i)) (is .size-is) ∙ h (nextPlace (c .size f) i) (next-below (c .size f) i below) ∙ ap g (dartAt-next c f i below)
 
     at-prev : {A : Type 0} (x : ℕ → A) (g : Dart (Row ne) → A) → ((i : ℕ) → i < c .size f → x i ≡ g (dartAt c f i)) → x (prevPlace (r .size) i) ≡ g (c .prev here)
-    at-prev x g h = ap (λ k. x (prevPlace k i)) (is .size-is) ∙ h (prevPlace (c .size f) i) prev-below ∙ ap g (dartAt-prev c f i below)
+    at-prev x g h = ap (λ k. x (prevPlace k i)) (is .size-is) ∙ h (prevPlace (c .size f) i) (prev-below (c .size f) i below) ∙ ap g (dartAt-prev c f i below)
 
     pub join-at : putJoin r i s ≡ joinAt here s
     unfolding putJoin joinAt endsAt outSide inSide

@@ -2,7 +2,6 @@
 -- and the face point. "Edges join each midpoint to the face point. The first new face takes the old row" (document 01).
 -- Places of a perimeter are numbered from 0; h1 i and h2 i are the halves of the edge at place i at its first and its second
 -- point, seen along the walk about the face.
---     nextPlace n i, prevPlace n i      the places beside i on a perimeter of n
 --     onLeft m f e                      the face f is on the left of the edge e
 --     Ring                              the face, the rows taken for it, and what stands at the places of its perimeter
 --     joinRow r i, faceRow r i          the row of the joining edge to the midpoint of place i; of the new face at its first point
@@ -17,15 +16,10 @@ use lib.Dec.{eqb}
 use lib.ListN.{getD}
 use lib.Ieee.{Float, nan, add, binary64}
 use Rattle.t_spline.specs.declared.TnurccEdge.{TnurccEdge}
+use Rattle.perimeters.specs.Places.{nextPlace, prevPlace}
 use Rattle.tables.specs.Mesh.{Mesh, leftFace}
 use Rattle.audited_meshes.specs.Walks.{firstPoint}
 use Rattle.refined_meshes.specs.State.{State, edgeOf, putEdge, putPoint, putFace}
-
-abbrev pub nextPlace : ℕ → ℕ → ℕ
-nextPlace n i = cond (eqb (i + 1) n) 0 (i + 1)
-
-abbrev pub prevPlace : ℕ → ℕ → ℕ
-prevPlace n i = cond (eqb i 0) (n - 1) (i - 1)
 
 abbrev pub onLeft : Mesh → ℕ → ℕ → Bool
 onLeft m f e = eqb (leftFace m e) f

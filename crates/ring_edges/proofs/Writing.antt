@@ -10,11 +10,12 @@ use lib.Dec.{eqb}
 use lib.ListN.{getD, set}
 use lib.Seq.{set-getD, getD-set-other}
 use lib.Ieee.{Float, nan, add, binary64}
+use Rattle.perimeters.specs.Places.{nextPlace, prevPlace}
 use Rattle.tables.specs.declared.Counts.{Counts}
 use Rattle.tables.specs.Rows.{putRow}
 use Rattle.walks.specs.Steps.{faceTables}
 use Rattle.refined_meshes.specs.State.{State, putEdge}
-use Rattle.refined_meshes.specs.Ring.{nextPlace, prevPlace, faceRow, putSide, putJoin, putFirst, putSecond}
+use Rattle.refined_meshes.specs.Ring.{faceRow, putSide, putJoin, putFirst, putSecond}
 use Rattle.splitting.specs.Scratch.{tablesOf}
 use Rattle.ring_places.specs.declared.RingRows.{RingRows}
 use Rattle.ring_places.specs.Rings.{ring}

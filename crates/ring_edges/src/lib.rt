@@ -15,12 +15,12 @@ ghost use Rattle.refined_meshes.specs.State.{State, putEdge};
 ghost use Rattle.refined_meshes.specs.Ring.{putSide, putJoin, putFirst, putSecond};
 ghost use Rattle.splitting.specs.Scratch.{tablesOf};
 ghost use Rattle.ring_places.specs.Rings.{ring, Small, Rows};
+use perimeters::next_place;
+use perimeters::prev_place;
 use records::store_edge;
 use ring_places::RingRows;
 use ring_places::face_row;
-use ring_places::next_place;
 use ring_places::on_left;
-use ring_places::prev_place;
 use t_spline::TnurccEdge;
 use tables::index;
 

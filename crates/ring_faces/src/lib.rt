@@ -15,11 +15,11 @@ ghost use Rattle.refined_meshes.specs.State.{State};
 ghost use Rattle.refined_meshes.specs.Ring.{faceRow, putNewFace, putFacePoint};
 ghost use Rattle.splitting.specs.Scratch.{tablesOf};
 ghost use Rattle.ring_places.specs.Rings.{ring, Small, Rows};
+use perimeters::prev_place;
 use records::store_face;
 use ring_places::RingRows;
 use ring_places::face_row;
 use ring_places::on_left;
-use ring_places::prev_place;
 use t_spline::TnurccFace;
 use tables::index;
 

@@ -1,7 +1,7 @@
 // The places of a face's perimeter once it is split: which halves and midpoints stand there, the intervals found on arriving, and
 // the rows that a visit takes for the face.
 // Carries over the reading half of `global_subdivide`'s loop over the faces (t_nurcc/mod.rs).
-// Not here: what is written about the face (`ring_edges`, `ring_faces`), the splitting (`splitting`).
+// Not here: the places stepped (`perimeters`), what is written about the face (`ring_edges`, `ring_faces`), the splitting (`splitting`).
 // Definitions: `refined_meshes`, specs/Ring.antt; `specs/Rings.antt` for the ring as the code holds it.
 ghost use mathlib.Core.Path.{_≡_};
 ghost use mathlib.Core.Bool.{cond};
@@ -11,7 +11,7 @@ ghost use lib.Dec.{eqb};
 ghost use lib.ListN.{length, getD};
 ghost use lib.Ieee.{nan};
 ghost use Rattle.refined_meshes.specs.Turns.{filled};
-ghost use Rattle.refined_meshes.specs.Ring.{nextPlace, prevPlace, faceRow};
+ghost use Rattle.refined_meshes.specs.Ring.{faceRow};
 ghost use Rattle.ring_places.specs.Rings.{ring, firstOf, secondOf, Small, Rows};
 use tables::index;
 
@@ -22,30 +22,6 @@ pub struct RingRows {
     pub centre: usize,
     pub joins: usize,
     pub faces: usize,
-}
-
-// The place after i on a perimeter of n.
-pub fn next_place(n: usize, i: usize) -> usize
-    requires { ⌜ i < n ⌝ }
-    ensures { λ r. ⌜ r ≡ nextPlace n i ⌝ }
-    ensures { λ r. ⌜ r < n ⌝ }
-{
-    if i + 1 == n {
-        return 0;
-    }
-    i + 1
-}
-
-// The place before i on a perimeter of n.
-pub fn prev_place(n: usize, i: usize) -> usize
-    requires { ⌜ i < n ⌝ }
-    ensures { λ r. ⌜ r ≡ prevPlace n i ⌝ }
-    ensures { λ r. ⌜ r < n ⌝ }
-{
-    if i == 0 {
-        return n - 1;
-    }
-    i - 1
 }
 
 // Whether face f is on the left of the edge e, in a mesh's table of edges.

@@ -7,13 +7,14 @@ use mathlib.Core.List.{List}
 use Prim.Native.Nat.{ℕ, _+_, _-_, _≤_, _<_}
 use native.Mathlib.Nat.{min-le-left}
 use native.Mathlib.Omega.{arith}
-use native.Mathlib.Decide.{decLt, ℕ-discrete}
-use borrow.Author.Tests.{eq-eqb, ne-eqb, lt-ltb, le-ltb}
+use native.Mathlib.Decide.{decLt}
 use lib.Dec.{T}
 use lib.ListN.{length, getD, take, length-take, List·getD-eq-default}
 use lib.Seq.{getD-take}
 use lib.Ieee.{Float, nan, add, fits, binary64}
 use lib.Ieee.Fits.{nan-fits}
+use Rattle.perimeters.specs.Places.{around, nextPlace, prevPlace}
+use Rattle.perimeters.proofs.Laws.{next-below, prev-below, next-prev, next-around}
 use Rattle.positions.specs.Position.{finitePosition}
 use Rattle.tables.specs.Mesh.{Mesh, interval}
 use Rattle.tables.specs.declared.Counts.{Counts}
@@ -25,31 +26,20 @@ use Rattle.audited_meshes.specs.Audited.{Audited, FaceWalked}
 use Rattle.audited_meshes.specs.Rows.{HoldsClosed}
 use Rattle.audited_meshes.proofs.Audited.{faceWalk-is}
 use Rattle.audited_meshes.proofs.Holds.{audited-of-closed}
-use Rattle.refined_meshes.specs.Ring.{nextPlace, prevPlace}
-use Rattle.refined_meshes.proofs.Places.{place, dartAt-place, place-below, nextPlace-below, prevPlace-below, dartAt-next, dartAt-prev}
+use Rattle.refined_meshes.proofs.Places.{place, dartAt-place, place-below, dartAt-next, dartAt-prev}
 use Rattle.refined_meshes.proofs.Perimeters.{perimeter-size, perimeter-edge}
-use Rattle.position_rules.specs.FacePoint.{around, facePointOf}
+use Rattle.position_rules.specs.FacePoint.{facePointOf}
 use Rattle.position_rules.specs.Claims.{Found}
 use Rattle.position_rules.proofs.Joins.{joining-fits}
 use Rattle.steps.specs.Step.{firstRows}
 use Rattle.steps.specs.OneStep.{Binary64}
 
 -- two places on from the place before, counted round, is the next place
-around-next : (n i : ℕ) → 3 ≤ n → i < n → around n (prevPlace n i + 2) ≡ nextPlace n i
-around-next n i h l = first (ℕ-discrete i 0)
-  where
-    last : ¬ (i ≡ 0) → Dec (i + 1 ≡ n) → around n (prevPlace n i + 2) ≡ nextPlace n i
-    last z (yes e) =
-        let k : n ≤ i - 1 + 2 = omega arith in rw (ne-eqb i 0 z, eq-eqb (i + 1) n e, le-ltb (i - 1 + 2) n k) (omega arith)
-    last z (no e) =
-        let k : i - 1 + 2 < n = omega arith in rw (ne-eqb i 0 z, ne-eqb (i + 1) n e, lt-ltb (i - 1 + 2) n k) (omega arith)
-
-    first : Dec (i ≡ 0) → around n (prevPlace n i + 2) ≡ nextPlace n i
-    first (yes z) =
-        let k : n ≤ n - 1 + 2 = omega arith in
-        let e : ¬ (i + 1 ≡ n) = omega arith in
-        rw (eq-eqb i 0 z, ne-eqb (i + 1) n e, le-ltb (n - 1 + 2) n k) (omega arith)
-    first (no z) = last z (ℕ-discrete (i + 1) n)
+around-next : (n i : ℕ) → i < n → around n (prevPlace n i + 2) ≡ nextPlace n i
+around-next n i l =
+    let j : ℕ = prevPlace n i + 1 in
+    let two : prevPlace n i + 2 ≡ j + 1 = omega arith in
+    ap (around n) two ∙ sym (next-around n j) ∙ ap (nextPlace n) (next-prev n i l)
 
 module _ (m : Mesh) {np ne nf : ℕ} (h : HoldsClosed m np ne nf) (held : (e : ℕ) → T (fits binary64 (interval m e))) (d : Dart (Row ne)) where
   f : Row nf
@@ -86,14 +76,14 @@ module _ (m : Mesh) {np ne nf : ℕ} (h : HoldsClosed m np ne nf) (held : (e : �
   unfolding es n i f
   next-edge =
       ap (λ k. getD es (around k (prevPlace n i + 2)) 0) size-is
-      ∙ ap (λ j. getD es j 0) (around-next n i (h .closed .size-low f) below)
-      ∙ perimeter-edge m (h .stands) (h .closed) f (nextPlace n i) (nextPlace-below n i below)
+      ∙ ap (λ j. getD es j 0) (around-next n i below)
+      ∙ perimeter-edge m (h .stands) (h .closed) f (nextPlace n i) (next-below n i below)
       ∙ ap (λ (x : Dart (Row ne)). edge x .0) (dartAt-next (h .closed) f i below ∙ ap (h .closed .next) (dartAt-place (h .closed) d))
 
   prev-edge : getD es (prevPlace n i) 0 ≡ edge (h .closed .prev d) .0
   unfolding es n i f
   prev-edge =
-      perimeter-edge m (h .stands) (h .closed) f (prevPlace n i) (prevPlace-below n i below)
+      perimeter-edge m (h .stands) (h .closed) f (prevPlace n i) (prev-below n i below)
       ∙ ap (λ (x : Dart (Row ne)). edge x .0) (dartAt-prev (h .closed) f i below ∙ ap (h .closed .prev) (dartAt-place (h .closed) d))
 
   pub joining-fit :
@@ -101,7 +91,7 @@ module _ (m : Mesh) {np ne nf : ℕ} (h : HoldsClosed m np ne nf) (held : (e : �
       Found (interval m (edge (h .closed .prev d) .0)) v → intervalFit (add binary64 u v) ≡ true
   unfolding f
   joining-fit whole u v fu fv =
-      joining-fits m np ne nf (f .0) es (prevPlace n i) u v audited held (f .1) came (rw size-is (prevPlace-below n i below))
+      joining-fits m np ne nf (f .0) es (prevPlace n i) u v audited held (f .1) came (rw size-is (prev-below n i below))
       (subst (λ j. Found (interval m j) u) (sym next-edge) fu) (subst (λ j. Found (interval m j) v) (sym prev-edge) fv) whole
 
 -- The intervals of the first rows, and nothing beyond them.

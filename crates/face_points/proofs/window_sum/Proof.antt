@@ -5,71 +5,124 @@ use Prim.Native.Nat.{ℕ, _-_}
 use native.Mathlib.Omega.{arith}
 use lib.ListN.{getD}
 use borrow.Author.Needs.{needs}
-use Rattle.position_rules.specs.FacePoint.{windowSum, around}
-use Rattle.face_points.proofs.Windows.{Summed, summed-start, summed-more}
+use Rattle.perimeters.specs.Places.{around}
+use Rattle.position_rules.specs.FacePoint.{windowSum}
+use Rattle.position_rules.proofs.Fits.{border-fits}
+use Rattle.face_points.proofs.Windows.{Summed, summed-start, summed-place, summed-more}
 use Rattle.face_points.proofs.window_sum.Statement.{statement}
 use Rattle.face_points.proofs.window_sum.Tie as tie
 
 abbrev Inv-loop : tie.InvT-loop
-Inv-loop positions edges intervals points border n s₀ first₀ third₀ i₀ s first third i = Summed positions edges intervals points border n s first third i
+Inv-loop positions edges intervals points border n s₀ first₀ third₀ k₀ i₀ s first third k i = Summed positions edges intervals points border n s first third k i
 
 abbrev μ-loop : tie.MeasureT-loop
-μ-loop positions edges intervals points border n s₀ first₀ third₀ i₀ s first third i = n - i
+μ-loop positions edges intervals points border n s₀ first₀ third₀ k₀ i₀ s first third k i = n - i
 
 terms-at-requires : tie.Need-terms-at-requires Inv-loop μ-loop
-terms-at-requires c κs = (c .before .before .before .before .before .pre .0, omega (arith, c .before .before .before .before .before .pre .0 .at-least-3))
+terms-at-requires c κs =
+    let border = c .before .before .before .before .before .pre .0 in
+    (omega arith, border-fits _ _ _ _ _ border (omega arith))
 
 terms-at-requires-2 : tie.Need-terms-at-requires-2 Inv-loop μ-loop
-terms-at-requires-2 c κs = (c .before .before .before .before .before .before .before .pre .0, omega (arith, c .before .before .before .before .before .before .before .pre .0 .at-least-3))
+terms-at-requires-2 c κs =
+    let border = c .before .before .before .before .before .before .before .pre .0 in
+    (omega arith, border-fits _ _ _ _ _ border (omega arith))
 
 loop-holds : tie.Need-loop-holds Inv-loop μ-loop
 loop-holds c =
     let a = c .before .before .before .before .before .before .before .before .args in
-    summed-start (a .positions .now) (a .edges .now) (a .intervals .now) (a .points .now) (a .border .now) (a .n) _ _ _ (rw (c .before .before .before .before .origin .ensures)) (c .before .before .terms-at .ensures) (c .terms-at2 .ensures)
+    let border = c .before .before .before .before .before .before .before .before .pre .0 in
+    summed-start (a .positions .now) (a .edges .now) (a .intervals .now) (a .points .now) (a .border .now) (a .n)
+    _ _ _ (border .at-least-3) (rw (c .before .before .before .before .origin .ensures)) (c .before .before .terms-at .ensures) (c .terms-at2 .ensures)
+
+next-place-requires : tie.Need-next-place-requires Inv-loop μ-loop
+next-place-requires c κs = c .before .loop-test .taken
 
 terms-at-requires-3 : tie.Need-terms-at-requires-3 Inv-loop μ-loop
-terms-at-requires-3 c κs = (c .before .before .before .before .before .before .before .before .before .before .before .pre .0, omega (arith, c .before .before .before .before .before .before .before .before .before .before .before .pre .0 .at-least-3, c .before .loop-test .taken))
+terms-at-requires-3 c κs =
+    let border = c .before .before .before .before .before .before .before .before .before .before .before .before .pre .0 in
+    (omega (arith, c .next-place .ensures .1), border-fits _ _ _ _ _ border (c .next-place .ensures .1))
 
-add-terms-at-3 : tie.Need-add-terms-at-3 Inv-loop μ-loop
-add-terms-at-3 c = omega (arith, c .before .before .loop-test .taken, c .before .before .before .before .before .before .before .before .before .before .before .before .pre .0 .at-most-64)
+next-place-requires-2 : tie.Need-next-place-requires-2 Inv-loop μ-loop
+next-place-requires-2 c κs =
+    let a = c .before .before .before .before .before .before .before .before .before .before .before .before .before .args in
+    let turn = c .before .before .before .loop-test .taken in
+    summed-place (a .positions .now) (a .edges .now) (a .intervals .now) (a .points .now) (a .border .now) (a .n)
+    _ _ _ _ _ (c .before .before .before .before .loop .inv) turn
+
+add-terms-at-2 : tie.Need-add-terms-at-2 Inv-loop μ-loop
+add-terms-at-2 c =
+    let border = c .before .before .before .before .before .before .before .before .before .before .before .before .before .before .pre .0 in
+    let turn = c .before .before .before .before .loop-test .taken in
+    omega arith
 
 mul-terms-at-2 : tie.Need-mul-terms-at-2 Inv-loop μ-loop
-mul-terms-at-2 c = omega (arith, c .before .before .loop-test .taken, c .before .before .before .before .before .before .before .before .before .before .before .before .pre .0 .at-most-64)
+mul-terms-at-2 c =
+    let border = c .before .before .before .before .before .before .before .before .before .before .before .before .before .before .pre .0 in
+    let turn = c .before .before .before .before .loop-test .taken in
+    omega arith
 
 element-copy-out-terms-at-4 : tie.Need-element-copy-out-terms-at-4 Inv-loop μ-loop
-element-copy-out-terms-at-4 c = omega (arith, c .before .before .loop-test .taken, c .before .before .before .before .before .before .before .before .before .before .before .before .pre .0 .at-most-64)
-
-add-terms-at-4 : tie.Need-add-terms-at-4 Inv-loop μ-loop
-add-terms-at-4 c = omega (arith, c .before .before .before .loop-test .taken, c .before .before .before .before .before .before .before .before .before .before .before .before .before .pre .0 .at-most-64)
+element-copy-out-terms-at-4 c =
+    let border = c .before .before .before .before .before .before .before .before .before .before .before .before .before .before .pre .0 in
+    let turn = c .before .before .before .before .loop-test .taken in
+    omega arith
 
 terms-at-requires-4 : tie.Need-terms-at-requires-4 Inv-loop μ-loop
-terms-at-requires-4 c κs = (c .before .before .before .before .before .before .before .before .before .before .before .before .before .pre .0, omega (arith, c .before .before .before .before .before .before .before .before .before .before .before .before .before .pre .0 .at-least-3, c .before .before .before .loop-test .taken))
+terms-at-requires-4 c κs =
+    let border = c .before .before .before .before .before .before .before .before .before .before .before .before .before .before .before .pre .0 in
+    (omega (arith, c .before .next-place2 .ensures .1), border-fits _ _ _ _ _ border (c .before .next-place2 .ensures .1))
 
 add-index : tie.Need-add-index Inv-loop μ-loop
-add-index c = omega (arith, c .before .before .before .before .before .before .loop-test .taken, c .before .before .before .before .before .before .before .before .before .before .before .before .before .before .before .before .pre .0 .at-most-64)
+add-index c =
+    let border = c .before .before .before .before .before .before .before .before .before .before .before .before .before .before .before .before .before .before .pre .0 in
+    let turn = c .before .before .before .before .before .before .before .before .loop-test .taken in
+    omega arith
 
 mul-index : tie.Need-mul-index Inv-loop μ-loop
-mul-index c = omega (arith, c .before .before .before .before .before .before .loop-test .taken, c .before .before .before .before .before .before .before .before .before .before .before .before .before .before .before .before .pre .0 .at-most-64)
+mul-index c =
+    let border = c .before .before .before .before .before .before .before .before .before .before .before .before .before .before .before .before .before .before .pre .0 in
+    let turn = c .before .before .before .before .before .before .before .before .loop-test .taken in
+    omega arith
 
 element-copy-out-index : tie.Need-element-copy-out-index Inv-loop μ-loop
-element-copy-out-index c = omega (arith, c .before .before .before .before .before .before .loop-test .taken, c .before .before .before .before .before .before .before .before .before .before .before .before .before .before .before .before .pre .0 .at-most-64)
+element-copy-out-index c =
+    let border = c .before .before .before .before .before .before .before .before .before .before .before .before .before .before .before .before .before .before .pre .0 in
+    let turn = c .before .before .before .before .before .before .before .before .loop-test .taken in
+    omega arith
 
 load-position-requires : tie.Need-load-position-requires Inv-loop μ-loop
-load-position-requires c κs = rw (c .index .ensures) (c .before .before .before .before .before .before .before .before .before .before .before .before .before .before .before .before .before .before .pre .1 .points-there _ (omega (arith, c .before .before .before .before .before .before .before .before .loop-test .taken)))
+load-position-requires c κs =
+    let turn = c .before .before .before .before .before .before .before .before .before .before .loop-test .taken in
+    let points = c .before .before .before .before .before .before .before .before .before .before .before .before .before .before .before .before .before .before .before .before .pre .1 in
+    rw (c .index .ensures) (points .points-there _ (omega arith))
 
 add-i : tie.Need-add-i Inv-loop μ-loop
-add-i c = omega (arith, c .before .before .before .before .before .before .before .before .before .before .loop-test .taken, c .before .before .before .before .before .before .before .before .before .before .before .before .before .before .before .before .before .before .before .before .pre .0 .at-most-64)
+add-i c =
+    let border = c .before .before .before .before .before .before .before .before .before .before .before .before .before .before .before .before .before .before .before .before .before .before .pre .0 in
+    let turn = c .before .before .before .before .before .before .before .before .before .before .before .before .loop-test .taken in
+    omega arith
 
 loop-again : tie.Need-loop-again Inv-loop μ-loop
 loop-again c =
-    let a = c .before .before .before .before .before .before .before .before .before .before .before .before .before .before .before .before .before .before .before .before .args in
-    summed-more (a .positions .now) (a .edges .now) (a .intervals .now) (a .points .now) (a .border .now) (a .n) _ _ _ _ (c .before .before .before .before .before .before .before .before .before .before .before .loop .inv) (c .before .before .before .before .before .before .before .before .before .before .loop-test .taken) _ _ (c .before .before .before .before .before .before .before .before .terms-at3 .ensures) (c .before .before .before .before .before .before .terms-at4 .ensures) _ _ (c .before .before .before .before .before .six-terms .ensures) (c .before .before .before .before .six-terms2 .ensures) _ _ (c .before .before .index .ensures) (c .before .load-position .ensures) _ (c .with-term .ensures)
+    let a = c .before .before .before .before .before .before .before .before .before .before .before .before .before .before .before .before .before .before .before .before .before .before .args in
+    let turn = c .before .before .before .before .before .before .before .before .before .before .before .before .loop-test .taken in
+    summed-more (a .positions .now) (a .edges .now) (a .intervals .now) (a .points .now) (a .border .now) (a .n)
+    _ _ _ _ _ (c .before .before .before .before .before .before .before .before .before .before .before .before .before .loop .inv) turn
+    _ _ (c .before .before .before .before .before .before .before .before .before .before .next-place .ensures .0)
+    (c .before .before .before .before .before .before .before .before .next-place2 .ensures .0)
+    _ _ (c .before .before .before .before .before .before .before .before .before .terms-at3 .ensures)
+    (c .before .before .before .before .before .before .terms-at4 .ensures)
+    _ _ (c .before .before .before .before .before .six-terms .ensures) (c .before .before .before .before .six-terms2 .ensures)
+    _ _ (c .before .before .index .ensures) (c .before .load-position .ensures) _ (c .with-term .ensures)
 
 returns : tie.Need-returns Inv-loop μ-loop
 returns c =
     let a = c .before .before .before .before .before .before .before .before .before .before .args in
     c .before .loop .inv .sum-is
-    ∙ ap (λ (k : ℕ). windowSum (a .positions .now) (a .edges .now) (a .intervals .now) (λ j. getD (a .points .now) j 0) (λ j. getD (a .border .now) (around (a .n) j) 0) k) (omega (arith, c .before .loop .inv .within, c .loop-test .left))
+    ∙ ap
+    (λ (k : ℕ). windowSum (a .positions .now) (a .edges .now) (a .intervals .now) (λ j. getD (a .points .now) j 0) (λ j. getD (a .border .now) (around (a .n) j) 0) k)
+    (omega (arith, c .before .loop .inv .within, c .loop-test .left))
 
 pub window-sum-spec : {M : Type 1} → statement M
 window-sum-spec =
@@ -86,12 +139,12 @@ window-sum-spec =
     (λ c. search needs)
     (λ c. search needs)
     (λ c. search needs)
-    (λ c. search needs)
+    next-place-requires
     terms-at-requires-3
-    add-terms-at-3
+    next-place-requires-2
+    add-terms-at-2
     mul-terms-at-2
     element-copy-out-terms-at-4
-    add-terms-at-4
     terms-at-requires-4
     (λ c κs. search needs)
     (λ c κs. search needs)
