@@ -7,6 +7,7 @@ ghost use mathlib.Core.Path.{_≡_};
 ghost use mathlib.Core.List.{[]};
 ghost use Prim.Native.Nat.{ℕ, _*_, _≤_, _<_};
 ghost use lib.ListN.{length};
+ghost use Rattle.tables.specs.Layout.{positionWidth, pointWidth, edgeWidth, faceWidth};
 ghost use Rattle.tables.specs.Mesh.{origin, dest, meshOf};
 ghost use Rattle.audited_meshes.specs.Audit.{countsFit, audit};
 ghost use Rattle.walks.specs.Steps.{faceTables};
@@ -24,7 +25,7 @@ use tables::face_rows;
 use tables::point_rows;
 
 // Whether the counts fit the lent rows.
-pub fn counts_fit(
+fn counts_fit(
     positions: &[f64],
     points: &[u32],
     edges: &[u32],
@@ -44,7 +45,7 @@ pub fn counts_fit(
 }
 
 // The tests of single rows.
-pub fn rows_fit(
+fn rows_fit(
     positions: &[f64],
     points: &[u32],
     edges: &[u32],
@@ -52,11 +53,11 @@ pub fn rows_fit(
     faces: &[u32],
     counts: Counts,
 ) -> bool
-    requires { ⌜ counts .points * 3 ≤ length (now positions) ⌝ }
-    requires { ⌜ counts .points * 3 ≤ length (now points) ⌝ }
-    requires { ⌜ counts .edges * 8 ≤ length (now edges) ⌝ }
+    requires { ⌜ counts .points * positionWidth ≤ length (now positions) ⌝ }
+    requires { ⌜ counts .points * pointWidth ≤ length (now points) ⌝ }
+    requires { ⌜ counts .edges * edgeWidth ≤ length (now edges) ⌝ }
     requires { ⌜ counts .edges ≤ length (now intervals) ⌝ }
-    requires { ⌜ counts .faces * 5 ≤ length (now faces) ⌝ }
+    requires { ⌜ counts .faces * faceWidth ≤ length (now faces) ⌝ }
     ensures { λ r. ⌜ r ≡ rowsFit (now (positions .entry)) (now (points .entry)) (now (edges .entry)) (now (intervals .entry)) (now (faces .entry)) (counts .points) (counts .edges) (counts .faces) ⌝ }
 {
     let np = counts.points;
@@ -72,10 +73,10 @@ pub fn rows_fit(
 }
 
 // The sums and the walks.
-pub fn walks_fit(points: &[u32], edges: &[u32], faces: &[u32], counts: Counts) -> bool
-    requires { ⌜ counts .points * 3 ≤ length (now points) ⌝ }
-    requires { ⌜ counts .edges * 8 ≤ length (now edges) ⌝ }
-    requires { ⌜ counts .faces * 5 ≤ length (now faces) ⌝ }
+fn walks_fit(points: &[u32], edges: &[u32], faces: &[u32], counts: Counts) -> bool
+    requires { ⌜ counts .points * pointWidth ≤ length (now points) ⌝ }
+    requires { ⌜ counts .edges * edgeWidth ≤ length (now edges) ⌝ }
+    requires { ⌜ counts .faces * faceWidth ≤ length (now faces) ⌝ }
     requires { ⌜ ((e : ℕ) → e < counts .edges → (origin (faceTables (now edges) []) e < counts .points) × (dest (faceTables (now edges) []) e < counts .points)) ⌝ }
     ensures { λ r. ⌜ r ≡ walksFit (now (points .entry)) (now (edges .entry)) (now (faces .entry)) (counts .points) (counts .edges) (counts .faces) ⌝ }
 {

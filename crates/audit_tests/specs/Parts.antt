@@ -15,6 +15,7 @@ use lib.Dec.{eqb}
 use lib.ListN.{getD}
 use lib.Ieee.{Float}
 use Rattle.closed_meshes.specs.Renumbering.{sumTo}
+use Rattle.tables.specs.Layout.{edgeWidth}
 use Rattle.tables.specs.Mesh.{Mesh, valence, leftFace}
 use Rattle.audited_meshes.specs.Folds.{every}
 use Rattle.audited_meshes.specs.Walks.{passed, borders, faceWalk, pointWalk}
@@ -29,7 +30,7 @@ edgeRows es is = record { positions = []; points = []; edges = es; intervals = i
 abbrev pub linksBack : List ℕ → ℕ → ℕ → ℕ → ℕ → Bool
 linksBack es k f a e =
     let m : Mesh = edgeRows es [] in
-    borders m f a && eqb (cond (eqb (leftFace m a) f) (getD es (a * 8 + k) 0) (getD es (a * 8 + (k + 2)) 0)) e
+    borders m f a && eqb (cond (eqb (leftFace m a) f) (getD es (a * edgeWidth + k) 0) (getD es (a * edgeWidth + (k + 2)) 0)) e
 
 abbrev pub walkFits : Mesh → ℕ → ℕ → Bool
 walkFits m ne p = pointBack (valence m p) (pointWalk m ne (valence m p) p)

@@ -5,24 +5,28 @@ ghost use Prim.Native.Nat.{_+_, _*_, _≤_};
 ghost use lib.Dec.{eqb};
 ghost use lib.ListN.{length};
 ghost use Rattle.closed_meshes.specs.Renumbering.{sumTo};
+ghost use Rattle.tables.specs.Layout.{positionWidth, pointWidth, edgeWidth};
 ghost use Rattle.tables.specs.Mesh.{valence};
 ghost use Rattle.audited_meshes.specs.Folds.{every};
 ghost use Rattle.audited_meshes.specs.Quick.{pointFit};
 ghost use Rattle.walks.specs.Steps.{pointTables};
 ghost use Rattle.audit_tests.specs.Parts.{pointRows, walkFits};
 use records::load_position;
+use tables::MARK_WORD;
+use tables::POINT_WIDTH;
+use tables::START_WORD;
 use tables::index;
 use walks::Passed;
 use walks::t_nurcc_iter::point_walk;
 
 // The test of point p.
-pub fn point_fit(positions: &[f64], points: &[u32], ne: usize, p: usize) -> bool
-    requires { ⌜ p * 3 + 3 ≤ length (now positions) ⌝ }
-    requires { ⌜ p * 3 + 3 ≤ length (now points) ⌝ }
+fn point_fit(positions: &[f64], points: &[u32], ne: usize, p: usize) -> bool
+    requires { ⌜ p * positionWidth + positionWidth ≤ length (now positions) ⌝ }
+    requires { ⌜ p * pointWidth + pointWidth ≤ length (now points) ⌝ }
     ensures { λ r. ⌜ r ≡ pointFit (pointRows (now (positions .entry)) (now (points .entry))) ne p ⌝ }
 {
-    let b = p * 3;
-    if ne <= index(points[b + 1]) {
+    let b = p * POINT_WIDTH;
+    if ne <= index(points[b + START_WORD]) {
         return false;
     }
     if !load_position(positions, p).is_finite() {
@@ -31,16 +35,16 @@ pub fn point_fit(positions: &[f64], points: &[u32], ne: usize, p: usize) -> bool
     if points[b] < 2 {
         return false;
     }
-    if points[b + 2] == 0 {
+    if points[b + MARK_WORD] == 0 {
         return true;
     }
-    points[b + 2] == 1
+    points[b + MARK_WORD] == 1
 }
 
 // The test of the first np points.
 pub fn points_fit(positions: &[f64], points: &[u32], ne: usize, np: usize) -> bool
-    requires { ⌜ np * 3 ≤ length (now positions) ⌝ }
-    requires { ⌜ np * 3 ≤ length (now points) ⌝ }
+    requires { ⌜ np * positionWidth ≤ length (now positions) ⌝ }
+    requires { ⌜ np * pointWidth ≤ length (now points) ⌝ }
     ensures { λ r. ⌜ r ≡ every np (λ p. pointFit (pointRows (now (positions .entry)) (now (points .entry))) ne p) ⌝ }
 {
     let mut p = 0;
@@ -55,14 +59,14 @@ pub fn points_fit(positions: &[f64], points: &[u32], ne: usize, np: usize) -> bo
 
 // Whether the valences of the first np points add up to a total. The sum stops where it is past the total.
 pub fn valences_fit(points: &[u32], np: usize, total: usize) -> bool
-    requires { ⌜ np * 3 ≤ length (now points) ⌝ }
+    requires { ⌜ np * pointWidth ≤ length (now points) ⌝ }
     requires { ⌜ total * 4 ≤ 18446744073709551615 ⌝ }
     ensures { λ r. ⌜ r ≡ eqb (sumTo np (λ p. valence (pointTables (now (points .entry)) []) p)) total ⌝ }
 {
     let mut sum = 0;
     let mut p = 0;
     while p < np {
-        sum += index(points[p * 3]);
+        sum += index(points[p * POINT_WIDTH]);
         if total < sum {
             return false;
         }
@@ -73,8 +77,8 @@ pub fn valences_fit(points: &[u32], np: usize, total: usize) -> bool
 
 // Whether the walk about each of the first np points comes back after its valence.
 pub fn point_walks_fit(points: &[u32], edges: &[u32], ne: usize, np: usize) -> bool
-    requires { ⌜ np * 3 ≤ length (now points) ⌝ }
-    requires { ⌜ ne * 8 ≤ length (now edges) ⌝ }
+    requires { ⌜ np * pointWidth ≤ length (now points) ⌝ }
+    requires { ⌜ ne * edgeWidth ≤ length (now edges) ⌝ }
     ensures { λ r. ⌜ r ≡ every np (λ p. walkFits (pointTables (now (points .entry)) (now (edges .entry))) ne p) ⌝ }
 {
     let mut p = 0;
@@ -88,12 +92,12 @@ pub fn point_walks_fit(points: &[u32], edges: &[u32], ne: usize, np: usize) -> b
 }
 
 // Whether the walk about point p comes back after its valence.
-pub fn point_walk_fits(points: &[u32], edges: &[u32], ne: usize, p: usize) -> bool
-    requires { ⌜ p * 3 + 3 ≤ length (now points) ⌝ }
-    requires { ⌜ ne * 8 ≤ length (now edges) ⌝ }
+fn point_walk_fits(points: &[u32], edges: &[u32], ne: usize, p: usize) -> bool
+    requires { ⌜ p * pointWidth + pointWidth ≤ length (now points) ⌝ }
+    requires { ⌜ ne * edgeWidth ≤ length (now edges) ⌝ }
     ensures { λ r. ⌜ r ≡ walkFits (pointTables (now (points .entry)) (now (edges .entry))) ne p ⌝ }
 {
-    let v = index(points[p * 3]);
+    let v = index(points[p * POINT_WIDTH]);
     match point_walk(edges, points, ne, v, p) {
         Passed::Back(n) => n == v,
         Passed::Lost => false,

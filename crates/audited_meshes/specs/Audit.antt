@@ -23,21 +23,22 @@ use lib.Dec.{eqb, ltb, leb}
 use lib.ListN.{length}
 use lib.Ieee.{Float, nan, inf, fin}
 use lib.Ieee.Scale.{finite}
+use Rattle.tables.specs.Layout.{positionWidth, pointWidth, edgeWidth, faceWidth, longestPerimeter}
 use Rattle.tables.specs.Mesh.{Mesh, none, x, y, z, valence, start, mark, origin, dest, leftFace, rightFace, leftCw, leftAcw, rightCw, rightAcw, interval, faceStart, corner}
 use Rattle.audited_meshes.specs.Folds.{every, occurrences, distinct}
 use Rattle.audited_meshes.specs.Walks.{Walk, back, lost, borders, touches, acwOfFace, cwOfFace, firstPoint, faceWalk, pointWalk}
 
 -- points: 3 words and 3 coordinates
 abbrev pub pointRows : Mesh → ℕ
-pointRows m = min (length (m .positions) / 3) (length (m .points) / 3)
+pointRows m = min (length (m .positions) / positionWidth) (length (m .points) / pointWidth)
 
 -- edges: 8 words and 1 interval
 abbrev pub edgeRows : Mesh → ℕ
-edgeRows m = min (length (m .edges) / 8) (length (m .intervals))
+edgeRows m = min (length (m .edges) / edgeWidth) (length (m .intervals))
 
 -- faces: 5 words
 abbrev pub faceRows : Mesh → ℕ
-faceRows m = length (m .faces) / 5
+faceRows m = length (m .faces) / faceWidth
 
 unfoldable pub countsFit : Mesh → ℕ → ℕ → ℕ → Bool
 countsFit m np ne nf = leb np (pointRows m) && leb ne (edgeRows m) && leb nf (faceRows m)
@@ -89,7 +90,7 @@ unfoldable pub faceWalked : Mesh → ℕ → ℕ → Walk → Bool
 unfolding every occurrences distinct
 faceWalked m ne f (back es) =
     every ne (λ e. not (borders m f e) || eqb (occurrences e es) 1) && distinct (map (firstPoint m f) es)
-    && leb 3 (length es) && leb (length es) 64
+    && leb 3 (length es) && leb (length es) longestPerimeter
 faceWalked m ne f lost = false
 
 -- each of its edges once, and their number, at least 2, is its valence

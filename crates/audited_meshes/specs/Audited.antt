@@ -14,6 +14,7 @@ use mathlib.Core.Logic.{_⊎_, _≢_}
 use Prim.Native.Nat.{ℕ, _≤_, _<_}
 use lib.ListN.{length, getD}
 use lib.Ieee.Scale.{finite}
+use Rattle.tables.specs.Layout.{longestPerimeter}
 use Rattle.tables.specs.Mesh.{Mesh, none, x, y, z, valence, start, mark, origin, dest, leftFace, rightFace, leftCw, leftAcw, rightCw, rightAcw, interval, faceStart, corner}
 use Rattle.audited_meshes.specs.Folds.{occurrences}
 use Rattle.audited_meshes.specs.Walks.{acwOfFace, cwOfFace, acwOfPoint, firstPoint}
@@ -62,7 +63,7 @@ pub record FaceWalked (m : Mesh) (ne f : ℕ) : Type 0 where
   pub each-once : (e : ℕ) → e < ne → Borders m f e → occurrences e edges ≡ 1
   pub no-point-twice : Distinct (map (firstPoint m f) edges)
   pub at-least-3 : 3 ≤ length edges
-  pub at-most-64 : length edges ≤ 64
+  pub at-most-64 : length edges ≤ longestPerimeter
 
 pub record PointWalked (m : Mesh) (ne p : ℕ) : Type 0 where
   pub edges : List ℕ

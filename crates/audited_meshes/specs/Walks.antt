@@ -18,6 +18,7 @@ use mathlib.Core.List.{List, [], _∷_}
 use Prim.Native.Nat.{ℕ, zero, suc}
 use lib.Dec.{eqb, ltb}
 use lib.ListN.{length}
+use Rattle.tables.specs.Layout.{longestPerimeter}
 use Rattle.tables.specs.Mesh.{Mesh, origin, dest, leftFace, rightFace, leftCw, leftAcw, rightCw, rightAcw, start, faceStart}
 
 abbrev pub borders : Mesh → ℕ → ℕ → Bool
@@ -70,7 +71,7 @@ unfoldable pub faceWalk : Mesh → ℕ → ℕ → Walk
 unfolding walk
 faceWalk m ne f =
     let on : ℕ → Bool = λ e. ltb e ne && borders m f e in
-    walk (acwOfFace m f) on (faceStart m f) 64 false (on (faceStart m f)) (faceStart m f)
+    walk (acwOfFace m f) on (faceStart m f) longestPerimeter false (on (faceStart m f)) (faceStart m f)
 
 unfoldable pub pointWalk : Mesh → ℕ → ℕ → ℕ → Walk
 unfolding walk

@@ -8,6 +8,7 @@ use mathlib.Core.Bool.{true}
 use mathlib.Core.List.{List}
 use Prim.Native.Nat.{ℕ, _*_}
 use lib.Ieee.{Float}
+use Rattle.tables.specs.Layout.{positionWidth}
 use Rattle.tables.specs.Mesh.{Mesh}
 use Rattle.tables.specs.Rows.{over}
 use Rattle.built_meshes.specs.Lists.{Lists, countsFit, numbersFit, rowsFit}
@@ -27,7 +28,7 @@ concluded cs np nl nf m k Fit =
       answer = Accepted (record { points = np; edges = k; faces = nf });
       tables =
           record {
-            positions = over (np * 3) cs (m .positions);
+            positions = over (np * positionWidth) cs (m .positions);
             points = marked np (m .points);
             edges = m .edges;
             intervals = m .intervals;

@@ -3,9 +3,11 @@
 // Carries over `try_new` of t_nurcc/mod.rs.
 // Contract: `build`. Definitions: `Building` of `built_meshes`; `specs/Concluding.antt`.
 ghost use mathlib.Core.Path.{_≡_};
-ghost use Prim.Native.Nat.{_*_, _/_, _≤_};
+ghost use Prim.Native.Nat.{_+_, _*_, _/_, _≤_};
 ghost use lib.ListN.{length};
+ghost use Rattle.tables.specs.Layout.{positionWidth, pointWidth, edgeWidth, faceWidth};
 ghost use Rattle.tables.specs.Mesh.{Mesh, meshOf};
+ghost use Rattle.built_meshes.specs.Lists.{general};
 ghost use Rattle.built_meshes.specs.Building.{Outcome, zeroedRows, build};
 ghost use Rattle.built_meshes.specs.Whole.{wholeVerdict};
 ghost use Rattle.building_tests.specs.Lent.{lists, limitsOf};
@@ -13,6 +15,8 @@ ghost use Rattle.building.specs.Concluding.{concluded, answeredFrom, Beg
 use building_faces::Faced;
 use building_faces::enter_faces;
 use building_tests::Bounds;
+use building_tests::MOST_LISTED;
+use building_tests::MOST_POINTS;
 use building_tests::lists::counts_fit;
 use building_tests::lists::numbers_fit;
 use building_whole::rows::rows_fit;
@@ -23,6 +27,7 @@ use built_meshes::Built;
 use built_meshes::Ground;
 use built_meshes::Verdict;
 use tables::Counts;
+use tables::POSITION_WIDTH;
 use tables::copy_numbers;
 use tables::index;
 use tables::zero_words;
@@ -39,19 +44,19 @@ fn conclude(
     nf: usize,
     k: u32,
 ) -> Built
-    requires { ⌜ length (now coordinates) / 3 * 3 ≤ length (now positions) ⌝ }
-    requires { ⌜ length (now coordinates) / 3 * 3 ≤ length (now points) ⌝ }
-    requires { ⌜ nl * 8 ≤ length (now edges) ⌝ }
+    requires { ⌜ length (now coordinates) / positionWidth * positionWidth ≤ length (now positions) ⌝ }
+    requires { ⌜ length (now coordinates) / positionWidth * pointWidth ≤ length (now points) ⌝ }
+    requires { ⌜ nl * edgeWidth ≤ length (now edges) ⌝ }
     requires { ⌜ nl ≤ length (now intervals) ⌝ }
-    requires { ⌜ nf * 5 ≤ length (now faces) ⌝ }
+    requires { ⌜ nf * faceWidth ≤ length (now faces) ⌝ }
     requires { ⌜ k ≤ nl ⌝ }
-    ensures { λ r. ⌜ _≡_ {A = Outcome} (record { answer = r; tables = meshOf (now (positions .exit)) (now (points .exit)) (now (edges .exit)) (now (intervals .exit)) (now (faces .exit)) }) (concluded (now (coordinates .entry)) (length (now (coordinates .entry)) / 3) nl nf (meshOf (now (positions .entry)) (now (points .entry)) (now (edges .entry)) (now (intervals .entry)) (now (faces .entry))) k (wholeVerdict (meshOf (now (positions .entry)) (now (points .entry)) (now (edges .entry)) (now (intervals .entry)) (now (faces .entry))) (length (now (coordinates .entry)) / 3) k)) ⌝ }
+    ensures { λ r. ⌜ _≡_ {A = Outcome} (record { answer = r; tables = meshOf (now (positions .exit)) (now (points .exit)) (now (edges .exit)) (now (intervals .exit)) (now (faces .exit)) }) (concluded (now (coordinates .entry)) (length (now (coordinates .entry)) / positionWidth) nl nf (meshOf (now (positions .entry)) (now (points .entry)) (now (edges .entry)) (now (intervals .entry)) (now (faces .entry))) k (wholeVerdict (meshOf (now (positions .entry)) (now (points .entry)) (now (edges .entry)) (now (intervals .entry)) (now (faces .entry))) (length (now (coordinates .entry)) / positionWidth) k)) ⌝ }
 {
-    let np = coordinates.len() / 3;
+    let np = coordinates.len() / POSITION_WIDTH;
     let ne = index(k);
     match whole_verdict(points, edges, np, ne) {
         Verdict::Fit => {
-            copy_numbers(coordinates, positions, np * 3);
+            copy_numbers(coordinates, positions, np * POSITION_WIDTH);
             mark_points(points, np);
             Built::Accepted(Counts {
                 points: np,
@@ -65,6 +70,9 @@ fn conclude(
         }
     }
 }
+
+// The words of a chain: a link for each point, and two for each edge.
+const CHAIN: usize = MOST_POINTS + 2 * MOST_LISTED;
 
 // Builds in tables whose counted rows are zero, from lists that meet no ground up to 4.
 fn build_zeroed(
@@ -80,10 +88,10 @@ fn build_zeroed(
     chain: &mut [u32],
 ) -> Built
     requires { ⌜ Zeroed (lists (now coordinates) (now sides) (now listed) (now beside)) (meshOf (now positions) (now points) (now edges) (now intervals) (now faces)) ⌝ }
-    requires { ⌜ 36864 ≤ length (now chain) ⌝ }
+    requires { ⌜ general .points + 2 * general .listed ≤ length (now chain) ⌝ }
     ensures { λ r. ⌜ ((m : Mesh) → Begun (lists (now (coordinates .entry)) (now (sides .entry)) (now (listed .entry)) (now (beside .entry))) m → (meshOf (now (positions .entry)) (now (points .entry)) (now (edges .entry)) (now (intervals .entry)) (now (faces .entry))) ≡ zeroedRows (lists (now (coordinates .entry)) (now (sides .entry)) (now (listed .entry)) (now (beside .entry))) m → _≡_ {A = Outcome} (record { answer = r; tables = meshOf (now (positions .exit)) (now (points .exit)) (now (edges .exit)) (now (intervals .exit)) (now (faces .exit)) }) (answeredFrom (lists (now (coordinates .entry)) (now (sides .entry)) (now (listed .entry)) (now (beside .entry))) m)) ⌝ }
 {
-    let np = coordinates.len() / 3;
+    let np = coordinates.len() / POSITION_WIDTH;
     let nl = listed.len();
     let nf = sides.len() / 4;
     zero_words(chain, np);
@@ -137,11 +145,11 @@ fn build_begun(
         edges,
         intervals,
         faces,
-        coordinates.len() / 3,
+        coordinates.len() / POSITION_WIDTH,
         listed.len(),
         sides.len() / 4,
     );
-    let mut chain = [0u32; 36864];
+    let mut chain = [0u32; CHAIN];
     build_zeroed(
         coordinates,
         sides,
@@ -183,7 +191,7 @@ pub fn build(
         edges,
         intervals,
         faces,
-        coordinates.len() / 3,
+        coordinates.len() / POSITION_WIDTH,
         listed.len(),
         sides.len() / 4,
     ) {

@@ -27,7 +27,7 @@ use Rattle.edge_search.specs.Chains.{Standing, Room}
 use Rattle.edge_search.specs.Places.{Place, placeOf, entering, EnteredBy}
 use Rattle.edge_search.specs.declared.Entry.the-variants.{Made, Refused}
 use Rattle.edge_search.proofs.Chains.{edgeBetween-below, standing-ends}
-use Rattle.building_faces.specs.Rings.{ringOf, Lent, Placed, Closing, TurnStands, FaceStands}
+use Rattle.building_faces.specs.Rings.{ringOf, Lent, Placed, Closing, SomeStand, TurnStands, FaceStands}
 use Rattle.building_faces.specs.declared.RingEdges.{RingEdges}
 use Rattle.building_faces.specs.declared.Turned.the-variants as Turns
 use Rattle.building_faces.specs.declared.Faced.the-variants as Faces
@@ -156,6 +156,10 @@ module _ (np : ℕ) (pts es ch : List ℕ) (k c e most : ℕ) (h : Standing np p
           omega arith,
           record { first-edge = omega arith; before-edge = n .edge-below },
         )
+
+-- where a turn or a face stops, more edges might have stood
+pub some-more : (np : ℕ) (pts es ch : List ℕ) (few most : ℕ) → few ≤ most → SomeStand np pts es ch few → SomeStand np pts es ch most
+some-more np pts es ch few most l h = let b = h .2 in (h .0, h .1, omega arith)
 
 -- ---- a perimeter closed up, and its face's row stored
 

@@ -8,6 +8,7 @@
 --     Placed                  n points from the place a on are listed and in range
 --     Sided                   face f has its four sides, of n points in all, and as many are listed from the place a on
 --     Closing                 the first edge of a ring and the one before are edges
+--     SomeStand               the links are those of the edges that stand, at most so many
 --     TurnStands, FaceStands  what holds of tables and links after a turn, and after a face
 use mathlib.Core.Path.{_≡_}
 use mathlib.Core.Bool.{true}
@@ -15,8 +16,9 @@ use mathlib.Core.List.{List, []}
 use Prim.Native.Nat.{ℕ, _+_, _*_, _≤_, _<_}
 use lib.Ieee.{Float}
 use lib.ListN.{length}
+use Rattle.tables.specs.Layout.{edgeWidth}
 use Rattle.tables.specs.Mesh.{Mesh}
-use Rattle.built_meshes.specs.Lists.{size}
+use Rattle.built_meshes.specs.Lists.{size, general}
 use Rattle.built_meshes.specs.Faces.{inRange}
 use Rattle.built_meshes.specs.Perimeters.{State, Ring, Step, on, stopped}
 use Rattle.building_tests.specs.Lent.{lists}
@@ -45,10 +47,10 @@ stateOf m (Faces.On k) = on (stateAt m k)
 stateOf m (Faces.Stopped g) = stopped g m
 
 pub record Lent (np : ℕ) (ls : List ℕ) (be : List Float) (es : List ℕ) (is : List Float) (ch : List ℕ) : Type 0 where
-  pub edge-rows : length ls * 8 ≤ length es
+  pub edge-rows : length ls * edgeWidth ≤ length es
   pub interval-rows : length ls ≤ length is
   pub link-rows : np + length ls * 2 ≤ length ch
-  pub few : length ls ≤ 16384
+  pub few : length ls ≤ general .listed
   pub beside : length be ≡ length ls
 
 pub record Placed (np : ℕ) (ls : List ℕ) (a n : ℕ) : Type 0 where
@@ -64,11 +66,14 @@ pub record Closing (r : RingEdges) : Type 0 where
   pub first-edge : r .first < r .edges
   pub before-edge : r .before < r .edges
 
+abbrev pub SomeStand : ℕ → List ℕ → List ℕ → List ℕ → ℕ → Type 0
+SomeStand np pts es ch most = (k : ℕ) × Standing np pts es ch k × (k ≤ most)
+
 -- `most` edges may stand after it
 abbrev pub TurnStands : ℕ → List ℕ → List ℕ → List ℕ → ℕ → Turned → Type 0
 TurnStands np pts es ch most (Turns.On r) = Standing np pts es ch (r .edges) × (r .edges ≤ most) × Closing r
-TurnStands np pts es ch most (Turns.Stopped g) = Unit
+TurnStands np pts es ch most (Turns.Stopped g) = SomeStand np pts es ch most
 
 abbrev pub FaceStands : ℕ → List ℕ → List ℕ → List ℕ → ℕ → Faced → Type 0
 FaceStands np pts es ch most (Faces.On k) = Standing np pts es ch k × (k ≤ most)
-FaceStands np pts es ch most (Faces.Stopped g) = Unit
+FaceStands np pts es ch most (Faces.Stopped g) = SomeStand np pts es ch most

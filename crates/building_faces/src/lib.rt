@@ -8,11 +8,12 @@ ghost use mathlib.Core.List.{List, []};
 ghost use Prim.Native.Nat.{ℕ, _+_, _*_, _/_, _≤_, _<_};
 ghost use lib.Ieee.{Float};
 ghost use lib.ListN.{length};
-ghost use Rattle.built_meshes.specs.Lists.{offset};
+ghost use Rattle.built_meshes.specs.Lists.{offset, general};
 ghost use Rattle.built_meshes.specs.Perimeters.{Ring, State, Step, on, turn, places, closedUp};
 ghost use Rattle.built_meshes.specs.Building.{facePassed, facesFrom};
 ghost use Rattle.building_tests.specs.Lent.{lists};
 ghost use Rattle.edge_search.specs.Chains.{Standing};
+ghost use Rattle.tables.specs.Layout.{positionWidth, faceWidth};
 ghost use Rattle.tables.specs.Mesh.{meshOf};
 ghost use Rattle.building_faces.specs.Rings.{ringOf, ringAt, turnOf, stateAt, stateOf, Lent, Placed, Sided, Closing, TurnStands, FaceStands};
 use building_tests::faces::face_size;
@@ -170,7 +171,7 @@ fn enter_perimeter(
     requires { ⌜ Placed np (now listed) a n ⌝ }
     requires { ⌜ 0 < n ⌝ }
     requires { ⌜ k ≤ a ⌝ }
-    requires { ⌜ f * 5 + 5 ≤ length (now faces) ⌝ }
+    requires { ⌜ f * faceWidth + faceWidth ≤ length (now faces) ⌝ }
     ensures { λ r. ⌜ ((cs : List Float) (ss : List ℕ) (ps : List Float) → _≡_ {A = Step State} (stateOf (meshOf ps (now (points .exit)) (now (edges .exit)) (now (intervals .exit)) (now (faces .exit))) r) (closedUp f (places n (lists cs ss (now (listed .entry)) (now (beside .entry))) f a n 0 (on (ringAt (meshOf ps (now (points .entry)) (now (edges .entry)) (now (intervals .entry)) (now (faces .entry))) k))))) ⌝ }
     ensures { λ r. ⌜ FaceStands np (now (points .exit)) (now (edges .exit)) (now (chain .exit)) (a + n) r ⌝ }
 {
@@ -223,8 +224,8 @@ fn enter_face(
     requires { ⌜ Lent np (now listed) (now beside) (now edges) (now intervals) (now chain) ⌝ }
     requires { ⌜ Sided (now sides) (now listed) f a n ⌝ }
     requires { ⌜ k ≤ a ⌝ }
-    requires { ⌜ f * 5 + 5 ≤ length (now faces) ⌝ }
-    ensures { λ r. ⌜ ((cs : List Float) (ps : List Float) → length cs / 3 ≡ np → _≡_ {A = Step State} (stateOf (meshOf ps (now (points .exit)) (now (edges .exit)) (now (intervals .exit)) (now (faces .exit))) r) (facePassed (lists cs (now (sides .entry)) (now (listed .entry)) (now (beside .entry))) f a (stateAt (meshOf ps (now (points .entry)) (now (edges .entry)) (now (intervals .entry)) (now (faces .entry))) k))) ⌝ }
+    requires { ⌜ f * faceWidth + faceWidth ≤ length (now faces) ⌝ }
+    ensures { λ r. ⌜ ((cs : List Float) (ps : List Float) → length cs / positionWidth ≡ np → _≡_ {A = Step State} (stateOf (meshOf ps (now (points .exit)) (now (edges .exit)) (now (intervals .exit)) (now (faces .exit))) r) (facePassed (lists cs (now (sides .entry)) (now (listed .entry)) (now (beside .entry))) f a (stateAt (meshOf ps (now (points .entry)) (now (edges .entry)) (now (intervals .entry)) (now (faces .entry))) k))) ⌝ }
     ensures { λ r. ⌜ FaceStands np (now (points .exit)) (now (edges .exit)) (now (chain .exit)) (a + n) r ⌝ }
 {
     match face_verdict(sides, listed, beside, np, index(f), a, n) {
@@ -260,10 +261,10 @@ pub fn enter_faces(
 ) -> Faced
     requires { ⌜ Standing np (now points) (now edges) (now chain) 0 ⌝ }
     requires { ⌜ Lent np (now listed) (now beside) (now edges) (now intervals) (now chain) ⌝ }
-    requires { ⌜ length (now sides) / 4 ≤ 4096 ⌝ }
-    requires { ⌜ length (now sides) / 4 * 5 ≤ length (now faces) ⌝ }
+    requires { ⌜ length (now sides) / 4 ≤ general .faces ⌝ }
+    requires { ⌜ length (now sides) / 4 * faceWidth ≤ length (now faces) ⌝ }
     requires { ⌜ offset (lists [] (now sides) [] []) (length (now sides) / 4) ≡ length (now listed) ⌝ }
-    ensures { λ r. ⌜ ((cs : List Float) (ps : List Float) → length cs / 3 ≡ np → _≡_ {A = Step State} (stateOf (meshOf ps (now (points .exit)) (now (edges .exit)) (now (intervals .exit)) (now (faces .exit))) r) (facesFrom (length (now (sides .entry)) / 4) (lists cs (now (sides .entry)) (now (listed .entry)) (now (beside .entry))) 0 0 (on (stateAt (meshOf ps (now (points .entry)) (now (edges .entry)) (now (intervals .entry)) (now (faces .entry))) 0)))) ⌝ }
+    ensures { λ r. ⌜ ((cs : List Float) (ps : List Float) → length cs / positionWidth ≡ np → _≡_ {A = Step State} (stateOf (meshOf ps (now (points .exit)) (now (edges .exit)) (now (intervals .exit)) (now (faces .exit))) r) (facesFrom (length (now (sides .entry)) / 4) (lists cs (now (sides .entry)) (now (listed .entry)) (now (beside .entry))) 0 0 (on (stateAt (meshOf ps (now (points .entry)) (now (edges .entry)) (now (intervals .entry)) (now (faces .entry))) 0)))) ⌝ }
     ensures { λ r. ⌜ FaceStands np (now (points .exit)) (now (edges .exit)) (now (chain .exit)) (length (now (listed .entry))) r ⌝ }
 {
     let nf = sides.len() / 4;

@@ -13,6 +13,7 @@ ghost use Rattle.building_tests.specs.Lent.{lists};
 use built_meshes::Ground;
 use built_meshes::Verdict;
 use positions::is_small;
+use tables::LONGEST_PERIMETER;
 use tables::index;
 
 // The number of listed points of all four sides of face f.
@@ -25,17 +26,17 @@ pub fn face_size(sides: &[u32], f: usize) -> usize
 }
 
 // Whether a face of n points has 3 to 64.
-pub fn size_fits(n: usize) -> bool
+fn size_fits(n: usize) -> bool
     ensures { λ r. ⌜ r ≡ sizeFit n ⌝ }
 {
     if n < 3 {
         return false;
     }
-    n <= 64
+    n <= LONGEST_PERIMETER
 }
 
 // Whether n listed points are below np.
-pub fn are_points(listed: &[u32], np: usize, a: usize, n: usize) -> bool
+fn are_points(listed: &[u32], np: usize, a: usize, n: usize) -> bool
     requires { ⌜ a + n ≤ length (now listed) ⌝ }
     ensures { λ r. ⌜ r ≡ inRange (lists [] [] (now (listed .entry)) []) np a n ⌝ }
 {
@@ -50,7 +51,7 @@ pub fn are_points(listed: &[u32], np: usize, a: usize, n: usize) -> bool
 }
 
 // Whether the listed point i of a face is none of those before it.
-pub fn is_new(listed: &[u32], a: usize, i: usize) -> bool
+fn is_new(listed: &[u32], a: usize, i: usize) -> bool
     requires { ⌜ a + i < length (now listed) ⌝ }
     ensures { λ r. ⌜ r ≡ every i (λ j. not (eqb (getD (now (listed .entry)) (a + i) 0) (getD (now (listed .entry)) (a + j) 0))) ⌝ }
 {
@@ -66,7 +67,7 @@ pub fn is_new(listed: &[u32], a: usize, i: usize) -> bool
 }
 
 // Whether no point is listed twice among n.
-pub fn no_point_twice(listed: &[u32], a: usize, n: usize) -> bool
+fn no_point_twice(listed: &[u32], a: usize, n: usize) -> bool
     requires { ⌜ a + n ≤ length (now listed) ⌝ }
     ensures { λ r. ⌜ r ≡ noPointTwice (lists [] [] (now (listed .entry)) []) a n ⌝ }
 {
@@ -81,7 +82,7 @@ pub fn no_point_twice(listed: &[u32], a: usize, n: usize) -> bool
 }
 
 // The sum of n intervals from the place a on, from +0.
-pub fn side_sum(beside: &[f64], a: usize, n: usize) -> f64
+fn side_sum(beside: &[f64], a: usize, n: usize) -> f64
     requires { ⌜ a + n ≤ length (now beside) ⌝ }
     ensures { λ r. ⌜ r ≡ sideSum (now (beside .entry)) a n ⌝ }
 {
@@ -95,7 +96,7 @@ pub fn side_sum(beside: &[f64], a: usize, n: usize) -> f64
 }
 
 // Whether the side sums of face f agree.
-pub fn sums_fit(sides: &[u32], beside: &[f64], f: usize, a: usize) -> bool
+fn sums_fit(sides: &[u32], beside: &[f64], f: usize, a: usize) -> bool
     requires { ⌜ f * 4 + 4 ≤ length (now sides) ⌝ }
     requires { ⌜ a + size (lists [] (now sides) [] []) f ≤ length (now beside) ⌝ }
     ensures { λ r. ⌜ r ≡ sumsFit (lists [] (now (sides .entry)) [] (now (beside .entry))) f a ⌝ }

@@ -7,6 +7,20 @@ ghost use Rattle.building_tests.specs.Lent.{limitsOf, mostOf};
 pub mod faces;
 pub mod lists;
 
+// The limits of building: the most points, faces and listed points.
+pub const MOST_POINTS: usize = 4096;
+
+pub const MOST_FACES: usize = 4096;
+
+pub const MOST_LISTED: usize = 16384;
+
+// The limits of the program `refine`.
+pub const REFINE_POINTS: usize = 64;
+
+pub const REFINE_FACES: usize = 64;
+
+pub const REFINE_LISTED: usize = 256;
+
 // Which limits hold: those of building, or those of the program `refine`.
 pub enum Bounds {
     General,
@@ -26,14 +40,14 @@ impl Bounds {
     {
         match self {
             Bounds::General => Most {
-                points: 4096,
-                faces: 4096,
-                listed: 16384,
+                points: MOST_POINTS,
+                faces: MOST_FACES,
+                listed: MOST_LISTED,
             },
             Bounds::Refine => Most {
-                points: 64,
-                faces: 64,
-                listed: 256,
+                points: REFINE_POINTS,
+                faces: REFINE_FACES,
+                listed: REFINE_LISTED,
             },
         }
     }

@@ -13,10 +13,11 @@ ghost use Rattle.building_tests.specs.Lent.{lists, limitsOf};
 use crate::Bounds;
 use intervals::interval_fits;
 use positions::is_finite;
+use tables::POSITION_WIDTH;
 use tables::index;
 
 // The sum of all words.
-pub fn sum_of(words: &[u32]) -> usize
+fn sum_of(words: &[u32]) -> usize
     requires { ⌜ length (now words) ≤ 16387 ⌝ }
     ensures { λ r. ⌜ r ≡ sumTo (length (now (words .entry))) (λ k. getD (now (words .entry)) k 0) ⌝ }
 {
@@ -40,7 +41,7 @@ pub fn counts_fit(
     ensures { λ r. ⌜ r ≡ countsFit (limitsOf bounds) (lists (now (coordinates .entry)) (now (sides .entry)) (now (listed .entry)) (now (beside .entry))) ⌝ }
 {
     let most = bounds.most();
-    if most.points < coordinates.len() / 3 {
+    if most.points < coordinates.len() / POSITION_WIDTH {
         return false;
     }
     if most.faces < sides.len() / 4 {
@@ -49,7 +50,7 @@ pub fn counts_fit(
     if most.listed < listed.len() {
         return false;
     }
-    if coordinates.len() % 3 != 0 {
+    if coordinates.len() % POSITION_WIDTH != 0 {
         return false;
     }
     if sides.len() % 4 != 0 {
@@ -62,7 +63,7 @@ pub fn counts_fit(
 }
 
 // Whether all coordinates are finite.
-pub fn all_finite(coordinates: &[f64]) -> bool
+fn all_finite(coordinates: &[f64]) -> bool
     ensures { λ r. ⌜ r ≡ every (length (now (coordinates .entry))) (λ k. finite (getD (now (coordinates .entry)) k nan)) ⌝ }
 {
     let mut k = 0;
@@ -76,7 +77,7 @@ pub fn all_finite(coordinates: &[f64]) -> bool
 }
 
 // Whether all intervals are finite with their sign bit clear.
-pub fn all_fit(beside: &[f64]) -> bool
+fn all_fit(beside: &[f64]) -> bool
     ensures { λ r. ⌜ r ≡ every (length (now (beside .entry))) (λ k. intervalFit (getD (now (beside .entry)) k nan)) ⌝ }
 {
     let mut k = 0;

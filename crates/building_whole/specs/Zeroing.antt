@@ -2,6 +2,7 @@
 --     zeroedTo np nl nf m    the tables m with these rows zero
 use Prim.Native.Nat.{ℕ, _*_}
 use lib.Ieee.{ofBits, binary64}
+use Rattle.tables.specs.Layout.{positionWidth, pointWidth, edgeWidth, faceWidth}
 use Rattle.tables.specs.Mesh.{Mesh}
 use Rattle.tables.specs.Rows.{zeroed}
 
@@ -9,9 +10,9 @@ unfoldable pub zeroedTo : ℕ → ℕ → ℕ → Mesh → Mesh
 unfolding zeroed
 zeroedTo np nl nf m =
     record {
-      positions = zeroed (np * 3) (ofBits binary64 0) (m .positions);
-      points = zeroed (np * 3) 0 (m .points);
-      edges = zeroed (nl * 8) 0 (m .edges);
+      positions = zeroed (np * positionWidth) (ofBits binary64 0) (m .positions);
+      points = zeroed (np * pointWidth) 0 (m .points);
+      edges = zeroed (nl * edgeWidth) 0 (m .edges);
       intervals = zeroed nl (ofBits binary64 0) (m .intervals);
-      faces = zeroed (nf * 5) 0 (m .faces);
+      faces = zeroed (nf * faceWidth) 0 (m .faces);
     }

@@ -4,9 +4,14 @@ ghost use mathlib.Core.Bool.{_&&_};
 ghost use Prim.Native.Nat.{_*_, _≤_};
 ghost use lib.Dec.{leb};
 ghost use lib.ListN.{length};
+ghost use Rattle.tables.specs.Layout.{positionWidth, pointWidth, edgeWidth, faceWidth};
 ghost use Rattle.tables.specs.Mesh.{Mesh, meshOf};
 ghost use Rattle.audited_meshes.specs.Audit.{pointRows, edgeRows, faceRows};
 ghost use Rattle.building_whole.specs.Zeroing.{zeroedTo};
+use tables::EDGE_WIDTH;
+use tables::FACE_WIDTH;
+use tables::POINT_WIDTH;
+use tables::POSITION_WIDTH;
 use tables::edge_rows;
 use tables::face_rows;
 use tables::point_rows;
@@ -46,16 +51,16 @@ pub fn zero_rows(
     nl: usize,
     nf: usize,
 )
-    requires { ⌜ np * 3 ≤ length (now positions) ⌝ }
-    requires { ⌜ np * 3 ≤ length (now points) ⌝ }
-    requires { ⌜ nl * 8 ≤ length (now edges) ⌝ }
+    requires { ⌜ np * positionWidth ≤ length (now positions) ⌝ }
+    requires { ⌜ np * pointWidth ≤ length (now points) ⌝ }
+    requires { ⌜ nl * edgeWidth ≤ length (now edges) ⌝ }
     requires { ⌜ nl ≤ length (now intervals) ⌝ }
-    requires { ⌜ nf * 5 ≤ length (now faces) ⌝ }
+    requires { ⌜ nf * faceWidth ≤ length (now faces) ⌝ }
     ensures { λ _. ⌜ _≡_ {A = Mesh} (meshOf (now (positions .exit)) (now (points .exit)) (now (edges .exit)) (now (intervals .exit)) (now (faces .exit))) (zeroedTo np nl nf (meshOf (now (positions .entry)) (now (points .entry)) (now (edges .entry)) (now (intervals .entry)) (now (faces .entry)))) ⌝ }
 {
-    zero_numbers(positions, np * 3);
-    zero_words(points, np * 3);
-    zero_words(edges, nl * 8);
+    zero_numbers(positions, np * POSITION_WIDTH);
+    zero_words(points, np * POINT_WIDTH);
+    zero_words(edges, nl * EDGE_WIDTH);
     zero_numbers(intervals, nl);
-    zero_words(faces, nf * 5);
+    zero_words(faces, nf * FACE_WIDTH);
 }

@@ -6,6 +6,7 @@ ghost use Prim.Native.Nat.{ℕ, _+_, _*_, _≤_};
 ghost use lib.Dec.{ltb};
 ghost use lib.Ieee.{Float};
 ghost use lib.ListN.{length};
+ghost use Rattle.tables.specs.Layout.{pointWidth, edgeWidth};
 ghost use Rattle.tables.specs.Mesh.{valence, meshOf};
 ghost use Rattle.audited_meshes.specs.Walks.{passed, pointWalk};
 ghost use Rattle.built_meshes.specs.Whole.{noMissingFace, everyEdged, noMissedEdge, wholeVerdict, markOf, marked};
@@ -13,18 +14,22 @@ ghost use Rattle.walks.specs.Steps.{pointTables};
 use built_meshes::Ground;
 use built_meshes::Verdict;
 use t_spline::NONE;
+use tables::EDGE_WIDTH;
+use tables::MARK_WORD;
+use tables::POINT_WIDTH;
+use tables::RIGHT_FACE_WORD;
 use tables::index;
 use walks::Passed;
 use walks::t_nurcc_iter::point_walk;
 
 // Whether each of ne edges has a face on its right.
-pub fn no_missing_face(edges: &[u32], ne: usize) -> bool
-    requires { ⌜ ne * 8 ≤ length (now edges) ⌝ }
+fn no_missing_face(edges: &[u32], ne: usize) -> bool
+    requires { ⌜ ne * edgeWidth ≤ length (now edges) ⌝ }
     ensures { λ r. ⌜ r ≡ noMissingFace (pointTables [] (now (edges .entry))) ne ⌝ }
 {
     let mut e = 0;
     while e < ne {
-        if edges[e * 8 + 3] == NONE {
+        if edges[e * EDGE_WIDTH + RIGHT_FACE_WORD] == NONE {
             return false;
         }
         e += 1;
@@ -33,13 +38,13 @@ pub fn no_missing_face(edges: &[u32], ne: usize) -> bool
 }
 
 // Whether each of np points has an edge.
-pub fn every_edged(points: &[u32], np: usize) -> bool
-    requires { ⌜ np * 3 ≤ length (now points) ⌝ }
+fn every_edged(points: &[u32], np: usize) -> bool
+    requires { ⌜ np * pointWidth ≤ length (now points) ⌝ }
     ensures { λ r. ⌜ r ≡ everyEdged (pointTables (now (points .entry)) []) np ⌝ }
 {
     let mut p = 0;
     while p < np {
-        if points[p * 3] == 0 {
+        if points[p * POINT_WIDTH] == 0 {
             return false;
         }
         p += 1;
@@ -48,12 +53,12 @@ pub fn every_edged(points: &[u32], np: usize) -> bool
 }
 
 // Whether the walk about point p passes as many edges as its valence.
-pub fn walk_passes_all(points: &[u32], edges: &[u32], ne: usize, p: usize) -> bool
-    requires { ⌜ p * 3 + 3 ≤ length (now points) ⌝ }
-    requires { ⌜ ne * 8 ≤ length (now edges) ⌝ }
+fn walk_passes_all(points: &[u32], edges: &[u32], ne: usize, p: usize) -> bool
+    requires { ⌜ p * pointWidth + pointWidth ≤ length (now points) ⌝ }
+    requires { ⌜ ne * edgeWidth ≤ length (now edges) ⌝ }
     ensures { λ r. ⌜ r ≡ not (ltb (passed (pointWalk (pointTables (now (points .entry)) (now (edges .entry))) ne (valence (pointTables (now (points .entry)) []) p) p)) (valence (pointTables (now (points .entry)) []) p)) ⌝ }
 {
-    let v = index(points[p * 3]);
+    let v = index(points[p * POINT_WIDTH]);
     match point_walk(edges, points, ne, v, p) {
         Passed::Back(n) => !(n < v),
         Passed::Lost => !(0 < v),
@@ -61,9 +66,9 @@ pub fn walk_passes_all(points: &[u32], edges: &[u32], ne: usize, p: usize) -> bo
 }
 
 // Whether no walk about one of np points misses an edge.
-pub fn no_missed_edge(points: &[u32], edges: &[u32], np: usize, ne: usize) -> bool
-    requires { ⌜ np * 3 ≤ length (now points) ⌝ }
-    requires { ⌜ ne * 8 ≤ length (now edges) ⌝ }
+fn no_missed_edge(points: &[u32], edges: &[u32], np: usize, ne: usize) -> bool
+    requires { ⌜ np * pointWidth ≤ length (now points) ⌝ }
+    requires { ⌜ ne * edgeWidth ≤ length (now edges) ⌝ }
     ensures { λ r. ⌜ r ≡ noMissedEdge (pointTables (now (points .entry)) (now (edges .entry))) np ne ⌝ }
 {
     let mut p = 0;
@@ -78,8 +83,8 @@ pub fn no_missed_edge(points: &[u32], edges: &[u32], np: usize, ne: usize) -> bo
 
 // The first of the grounds 20 to 22 that holds.
 pub fn whole_verdict(points: &[u32], edges: &[u32], np: usize, ne: usize) -> Verdict
-    requires { ⌜ np * 3 ≤ length (now points) ⌝ }
-    requires { ⌜ ne * 8 ≤ length (now edges) ⌝ }
+    requires { ⌜ np * pointWidth ≤ length (now points) ⌝ }
+    requires { ⌜ ne * edgeWidth ≤ length (now edges) ⌝ }
     ensures { λ r. ⌜ ((ps : List Float) (is : List Float) (fs : List ℕ) → r ≡ wholeVerdict (meshOf ps (now (points .entry)) (now (edges .entry)) is fs) np ne) ⌝ }
 {
     if !no_missing_face(edges, ne) {
@@ -95,7 +100,7 @@ pub fn whole_verdict(points: &[u32], edges: &[u32], np: usize, ne: usize) -> Ver
 }
 
 // The mark of a point by its valence.
-pub fn mark_of(v: u32) -> u32
+fn mark_of(v: u32) -> u32
     ensures { λ r. ⌜ r ≡ markOf v ⌝ }
 {
     if v == 4 { 0 } else { 1 }
@@ -103,13 +108,13 @@ pub fn mark_of(v: u32) -> u32
 
 // Marks the first np points by their valences.
 pub fn mark_points(points: &mut [u32], np: usize)
-    requires { ⌜ np * 3 ≤ length (now points) ⌝ }
+    requires { ⌜ np * pointWidth ≤ length (now points) ⌝ }
     ensures { λ _. ⌜ now (points .exit) ≡ marked np (now (points .entry)) ⌝ }
 {
     let mut p = 0;
     while p < np {
-        let b = p * 3;
-        points[b + 2] = mark_of(points[b]);
+        let b = p * POINT_WIDTH;
+        points[b + MARK_WORD] = mark_of(points[b]);
         p += 1;
     }
 }

@@ -5,6 +5,7 @@ use mathlib.Core.Path.{_≡_}
 use mathlib.Core.List.{List}
 use Prim.Native.Nat.{ℕ, _*_}
 use lib.ListN.{length, drop}
+use Rattle.tables.specs.Layout.{positionWidth, pointWidth, edgeWidth, faceWidth}
 use Rattle.tables.specs.Mesh.{Mesh}
 use Rattle.built_meshes.specs.Lists.{Lists, pointsOf, facesOf}
 
@@ -12,8 +13,8 @@ abbrev pub Behind : {A : Type 0} → ℕ → List A → List A → Type 0
 Behind n xs ys = (length ys ≡ length xs) × (drop n ys ≡ drop n xs)
 
 pub record Within (l : Lists) (m m' : Mesh) : Type 0 where
-  pub positions : Behind (pointsOf l * 3) (m .positions) (m' .positions)
-  pub points : Behind (pointsOf l * 3) (m .points) (m' .points)
-  pub edges : Behind (length (l .listed) * 8) (m .edges) (m' .edges)
+  pub positions : Behind (pointsOf l * positionWidth) (m .positions) (m' .positions)
+  pub points : Behind (pointsOf l * pointWidth) (m .points) (m' .points)
+  pub edges : Behind (length (l .listed) * edgeWidth) (m .edges) (m' .edges)
   pub intervals : Behind (length (l .listed)) (m .intervals) (m' .intervals)
-  pub faces : Behind (facesOf l * 5) (m .faces) (m' .faces)
+  pub faces : Behind (facesOf l * faceWidth) (m .faces) (m' .faces)

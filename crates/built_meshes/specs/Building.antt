@@ -9,6 +9,7 @@ use mathlib.Core.Bool.{Bool, true, false}
 use Prim.Native.Nat.{ℕ, zero, suc, _+_, _*_}
 use lib.ListN.{length}
 use lib.Ieee.{ofBits, binary64}
+use Rattle.tables.specs.Layout.{positionWidth, pointWidth, edgeWidth, faceWidth}
 use Rattle.tables.specs.Mesh.{Mesh}
 use Rattle.tables.specs.Rows.{zeroed}
 use Rattle.built_meshes.specs.Lists.{Lists, Limits, pointsOf, facesOf, size, countsFit, numbersFit, rowsFit}
@@ -26,11 +27,11 @@ unfoldable pub zeroedRows : Lists → Mesh → Mesh
 unfolding zeroed
 zeroedRows l m =
     record {
-      positions = zeroed (pointsOf l * 3) (ofBits binary64 0) (m .positions);
-      points = zeroed (pointsOf l * 3) 0 (m .points);
-      edges = zeroed (length (l .listed) * 8) 0 (m .edges);
+      positions = zeroed (pointsOf l * positionWidth) (ofBits binary64 0) (m .positions);
+      points = zeroed (pointsOf l * pointWidth) 0 (m .points);
+      edges = zeroed (length (l .listed) * edgeWidth) 0 (m .edges);
       intervals = zeroed (length (l .listed)) (ofBits binary64 0) (m .intervals);
-      faces = zeroed (facesOf l * 5) 0 (m .faces);
+      faces = zeroed (facesOf l * faceWidth) 0 (m .faces);
     }
 
 -- ---- the faces

@@ -13,6 +13,7 @@ use lib.Dec.{eqb}
 use lib.ListN.{getD, set}
 use lib.Ieee.{Float}
 use Rattle.t_spline.specs.declared.TnurccEdge.{TnurccEdge}
+use Rattle.tables.specs.Layout.{pointWidth, startWord, edgeWidth, rightFaceWord}
 use Rattle.tables.specs.Mesh.{Mesh, none, origin, dest, rightFace}
 use Rattle.tables.specs.Rows.{putRow}
 use Rattle.tables.specs.Records.{edgeWords}
@@ -51,14 +52,14 @@ edgeOf k f p q v =
 
 -- point p with one edge more, which becomes its start edge
 abbrev pub touched : List ℕ → ℕ → ℕ → List ℕ
-touched ws p e = set (set ws (p * 3) (getD ws (p * 3) 0 + 1)) (p * 3 + 1) e
+touched ws p e = set (set ws (p * pointWidth) (getD ws (p * pointWidth) 0 + 1)) (p * pointWidth + startWord) e
 
 unfoldable pub newEdge : Mesh → ℕ → ℕ → ℕ → ℕ → Float → Mesh
 newEdge m k f p q v =
     record {
       positions = m .positions;
       points = touched (touched (m .points) p k) q k;
-      edges = putRow (m .edges) (k * 8) (edgeWords (edgeOf k f p q v));
+      edges = putRow (m .edges) (k * edgeWidth) (edgeWords (edgeOf k f p q v));
       intervals = set (m .intervals) k v;
       faces = m .faces;
     }
@@ -67,7 +68,7 @@ abbrev pub withEdges : Mesh → List ℕ → Mesh
 withEdges m es = record { positions = m .positions; points = m .points; edges = es; intervals = m .intervals; faces = m .faces }
 
 unfoldable pub filled : Mesh → ℕ → ℕ → Mesh
-filled m e f = withEdges m (set (m .edges) (e * 8 + 3) f)
+filled m e f = withEdges m (set (m .edges) (e * edgeWidth + rightFaceWord) f)
 
 -- ---- a place
 

@@ -13,6 +13,7 @@ use lib.Dec.{eqb, ltb, leb}
 use lib.ListN.{getD}
 use lib.Ieee.{Float, nan, add, sub, ofBits, binary64}
 use Rattle.positions.specs.Position.{small}
+use Rattle.tables.specs.Layout.{longestPerimeter}
 use Rattle.audited_meshes.specs.Folds.{every}
 use Rattle.built_meshes.specs.Lists.{Lists, side, size}
 use Rattle.built_meshes.specs.declared.Verdict.{Verdict}
@@ -23,7 +24,7 @@ abbrev pub listedAt : Lists → ℕ → ℕ → ℕ
 listedAt l a i = getD (l .listed) (a + i) 0
 
 abbrev pub sizeFit : ℕ → Bool
-sizeFit n = leb 3 n && leb n 64
+sizeFit n = leb 3 n && leb n longestPerimeter
 
 unfoldable pub inRange : Lists → ℕ → ℕ → ℕ → Bool
 unfolding every

@@ -10,6 +10,7 @@ use lib.ListN.{length, getD}
 use lib.Ieee.{nan}
 use lib.Ieee.Scale.{finite}
 use Rattle.positions.specs.Position.{small}
+use Rattle.tables.specs.Layout.{positionWidth, longestPerimeter}
 use Rattle.tables.specs.Mesh.{Mesh, valence}
 use Rattle.closed_meshes.specs.Renumbering.{sumTo}
 use Rattle.audited_meshes.specs.Folds.{occurrences}
@@ -29,7 +30,7 @@ pub data Over-counts (c : Limits) (l : Lists) : Type 0 where
   many-points : c .points < pointsOf l → Over-counts c l
   many-faces : c .faces < facesOf l → Over-counts c l
   many-listed : c .listed < length (l .listed) → Over-counts c l
-  point-cut : length (l .coordinates) % 3 ≢ 0 → Over-counts c l
+  point-cut : length (l .coordinates) % positionWidth ≢ 0 → Over-counts c l
   face-cut : length (l .sides) % 4 ≢ 0 → Over-counts c l
   unlike : length (l .listed) ≢ length (l .intervals) → Over-counts c l
   sum-unlike : sumTo (length (l .sides)) (λ k. getD (l .sides) k 0) ≢ length (l .listed) → Over-counts c l
@@ -49,7 +50,7 @@ pub data Few-rows (l : Lists) (m : Mesh) : Type 0 where
 pub record Face-size (l : Lists) : Type 0 where
   pub face : ℕ
   pub is-face : face < facesOf l
-  pub small-or-large : (size l face < 3) ⊎ (64 < size l face)
+  pub small-or-large : (size l face < 3) ⊎ (longestPerimeter < size l face)
 
 -- 11: point number out of range
 pub record Out-of-range (l : Lists) : Type 0 where

@@ -17,6 +17,7 @@ use lib.Dec.{eqb, leb}
 use lib.ListN.{length, getD}
 use lib.Ieee.{Float, nan}
 use lib.Ieee.Scale.{finite}
+use Rattle.tables.specs.Layout.{positionWidth}
 use Rattle.tables.specs.Mesh.{Mesh}
 use Rattle.closed_meshes.specs.Renumbering.{sumTo}
 use Rattle.audited_meshes.specs.Folds.{every}
@@ -40,7 +41,7 @@ abbrev pub refine : Limits
 refine = record { points = 64; faces = 64; listed = 256 }
 
 abbrev pub pointsOf : Lists → ℕ
-pointsOf l = length (l .coordinates) / 3
+pointsOf l = length (l .coordinates) / positionWidth
 
 abbrev pub facesOf : Lists → ℕ
 facesOf l = length (l .sides) / 4
@@ -59,7 +60,8 @@ unfoldable pub countsFit : Limits → Lists → Bool
 unfolding sumTo
 countsFit c l =
     leb (pointsOf l) (c .points) && leb (facesOf l) (c .faces) && leb (length (l .listed)) (c .listed)
-    && eqb (length (l .coordinates) % 3) 0 && eqb (length (l .sides) % 4) 0 && eqb (length (l .listed)) (length (l .intervals))
+    && eqb (length (l .coordinates) % positionWidth) 0 && eqb (length (l .sides) % 4) 0
+    && eqb (length (l .listed)) (length (l .intervals))
     && eqb (sumTo (length (l .sides)) (λ k. getD (l .sides) k 0)) (length (l .listed))
 
 unfoldable pub numbersFit : Lists → Bool

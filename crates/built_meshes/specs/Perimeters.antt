@@ -11,6 +11,7 @@ use lib.ListN.{getD}
 use lib.Ieee.{nan}
 use Rattle.t_spline.specs.declared.TnurccFace.{TnurccFace}
 use Rattle.perimeters.specs.Places.{nextPlace}
+use Rattle.tables.specs.Layout.{faceWidth}
 use Rattle.tables.specs.Mesh.{Mesh, none}
 use Rattle.tables.specs.Rows.{putRow}
 use Rattle.tables.specs.Records.{faceWords}
@@ -72,7 +73,7 @@ withFace m f e =
       points = m .points;
       edges = m .edges;
       intervals = m .intervals;
-      faces = putRow (m .faces) (f * 5) (faceWords (faceOf e));
+      faces = putRow (m .faces) (f * faceWidth) (faceWords (faceOf e));
     }
 
 -- the first edge connected to the last

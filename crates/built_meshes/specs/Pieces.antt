@@ -13,6 +13,7 @@ use Prim.Native.Nat.{ℕ, zero, suc, _+_, _*_, _/_, _%_}
 use lib.ListN.{length, replicate}
 use lib.Dec.{eqb}
 use lib.Ieee.{Float, ofBits, binary64}
+use Rattle.tables.specs.Layout.{positionWidth, pointWidth, edgeWidth, faceWidth}
 use Rattle.tables.specs.Mesh.{Mesh}
 use Rattle.built_meshes.specs.Lists.{Lists, Limits, general, pointsOf, facesOf}
 use Rattle.built_meshes.specs.Answers.{numbersOf}
@@ -66,7 +67,12 @@ downTo k (suc n) = (k + n) ∷ downTo k n
 -- two faces back to back, with the same side lengths and intervals
 abbrev pub backToBack : ℕ → List ℕ → List Float → Lists
 backToBack n ks ts =
-    record { coordinates = replicate (n * 3) unit; sides = ks ++ ks; listed = upFrom 0 n ++ downTo 0 n; intervals = ts ++ ts }
+    record {
+      coordinates = replicate (n * positionWidth) unit;
+      sides = ks ++ ks;
+      listed = upFrom 0 n ++ downTo 0 n;
+      intervals = ts ++ ts;
+    }
 
 -- a face with n points on its first and on its third side each
 abbrev pub even : ℕ → Lists
@@ -78,11 +84,11 @@ even n = backToBack (n + n) (n ∷ 0 ∷ n ∷ 0 ∷ []) (replicate (n + n) unit
 abbrev pub justEnough : Lists → Mesh
 justEnough l =
     record {
-      positions = replicate (pointsOf l * 3) two;
-      points = replicate (pointsOf l * 3) 7;
-      edges = replicate (length (l .listed) * 8) 7;
+      positions = replicate (pointsOf l * positionWidth) two;
+      points = replicate (pointsOf l * pointWidth) 7;
+      edges = replicate (length (l .listed) * edgeWidth) 7;
       intervals = replicate (length (l .listed)) two;
-      faces = replicate (facesOf l * 5) 7;
+      faces = replicate (facesOf l * faceWidth) 7;
     }
 
 pub record Piece : Type 0 where

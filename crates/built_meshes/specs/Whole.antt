@@ -10,6 +10,7 @@ use mathlib.Core.List.{List}
 use Prim.Native.Nat.{ℕ, zero, suc, _+_, _*_}
 use lib.Dec.{eqb, ltb}
 use lib.ListN.{getD, set}
+use Rattle.tables.specs.Layout.{positionWidth, pointWidth, markWord}
 use Rattle.tables.specs.Mesh.{Mesh, none, valence, rightFace}
 use Rattle.tables.specs.Rows.{over}
 use Rattle.audited_meshes.specs.Folds.{every}
@@ -43,13 +44,13 @@ markOf v = cond (eqb v 4) 0 1
 
 unfoldable pub marked : ℕ → List ℕ → List ℕ
 marked zero ws = ws
-marked (suc k) ws = let before = marked k ws in set before (k * 3 + 2) (markOf (getD before (k * 3) 0))
+marked (suc k) ws = let before = marked k ws in set before (k * pointWidth + markWord) (markOf (getD before (k * pointWidth) 0))
 
 unfoldable pub finished : Lists → Mesh → Mesh
 unfolding marked over
 finished l m =
     record {
-      positions = over (pointsOf l * 3) (l .coordinates) (m .positions);
+      positions = over (pointsOf l * positionWidth) (l .coordinates) (m .positions);
       points = marked (pointsOf l) (m .points);
       edges = m .edges;
       intervals = m .intervals;

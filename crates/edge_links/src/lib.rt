@@ -112,7 +112,7 @@ impl Pair {
     }
 
     // Whether the two edges have a face in common.
-    pub fn shares_face(self) -> bool
+    fn shares_face(self) -> bool
         ensures { λ r. ⌜ r ≡ shareFace (self .first) (self .other) ⌝ }
     {
         if same_face(self.first.face_left, self.other.face_left) {
@@ -128,7 +128,7 @@ impl Pair {
     }
 
     // The pair, of the rows `i` and `j`, with the links set.
-    pub fn with_links(self, links: Links, i: u32, j: u32) -> Pair
+    fn with_links(self, links: Links, i: u32, j: u32) -> Pair
         ensures { λ r. ⌜ r ≡ linked i j links self ⌝ }
     {
         match links {
@@ -141,7 +141,7 @@ impl Pair {
     }
 
     // The pair after one face state was served, if it holds.
-    pub fn serve(self, holds: bool, face: usize, vert: usize, i: u32, j: u32) -> Pair
+    fn serve(self, holds: bool, face: usize, vert: usize, i: u32, j: u32) -> Pair
         ensures { λ r. ⌜ r ≡ served holds face vert i j self ⌝ }
     {
         if holds {

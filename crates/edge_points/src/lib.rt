@@ -7,6 +7,7 @@ ghost use Prim.Native.Nat.{_+_, _*_, _≤_, _<_};
 ghost use lib.ListN.{length};
 ghost use Rattle.positions.specs.Position.{placedAt};
 ghost use Rattle.t_spline.specs.Edge.{connectionOf};
+ghost use Rattle.tables.specs.Layout.{positionWidth};
 ghost use Rattle.position_rules.specs.EdgePoint.{share, shares, neighbour, middle, edgeMiddle, blend, edgePoint};
 ghost use Rattle.position_rules.specs.Places.{facePointAt};
 ghost use Rattle.position_rules.specs.Fits.{EdgeFits, EdgePointFits, NeighboursFit};
@@ -77,8 +78,8 @@ fn edge_middle(
     t: usize,
     e: usize,
 ) -> Position
-    requires { ⌜ o * 3 + 3 ≤ length (now positions) ⌝ }
-    requires { ⌜ t * 3 + 3 ≤ length (now positions) ⌝ }
+    requires { ⌜ o * positionWidth + positionWidth ≤ length (now positions) ⌝ }
+    requires { ⌜ t * positionWidth + positionWidth ≤ length (now positions) ⌝ }
     requires { ⌜ EdgeFits (now edges) (now intervals) e ⌝ }
     ensures { λ r. ⌜ r ≡ edgeMiddle (now (positions .entry)) (now (edges .entry)) (now (intervals .entry)) o t e ⌝ }
 {

@@ -30,7 +30,7 @@ use Rattle.built_meshes.specs.declared.Ground.the-variants.{EdgeTripleFace, Sam
 use Rattle.built_meshes.specs.Edges.{joins, orLast, edgeBetween, newEdge, enteredAt, enteredIf, entered, filled}
 use Rattle.built_meshes.proofs.Entering.{Finds, finds, finds-none, found-is}
 use Rattle.edge_search.specs.Chains.{edgeTable, linkTo, SameEnds, Newest, olderLink, Chained, Standing}
-use Rattle.edge_search.specs.Places.{EnteredBy, FilledBy, StandingAfter}
+use Rattle.edge_search.specs.Places.{edgesAfter, EnteredBy, FilledBy}
 use Rattle.edge_search.specs.declared.Entry.{Entry}
 use Rattle.edge_search.specs.declared.Entry.the-variants.{Made, Refused}
 
@@ -224,6 +224,5 @@ module _ (pts es : List ℕ) (is : List Float) (k f p q : ℕ) (v : Float) where
   entered-new ps fs n found made = rw (edgeBetween-table (meshOf ps pts es is fs) k p q ∙ found, made, add-one k)
 
 pub standing-filled : (np : ℕ) (pts es ch new : List ℕ) (k f e p : ℕ) (r : Entry) → FilledBy es k f e p r new → length new ≡ length es
-    → Standing np pts es ch k → StandingAfter np pts new ch r
-standing-filled np pts es ch new k f e p (Made n i) h l s = rw (h .count) (standing-ends np pts es new ch k (h .ends) l s)
-standing-filled np pts es ch new k f e p (Refused g) h l s = tt
+    → Standing np pts es ch k → Standing np pts new ch (edgesAfter r k)
+standing-filled np pts es ch new k f e p r h l s = rw (h .count) (standing-ends np pts es new ch k (h .ends) l s)

@@ -19,6 +19,7 @@ use Prim.Native.Nat.{ℕ, zero, suc, _+_, _*_, _≤_, _<_}
 use lib.Dec.{eqb}
 use lib.ListN.{length, getD, set}
 use lib.Ieee.{Float}
+use Rattle.tables.specs.Layout.{pointWidth, edgeWidth}
 use Rattle.tables.specs.Mesh.{Mesh, origin, dest}
 use Rattle.audited_meshes.specs.Walks.{touches}
 use Rattle.built_meshes.specs.declared.Found.{Found}
@@ -54,15 +55,15 @@ pub record Chained (np : ℕ) (es ch : List ℕ) (k : ℕ) : Type 0 where
   pub older-dest : (e : ℕ) → e < k → Newest es (dest (edgeTable es) e) e (getD ch (np + e * 2 + 1) 0)
 
 pub record Standing (np : ℕ) (pts es ch : List ℕ) (k : ℕ) : Type 0 where
-  pub points-fit : np * 3 ≤ length pts
-  pub edges-fit : k * 8 ≤ length es
+  pub points-fit : np * pointWidth ≤ length pts
+  pub edges-fit : k * edgeWidth ≤ length es
   pub links-fit : np + k * 2 ≤ length ch
-  pub valences : (p : ℕ) → p < np → getD pts (p * 3) 0 ≤ k * 2
+  pub valences : (p : ℕ) → p < np → getD pts (p * pointWidth) 0 ≤ k * 2
   pub newest : (p : ℕ) → p < np → Newest es p k (getD ch p 0)
   pub chained : Chained np es ch k
 
 pub record Room (np : ℕ) (es : List ℕ) (is : List Float) (ch : List ℕ) (k : ℕ) : Type 0 where
-  pub edge-row : k * 8 + 8 ≤ length es
+  pub edge-row : k * edgeWidth + edgeWidth ≤ length es
   pub interval-row : k < length is
   pub links-row : np + k * 2 + 2 ≤ length ch
   pub few : k < 1073741824

@@ -3,7 +3,6 @@
 --     placeOf m r             the place that an entry made, or its ground, with the tables as they stand then
 --     entering m x            the same of the definition's answer x, from the tables m
 --     edgesAfter r k          how many edges there are after an entry, if there were k
---     StandingAfter           what holds of the tables and links after an entry that was made
 --     EnteredBy, FilledBy     what entering a place promises, and at an edge that exists
 use mathlib.Core.Path.{_≡_}
 use mathlib.Core.List.{List}
@@ -13,7 +12,7 @@ use lib.Ieee.{Float}
 use Rattle.tables.specs.Mesh.{Mesh, none, origin, rightFace}
 use Rattle.built_meshes.specs.Perimeters.{Step, on, stopped}
 use Rattle.built_meshes.specs.Edges.{Entered, at, refused, enteredAt, entered, withEdges}
-use Rattle.edge_search.specs.Chains.{Standing, SameEnds}
+use Rattle.edge_search.specs.Chains.{SameEnds}
 use Rattle.edge_search.specs.declared.Entry.{Entry}
 use Rattle.edge_search.specs.declared.Entry.the-variants.{Made, Refused}
 
@@ -34,10 +33,6 @@ entering m (refused g) = stopped g m
 abbrev pub edgesAfter : Entry → ℕ → ℕ
 edgesAfter (Made n e) k = n
 edgesAfter (Refused g) k = k
-
-abbrev pub StandingAfter : ℕ → List ℕ → List ℕ → List ℕ → Entry → Type 0
-StandingAfter np pts es ch (Made k e) = Standing np pts es ch k
-StandingAfter np pts es ch (Refused g) = Unit
 
 -- an entry r of the place of face f from p to q, with the interval v, turns the tables m into n
 abbrev pub EnteredBy : Entry → Mesh → Mesh → ℕ → ℕ → ℕ → ℕ → Float → Type 0

@@ -11,15 +11,21 @@ ghost use Prim.Native.Nat.{ℕ, _+_, _*_, _≤_, _<_};
 ghost use lib.Dec.{eqb};
 ghost use lib.Ieee.{Float};
 ghost use lib.ListN.{length, getD};
-ghost use Rattle.tables.specs.Mesh.{Mesh, meshOf};
+ghost use Rattle.tables.specs.Layout.{pointWidth, edgeWidth};
+ghost use Rattle.tables.specs.Mesh.{Mesh, meshOf, none};
 ghost use Rattle.built_meshes.specs.Edges.{joins, edgeBetween, touched, newEdge};
 ghost use Rattle.edge_search.specs.Chains.{edgeTable, linkTo, Newest, olderLink, chainedEdge, Chained, Standing, Room};
-ghost use Rattle.edge_search.specs.Places.{EnteredBy, FilledBy, StandingAfter};
+ghost use Rattle.edge_search.specs.Places.{edgesAfter, EnteredBy, FilledBy};
 use built_meshes::Found;
 use built_meshes::Ground;
 use records::store_edge;
 use t_spline::NONE;
 use t_spline::TnurccEdge;
+use tables::DEST_WORD;
+use tables::EDGE_WIDTH;
+use tables::POINT_WIDTH;
+use tables::RIGHT_FACE_WORD;
+use tables::START_WORD;
 use tables::index;
 
 // What entering a place of a perimeter answers: how many edges there are then and the place's edge, or the ground.
@@ -40,11 +46,11 @@ fn are(a: u32, b: u32, p: u32, q: u32) -> bool
 
 // Whether edge e joins the points p and q, in either direction.
 fn joins_points(edges: &[u32], e: usize, p: u32, q: u32) -> bool
-    requires { ⌜ e * 8 + 8 ≤ length (now edges) ⌝ }
+    requires { ⌜ e * edgeWidth + edgeWidth ≤ length (now edges) ⌝ }
     ensures { λ r. ⌜ r ≡ joins (edgeTable (now (edges .entry))) p q e ⌝ }
 {
-    let origin = edges[e * 8];
-    let dest = edges[e * 8 + 1];
+    let origin = edges[e * EDGE_WIDTH];
+    let dest = edges[e * EDGE_WIDTH + DEST_WORD];
     if are(origin, dest, p, q) {
         return true;
     }
@@ -53,12 +59,12 @@ fn joins_points(edges: &[u32], e: usize, p: u32, q: u32) -> bool
 
 // The next link of the chain of point p, behind its edge e.
 fn older_link(edges: &[u32], chain: &[u32], np: usize, p: u32, e: usize) -> u32
-    requires { ⌜ e * 8 + 8 ≤ length (now edges) ⌝ }
+    requires { ⌜ e * edgeWidth + edgeWidth ≤ length (now edges) ⌝ }
     requires { ⌜ np + e * 2 + 2 ≤ length (now chain) ⌝ }
     ensures { λ r. ⌜ r ≡ olderLink np (now (edges .entry)) (now (chain .entry)) p e ⌝ }
 {
     let b = np + e * 2;
-    if edges[e * 8] == p {
+    if edges[e * EDGE_WIDTH] == p {
         return chain[b];
     }
     chain[b + 1]
@@ -73,7 +79,7 @@ fn chosen(test: bool, link: u32, other: u32) -> u32
 
 // The link to the first of the k edges that join the points p and q, found along the chain of p, which begins with the link from.
 fn search(edges: &[u32], chain: &[u32], np: usize, k: u32, from: u32, p: u32, q: u32) -> u32
-    requires { ⌜ k * 8 ≤ length (now edges) ⌝ }
+    requires { ⌜ k * edgeWidth ≤ length (now edges) ⌝ }
     requires { ⌜ np + k * 2 ≤ length (now chain) ⌝ }
     requires { ⌜ Chained np (now edges) (now chain) k ⌝ }
     requires { ⌜ Newest (now edges) p k from ⌝ }
@@ -101,7 +107,7 @@ fn edge_of(link: u32) -> Found
 }
 
 // The first of the k edges that join the points p and q, from the one that has fewer edges.
-pub fn find_edge(
+fn find_edge(
     points: &[u32],
     edges: &[u32],
     chain: &[u32],
@@ -117,7 +123,7 @@ pub fn find_edge(
 {
     let a = index(p);
     let b = index(q);
-    if points[a * 3] <= points[b * 3] {
+    if points[a * POINT_WIDTH] <= points[b * POINT_WIDTH] {
         return edge_of(search(edges, chain, np, k, chain[a], p, q));
     }
     edge_of(search(edges, chain, np, k, chain[b], q, p))
@@ -144,13 +150,13 @@ fn chain_edge(chain: &mut [u32], np: usize, k: u32, p: u32, q: u32)
 
 // Counts one edge more at point p, and makes it the start edge.
 fn touch(points: &mut [u32], p: u32, e: u32)
-    requires { ⌜ p * 3 + 3 ≤ length (now points) ⌝ }
-    requires { ⌜ getD (now points) (p * 3) 0 < 4294967295 ⌝ }
+    requires { ⌜ p * pointWidth + pointWidth ≤ length (now points) ⌝ }
+    requires { ⌜ getD (now points) (p * pointWidth) 0 < none ⌝ }
     ensures { λ _. ⌜ now (points .exit) ≡ touched (now (points .entry)) p e ⌝ }
 {
-    let b = index(p) * 3;
+    let b = index(p) * POINT_WIDTH;
     points[b] = points[b] + 1;
-    points[b + 1] = e;
+    points[b + START_WORD] = e;
 }
 
 // Makes the edge k from p to q, with face f on its left.
@@ -193,17 +199,17 @@ fn make_edge(
 
 // Puts face f on the right of edge e at a place whose first point is p, if there is no face and the edge runs the other way.
 fn fill_edge(edges: &mut [u32], k: u32, f: u32, e: u32, p: u32) -> Entry
-    requires { ⌜ e * 8 + 8 ≤ length (now edges) ⌝ }
+    requires { ⌜ e * edgeWidth + edgeWidth ≤ length (now edges) ⌝ }
     ensures { λ r. ⌜ FilledBy (now (edges .entry)) k f e p r (now (edges .exit)) ⌝ }
 {
-    let b = index(e) * 8;
-    if edges[b + 3] != NONE {
+    let b = index(e) * EDGE_WIDTH;
+    if edges[b + RIGHT_FACE_WORD] != NONE {
         return Entry::Refused(Ground::EdgeTripleFace);
     }
     if edges[b] == p {
         return Entry::Refused(Ground::SameWay);
     }
-    edges[b + 3] = f;
+    edges[b + RIGHT_FACE_WORD] = f;
     Entry::Made { edges: k, edge: e }
 }
 
@@ -225,7 +231,7 @@ pub fn enter(
     requires { ⌜ p < np ⌝ }
     requires { ⌜ q < np ⌝ }
     ensures { λ r. ⌜ ((ps : List Float) (fs : List ℕ) → EnteredBy r (meshOf ps (now (points .entry)) (now (edges .entry)) (now (intervals .entry)) fs) (meshOf ps (now (points .exit)) (now (edges .exit)) (now (intervals .exit)) fs) k f p q v) ⌝ }
-    ensures { λ r. ⌜ StandingAfter np (now (points .exit)) (now (edges .exit)) (now (chain .exit)) r ⌝ }
+    ensures { λ r. ⌜ Standing np (now (points .exit)) (now (edges .exit)) (now (chain .exit)) (edgesAfter r k) ⌝ }
 {
     match find_edge(points, edges, chain, np, k, p, q) {
         Found::At(e) => fill_edge(edges, k, f, e, p),

@@ -7,6 +7,7 @@ ghost use mathlib.Core.Path.{_≡_};
 ghost use Prim.Native.Nat.{_+_, _<_};
 ghost use lib.ListN.{getD};
 ghost use Rattle.perimeters.specs.Places.{around};
+ghost use Rattle.tables.specs.Layout.{longestPerimeter};
 ghost use Rattle.positions.specs.Position.{placedAt};
 ghost use Rattle.position_rules.specs.FacePoint.{windowSum, facePointOf, faceMesh};
 ghost use Rattle.position_rules.specs.Fits.{EdgeFits, BorderFits, PointsFit, FacePointFits};
@@ -18,6 +19,8 @@ use position_rules::intervals::c2;
 use positions::Placed;
 use positions::Position;
 use records::load_position;
+use tables::LONGEST_BORDER;
+use tables::LONGEST_PERIMETER;
 use tables::index;
 use walks::t_nurcc_face::put_border;
 
@@ -50,8 +53,14 @@ fn six_terms(s: Terms, t: Terms) -> f64
 }
 
 // The terms of the edge at place i of a border, about p.
-fn terms_at(edges: &[u32], intervals: &[f64], border: &[u32; 64], p: u32, i: usize) -> Terms
-    requires { ⌜ i < 64 ⌝ }
+fn terms_at(
+    edges: &[u32],
+    intervals: &[f64],
+    border: &[u32; LONGEST_PERIMETER],
+    p: u32,
+    i: usize,
+) -> Terms
+    requires { ⌜ i < longestPerimeter ⌝ }
     requires { ⌜ EdgeFits (now edges) (now intervals) (getD (now border) i 0) ⌝ }
     ensures { λ r. ⌜ r ≡ termsAbout (now (edges .entry)) (now (intervals .entry)) p (getD (now (border .entry)) i 0) ⌝ }
 {
@@ -66,8 +75,8 @@ fn window_sum(
     positions: &[f64],
     edges: &[u32],
     intervals: &[f64],
-    points: &[u32; 68],
-    border: &[u32; 64],
+    points: &[u32; LONGEST_BORDER],
+    border: &[u32; LONGEST_PERIMETER],
     n: usize,
 ) -> WeightedSum
     requires { ⌜ BorderFits (now edges) (now intervals) (now border) n ⌝ }
@@ -108,8 +117,8 @@ pub fn face_point(
     requires { ⌜ FacePointFits (now positions) (now edges) (now intervals) (now faces) ne f ⌝ }
     ensures { λ r. ⌜ r ≡ placedAt (facePointOf (faceMesh (now (positions .entry)) (now (edges .entry)) (now (intervals .entry)) (now (faces .entry))) ne f) ⌝ }
 {
-    let mut perimeter = [0u32; 64];
-    let mut points = [0u32; 68];
+    let mut perimeter = [0u32; LONGEST_PERIMETER];
+    let mut points = [0u32; LONGEST_BORDER];
     let n = put_border(edges, faces, ne, f, &mut perimeter, &mut points);
     let s = window_sum(positions, edges, intervals, &points, &perimeter, n);
     s.sum.over(s.weight).placed()

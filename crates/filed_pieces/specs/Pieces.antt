@@ -8,6 +8,7 @@ use mathlib.Core.Path.{_≡_}
 use mathlib.Core.List.{List, [], _∷_, _++_, map}
 use Prim.Native.Nat.{ℕ, _*_}
 use lib.ListN.{length, replicate}
+use Rattle.tables.specs.Layout.{positionWidth, pointWidth, edgeWidth, faceWidth}
 use Rattle.tables.specs.Mesh.{Mesh}
 use Rattle.tables.specs.declared.Counts.{Counts}
 use Rattle.built_meshes.specs.Lists.{Lists, general, pointsOf, facesOf}
@@ -34,11 +35,11 @@ pub record Piece : Type 0 where
 abbrev pub used : Counts → Mesh
 used c =
     record {
-      positions = replicate (c .points * 3) two;
-      points = replicate (c .points * 3) 7;
-      edges = replicate (c .edges * 8) 7;
+      positions = replicate (c .points * positionWidth) two;
+      points = replicate (c .points * pointWidth) 7;
+      edges = replicate (c .edges * edgeWidth) 7;
       intervals = replicate (c .edges) two;
-      faces = replicate (c .faces * 5) 7;
+      faces = replicate (c .faces * faceWidth) 7;
     }
 
 -- the rows that ground 4 counts: twice the edges of an accepted mesh, so that a step from as many has room too

@@ -9,11 +9,14 @@ ghost use Rattle.tables.specs.Mesh.{meshOf};
 ghost use Rattle.making.specs.Making.{Ready, madeAs};
 use placing::place_all;
 use tables::Counts;
+use tables::EDGE_WIDTH;
+use tables::FACE_WIDTH;
+use tables::POINT_WIDTH;
 use visiting::refined_rows;
 
 // Makes the refined mesh of the mesh with these counts, visiting its faces in the order, and says whether all its positions are
 // finite.
-pub fn make(
+fn make(
     positions: &[f64],
     points: &[u32],
     edges: &[u32],
@@ -95,10 +98,10 @@ pub fn make_in_rows(
         zeroedRows c (meshOf (now (places .exit)) (now (rows .exit)) (now (halves .exit)) (now (lengths .exit)) (now (quads .exit)))
         ≡ zeroedRows c (meshOf (now (places .entry)) (now (rows .entry)) (now (halves .entry)) (now (lengths .entry)) (now (quads .entry))) ⌝ }
 {
-    let p = c.points * 3;
-    let e = c.edges * 8;
+    let p = c.points * POINT_WIDTH;
+    let e = c.edges * EDGE_WIDTH;
     let i = c.edges;
-    let f = c.faces * 5;
+    let f = c.faces * FACE_WIDTH;
     make(
         positions,
         points,

@@ -8,6 +8,12 @@ use crate::held::Tables;
 use libc::STDOUT_FILENO;
 use positions::is_finite;
 use tables::Counts;
+use tables::EDGE_WIDTH;
+use tables::FACE_WIDTH;
+use tables::POINT_WIDTH;
+use tables::POSITION_WIDTH;
+use tables::Y_NUMBER;
+use tables::Z_NUMBER;
 
 // What is left of a listing whose bytes are read as digits: 2^55 - 55, a prime.
 const PRIME: u64 = 36028797018963913;
@@ -24,7 +30,7 @@ fn mixed(remainder: u64, b: u8) -> u64 {
 }
 
 // Writes bytes, or takes them into the remainder.
-pub fn put(s: Sink, t: &[u8]) -> Sink {
+fn put(s: Sink, t: &[u8]) -> Sink {
     if s.told {
         io::write_all(STDOUT_FILENO, t);
         return s;
@@ -42,7 +48,7 @@ pub fn put(s: Sink, t: &[u8]) -> Sink {
 }
 
 // A space and a number.
-pub fn put_number(s: Sink, n: u64) -> Sink {
+fn put_number(s: Sink, n: u64) -> Sink {
     let mut t = [0u8; 20];
     let k = io::decimal(n, &mut t);
     let s = put(s, b" ");
@@ -93,12 +99,12 @@ fn put_words(s: Sink, words: &[u32], from: usize, n: usize) -> Sink
 fn put_point(s: Sink, positions: &[f64], points: &[u32], p: usize) -> Sink
     requires { ⌜ p ≤ 65536 ⌝ }
 {
-    let b = p * 3;
+    let b = p * POSITION_WIDTH;
     let s = put(s, b"[point");
     let s = put_bits(s, number(positions, b));
-    let s = put_bits(s, number(positions, b + 1));
-    let s = put_bits(s, number(positions, b + 2));
-    let s = put_words(s, points, b, 3);
+    let s = put_bits(s, number(positions, b + Y_NUMBER));
+    let s = put_bits(s, number(positions, b + Z_NUMBER));
+    let s = put_words(s, points, p * POINT_WIDTH, POINT_WIDTH);
     put(s, b"]\n")
 }
 
@@ -107,7 +113,7 @@ fn put_edge(s: Sink, edges: &[u32], intervals: &[f64], e: usize) -> Sink
     requires { ⌜ e ≤ 65536 ⌝ }
 {
     let s = put(s, b"[edge");
-    let s = put_words(s, edges, e * 8, 8);
+    let s = put_words(s, edges, e * EDGE_WIDTH, EDGE_WIDTH);
     let s = put_bits(s, number(intervals, e));
     put(s, b"]\n")
 }
@@ -117,7 +123,7 @@ fn put_face(s: Sink, faces: &[u32], f: usize) -> Sink
     requires { ⌜ f ≤ 65536 ⌝ }
 {
     let s = put(s, b"[face");
-    let s = put_words(s, faces, f * 5, 5);
+    let s = put_words(s, faces, f * FACE_WIDTH, FACE_WIDTH);
     put(s, b"]\n")
 }
 

@@ -9,6 +9,10 @@ use crate::held::WORD;
 use crate::listing::bits_of;
 use libc::STDOUT_FILENO;
 use tables::Counts;
+use tables::EDGE_WIDTH;
+use tables::FACE_WIDTH;
+use tables::POINT_WIDTH;
+use tables::POSITION_WIDTH;
 
 // The counts of no rows.
 pub fn none() -> Counts {
@@ -105,11 +109,11 @@ pub fn tell_slices(
     let ne = least(counts.edges, 65536);
     let nf = least(counts.faces, 65536);
     io::write_all(STDOUT_FILENO, head);
-    let a = tell_numbers(positions, np * 3);
-    let b = tell_words(points, np * 3);
-    let c = tell_words(edges, ne * 8);
+    let a = tell_numbers(positions, np * POSITION_WIDTH);
+    let b = tell_words(points, np * POINT_WIDTH);
+    let c = tell_words(edges, ne * EDGE_WIDTH);
     let d = tell_numbers(intervals, ne);
-    let e = tell_words(faces, nf * 5);
+    let e = tell_words(faces, nf * FACE_WIDTH);
     if a && b && c && d && e {
         io::write_all(STDOUT_FILENO, b" kept]\n");
     } else {

@@ -17,6 +17,7 @@ use crate::rows::none;
 use crate::rows::tell_slices;
 use building_tests::Bounds;
 use libc::STDOUT_FILENO;
+use tables::POSITION_WIDTH;
 
 // 1 if a text is refused as not of the form and leaves the tables as they were, else 0.
 fn unformed(text: &[u8]) -> usize
@@ -128,7 +129,7 @@ fn build_zeros(
     let ds = [0.0f64; 16400];
     ls[0] = listed;
     let lengths = Lengths {
-        coordinates: least(np, 4100) * 3,
+        coordinates: least(np, 4100) * POSITION_WIDTH,
         sides: least(nf, 4100) * 4,
         listed: listed as usize,
         beside: listed as usize,

@@ -64,7 +64,7 @@ fn all_apart(order: &[u32]) -> bool
 fn apart_above(order: &[u32], base: usize) -> bool
     ensures { λ r. ⌜ ((r ≡ true) ↔ ApartAbove base (now (order .entry))) ⌝ }
 {
-    let mut seen = [0u8; 65536];
+    let mut seen = [0u8; WINDOW];
     let mut i = 0;
     while i < order.len() {
         if !mark(&mut seen, base, index(order[i])) {
@@ -76,7 +76,7 @@ fn apart_above(order: &[u32], base: usize) -> bool
 }
 
 // Marks a face of the window from base on, and says whether it was not marked yet; a face out of the window is passed over.
-fn mark(seen: &mut [u8; 65536], base: usize, o: usize) -> bool
+fn mark(seen: &mut [u8; WINDOW], base: usize, o: usize) -> bool
     ensures { λ r. ⌜ r ≡ fresh base (now (seen .entry)) o ⌝ }
     ensures { λ _. ⌜ now (seen .exit) ≡ noted base (now (seen .entry)) o ⌝ }
 {

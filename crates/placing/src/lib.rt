@@ -6,6 +6,7 @@
 ghost use mathlib.Core.Path.{_≡_};
 ghost use Prim.Native.Nat.{_+_, _*_};
 ghost use lib.ListN.{getD};
+ghost use Rattle.tables.specs.Layout.{edgeWidth, destWord, faceWidth, firstCornerWord};
 ghost use Rattle.tables.specs.Mesh.{meshOf};
 ghost use Rattle.position_rules.specs.FacePoint.{faceMesh, facePointOf};
 ghost use Rattle.position_rules.specs.EdgePoint.{edgePoint};
@@ -20,10 +21,14 @@ use positions::Placed;
 use positions::Position;
 use records::store_position;
 use tables::Counts;
+use tables::DEST_WORD;
+use tables::EDGE_WIDTH;
+use tables::FACE_WIDTH;
+use tables::FIRST_CORNER_WORD;
 use tables::index;
 
 // Puts the face points of the first nf faces into their rows, and says whether all are finite.
-pub fn place_face_points(
+fn place_face_points(
     positions: &[f64],
     edges: &[u32],
     intervals: &[f64],
@@ -35,7 +40,7 @@ pub fn place_face_points(
 ) -> bool
     requires { ⌜ FacesFit (now positions) (now edges) (now intervals) (now faces) ne nf (now quads) (now places) ⌝ }
     ensures { λ r. ⌜
-        placed nf (λ f. getD (now (quads .entry)) (f * 5 + 1) 0)
+        placed nf (λ f. getD (now (quads .entry)) (f * faceWidth + firstCornerWord) 0)
         (λ f ps. facePointOf (faceMesh (now (positions .entry)) (now (edges .entry)) (now (intervals .entry)) (now (faces .entry))) ne f)
         (on (now (places .entry)))
         ≡ came r (now (places .exit)) ⌝ }
@@ -45,14 +50,18 @@ pub fn place_face_points(
         let Placed::At(x, y, z) = face_point(positions, edges, intervals, faces, ne, f) else {
             return false;
         };
-        store_position(places, index(quads[f * 5 + 1]), Position { x, y, z });
+        store_position(
+            places,
+            index(quads[f * FACE_WIDTH + FIRST_CORNER_WORD]),
+            Position { x, y, z },
+        );
         f += 1;
     }
     true
 }
 
 // Puts the edge points of the first ne edges into their rows, and says whether all are finite.
-pub fn place_edge_points(
+fn place_edge_points(
     positions: &[f64],
     edges: &[u32],
     intervals: &[f64],
@@ -63,7 +72,7 @@ pub fn place_edge_points(
 ) -> bool
     requires { ⌜ EdgesFit (now positions) (now edges) (now intervals) ne (now halves) (now quads) (now places) ⌝ }
     ensures { λ r. ⌜
-        placed ne (λ e. getD (now (halves .entry)) (e * 8 + 1) 0)
+        placed ne (λ e. getD (now (halves .entry)) (e * edgeWidth + destWord) 0)
         (λ e ps. edgePoint (now (positions .entry)) (now (edges .entry)) (now (intervals .entry)) (facePointAt ps (now (quads .entry))) e)
         (on (now (places .entry)))
         ≡ came r (now (places .exit)) ⌝ }
@@ -73,14 +82,18 @@ pub fn place_edge_points(
         let Placed::At(x, y, z) = edge_point(positions, edges, intervals, places, quads, e) else {
             return false;
         };
-        store_position(places, index(halves[e * 8 + 1]), Position { x, y, z });
+        store_position(
+            places,
+            index(halves[e * EDGE_WIDTH + DEST_WORD]),
+            Position { x, y, z },
+        );
         e += 1;
     }
     true
 }
 
 // Puts the old points into their rows, and says whether all are finite.
-pub fn place_old_points(
+fn place_old_points(
     positions: &[f64],
     points: &[u32],
     edges: &[u32],

@@ -13,18 +13,20 @@ use lib.ListN.{getD, length}
 use lib.Ieee.{Float}
 use Rattle.t_spline.specs.declared.TnurccEdge.{TnurccEdge}
 use Rattle.t_spline.specs.Edge.{commonFace}
+use Rattle.tables.specs.Layout.{positionWidth, pointWidth, startWord, edgeWidth, faceWidth, firstCornerWord, longestPerimeter}
+use Rattle.tables.specs.Layout.{destWord, leftFaceWord, rightFaceWord, leftCwWord, leftAcwWord, rightCwWord, rightAcwWord}
 use Rattle.tables.specs.Records.{edgeAt}
 use Rattle.audited_meshes.specs.Walks.{back, faceWalk}
 use Rattle.walks.specs.Steps.{faceTables}
 use Rattle.position_rules.specs.Intervals.{acwAbout}
 
 pub record EdgesFit (es : List ℕ) (is : List Float) (ne : ℕ) : Type 0 where
-  pub words : ne * 8 ≤ length es
+  pub words : ne * edgeWidth ≤ length es
   pub numbers : ne ≤ length is
-  pub leftCw-below : (e : ℕ) → e < ne → getD es (e * 8 + 4) 0 < ne
-  pub leftAcw-below : (e : ℕ) → e < ne → getD es (e * 8 + 5) 0 < ne
-  pub rightCw-below : (e : ℕ) → e < ne → getD es (e * 8 + 6) 0 < ne
-  pub rightAcw-below : (e : ℕ) → e < ne → getD es (e * 8 + 7) 0 < ne
+  pub leftCw-below : (e : ℕ) → e < ne → getD es (e * edgeWidth + leftCwWord) 0 < ne
+  pub leftAcw-below : (e : ℕ) → e < ne → getD es (e * edgeWidth + leftAcwWord) 0 < ne
+  pub rightCw-below : (e : ℕ) → e < ne → getD es (e * edgeWidth + rightCwWord) 0 < ne
+  pub rightAcw-below : (e : ℕ) → e < ne → getD es (e * edgeWidth + rightAcwWord) 0 < ne
 
 pub record EdgeFits (es : List ℕ) (is : List Float) (e : ℕ) : Type 0 where
   pub rows : ℕ
@@ -36,7 +38,7 @@ pub record BorderFits (es : List ℕ) (is : List Float) (bs : List ℕ) (n : ℕ
   pub rows : ℕ
   pub fit : EdgesFit es is rows
   pub at-least-3 : 3 ≤ n
-  pub at-most-64 : n ≤ 64
+  pub at-most-64 : n ≤ longestPerimeter
   pub edges-below : (j : ℕ) → j < n → getD bs j 0 < rows
 
 -- the four neighbours of an edge have intervals
@@ -49,35 +51,38 @@ pub record NeighboursFit (is : List Float) (edge : TnurccEdge) : Type 0 where
 -- the edge e, its ends, and the points of its two faces
 pub record EdgePointFits (ps : List Float) (es : List ℕ) (is new : List Float) (fs′ : List ℕ) (e : ℕ) : Type 0 where
   pub edge-fits : EdgeFits es is e
-  pub origin-there : getD es (e * 8) 0 * 3 + 3 ≤ length ps
-  pub dest-there : getD es (e * 8 + 1) 0 * 3 + 3 ≤ length ps
-  pub left-row : getD es (e * 8 + 2) 0 * 5 + 5 ≤ length fs′
-  pub left-place : getD fs′ (getD es (e * 8 + 2) 0 * 5 + 1) 0 * 3 + 3 ≤ length new
-  pub right-row : getD es (e * 8 + 3) 0 * 5 + 5 ≤ length fs′
-  pub right-place : getD fs′ (getD es (e * 8 + 3) 0 * 5 + 1) 0 * 3 + 3 ≤ length new
+  pub origin-there : getD es (e * edgeWidth) 0 * positionWidth + positionWidth ≤ length ps
+  pub dest-there : getD es (e * edgeWidth + destWord) 0 * positionWidth + positionWidth ≤ length ps
+  pub left-row : getD es (e * edgeWidth + leftFaceWord) 0 * faceWidth + faceWidth ≤ length fs′
+  pub left-place :
+      getD fs′ (getD es (e * edgeWidth + leftFaceWord) 0 * faceWidth + firstCornerWord) 0 * positionWidth + positionWidth ≤ length new
+  pub right-row : getD es (e * edgeWidth + rightFaceWord) 0 * faceWidth + faceWidth ≤ length fs′
+  pub right-place :
+      getD fs′ (getD es (e * edgeWidth + rightFaceWord) 0 * faceWidth + firstCornerWord) 0 * positionWidth + positionWidth ≤ length new
 
 -- the n + 4 points bp of a border, the first four again
 pub record PointsFit (ps : List Float) (bp : List ℕ) (n : ℕ) : Type 0 where
-  pub points-there : (j : ℕ) → j < n + 4 → getD bp j 0 * 3 + 3 ≤ length ps
+  pub points-there : (j : ℕ) → j < n + 4 → getD bp j 0 * positionWidth + positionWidth ≤ length ps
 
 -- the face f, with the edges of its border and their ends
 pub record FacePointFits (ps : List Float) (es : List ℕ) (is : List Float) (fs : List ℕ) (ne f : ℕ) : Type 0 where
   pub fit : EdgesFit es is ne
-  pub origin-there : (e : ℕ) → e < ne → getD es (e * 8) 0 * 3 + 3 ≤ length ps
-  pub dest-there : (e : ℕ) → e < ne → getD es (e * 8 + 1) 0 * 3 + 3 ≤ length ps
-  pub face-there : f * 5 + 5 ≤ length fs
+  pub origin-there : (e : ℕ) → e < ne → getD es (e * edgeWidth) 0 * positionWidth + positionWidth ≤ length ps
+  pub dest-there : (e : ℕ) → e < ne → getD es (e * edgeWidth + destWord) 0 * positionWidth + positionWidth ≤ length ps
+  pub face-there : f * faceWidth + faceWidth ≤ length fs
   pub border : List ℕ
   pub walked : faceWalk (faceTables es fs) ne f ≡ back border
   pub at-least-3 : 3 ≤ length border
-  pub at-most-64 : length border ≤ 64
+  pub at-most-64 : length border ≤ longestPerimeter
   pub edges-below : (j : ℕ) → j < length border → getD border j 0 < ne
 
 -- the places of the new points: of the edge point of each edge and of the face point of each face
 pub record NewPointsFit (ne nf : ℕ) (new : List Float) (es′ fs′ : List ℕ) : Type 0 where
-  pub edge-row : (e : ℕ) → e < ne → e * 8 + 8 ≤ length es′
-  pub edge-place : (e : ℕ) → e < ne → getD es′ (e * 8 + 1) 0 * 3 + 3 ≤ length new
-  pub face-row : (f : ℕ) → f < nf → f * 5 + 5 ≤ length fs′
-  pub face-place : (f : ℕ) → f < nf → getD fs′ (f * 5 + 1) 0 * 3 + 3 ≤ length new
+  pub edge-row : (e : ℕ) → e < ne → e * edgeWidth + edgeWidth ≤ length es′
+  pub edge-place : (e : ℕ) → e < ne → getD es′ (e * edgeWidth + destWord) 0 * positionWidth + positionWidth ≤ length new
+  pub face-row : (f : ℕ) → f < nf → f * faceWidth + faceWidth ≤ length fs′
+  pub face-place :
+      (f : ℕ) → f < nf → getD fs′ (f * faceWidth + firstCornerWord) 0 * positionWidth + positionWidth ≤ length new
 
 -- with the edges about a point, and the face between two of them
 pub record PlacesFit (es : List ℕ) (is : List Float) (ne nf : ℕ) (new : List Float) (es′ fs′ : List ℕ) : Type 0 where
@@ -94,6 +99,6 @@ pub record RadialFits (es : List ℕ) (is : List Float) (r : ℕ) (new : List Fl
 
 -- the point p and its start edge
 pub record OldPointFits (ps : List Float) (ws es : List ℕ) (is new : List Float) (es′ fs′ : List ℕ) (p : ℕ) : Type 0 where
-  pub place-there : p * 3 + 3 ≤ length ps
-  pub words-there : p * 3 + 3 ≤ length ws
-  pub radial-fits : RadialFits es is (getD ws (p * 3 + 1) 0) new es′ fs′
+  pub place-there : p * positionWidth + positionWidth ≤ length ps
+  pub words-there : p * pointWidth + pointWidth ≤ length ws
+  pub radial-fits : RadialFits es is (getD ws (p * pointWidth + startWord) 0) new es′ fs′

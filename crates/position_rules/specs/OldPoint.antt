@@ -15,6 +15,7 @@ use lib.Ieee.{Float, add, sub, mul, div, ofBits, ofInt, binary64}
 use Rattle.positions.specs.declared.Position.{Position}
 use Rattle.positions.specs.Position.{zeros, sum, product, quotient, small}
 use Rattle.t_spline.specs.Edge.{commonFace}
+use Rattle.tables.specs.Layout.{pointWidth, startWord}
 use Rattle.tables.specs.Records.{positionAt, edgeAt}
 use Rattle.refined_meshes.specs.Turns.{turns}
 use Rattle.position_rules.specs.declared.WeightedSum.{WeightedSum}
@@ -55,5 +56,5 @@ moved place v s =
 -- ps and ws are the tables of positions and of points
 unfoldable pub oldPoint : List Float → List ℕ → List ℕ → List Float → (ℕ → Position) → (ℕ → Position) → ℕ → Position
 oldPoint ps ws es is ep fp p =
-    let v : ℕ = getD ws (p * 3) 0 in
-    moved (positionAt ps p) (ofInt binary64 (pos v)) (radialSum es is ep fp p (getD ws (p * 3 + 1) 0) v)
+    let v : ℕ = getD ws (p * pointWidth) 0 in
+    moved (positionAt ps p) (ofInt binary64 (pos v)) (radialSum es is ep fp p (getD ws (p * pointWidth + startWord) 0) v)

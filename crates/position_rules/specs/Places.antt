@@ -7,10 +7,11 @@ use Prim.Native.Nat.{ℕ, _+_, _*_}
 use lib.ListN.{getD}
 use lib.Ieee.{Float}
 use Rattle.positions.specs.declared.Position.{Position}
+use Rattle.tables.specs.Layout.{edgeWidth, destWord, faceWidth, firstCornerWord}
 use Rattle.tables.specs.Records.{positionAt}
 
 abbrev pub edgePointAt : List Float → List ℕ → ℕ → Position
-edgePointAt new es′ e = positionAt new (getD es′ (e * 8 + 1) 0)
+edgePointAt new es′ e = positionAt new (getD es′ (e * edgeWidth + destWord) 0)
 
 abbrev pub facePointAt : List Float → List ℕ → ℕ → Position
-facePointAt new fs′ f = positionAt new (getD fs′ (f * 5 + 1) 0)
+facePointAt new fs′ f = positionAt new (getD fs′ (f * faceWidth + firstCornerWord) 0)

@@ -2,6 +2,7 @@
 ghost use mathlib.Core.Path.{_≡_};
 ghost use Prim.Native.Nat.{_+_, _*_, _≤_};
 ghost use lib.ListN.{length};
+ghost use Rattle.tables.specs.Layout.{edgeWidth};
 ghost use Rattle.position_rules.specs.Intervals.{acwAbout, cwAbout, A1, A2, C1, C2, threeTerms};
 ghost use Rattle.position_rules.specs.Fits.{EdgeFits};
 use records::load_edge_words;
@@ -11,15 +12,15 @@ use walks::t_nurcc_control_point::acw_of_point;
 
 // The edge one step anticlockwise about p from e.
 pub fn acw_about(edges: &[u32], p: usize, e: usize) -> usize
-    requires { ⌜ e * 8 + 8 ≤ length (now edges) ⌝ }
+    requires { ⌜ e * edgeWidth + edgeWidth ≤ length (now edges) ⌝ }
     ensures { λ r. ⌜ r ≡ acwAbout (now (edges .entry)) p e ⌝ }
 {
     index(acw_of_point(edges, p, e))
 }
 
 // The edge one step clockwise about p from e.
-pub fn cw_about(edges: &[u32], p: usize, e: usize) -> usize
-    requires { ⌜ e * 8 + 8 ≤ length (now edges) ⌝ }
+fn cw_about(edges: &[u32], p: usize, e: usize) -> usize
+    requires { ⌜ e * edgeWidth + edgeWidth ≤ length (now edges) ⌝ }
     ensures { λ r. ⌜ r ≡ cwAbout (now (edges .entry)) p e ⌝ }
 {
     let edge = load_edge_words(edges, e);

@@ -2,13 +2,15 @@
 // writes its lines to standard output.
 // What is written is `output` of `refine_outputs`, specs/Output.antt. No contract can say what is read and written.
 use libc::STDOUT_FILENO;
+use refine_text::OUTPUT_BYTES;
 use refine_text::refine;
+use text_answers::REFINE_BYTES;
 
 fn main() {
     // One byte more than the limit. More need not be read: the output for every longer text is the same (`Long-text` of `refine_outputs`).
-    let mut text = [0u8; 16385];
+    let mut text = [0u8; REFINE_BYTES + 1];
     let n = io::read_full(0, &mut text);
-    let mut out = [0u8; 256];
+    let mut out = [0u8; OUTPUT_BYTES];
     let k = refine(&text[..n], &mut out);
     io::write_all(STDOUT_FILENO, &out[..k]);
 }

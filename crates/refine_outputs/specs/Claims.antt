@@ -10,7 +10,7 @@ use Prim.Native.Nat.{ℕ, _≤_, _<_}
 use lib.ListN.{length}
 use Rattle.tables.specs.declared.Counts.{Counts}
 use Rattle.building_tests.specs.declared.Bounds.the-variants.{Refine}
-use Rattle.text_meshes.specs.TextBuilding.{buildText}
+use Rattle.text_meshes.specs.TextBuilding.{buildText, refineBytes}
 use Rattle.text_meshes.specs.declared.TextBuilt.the-variants.{Accepted}
 use Rattle.steps.specs.Step.{refinedCounts}
 use Rattle.steps.specs.declared.Stepped.{Stepped}
@@ -19,7 +19,7 @@ use Rattle.mesh_answers.specs.Lines.{refusedLine}
 use Rattle.refine_outputs.specs.Output.{lent, numberedStep, output, refine}
 
 abbrev pub Long-text : Type 0
-Long-text = (s : List ℕ) → 16384 < length s → output s ≡ refusedLine 2
+Long-text = (s : List ℕ) → refineBytes < length s → output s ≡ refusedLine 2
 
 pub record Step-of (s : List ℕ) (c : Counts) (a : Stepped) : Type 0 where
   pub built : buildText Refine s lent .answer ≡ Accepted c

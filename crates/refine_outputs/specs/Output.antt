@@ -1,19 +1,21 @@
 -- What the program `refine` writes for the bytes of a text (document 01, "Mesh text").
 --     lent                    the tables that it lends, and its scratch: zeros, with rows for 256 points, 512 edges and 256 faces
+--     outputBytes             the most bytes of an output
 --     pointLine ps            where point 0 is, by the table of positions ps
 --     groundLine ns           the line of a ground, by document 01's numbers of the answer
 --     stepLines c a ps        the lines after a step of a mesh with the counts c, by its answer and the positions that it left
 --     numberedStep c m        the step of the mesh with the counts c in the tables m, its faces visited in numbered order
 --     output s                the whole output
 --     Writing                 how many bytes are written, and the lent bytes afterwards
---     refine s out            the output at the front of the bytes that are lent; nothing where these are fewer than 256
+--     refine s out            the output at the front of the bytes that are lent; nothing where these are fewer than outputBytes
 use mathlib.Core.Bool.{Bool, true, false}
 use mathlib.Core.List.{List, [], _∷_, _++_}
-use Prim.Native.Nat.{ℕ, zero, suc}
+use Prim.Native.Nat.{ℕ, zero, suc, _*_}
 use lib.Dec.{leb}
 use lib.ListN.{length, replicate}
 use lib.Seq.{sets}
 use lib.Ieee.{Float, ofBits, toBits, binary64}
+use Rattle.tables.specs.Layout.{positionWidth, pointWidth, edgeWidth, faceWidth}
 use Rattle.tables.specs.Mesh.{Mesh}
 use Rattle.tables.specs.Records.{positionAt}
 use Rattle.tables.specs.declared.Counts.{Counts}
@@ -29,14 +31,17 @@ use Rattle.steps.specs.declared.Stepped.the-variants.{Refined, NotClosed, NotEa
 use Rattle.runs.specs.Runs.{numbered}
 use Rattle.mesh_answers.specs.Lines.{meshLine, stepLine, atLine, refusedLine}
 
+abbrev pub outputBytes : ℕ
+outputBytes = 256
+
 unfoldable pub lent : Mesh
 lent =
     record {
-      positions = replicate 768 (ofBits binary64 0);
-      points = replicate 768 0;
-      edges = replicate 4096 0;
+      positions = replicate (256 * positionWidth) (ofBits binary64 0);
+      points = replicate (256 * pointWidth) 0;
+      edges = replicate (512 * edgeWidth) 0;
       intervals = replicate 512 (ofBits binary64 0);
-      faces = replicate 1280 0;
+      faces = replicate (256 * faceWidth) 0;
     }
 
 abbrev pub pointLine : List Float → List ℕ
@@ -92,4 +97,4 @@ writingIf false xs out = record { length = 0; out = out }
 
 unfoldable pub refine : List ℕ → List ℕ → Writing
 unfolding output
-refine s out = writingIf (leb 256 (length out)) (output s) out
+refine s out = writingIf (leb outputBytes (length out)) (output s) out

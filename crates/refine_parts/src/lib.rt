@@ -6,6 +6,7 @@
 ghost use mathlib.Core.Path.{_≡_};
 ghost use Prim.Native.Nat.{_+_, _≤_};
 ghost use lib.ListN.{length};
+ghost use Rattle.tables.specs.Layout.{faceCeiling};
 ghost use Rattle.runs.specs.Runs.{numbered};
 ghost use Rattle.mesh_answers.specs.Lines.{Written};
 ghost use Rattle.refine_outputs.specs.Output.{pointLine, stepLines};
@@ -57,7 +58,7 @@ pub fn write_stepped(
 
 // Fills an order with 0, 1, 2, ..
 pub fn number_faces(order: &mut [u32])
-    requires { ⌜ length (now order) ≤ 65536 ⌝ }
+    requires { ⌜ length (now order) ≤ faceCeiling ⌝ }
     ensures { λ _. ⌜ now (order .exit) ≡ numbered (length (now (order .entry))) ⌝ }
 {
     let n = order.len();

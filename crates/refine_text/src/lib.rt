@@ -9,12 +9,14 @@ ghost use mathlib.Core.List.{_++_};
 ghost use Prim.Native.Nat.{_≤_};
 ghost use lib.ListN.{length};
 ghost use Rattle.tables.specs.Mesh.{meshOf};
+ghost use Rattle.built_meshes.specs.Lists.{refine as refineLimits};
 ghost use Rattle.steps.specs.Step.{step};
 ghost use Rattle.mesh_answers.specs.Lines.{meshLine, Written};
-ghost use Rattle.refine_outputs.specs.Output.{lent, linesOf, numberedStep, outputFrom, Writing, refine};
+ghost use Rattle.refine_outputs.specs.Output.{lent, linesOf, numberedStep, outputFrom, Writing, refine, outputBytes};
 ghost use Rattle.refine_text.specs.Parts.{SteppedTo};
 use answer_numbers::ground_number;
 use building_tests::Bounds;
+use building_tests::REFINE_FACES;
 use mesh_answers::write_mesh;
 use mesh_answers::write_refused;
 use refine_parts::number_faces;
@@ -22,8 +24,22 @@ use refine_parts::write_stepped;
 use refining::step;
 use steps::Stepped;
 use tables::Counts;
+use tables::EDGE_WIDTH;
+use tables::FACE_WIDTH;
+use tables::POINT_WIDTH;
+use tables::POSITION_WIDTH;
 use text_building::build_text;
 use text_meshes::TextBuilt;
+
+// The most bytes of an output.
+pub const OUTPUT_BYTES: usize = 256;
+
+// The rows of the tables that are lent to building and to the step.
+const LENT_POINTS: usize = 256;
+
+const LENT_EDGES: usize = 512;
+
+const LENT_FACES: usize = 256;
 
 // The step of a mesh in the order handed in, by scratch of zeros.
 fn step_by_zeros(
@@ -40,11 +56,11 @@ fn step_by_zeros(
         (step (meshOf (now (positions .entry)) (now (points .entry)) (now (edges .entry)) (now (intervals .entry)) (now (faces .entry)))
         counts (now (order .entry)) lent) ⌝ }
 {
-    let mut places = [0.0; 768];
-    let mut rows = [0u32; 768];
-    let mut halves = [0u32; 4096];
-    let mut lengths = [0.0; 512];
-    let mut quads = [0u32; 1280];
+    let mut places = [0.0; LENT_POINTS * POSITION_WIDTH];
+    let mut rows = [0u32; LENT_POINTS * POINT_WIDTH];
+    let mut halves = [0u32; LENT_EDGES * EDGE_WIDTH];
+    let mut lengths = [0.0; LENT_EDGES];
+    let mut quads = [0u32; LENT_FACES * FACE_WIDTH];
     step(
         positions,
         points,
@@ -70,13 +86,13 @@ fn numbered_step(
     faces: &mut [u32],
     counts: Counts,
 ) -> Stepped
-    requires { ⌜ counts .faces ≤ 64 ⌝ }
+    requires { ⌜ counts .faces ≤ refineLimits .faces ⌝ }
     ensures { λ r. ⌜
         SteppedTo r (meshOf (now (positions .exit)) (now (points .exit)) (now (edges .exit)) (now (intervals .exit)) (now (faces .exit)))
         (numberedStep counts
         (meshOf (now (positions .entry)) (now (points .entry)) (now (edges .entry)) (now (intervals .entry)) (now (faces .entry)))) ⌝ }
 {
-    let mut order = [0u32; 64];
+    let mut order = [0u32; REFINE_FACES];
     number_faces(&mut order);
     let n = counts.faces;
     step_by_zeros(
@@ -100,8 +116,8 @@ fn write_built(
     faces: &mut [u32],
     counts: Counts,
 ) -> usize
-    requires { ⌜ counts .faces ≤ 64 ⌝ }
-    requires { ⌜ 256 ≤ length (now out) ⌝ }
+    requires { ⌜ counts .faces ≤ refineLimits .faces ⌝ }
+    requires { ⌜ outputBytes ≤ length (now out) ⌝ }
     ensures { λ r. ⌜
         Written (now (out .entry)) 0
         (meshLine (counts .points) (counts .edges) (counts .faces)
@@ -131,7 +147,7 @@ fn write_output(
     intervals: &mut [f64],
     faces: &mut [u32],
 ) -> usize
-    requires { ⌜ 256 ≤ length (now out) ⌝ }
+    requires { ⌜ outputBytes ≤ length (now out) ⌝ }
     ensures { λ r. ⌜
         Written (now (out .entry)) 0
         (outputFrom (now (text .entry))
@@ -160,14 +176,14 @@ fn write_output(
 pub fn refine(text: &[u8], out: &mut [u8]) -> usize
     ensures { λ r. ⌜ _≡_ {A = Writing} (record { length = r; out = now (out .exit) }) (refine (now (text .entry)) (now (out .entry))) ⌝ }
 {
-    if out.len() < 256 {
+    if out.len() < OUTPUT_BYTES {
         return 0;
     }
-    let mut positions = [0.0; 768];
-    let mut points = [0u32; 768];
-    let mut edges = [0u32; 4096];
-    let mut intervals = [0.0; 512];
-    let mut faces = [0u32; 1280];
+    let mut positions = [0.0; LENT_POINTS * POSITION_WIDTH];
+    let mut points = [0u32; LENT_POINTS * POINT_WIDTH];
+    let mut edges = [0u32; LENT_EDGES * EDGE_WIDTH];
+    let mut intervals = [0.0; LENT_EDGES];
+    let mut faces = [0u32; LENT_FACES * FACE_WIDTH];
     write_output(
         out,
         text,

@@ -10,6 +10,7 @@ use mathlib.Core.Path.{_≡_}
 use mathlib.Core.List.{List}
 use Prim.Native.Nat.{ℕ, _+_, _-_, _*_, _≤_, _<_}
 use lib.ListN.{length, getD}
+use Rattle.tables.specs.Layout.{pointWidth, edgeWidth, faceWidth, longestPerimeter}
 use Rattle.tables.specs.Mesh.{Mesh}
 use Rattle.audited_meshes.specs.Audit.{pointRows, edgeRows, faceRows}
 use Rattle.audited_meshes.specs.Walks.{edgesOf, passed, faceWalk, firstPoint}
@@ -20,10 +21,10 @@ use Rattle.refined_meshes.specs.Order.{EachOnce}
 use Rattle.refined_meshes.specs.Visits.{foundOn, splitAll, ringOf, visits, refinedRows}
 
 pub record Room (P E F : ℕ) (s : State) : Type 0 where
-  pub points-room : P * 3 ≤ length (s .points)
-  pub edges-room : E * 8 ≤ length (s .edges)
+  pub points-room : P * pointWidth ≤ length (s .points)
+  pub edges-room : E * edgeWidth ≤ length (s .edges)
   pub intervals-room : E ≤ length (s .intervals)
-  pub faces-room : F * 5 ≤ length (s .faces)
+  pub faces-room : F * faceWidth ≤ length (s .faces)
 
 abbrev pub RoomFor : ℕ → ℕ → ℕ → State → Type 0
 RoomFor np ne nf s = Room (np + ne + nf) (4 * ne) (2 * ne) s
@@ -41,7 +42,7 @@ pub record VisitFits (m : Mesh) (np ne nf f : ℕ) (s : State) : Type 0 where
   pub face-below : f < nf
   pub faces-less : nf ≤ 2 * ne
   pub size-low : 3 ≤ passed (faceWalk m ne f)
-  pub size-high : passed (faceWalk m ne f) ≤ 64
+  pub size-high : passed (faceWalk m ne f) ≤ longestPerimeter
   pub edge-below : (i : ℕ) → i < passed (faceWalk m ne f) → getD (edgesOf (faceWalk m ne f)) i 0 < ne
   pub room : RoomFor np ne nf s
   pub centre-fits : s .pointsTaken < np + ne + nf

@@ -13,6 +13,7 @@ use Prim.Native.Nat.{ℕ, _+_, _*_}
 use lib.ListN.{set}
 use lib.Ieee.{Float}
 use Rattle.t_spline.specs.declared.TnurccEdge.{TnurccEdge}
+use Rattle.tables.specs.Layout.{pointWidth, startWord, edgeWidth, faceWidth}
 use Rattle.tables.specs.Mesh.{Mesh}
 use Rattle.tables.specs.Rows.{putRow, over}
 use Rattle.tables.specs.Records.{edgeAt, edgeWords}
@@ -37,7 +38,7 @@ unfoldable pub putEdge : ℕ → TnurccEdge → State → State
 putEdge e r s =
     record {
       points = s .points;
-      edges = putRow (s .edges) (e * 8) (edgeWords r);
+      edges = putRow (s .edges) (e * edgeWidth) (edgeWords r);
       intervals = set (s .intervals) e (r .«knot_interval»);
       faces = s .faces;
       pointsTaken = s .pointsTaken;
@@ -48,7 +49,7 @@ putEdge e r s =
 unfoldable pub putPoint : ℕ → ℕ → ℕ → ℕ → State → State
 putPoint p v e k s =
     record {
-      points = putRow (s .points) (p * 3) (v ∷ e ∷ k ∷ []);
+      points = putRow (s .points) (p * pointWidth) (v ∷ e ∷ k ∷ []);
       edges = s .edges;
       intervals = s .intervals;
       faces = s .faces;
@@ -60,7 +61,7 @@ putPoint p v e k s =
 unfoldable pub putStart : ℕ → ℕ → State → State
 putStart p e s =
     record {
-      points = set (s .points) (p * 3 + 1) e;
+      points = set (s .points) (p * pointWidth + startWord) e;
       edges = s .edges;
       intervals = s .intervals;
       faces = s .faces;
@@ -75,7 +76,7 @@ putFace f e c0 c1 c2 c3 s =
       points = s .points;
       edges = s .edges;
       intervals = s .intervals;
-      faces = putRow (s .faces) (f * 5) (e ∷ c0 ∷ c1 ∷ c2 ∷ c3 ∷ []);
+      faces = putRow (s .faces) (f * faceWidth) (e ∷ c0 ∷ c1 ∷ c2 ∷ c3 ∷ []);
       pointsTaken = s .pointsTaken;
       edgesTaken = s .edgesTaken;
       facesTaken = s .facesTaken;
@@ -97,10 +98,10 @@ take p e f s =
 unfoldable pub copied : Mesh → ℕ → ℕ → ℕ → Mesh → State
 copied m np ne nf t =
     record {
-      points = over (np * 3) (m .points) (t .points);
-      edges = over (ne * 8) (m .edges) (t .edges);
+      points = over (np * pointWidth) (m .points) (t .points);
+      edges = over (ne * edgeWidth) (m .edges) (t .edges);
       intervals = over ne (m .intervals) (t .intervals);
-      faces = over (nf * 5) (m .faces) (t .faces);
+      faces = over (nf * faceWidth) (m .faces) (t .faces);
       pointsTaken = np;
       edgesTaken = ne;
       facesTaken = nf;

@@ -13,6 +13,7 @@ use mathlib.Core.List.{List}
 use Prim.Native.Nat.{ℕ, _-_}
 use lib.ListN.{getD, replicate}
 use lib.Ieee.{Float, nan, ofBits, binary64}
+use Rattle.tables.specs.Layout.{longestPerimeter}
 use Rattle.tables.specs.Mesh.{Mesh}
 use Rattle.audited_meshes.specs.Walks.{edgesOf, passed, faceWalk}
 use Rattle.refined_meshes.specs.Turns.{turns, filled}
@@ -22,7 +23,7 @@ use Rattle.refined_meshes.specs.Ring.{Ring, onLeft, firstHalfOf, secondH
 
 -- a perimeter has at most 64 places
 abbrev pub foundOn : List ℕ → ℕ → State → List Float
-foundOn es n s = filled n (λ i. getD (s .intervals) (getD es i 0) nan) (replicate 64 (ofBits binary64 0))
+foundOn es n s = filled n (λ i. getD (s .intervals) (getD es i 0) nan) (replicate longestPerimeter (ofBits binary64 0))
 
 unfoldable pub splitAll : ℕ → List ℕ → ℕ → State → State
 splitAll np es n s = turns n (λ i. splitWhole np (getD es i 0)) s
@@ -36,9 +37,9 @@ ringOf m f es n centre found s =
       joinsFrom = s .edgesTaken;
       facesFrom = s .facesTaken;
       edges = es;
-      firsts = filled n (λ i. firstHalfOf (onLeft m f (getD es i 0)) s (getD es i 0)) (replicate 64 0);
-      seconds = filled n (λ i. secondHalfOf (onLeft m f (getD es i 0)) s (getD es i 0)) (replicate 64 0);
-      mids = filled n (λ i. edgeOf s (getD es i 0) .dest) (replicate 64 0);
+      firsts = filled n (λ i. firstHalfOf (onLeft m f (getD es i 0)) s (getD es i 0)) (replicate longestPerimeter 0);
+      seconds = filled n (λ i. secondHalfOf (onLeft m f (getD es i 0)) s (getD es i 0)) (replicate longestPerimeter 0);
+      mids = filled n (λ i. edgeOf s (getD es i 0) .dest) (replicate longestPerimeter 0);
       found = found;
     }
 

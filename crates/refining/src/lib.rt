@@ -15,6 +15,9 @@ use scratch_rows::zero_rows;
 use step_grounds::first_ground;
 use steps::Stepped;
 use tables::Counts;
+use tables::EDGE_WIDTH;
+use tables::FACE_WIDTH;
+use tables::POINT_WIDTH;
 
 // Makes the refined mesh of the rows that the counts count, and of no other, as `make_in_rows` does.
 fn make_from_rows(
@@ -46,10 +49,10 @@ fn make_from_rows(
         zeroedRows c (meshOf (now (places .exit)) (now (rows .exit)) (now (halves .exit)) (now (lengths .exit)) (now (quads .exit)))
         ≡ zeroedRows c (meshOf (now (places .entry)) (now (rows .entry)) (now (halves .entry)) (now (lengths .entry)) (now (quads .entry))) ⌝ }
 {
-    let p = counts.points * 3;
-    let e = counts.edges * 8;
+    let p = counts.points * POINT_WIDTH;
+    let e = counts.edges * EDGE_WIDTH;
     let i = counts.edges;
-    let f = counts.faces * 5;
+    let f = counts.faces * FACE_WIDTH;
     make_in_rows(
         &positions[..p],
         &points[..p],

@@ -8,6 +8,7 @@ ghost use mathlib.Core.List.{List, []};
 ghost use Prim.Native.Nat.{ℕ, _+_, _*_, _≤_, _<_};
 ghost use lib.ListN.{length, getD};
 ghost use lib.Ieee.{Float};
+ghost use Rattle.tables.specs.Layout.{edgeWidth};
 ghost use Rattle.tables.specs.declared.Counts.{Counts};
 ghost use Rattle.walks.specs.Steps.{faceTables};
 ghost use Rattle.refined_meshes.specs.Turns.{turns};
@@ -22,14 +23,22 @@ use ring_places::RingRows;
 use ring_places::face_row;
 use ring_places::on_left;
 use t_spline::TnurccEdge;
+use tables::EDGE_WIDTH;
+use tables::LEFT_ACW_WORD;
+use tables::LEFT_CW_WORD;
+use tables::LEFT_FACE_WORD;
+use tables::LONGEST_PERIMETER;
+use tables::RIGHT_ACW_WORD;
+use tables::RIGHT_CW_WORD;
+use tables::RIGHT_FACE_WORD;
 use tables::index;
 
 // The joining edge to the midpoint of place i.
-pub fn join_edge(
-    firsts: &[u32; 64],
-    seconds: &[u32; 64],
-    mids: &[u32; 64],
-    found: &[f64; 64],
+fn join_edge(
+    firsts: &[u32; LONGEST_PERIMETER],
+    seconds: &[u32; LONGEST_PERIMETER],
+    mids: &[u32; LONGEST_PERIMETER],
+    found: &[f64; LONGEST_PERIMETER],
     rows: RingRows,
     i: usize,
 ) -> TnurccEdge
@@ -61,14 +70,14 @@ pub fn join_edge(
 pub fn put_joins(
     edges: &mut [u32],
     intervals: &mut [f64],
-    firsts: &[u32; 64],
-    seconds: &[u32; 64],
-    mids: &[u32; 64],
-    found: &[f64; 64],
+    firsts: &[u32; LONGEST_PERIMETER],
+    seconds: &[u32; LONGEST_PERIMETER],
+    mids: &[u32; LONGEST_PERIMETER],
+    found: &[f64; LONGEST_PERIMETER],
     rows: RingRows,
 )
     requires { ⌜ Small rows ⌝ }
-    requires { ⌜ (rows .joins + rows .size) * 8 ≤ length (now edges) ⌝ }
+    requires { ⌜ (rows .joins + rows .size) * edgeWidth ≤ length (now edges) ⌝ }
     requires { ⌜ rows .joins + rows .size ≤ length (now intervals) ⌝ }
     ensures { λ _. ⌜
         ((es ps fs : List ℕ) (c : Counts) →
@@ -88,37 +97,37 @@ pub fn put_joins(
 
 // Stores the face and the two neighbours of the edge e on its left or its right.
 fn put_side(edges: &mut [u32], left: bool, e: u32, f: u32, acw: u32, cw: u32)
-    requires { ⌜ e * 8 + 8 ≤ length (now edges) ⌝ }
+    requires { ⌜ e * edgeWidth + edgeWidth ≤ length (now edges) ⌝ }
     ensures { λ _. ⌜
         ((ps fs : List ℕ) (is : List Float) (c : Counts) →
         _≡_ {A = State} (tablesOf ps (now (edges .exit)) is fs c) (putSide left e f acw cw (tablesOf ps (now (edges .entry)) is fs c))) ⌝ }
 {
-    let b = e as usize * 8;
+    let b = e as usize * EDGE_WIDTH;
     if left {
-        edges[b + 2] = f;
-        edges[b + 4] = cw;
-        edges[b + 5] = acw;
+        edges[b + LEFT_FACE_WORD] = f;
+        edges[b + LEFT_CW_WORD] = cw;
+        edges[b + LEFT_ACW_WORD] = acw;
         return;
     }
-    edges[b + 3] = f;
-    edges[b + 6] = cw;
-    edges[b + 7] = acw;
+    edges[b + RIGHT_FACE_WORD] = f;
+    edges[b + RIGHT_CW_WORD] = cw;
+    edges[b + RIGHT_ACW_WORD] = acw;
 }
 
 // Stores the first half at place i on the side of the face.
 fn put_first(
     oldedges: &[u32],
     edges: &mut [u32],
-    perimeter: &[u32; 64],
-    firsts: &[u32; 64],
-    seconds: &[u32; 64],
+    perimeter: &[u32; LONGEST_PERIMETER],
+    firsts: &[u32; LONGEST_PERIMETER],
+    seconds: &[u32; LONGEST_PERIMETER],
     rows: RingRows,
     i: usize,
 )
     requires { ⌜ Small rows ⌝ }
     requires { ⌜ i < rows .size ⌝ }
-    requires { ⌜ getD (now perimeter) i 0 * 8 + 8 ≤ length (now oldedges) ⌝ }
-    requires { ⌜ getD (now firsts) i 0 * 8 + 8 ≤ length (now edges) ⌝ }
+    requires { ⌜ getD (now perimeter) i 0 * edgeWidth + edgeWidth ≤ length (now oldedges) ⌝ }
+    requires { ⌜ getD (now firsts) i 0 * edgeWidth + edgeWidth ≤ length (now edges) ⌝ }
     ensures { λ _. ⌜
         ((ms ps fs : List ℕ) (ds is : List Float) (c : Counts) →
         _≡_ {A = State}
@@ -143,9 +152,9 @@ fn put_first(
 pub fn put_firsts(
     oldedges: &[u32],
     edges: &mut [u32],
-    perimeter: &[u32; 64],
-    firsts: &[u32; 64],
-    seconds: &[u32; 64],
+    perimeter: &[u32; LONGEST_PERIMETER],
+    firsts: &[u32; LONGEST_PERIMETER],
+    seconds: &[u32; LONGEST_PERIMETER],
     rows: RingRows,
 )
     requires { ⌜ Small rows ⌝ }
@@ -171,16 +180,16 @@ pub fn put_firsts(
 fn put_second(
     oldedges: &[u32],
     edges: &mut [u32],
-    perimeter: &[u32; 64],
-    firsts: &[u32; 64],
-    seconds: &[u32; 64],
+    perimeter: &[u32; LONGEST_PERIMETER],
+    firsts: &[u32; LONGEST_PERIMETER],
+    seconds: &[u32; LONGEST_PERIMETER],
     rows: RingRows,
     i: usize,
 )
     requires { ⌜ Small rows ⌝ }
     requires { ⌜ i < rows .size ⌝ }
-    requires { ⌜ getD (now perimeter) i 0 * 8 + 8 ≤ length (now oldedges) ⌝ }
-    requires { ⌜ getD (now seconds) i 0 * 8 + 8 ≤ length (now edges) ⌝ }
+    requires { ⌜ getD (now perimeter) i 0 * edgeWidth + edgeWidth ≤ length (now oldedges) ⌝ }
+    requires { ⌜ getD (now seconds) i 0 * edgeWidth + edgeWidth ≤ length (now edges) ⌝ }
     ensures { λ _. ⌜
         ((ms ps fs : List ℕ) (ds is : List Float) (c : Counts) →
         _≡_ {A = State}
@@ -205,9 +214,9 @@ fn put_second(
 pub fn put_seconds(
     oldedges: &[u32],
     edges: &mut [u32],
-    perimeter: &[u32; 64],
-    firsts: &[u32; 64],
-    seconds: &[u32; 64],
+    perimeter: &[u32; LONGEST_PERIMETER],
+    firsts: &[u32; LONGEST_PERIMETER],
+    seconds: &[u32; LONGEST_PERIMETER],
     rows: RingRows,
 )
     requires { ⌜ Small rows ⌝ }

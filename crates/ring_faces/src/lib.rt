@@ -7,6 +7,7 @@ ghost use mathlib.Core.List.{List, []};
 ghost use Prim.Native.Nat.{ℕ, _+_, _-_, _*_, _≤_, _<_};
 ghost use lib.ListN.{length, getD};
 ghost use lib.Ieee.{Float};
+ghost use Rattle.tables.specs.Layout.{pointWidth, edgeWidth, faceWidth};
 ghost use Rattle.tables.specs.declared.Counts.{Counts};
 ghost use Rattle.audited_meshes.specs.Walks.{firstPoint};
 ghost use Rattle.walks.specs.Steps.{faceTables};
@@ -21,33 +22,39 @@ use ring_places::RingRows;
 use ring_places::face_row;
 use ring_places::on_left;
 use t_spline::TnurccFace;
+use tables::DEST_WORD;
+use tables::EDGE_WIDTH;
+use tables::LONGEST_PERIMETER;
+use tables::MARK_WORD;
+use tables::POINT_WIDTH;
+use tables::START_WORD;
 use tables::index;
 
 // The point from which a walk about face f goes along the edge e.
 fn first_point(oldedges: &[u32], f: usize, e: usize) -> u32
-    requires { ⌜ e * 8 + 8 ≤ length (now oldedges) ⌝ }
+    requires { ⌜ e * edgeWidth + edgeWidth ≤ length (now oldedges) ⌝ }
     ensures { λ r. ⌜ r ≡ firstPoint (faceTables (now (oldedges .entry)) []) f e ⌝ }
 {
     if on_left(oldedges, f, e) {
-        return oldedges[e * 8];
+        return oldedges[e * EDGE_WIDTH];
     }
-    oldedges[e * 8 + 1]
+    oldedges[e * EDGE_WIDTH + DEST_WORD]
 }
 
 // Stores the new face at place i.
 fn put_new_face(
     oldedges: &[u32],
     faces: &mut [u32],
-    perimeter: &[u32; 64],
-    firsts: &[u32; 64],
-    mids: &[u32; 64],
+    perimeter: &[u32; LONGEST_PERIMETER],
+    firsts: &[u32; LONGEST_PERIMETER],
+    mids: &[u32; LONGEST_PERIMETER],
     rows: RingRows,
     i: usize,
 )
     requires { ⌜ Small rows ⌝ }
     requires { ⌜ i < rows .size ⌝ }
-    requires { ⌜ getD (now perimeter) i 0 * 8 + 8 ≤ length (now oldedges) ⌝ }
-    requires { ⌜ faceRow (ring rows [] [] [] [] []) i * 5 + 5 ≤ length (now faces) ⌝ }
+    requires { ⌜ getD (now perimeter) i 0 * edgeWidth + edgeWidth ≤ length (now oldedges) ⌝ }
+    requires { ⌜ faceRow (ring rows [] [] [] [] []) i * faceWidth + faceWidth ≤ length (now faces) ⌝ }
     ensures { λ _. ⌜
         ((gs ps es : List ℕ) (ds is : List Float) (c : Counts) →
         _≡_ {A = State}
@@ -69,15 +76,15 @@ fn put_new_face(
 pub fn put_new_faces(
     oldedges: &[u32],
     faces: &mut [u32],
-    perimeter: &[u32; 64],
-    firsts: &[u32; 64],
-    mids: &[u32; 64],
+    perimeter: &[u32; LONGEST_PERIMETER],
+    firsts: &[u32; LONGEST_PERIMETER],
+    mids: &[u32; LONGEST_PERIMETER],
     rows: RingRows,
 )
     requires { ⌜ Small rows ⌝ }
     requires { ⌜ Rows (now oldedges) (now perimeter) (rows .size) ⌝ }
-    requires { ⌜ rows .face * 5 + 5 ≤ length (now faces) ⌝ }
-    requires { ⌜ (rows .faces + (rows .size - 1)) * 5 ≤ length (now faces) ⌝ }
+    requires { ⌜ rows .face * faceWidth + faceWidth ≤ length (now faces) ⌝ }
+    requires { ⌜ (rows .faces + (rows .size - 1)) * faceWidth ≤ length (now faces) ⌝ }
     ensures { λ _. ⌜
         ((gs ps es : List ℕ) (ds is : List Float) (c : Counts) →
         _≡_ {A = State}
@@ -97,13 +104,13 @@ pub fn put_new_faces(
 // Stores the row of the face point: its valence is the number of edges, its start edge the last joining edge, its mark 0.
 pub fn put_face_point(points: &mut [u32], rows: RingRows)
     requires { ⌜ Small rows ⌝ }
-    requires { ⌜ rows .centre * 3 + 3 ≤ length (now points) ⌝ }
+    requires { ⌜ rows .centre * pointWidth + pointWidth ≤ length (now points) ⌝ }
     ensures { λ _. ⌜
         ((es hs gs ms xs fs : List ℕ) (ds is : List Float) (c : Counts) →
         _≡_ {A = State} (tablesOf (now (points .exit)) xs is fs c) (putFacePoint (ring rows es hs gs ms ds) (tablesOf (now (points .entry)) xs is fs c))) ⌝ }
 {
-    let b = rows.centre * 3;
+    let b = rows.centre * POINT_WIDTH;
     points[b] = rows.size as u32;
-    points[b + 1] = (rows.joins + (rows.size - 1)) as u32;
-    points[b + 2] = 0;
+    points[b + START_WORD] = (rows.joins + (rows.size - 1)) as u32;
+    points[b + MARK_WORD] = 0;
 }

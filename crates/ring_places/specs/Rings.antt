@@ -10,6 +10,8 @@ use Prim.Native.Nat.{ℕ, _+_, _*_, _≤_, _<_}
 use lib.Dec.{eqb}
 use lib.ListN.{length, getD}
 use lib.Ieee.{Float}
+use Rattle.tables.specs.Layout.{edgeWidth, leftFaceWord, leftAcwWord, rightCwWord}
+use Rattle.tables.specs.Layout.{longestPerimeter, pointCeiling, edgeCeiling, faceCeiling}
 use Rattle.refined_meshes.specs.Ring.{Ring}
 use Rattle.ring_places.specs.declared.RingRows.{RingRows}
 
@@ -29,18 +31,18 @@ ring rows es hs gs ms ds =
     }
 
 abbrev pub firstOf : List ℕ → List ℕ → ℕ → ℕ → ℕ
-firstOf old new f e = cond (eqb (getD old (e * 8 + 2) 0) f) e (getD new (e * 8 + 6) 0)
+firstOf old new f e = cond (eqb (getD old (e * edgeWidth + leftFaceWord) 0) f) e (getD new (e * edgeWidth + rightCwWord) 0)
 
 abbrev pub secondOf : List ℕ → List ℕ → ℕ → ℕ → ℕ
-secondOf old new f e = cond (eqb (getD old (e * 8 + 2) 0) f) (getD new (e * 8 + 5) 0) e
+secondOf old new f e = cond (eqb (getD old (e * edgeWidth + leftFaceWord) 0) f) (getD new (e * edgeWidth + leftAcwWord) 0) e
 
 pub record Small (rows : RingRows) : Type 0 where
   pub some-places : 0 < rows .size
-  pub few-places : rows .size ≤ 64
-  pub few-points : rows .centre < 65536
-  pub few-edges : rows .joins + rows .size ≤ 131072
-  pub face-below : rows .face < 65536
+  pub few-places : rows .size ≤ longestPerimeter
+  pub few-points : rows .centre < pointCeiling
+  pub few-edges : rows .joins + rows .size ≤ edgeCeiling
+  pub face-below : rows .face < faceCeiling
   pub few-faces : rows .faces + rows .size ≤ 65537
 
 abbrev pub Rows : List ℕ → List ℕ → ℕ → Type 0
-Rows es xs n = (i : ℕ) → i < n → getD xs i 0 * 8 + 8 ≤ length es
+Rows es xs n = (i : ℕ) → i < n → getD xs i 0 * edgeWidth + edgeWidth ≤ length es

@@ -10,9 +10,16 @@ ghost use Prim.Native.Nat.{ℕ, _+_, _*_, _≤_, _<_};
 ghost use lib.Dec.{eqb};
 ghost use lib.ListN.{length, getD};
 ghost use lib.Ieee.{nan};
+ghost use Rattle.tables.specs.Layout.{edgeWidth, destWord, leftFaceWord, leftAcwWord, rightCwWord, longestPerimeter};
 ghost use Rattle.refined_meshes.specs.Turns.{filled};
 ghost use Rattle.refined_meshes.specs.Ring.{faceRow};
 ghost use Rattle.ring_places.specs.Rings.{ring, firstOf, secondOf, Small, Rows};
+use tables::DEST_WORD;
+use tables::EDGE_WIDTH;
+use tables::LEFT_ACW_WORD;
+use tables::LEFT_FACE_WORD;
+use tables::LONGEST_PERIMETER;
+use tables::RIGHT_CW_WORD;
 use tables::index;
 
 // The rows of a ring: the face, the number of its edges, its face point, its first joining edge, its first appended face.
@@ -26,37 +33,42 @@ pub struct RingRows {
 
 // Whether face f is on the left of the edge e, in a mesh's table of edges.
 pub fn on_left(oldedges: &[u32], f: usize, e: usize) -> bool
-    requires { ⌜ e * 8 + 8 ≤ length (now oldedges) ⌝ }
-    ensures { λ r. ⌜ r ≡ eqb (getD (now (oldedges .entry)) (e * 8 + 2) 0) f ⌝ }
+    requires { ⌜ e * edgeWidth + edgeWidth ≤ length (now oldedges) ⌝ }
+    ensures { λ r. ⌜ r ≡ eqb (getD (now (oldedges .entry)) (e * edgeWidth + leftFaceWord) 0) f ⌝ }
 {
-    index(oldedges[e * 8 + 2]) == f
+    index(oldedges[e * EDGE_WIDTH + LEFT_FACE_WORD]) == f
 }
 
 // The half of the edge e at its first point, where the face is on its left or its right.
 fn first_half(edges: &[u32], left: bool, e: u32) -> u32
-    requires { ⌜ e * 8 + 8 ≤ length (now edges) ⌝ }
-    ensures { λ r. ⌜ r ≡ cond left e (getD (now (edges .entry)) (e * 8 + 6) 0) ⌝ }
+    requires { ⌜ e * edgeWidth + edgeWidth ≤ length (now edges) ⌝ }
+    ensures { λ r. ⌜ r ≡ cond left e (getD (now (edges .entry)) (e * edgeWidth + rightCwWord) 0) ⌝ }
 {
     if left {
         return e;
     }
-    edges[e as usize * 8 + 6]
+    edges[e as usize * EDGE_WIDTH + RIGHT_CW_WORD]
 }
 
 // The half of the edge e at its second point.
 fn second_half(edges: &[u32], left: bool, e: u32) -> u32
-    requires { ⌜ e * 8 + 8 ≤ length (now edges) ⌝ }
-    ensures { λ r. ⌜ r ≡ cond left (getD (now (edges .entry)) (e * 8 + 5) 0) e ⌝ }
+    requires { ⌜ e * edgeWidth + edgeWidth ≤ length (now edges) ⌝ }
+    ensures { λ r. ⌜ r ≡ cond left (getD (now (edges .entry)) (e * edgeWidth + leftAcwWord) 0) e ⌝ }
 {
     if left {
-        return edges[e as usize * 8 + 5];
+        return edges[e as usize * EDGE_WIDTH + LEFT_ACW_WORD];
     }
     e
 }
 
 // Stores the intervals of the first n edges of a perimeter.
-pub fn put_found(intervals: &[f64], perimeter: &[u32; 64], n: usize, found: &mut [f64; 64])
-    requires { ⌜ n ≤ 64 ⌝ }
+pub fn put_found(
+    intervals: &[f64],
+    perimeter: &[u32; LONGEST_PERIMETER],
+    n: usize,
+    found: &mut [f64; LONGEST_PERIMETER],
+)
+    requires { ⌜ n ≤ longestPerimeter ⌝ }
     requires { ⌜ ((i : ℕ) → i < n → getD (now perimeter) i 0 < length (now intervals)) ⌝ }
     ensures { λ _. ⌜
         now (found .exit) ≡ filled n (λ i. getD (now (intervals .entry)) (getD (now (perimeter .entry)) i 0) nan) (now (found .entry)) ⌝ }
@@ -74,14 +86,14 @@ pub fn put_found(intervals: &[f64], perimeter: &[u32; 64], n: usize, found: &mut
 pub fn put_places(
     oldedges: &[u32],
     edges: &[u32],
-    perimeter: &[u32; 64],
+    perimeter: &[u32; LONGEST_PERIMETER],
     f: usize,
     n: usize,
-    firsts: &mut [u32; 64],
-    seconds: &mut [u32; 64],
-    mids: &mut [u32; 64],
+    firsts: &mut [u32; LONGEST_PERIMETER],
+    seconds: &mut [u32; LONGEST_PERIMETER],
+    mids: &mut [u32; LONGEST_PERIMETER],
 )
-    requires { ⌜ n ≤ 64 ⌝ }
+    requires { ⌜ n ≤ longestPerimeter ⌝ }
     requires { ⌜ Rows (now oldedges) (now perimeter) n ⌝ }
     requires { ⌜ Rows (now edges) (now perimeter) n ⌝ }
     ensures { λ _. ⌜
@@ -91,7 +103,7 @@ pub fn put_places(
         now (seconds .exit) ≡
         filled n (λ i. secondOf (now (oldedges .entry)) (now (edges .entry)) f (getD (now (perimeter .entry)) i 0)) (now (seconds .entry)) ⌝ }
     ensures { λ _. ⌜
-        now (mids .exit) ≡ filled n (λ i. getD (now (edges .entry)) (getD (now (perimeter .entry)) i 0 * 8 + 1) 0) (now (mids .entry)) ⌝ }
+        now (mids .exit) ≡ filled n (λ i. getD (now (edges .entry)) (getD (now (perimeter .entry)) i 0 * edgeWidth + destWord) 0) (now (mids .entry)) ⌝ }
 {
     let mut i = 0;
     while i < n {
@@ -100,7 +112,7 @@ pub fn put_places(
         let left = on_left(oldedges, f, row);
         firsts[i] = first_half(edges, left, e);
         seconds[i] = second_half(edges, left, e);
-        mids[i] = edges[row * 8 + 1];
+        mids[i] = edges[row * EDGE_WIDTH + DEST_WORD];
         i += 1;
     }
 }

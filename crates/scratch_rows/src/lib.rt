@@ -3,9 +3,17 @@
 ghost use mathlib.Core.Path.{_≡_};
 ghost use Prim.Native.Nat.{_+_, _*_, _≤_, _<_};
 ghost use lib.ListN.{length};
+ghost use Rattle.tables.specs.Layout.{positionWidth, pointWidth, edgeWidth, faceWidth};
 ghost use Rattle.tables.specs.Mesh.{Mesh, meshOf};
 ghost use Rattle.steps.specs.Step.{refinedCounts, rowsFor, withinCeilings, zeroedRows, overRows};
 use tables::Counts;
+use tables::EDGE_CEILING;
+use tables::EDGE_WIDTH;
+use tables::FACE_CEILING;
+use tables::FACE_WIDTH;
+use tables::POINT_CEILING;
+use tables::POINT_WIDTH;
+use tables::POSITION_WIDTH;
 use tables::copy_numbers;
 use tables::copy_words;
 use tables::edge_rows;
@@ -54,13 +62,13 @@ pub fn rows_for(
 pub fn within_ceilings(c: Counts) -> bool
     ensures { λ r. ⌜ r ≡ withinCeilings c ⌝ }
 {
-    if 65536 < c.points {
+    if POINT_CEILING < c.points {
         return false;
     }
-    if 131072 < c.edges {
+    if EDGE_CEILING < c.edges {
         return false;
     }
-    c.faces <= 65536
+    c.faces <= FACE_CEILING
 }
 
 // Zeroes the rows of a mesh with these counts.
@@ -72,22 +80,22 @@ pub fn zero_rows(
     intervals: &mut [f64],
     faces: &mut [u32],
 )
-    requires { ⌜ c .points * 3 ≤ length (now positions) ⌝ }
-    requires { ⌜ c .points * 3 ≤ length (now points) ⌝ }
-    requires { ⌜ c .edges * 8 ≤ length (now edges) ⌝ }
+    requires { ⌜ c .points * positionWidth ≤ length (now positions) ⌝ }
+    requires { ⌜ c .points * pointWidth ≤ length (now points) ⌝ }
+    requires { ⌜ c .edges * edgeWidth ≤ length (now edges) ⌝ }
     requires { ⌜ c .edges ≤ length (now intervals) ⌝ }
-    requires { ⌜ c .faces * 5 ≤ length (now faces) ⌝ }
+    requires { ⌜ c .faces * faceWidth ≤ length (now faces) ⌝ }
     ensures { λ _. ⌜
         _≡_ {A = Mesh}
         (meshOf (now (positions .exit)) (now (points .exit)) (now (edges .exit)) (now (intervals .exit)) (now (faces .exit)))
         (zeroedRows c
         (meshOf (now (positions .entry)) (now (points .entry)) (now (edges .entry)) (now (intervals .entry)) (now (faces .entry)))) ⌝ }
 {
-    zero_numbers(positions, c.points * 3);
-    zero_words(points, c.points * 3);
-    zero_words(edges, c.edges * 8);
+    zero_numbers(positions, c.points * POSITION_WIDTH);
+    zero_words(points, c.points * POINT_WIDTH);
+    zero_words(edges, c.edges * EDGE_WIDTH);
     zero_numbers(intervals, c.edges);
-    zero_words(faces, c.faces * 5);
+    zero_words(faces, c.faces * FACE_WIDTH);
 }
 
 // Copies the rows of a mesh with these counts over the tables.
@@ -104,16 +112,16 @@ pub fn copy_rows(
     intervals: &mut [f64],
     faces: &mut [u32],
 )
-    requires { ⌜ c .points * 3 ≤ length (now newpositions) ⌝ }
-    requires { ⌜ c .points * 3 ≤ length (now newpoints) ⌝ }
-    requires { ⌜ c .edges * 8 ≤ length (now newedges) ⌝ }
+    requires { ⌜ c .points * positionWidth ≤ length (now newpositions) ⌝ }
+    requires { ⌜ c .points * pointWidth ≤ length (now newpoints) ⌝ }
+    requires { ⌜ c .edges * edgeWidth ≤ length (now newedges) ⌝ }
     requires { ⌜ c .edges ≤ length (now newintervals) ⌝ }
-    requires { ⌜ c .faces * 5 ≤ length (now newfaces) ⌝ }
-    requires { ⌜ c .points * 3 ≤ length (now positions) ⌝ }
-    requires { ⌜ c .points * 3 ≤ length (now points) ⌝ }
-    requires { ⌜ c .edges * 8 ≤ length (now edges) ⌝ }
+    requires { ⌜ c .faces * faceWidth ≤ length (now newfaces) ⌝ }
+    requires { ⌜ c .points * positionWidth ≤ length (now positions) ⌝ }
+    requires { ⌜ c .points * pointWidth ≤ length (now points) ⌝ }
+    requires { ⌜ c .edges * edgeWidth ≤ length (now edges) ⌝ }
     requires { ⌜ c .edges ≤ length (now intervals) ⌝ }
-    requires { ⌜ c .faces * 5 ≤ length (now faces) ⌝ }
+    requires { ⌜ c .faces * faceWidth ≤ length (now faces) ⌝ }
     ensures { λ _. ⌜
         _≡_ {A = Mesh}
         (meshOf (now (positions .exit)) (now (points .exit)) (now (edges .exit)) (now (intervals .exit)) (now (faces .exit)))
@@ -121,9 +129,9 @@ pub fn copy_rows(
         (meshOf (now (newpositions .entry)) (now (newpoints .entry)) (now (newedges .entry)) (now (newintervals .entry)) (now (newfaces .entry)))
         (meshOf (now (positions .entry)) (now (points .entry)) (now (edges .entry)) (now (intervals .entry)) (now (faces .entry)))) ⌝ }
 {
-    copy_numbers(newpositions, positions, c.points * 3);
-    copy_words(newpoints, points, c.points * 3);
-    copy_words(newedges, edges, c.edges * 8);
+    copy_numbers(newpositions, positions, c.points * POSITION_WIDTH);
+    copy_words(newpoints, points, c.points * POINT_WIDTH);
+    copy_words(newedges, edges, c.edges * EDGE_WIDTH);
     copy_numbers(newintervals, intervals, c.edges);
-    copy_words(newfaces, faces, c.faces * 5);
+    copy_words(newfaces, faces, c.faces * FACE_WIDTH);
 }

@@ -7,6 +7,7 @@ use mathlib.Core.List.{List, []}
 use Prim.Native.Nat.{ℕ, _+_, _*_, _≤_, _<_}
 use lib.ListN.{length}
 use lib.Ieee.{Float}
+use Rattle.tables.specs.Layout.{pointWidth, edgeWidth, pointCeiling, edgeCeiling}
 use Rattle.tables.specs.declared.Counts.{Counts}
 use Rattle.refined_meshes.specs.State.{State}
 
@@ -26,12 +27,12 @@ abbrev pub scratch : List ℕ → List ℕ → List Float → Counts → State
 scratch ps es is c = tablesOf ps es is [] c
 
 pub record InRows (es : List ℕ) (is : List Float) (e : ℕ) : Type 0 where
-  pub words : e * 8 + 8 ≤ length es
+  pub words : e * edgeWidth + edgeWidth ≤ length es
   pub number : e < length is
 
 pub record Room (ps es : List ℕ) (is : List Float) (p e : ℕ) : Type 0 where
-  pub points : p * 3 ≤ length ps
-  pub edges : e * 8 ≤ length es
+  pub points : p * pointWidth ≤ length ps
+  pub edges : e * edgeWidth ≤ length es
   pub intervals : e ≤ length is
-  pub few-points : p ≤ 65536
-  pub few-edges : e ≤ 131072
+  pub few-points : p ≤ pointCeiling
+  pub few-edges : e ≤ edgeCeiling

@@ -6,6 +6,7 @@ ghost use mathlib.Core.Path.{_≡_};
 ghost use Prim.Native.Nat.{ℕ, _+_, _*_, _≤_, _<_};
 ghost use lib.ListN.{length, getD, set};
 ghost use mathlib.Core.List.{[], _∷_};
+ghost use Rattle.tables.specs.Layout.{pointWidth, startWord, edgeWidth, destWord, longestPerimeter};
 ghost use Rattle.tables.specs.Rows.{putRow};
 ghost use Rattle.tables.specs.Records.{edgeAt, edgeWords};
 ghost use Rattle.refined_meshes.specs.State.{State};
@@ -16,17 +17,23 @@ use records::load_edge;
 use records::store_edge;
 use t_spline::TnurccEdge;
 use tables::Counts;
+use tables::DEST_WORD;
+use tables::EDGE_WIDTH;
+use tables::LONGEST_PERIMETER;
+use tables::MARK_WORD;
+use tables::POINT_WIDTH;
+use tables::START_WORD;
 use tables::index;
 
 // Half of an interval.
-pub fn half(d: f64) -> f64
+fn half(d: f64) -> f64
     ensures { λ r. ⌜ r ≡ half d ⌝ }
 {
     d * 0.5
 }
 
 // The half of an edge at its origin: p is the midpoint, h the row of the other half.
-pub fn origin_half(edge: TnurccEdge, p: u32, h: u32) -> TnurccEdge
+fn origin_half(edge: TnurccEdge, p: u32, h: u32) -> TnurccEdge
     ensures { λ r. ⌜ r ≡ originHalf p h edge ⌝ }
 {
     TnurccEdge {
@@ -40,7 +47,7 @@ pub fn origin_half(edge: TnurccEdge, p: u32, h: u32) -> TnurccEdge
 }
 
 // The half of an edge at its destination: p is the midpoint, e the row of the other half.
-pub fn destination_half(edge: TnurccEdge, p: u32, e: u32) -> TnurccEdge
+fn destination_half(edge: TnurccEdge, p: u32, e: u32) -> TnurccEdge
     ensures { λ r. ⌜ r ≡ destinationHalf p e edge ⌝ }
 {
     TnurccEdge {
@@ -57,11 +64,11 @@ pub fn destination_half(edge: TnurccEdge, p: u32, e: u32) -> TnurccEdge
 fn put_halves(edges: &mut [u32], intervals: &mut [f64], e: u32, p: u32, h: u32) -> u32
     requires { ⌜ InRows (now edges) (now intervals) e ⌝ }
     requires { ⌜ InRows (now edges) (now intervals) h ⌝ }
-    ensures { λ r. ⌜ r ≡ getD (now (edges .entry)) (e * 8 + 1) 0 ⌝ }
+    ensures { λ r. ⌜ r ≡ getD (now (edges .entry)) (e * edgeWidth + destWord) 0 ⌝ }
     ensures { λ _. ⌜
         now (edges .exit) ≡
-        putRow (putRow (now (edges .entry)) (h * 8) (edgeWords (destinationHalf p e (edgeAt (now (edges .entry)) (now (intervals .entry)) e))))
-        (e * 8) (edgeWords (originHalf p h (edgeAt (now (edges .entry)) (now (intervals .entry)) e))) ⌝ }
+        putRow (putRow (now (edges .entry)) (h * edgeWidth) (edgeWords (destinationHalf p e (edgeAt (now (edges .entry)) (now (intervals .entry)) e))))
+        (e * edgeWidth) (edgeWords (originHalf p h (edgeAt (now (edges .entry)) (now (intervals .entry)) e))) ⌝ }
     ensures { λ _. ⌜
         now (intervals .exit) ≡
         set (set (now (intervals .entry)) h (destinationHalf p e (edgeAt (now (edges .entry)) (now (intervals .entry)) e) .«knot_interval»))
@@ -78,19 +85,21 @@ fn put_halves(edges: &mut [u32], intervals: &mut [f64], e: u32, p: u32, h: u32) 
 // Stores the row of the midpoint p of the edge e, with valence 4 and mark 0, then the other half h as the start edge of the old
 // destination d.
 fn put_ends(points: &mut [u32], p: u32, e: u32, d: u32, h: u32)
-    requires { ⌜ p * 3 + 3 ≤ length (now points) ⌝ }
-    requires { ⌜ d * 3 + 3 ≤ length (now points) ⌝ }
-    ensures { λ _. ⌜ now (points .exit) ≡ set (putRow (now (points .entry)) (p * 3) (4 ∷ e ∷ 0 ∷ [])) (d * 3 + 1) h ⌝ }
+    requires { ⌜ p * pointWidth + pointWidth ≤ length (now points) ⌝ }
+    requires { ⌜ d * pointWidth + pointWidth ≤ length (now points) ⌝ }
+    ensures { λ _. ⌜
+        now (points .exit) ≡
+        set (putRow (now (points .entry)) (p * pointWidth) (4 ∷ e ∷ 0 ∷ [])) (d * pointWidth + startWord) h ⌝ }
 {
-    let b = p as usize * 3;
+    let b = p as usize * POINT_WIDTH;
     points[b] = 4;
-    points[b + 1] = e;
-    points[b + 2] = 0;
-    points[d as usize * 3 + 1] = h;
+    points[b + START_WORD] = e;
+    points[b + MARK_WORD] = 0;
+    points[d as usize * POINT_WIDTH + START_WORD] = h;
 }
 
 // Splits the edge e: the next row of edges becomes its destination half, the next row of points its midpoint.
-pub fn split_edge(
+fn split_edge(
     points: &mut [u32],
     edges: &mut [u32],
     intervals: &mut [f64],
@@ -99,7 +108,7 @@ pub fn split_edge(
 ) -> Counts
     requires { ⌜ InRows (now edges) (now intervals) e ⌝ }
     requires { ⌜ Room (now points) (now edges) (now intervals) (taken .points + 1) (taken .edges + 1) ⌝ }
-    requires { ⌜ getD (now edges) (e * 8 + 1) 0 * 3 + 3 ≤ length (now points) ⌝ }
+    requires { ⌜ getD (now edges) (e * edgeWidth + destWord) 0 * pointWidth + pointWidth ≤ length (now points) ⌝ }
     ensures { λ r. ⌜
         _≡_ {A = State}
         (scratch (now (points .exit)) (now (edges .exit)) (now (intervals .exit)) r)
@@ -117,7 +126,7 @@ pub fn split_edge(
 }
 
 // Splits the edge e unless it is split already: a whole edge ends in one of the np old points.
-pub fn split_whole(
+fn split_whole(
     points: &mut [u32],
     edges: &mut [u32],
     intervals: &mut [f64],
@@ -126,7 +135,7 @@ pub fn split_whole(
     taken: Counts,
 ) -> Counts
     requires { ⌜ InRows (now edges) (now intervals) e ⌝ }
-    requires { ⌜ np * 3 ≤ length (now points) ⌝ }
+    requires { ⌜ np * pointWidth ≤ length (now points) ⌝ }
     requires { ⌜
         Room (now points) (now edges) (now intervals)
         (splitWhole np e (scratch (now points) (now edges) (now intervals) taken) .pointsTaken)
@@ -136,7 +145,7 @@ pub fn split_whole(
         (scratch (now (points .exit)) (now (edges .exit)) (now (intervals .exit)) r)
         (splitWhole np e (scratch (now (points .entry)) (now (edges .entry)) (now (intervals .entry)) taken)) ⌝ }
 {
-    if index(edges[e as usize * 8 + 1]) < np {
+    if index(edges[e as usize * EDGE_WIDTH + DEST_WORD]) < np {
         return split_edge(points, edges, intervals, e, taken);
     }
     taken
@@ -148,13 +157,13 @@ pub fn split_all(
     edges: &mut [u32],
     intervals: &mut [f64],
     np: usize,
-    perimeter: &[u32; 64],
+    perimeter: &[u32; LONGEST_PERIMETER],
     n: usize,
     taken: Counts,
 ) -> Counts
-    requires { ⌜ n ≤ 64 ⌝ }
+    requires { ⌜ n ≤ longestPerimeter ⌝ }
     requires { ⌜ ((i : ℕ) → i < n → InRows (now edges) (now intervals) (getD (now perimeter) i 0)) ⌝ }
-    requires { ⌜ np * 3 ≤ length (now points) ⌝ }
+    requires { ⌜ np * pointWidth ≤ length (now points) ⌝ }
     requires { ⌜
         Room (now points) (now edges) (now intervals)
         (splitAll np (now perimeter) n (scratch (now points) (now edges) (now intervals) taken) .pointsTaken)

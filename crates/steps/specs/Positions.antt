@@ -16,6 +16,7 @@ use Rattle.positions.specs.declared.Position.{Position}
 use Rattle.positions.specs.declared.Placed.{Placed}
 use Rattle.positions.specs.declared.Placed.the-variants.{At, NotFinite}
 use Rattle.positions.specs.Position.{placedAt}
+use Rattle.tables.specs.Layout.{positionWidth, edgeWidth, destWord, faceWidth, firstCornerWord}
 use Rattle.tables.specs.Mesh.{Mesh}
 use Rattle.tables.specs.Rows.{putRow}
 use Rattle.tables.specs.declared.Counts.{Counts}
@@ -27,18 +28,18 @@ use Rattle.position_rules.specs.Places.{edgePointAt, facePointAt}
 
 -- corner 0 of the new face in row f
 abbrev pub facePointRow : State → ℕ → ℕ
-facePointRow s f = getD (s .faces) (f * 5 + 1) 0
+facePointRow s f = getD (s .faces) (f * faceWidth + firstCornerWord) 0
 
 -- the destination of the origin half in row e
 abbrev pub edgePointRow : State → ℕ → ℕ
-edgePointRow s e = getD (s .edges) (e * 8 + 1) 0
+edgePointRow s e = getD (s .edges) (e * edgeWidth + destWord) 0
 
 pub data Placing : Type 0 where
   on : List Float → Placing
   stopped : Placing
 
 abbrev pub put : ℕ → Placed → List Float → Placing
-put p (At x y z) ps = on (putRow ps (p * 3) (x ∷ y ∷ z ∷ []))
+put p (At x y z) ps = on (putRow ps (p * positionWidth) (x ∷ y ∷ z ∷ []))
 put p NotFinite ps = stopped
 
 abbrev pub putNext : ℕ → (List Float → Position) → Placing → Placing

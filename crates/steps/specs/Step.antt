@@ -20,6 +20,7 @@ use Prim.Native.Nat.{ℕ, _+_, _*_}
 use lib.Dec.{eqb, ltb, leb}
 use lib.ListN.{length, getD, take}
 use lib.Ieee.{Float, ofBits, binary64}
+use Rattle.tables.specs.Layout.{positionWidth, pointWidth, edgeWidth, faceWidth, pointCeiling, edgeCeiling, faceCeiling}
 use Rattle.tables.specs.Mesh.{Mesh}
 use Rattle.tables.specs.Rows.{over, zeroed}
 use Rattle.tables.specs.declared.Counts.{Counts}
@@ -60,7 +61,7 @@ unfoldable pub rowsFor : Counts → Mesh → Bool
 rowsFor c t = leb (c .points) (pointRows t) && leb (c .edges) (edgeRows t) && leb (c .faces) (faceRows t)
 
 unfoldable pub withinCeilings : Counts → Bool
-withinCeilings c = leb (c .points) 65536 && leb (c .edges) 131072 && leb (c .faces) 65536
+withinCeilings c = leb (c .points) pointCeiling && leb (c .edges) edgeCeiling && leb (c .faces) faceCeiling
 
 unfoldable pub roomFor : Counts → Mesh → Mesh → Bool
 unfolding rowsFor withinCeilings
@@ -69,33 +70,33 @@ roomFor c m t = rowsFor c m && rowsFor c t && withinCeilings c
 unfoldable pub firstRows : Counts → Mesh → Mesh
 firstRows c t =
     record {
-      positions = take (c .points * 3) (t .positions);
-      points = take (c .points * 3) (t .points);
-      edges = take (c .edges * 8) (t .edges);
+      positions = take (c .points * positionWidth) (t .positions);
+      points = take (c .points * pointWidth) (t .points);
+      edges = take (c .edges * edgeWidth) (t .edges);
       intervals = take (c .edges) (t .intervals);
-      faces = take (c .faces * 5) (t .faces);
+      faces = take (c .faces * faceWidth) (t .faces);
     }
 
 unfoldable pub zeroedRows : Counts → Mesh → Mesh
 unfolding zeroed
 zeroedRows c t =
     record {
-      positions = zeroed (c .points * 3) (ofBits binary64 0) (t .positions);
-      points = zeroed (c .points * 3) 0 (t .points);
-      edges = zeroed (c .edges * 8) 0 (t .edges);
+      positions = zeroed (c .points * positionWidth) (ofBits binary64 0) (t .positions);
+      points = zeroed (c .points * pointWidth) 0 (t .points);
+      edges = zeroed (c .edges * edgeWidth) 0 (t .edges);
       intervals = zeroed (c .edges) (ofBits binary64 0) (t .intervals);
-      faces = zeroed (c .faces * 5) 0 (t .faces);
+      faces = zeroed (c .faces * faceWidth) 0 (t .faces);
     }
 
 unfoldable pub overRows : Counts → Mesh → Mesh → Mesh
 unfolding over
 overRows c n t =
     record {
-      positions = over (c .points * 3) (n .positions) (t .positions);
-      points = over (c .points * 3) (n .points) (t .points);
-      edges = over (c .edges * 8) (n .edges) (t .edges);
+      positions = over (c .points * positionWidth) (n .positions) (t .positions);
+      points = over (c .points * pointWidth) (n .points) (t .points);
+      edges = over (c .edges * edgeWidth) (n .edges) (t .edges);
       intervals = over (c .edges) (n .intervals) (t .intervals);
-      faces = over (c .faces * 5) (n .faces) (t .faces);
+      faces = over (c .faces * faceWidth) (n .faces) (t .faces);
     }
 
 pub data Made : Type 0 where

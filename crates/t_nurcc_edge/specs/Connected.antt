@@ -12,6 +12,7 @@ use lib.Ieee.{Float}
 use lib.ListN.{length}
 use Rattle.edge_links.specs.Connect.{connected, joinable}
 use Rattle.edge_links.specs.declared.Pair.{Pair}
+use Rattle.tables.specs.Layout.{edgeWidth}
 use Rattle.tables.specs.Rows.{putRow}
 use Rattle.tables.specs.Records.{edgeAt, edgeWords}
 
@@ -19,7 +20,7 @@ abbrev pub pairOf : List ℕ → List Float → ℕ → ℕ → Pair
 pairOf es is i j = connected i (edgeAt es is i) j (edgeAt es is j)
 
 abbrev pub paired : List ℕ → ℕ → ℕ → Pair → List ℕ
-paired es i j p = putRow (putRow es (i * 8) (edgeWords (p .first))) (j * 8) (edgeWords (p .other))
+paired es i j p = putRow (putRow es (i * edgeWidth) (edgeWords (p .first))) (j * edgeWidth) (edgeWords (p .other))
 
 unfoldable pub connectedRows : List ℕ → List Float → ℕ → ℕ → List ℕ
 connectedRows es is i j = paired es i j (pairOf es is i j)

@@ -8,6 +8,7 @@ ghost use Prim.Native.Nat.{ℕ, _+_, _*_, _≤_, _<_};
 ghost use lib.ListN.{length};
 ghost use Rattle.edge_links.specs.Connect.{served};
 ghost use Rattle.edge_links.specs.declared.Pair.{Pair};
+ghost use Rattle.tables.specs.Layout.{edgeWidth};
 ghost use Rattle.t_nurcc_edge.specs.Connected.{paired, connectedRows, joinableRows, Linkable};
 use edge_links::Links;
 use edge_links::Pair;
@@ -15,12 +16,14 @@ use edge_links::link_directions;
 use records::load_edge;
 use records::store_edge_words;
 use t_spline::t_nurcc_edge::same_face;
+use tables::EDGE_WIDTH;
+use tables::LEFT_CW_WORD;
 use tables::index;
 
 // Serves one face state of the edges i and j, if it holds: each gets the other as one of its neighbours.
 fn put_links(edges: &mut [u32], holds: bool, face: usize, vert: usize, i: u32, j: u32)
-    requires { ⌜ i * 8 + 8 ≤ length (now edges) ⌝ }
-    requires { ⌜ j * 8 + 8 ≤ length (now edges) ⌝ }
+    requires { ⌜ i * edgeWidth + edgeWidth ≤ length (now edges) ⌝ }
+    requires { ⌜ j * edgeWidth + edgeWidth ≤ length (now edges) ⌝ }
     requires { ⌜ i ≢ j ⌝ }
     ensures { λ _. ⌜ ((es : List ℕ) (p : Pair) → Linkable p → now (edges .entry) ≡ paired es i j p → now (edges .exit) ≡ paired es i j (served holds face vert i j p)) ⌝ }
     ensures { λ _. ⌜ length (now (edges .exit)) ≡ length (now (edges .entry)) ⌝ }
@@ -32,8 +35,8 @@ fn put_links(edges: &mut [u32], holds: bool, face: usize, vert: usize, i: u32, j
         Links::Both(own, other) => {
             let c = own.index();
             let d = other.index();
-            edges[index(i) * 8 + 4 + c] = j;
-            edges[index(j) * 8 + 4 + d] = i;
+            edges[index(i) * EDGE_WIDTH + LEFT_CW_WORD + c] = j;
+            edges[index(j) * EDGE_WIDTH + LEFT_CW_WORD + d] = i;
         }
         Links::Mismatch => {}
     }
@@ -41,8 +44,8 @@ fn put_links(edges: &mut [u32], holds: bool, face: usize, vert: usize, i: u32, j
 
 // Connects two edges that stand in different rows, by the words that change.
 fn connect_rows(edges: &mut [u32], intervals: &[f64], i: u32, j: u32) -> bool
-    requires { ⌜ i * 8 + 8 ≤ length (now edges) ⌝ }
-    requires { ⌜ j * 8 + 8 ≤ length (now edges) ⌝ }
+    requires { ⌜ i * edgeWidth + edgeWidth ≤ length (now edges) ⌝ }
+    requires { ⌜ j * edgeWidth + edgeWidth ≤ length (now edges) ⌝ }
     requires { ⌜ i < length (now intervals) ⌝ }
     requires { ⌜ j < length (now intervals) ⌝ }
     requires { ⌜ i ≢ j ⌝ }
@@ -62,8 +65,8 @@ fn connect_rows(edges: &mut [u32], intervals: &[f64], i: u32, j: u32) -> bool
 
 // Connects two edges by value, as the definition does: both are stored whole, the other last.
 fn connect_values(edges: &mut [u32], intervals: &[f64], i: u32, j: u32) -> bool
-    requires { ⌜ i * 8 + 8 ≤ length (now edges) ⌝ }
-    requires { ⌜ j * 8 + 8 ≤ length (now edges) ⌝ }
+    requires { ⌜ i * edgeWidth + edgeWidth ≤ length (now edges) ⌝ }
+    requires { ⌜ j * edgeWidth + edgeWidth ≤ length (now edges) ⌝ }
     requires { ⌜ i < length (now intervals) ⌝ }
     requires { ⌜ j < length (now intervals) ⌝ }
     ensures { λ r. ⌜ r ≡ joinableRows (now (edges .entry)) (now (intervals .entry)) i j ⌝ }
@@ -85,8 +88,8 @@ fn connect_values(edges: &mut [u32], intervals: &[f64], i: u32, j: u32) -> bool
 // Connects the edges i and j to each other, and says whether they share a face and a point. An edge with itself, which no
 // perimeter asks for, is connected by value: the words of one row would be stored for both.
 pub fn connect(edges: &mut [u32], intervals: &[f64], i: u32, j: u32) -> bool
-    requires { ⌜ i * 8 + 8 ≤ length (now edges) ⌝ }
-    requires { ⌜ j * 8 + 8 ≤ length (now edges) ⌝ }
+    requires { ⌜ i * edgeWidth + edgeWidth ≤ length (now edges) ⌝ }
+    requires { ⌜ j * edgeWidth + edgeWidth ≤ length (now edges) ⌝ }
     requires { ⌜ i < length (now intervals) ⌝ }
     requires { ⌜ j < length (now intervals) ⌝ }
     ensures { λ r. ⌜ r ≡ joinableRows (now (edges .entry)) (now (intervals .entry)) i j ⌝ }

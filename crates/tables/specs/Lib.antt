@@ -1,3 +1,4 @@
+pub mod Layout
 pub mod Mesh
 pub mod Rows
 pub mod Records

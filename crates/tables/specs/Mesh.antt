@@ -14,6 +14,8 @@ use mathlib.Core.List.{List}
 use Prim.Native.Nat.{ℕ, _+_, _*_}
 use lib.ListN.{getD}
 use lib.Ieee.{Float, nan}
+use Rattle.tables.specs.Layout.{positionWidth, yNumber, zNumber, pointWidth, startWord, markWord, faceWidth, firstCornerWord}
+use Rattle.tables.specs.Layout.{edgeWidth, destWord, leftFaceWord, rightFaceWord, leftCwWord, leftAcwWord, rightCwWord, rightAcwWord}
 
 pub record Mesh : Type 0 where
   pub positions : List Float
@@ -29,52 +31,52 @@ abbrev pub none : ℕ
 none = 4294967295
 
 abbrev pub x : Mesh → ℕ → Float
-x m p = getD (m .positions) (p * 3) nan
+x m p = getD (m .positions) (p * positionWidth) nan
 
 abbrev pub y : Mesh → ℕ → Float
-y m p = getD (m .positions) (p * 3 + 1) nan
+y m p = getD (m .positions) (p * positionWidth + yNumber) nan
 
 abbrev pub z : Mesh → ℕ → Float
-z m p = getD (m .positions) (p * 3 + 2) nan
+z m p = getD (m .positions) (p * positionWidth + zNumber) nan
 
 abbrev pub valence : Mesh → ℕ → ℕ
-valence m p = getD (m .points) (p * 3) 0
+valence m p = getD (m .points) (p * pointWidth) 0
 
 abbrev pub start : Mesh → ℕ → ℕ
-start m p = getD (m .points) (p * 3 + 1) 0
+start m p = getD (m .points) (p * pointWidth + startWord) 0
 
 abbrev pub mark : Mesh → ℕ → ℕ
-mark m p = getD (m .points) (p * 3 + 2) 0
+mark m p = getD (m .points) (p * pointWidth + markWord) 0
 
 abbrev pub origin : Mesh → ℕ → ℕ
-origin m e = getD (m .edges) (e * 8) 0
+origin m e = getD (m .edges) (e * edgeWidth) 0
 
 abbrev pub dest : Mesh → ℕ → ℕ
-dest m e = getD (m .edges) (e * 8 + 1) 0
+dest m e = getD (m .edges) (e * edgeWidth + destWord) 0
 
 abbrev pub leftFace : Mesh → ℕ → ℕ
-leftFace m e = getD (m .edges) (e * 8 + 2) 0
+leftFace m e = getD (m .edges) (e * edgeWidth + leftFaceWord) 0
 
 abbrev pub rightFace : Mesh → ℕ → ℕ
-rightFace m e = getD (m .edges) (e * 8 + 3) 0
+rightFace m e = getD (m .edges) (e * edgeWidth + rightFaceWord) 0
 
 abbrev pub leftCw : Mesh → ℕ → ℕ
-leftCw m e = getD (m .edges) (e * 8 + 4) 0
+leftCw m e = getD (m .edges) (e * edgeWidth + leftCwWord) 0
 
 abbrev pub leftAcw : Mesh → ℕ → ℕ
-leftAcw m e = getD (m .edges) (e * 8 + 5) 0
+leftAcw m e = getD (m .edges) (e * edgeWidth + leftAcwWord) 0
 
 abbrev pub rightCw : Mesh → ℕ → ℕ
-rightCw m e = getD (m .edges) (e * 8 + 6) 0
+rightCw m e = getD (m .edges) (e * edgeWidth + rightCwWord) 0
 
 abbrev pub rightAcw : Mesh → ℕ → ℕ
-rightAcw m e = getD (m .edges) (e * 8 + 7) 0
+rightAcw m e = getD (m .edges) (e * edgeWidth + rightAcwWord) 0
 
 abbrev pub interval : Mesh → ℕ → Float
 interval m e = getD (m .intervals) e nan
 
 abbrev pub faceStart : Mesh → ℕ → ℕ
-faceStart m f = getD (m .faces) (f * 5) 0
+faceStart m f = getD (m .faces) (f * faceWidth) 0
 
 abbrev pub corner : Mesh → ℕ → ℕ → ℕ
-corner m f k = getD (m .faces) (f * 5 + (k + 1)) 0
+corner m f k = getD (m .faces) (f * faceWidth + (k + firstCornerWord)) 0

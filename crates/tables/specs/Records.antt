@@ -15,6 +15,8 @@ use Rattle.positions.specs.declared.Position.{Position}
 use Rattle.t_spline.specs.declared.TnurccControlPoint.{TnurccControlPoint}
 use Rattle.t_spline.specs.declared.TnurccEdge.{TnurccEdge}
 use Rattle.t_spline.specs.declared.TnurccFace.{TnurccFace}
+use Rattle.tables.specs.Layout.{positionWidth, yNumber, zNumber, pointWidth, startWord, markWord, faceWidth}
+use Rattle.tables.specs.Layout.{edgeWidth, destWord, leftFaceWord, rightFaceWord, leftCwWord, leftAcwWord, rightCwWord, rightAcwWord}
 
 abbrev pub placeOf : Position → List Float
 placeOf p = p .x ∷ p .y ∷ p .z ∷ []
@@ -29,26 +31,33 @@ faceWords f =
     f .edge ∷ getD (f .corners) 0 0 ∷ getD (f .corners) 1 0 ∷ getD (f .corners) 2 0 ∷ getD (f .corners) 3 0 ∷ []
 
 abbrev pub positionAt : List Float → ℕ → Position
-positionAt ps p = record { x = getD ps (p * 3) nan; y = getD ps (p * 3 + 1) nan; z = getD ps (p * 3 + 2) nan }
+positionAt ps p =
+    record {
+      x = getD ps (p * positionWidth) nan;
+      y = getD ps (p * positionWidth + yNumber) nan;
+      z = getD ps (p * positionWidth + zNumber) nan;
+    }
 
 abbrev pub pointAt : List Float → List ℕ → ℕ → TnurccControlPoint
 pointAt ps ws p =
     record {
       point = positionAt ps p;
-      valence = getD ws (p * 3) 0;
-      «incoming_edge» = getD ws (p * 3 + 1) 0;
-      extraordinary = getD ws (p * 3 + 2) 0;
+      valence = getD ws (p * pointWidth) 0;
+      «incoming_edge» = getD ws (p * pointWidth + startWord) 0;
+      extraordinary = getD ws (p * pointWidth + markWord) 0;
     }
 
 -- the words of the edge e, with the interval d
 abbrev pub edgeOver : List ℕ → Float → ℕ → TnurccEdge
 edgeOver es d e =
     record {
-      connections = getD es (e * 8 + 4) 0 ∷ getD es (e * 8 + 5) 0 ∷ getD es (e * 8 + 6) 0 ∷ getD es (e * 8 + 7) 0 ∷ [];
-      «face_left» = getD es (e * 8 + 2) 0;
-      «face_right» = getD es (e * 8 + 3) 0;
-      origin = getD es (e * 8) 0;
-      dest = getD es (e * 8 + 1) 0;
+      connections =
+          getD es (e * edgeWidth + leftCwWord) 0 ∷ getD es (e * edgeWidth + leftAcwWord) 0
+          ∷ getD es (e * edgeWidth + rightCwWord) 0 ∷ getD es (e * edgeWidth + rightAcwWord) 0 ∷ [];
+      «face_left» = getD es (e * edgeWidth + leftFaceWord) 0;
+      «face_right» = getD es (e * edgeWidth + rightFaceWord) 0;
+      origin = getD es (e * edgeWidth) 0;
+      dest = getD es (e * edgeWidth + destWord) 0;
       «knot_interval» = d;
     }
 
@@ -59,10 +68,10 @@ abbrev pub edgeWordsAt : List ℕ → ℕ → TnurccEdge
 edgeWordsAt es e = edgeOver es (ofBits binary64 0) e
 
 abbrev pub pointRows : List Float → List ℕ → ℕ
-pointRows ps ws = min (length ps / 3) (length ws / 3)
+pointRows ps ws = min (length ps / positionWidth) (length ws / pointWidth)
 
 abbrev pub edgeRows : List ℕ → List Float → ℕ
-edgeRows es is = min (length es / 8) (length is)
+edgeRows es is = min (length es / edgeWidth) (length is)
 
 abbrev pub faceRows : List ℕ → ℕ
-faceRows fs = length fs / 5
+faceRows fs = length fs / faceWidth

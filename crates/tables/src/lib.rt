@@ -3,13 +3,68 @@
 // right face, then the neighbours LeftCw, LeftAcw, RightCw, RightAcw). Intervals: 1 number an edge. Faces: 5 words (start
 // edge, four corners).
 // Not here: rows loaded and stored as records by value (`records`), what a closed mesh is (`audited_meshes`).
-// Definitions: `specs/Mesh.antt`, `specs/Rows.antt`, `specs/Records.antt`. Laws for callers: `proofs/Laws.antt`.
+// The widths of the rows and the places of their words stand here as constants; the first word of a row stands where the row begins.
+// Definitions: `specs/Layout.antt`, `specs/Mesh.antt`, `specs/Rows.antt`, `specs/Records.antt`. Laws for callers: `proofs/Laws.antt`.
 ghost use mathlib.Core.Path.{_≡_};
 ghost use Prim.Native.Nat.{_≤_, min};
 ghost use lib.ListN.{length};
 ghost use lib.Ieee.{binary64, ofBits};
 ghost use Rattle.tables.specs.Rows.{over, zeroed};
 ghost use Rattle.tables.specs.Records.{pointRows, edgeRows, faceRows};
+
+// The numbers of a position, and the places of y and z among them.
+pub const POSITION_WIDTH: usize = 3;
+
+pub const Y_NUMBER: usize = 1;
+
+pub const Z_NUMBER: usize = 2;
+
+// The words of a point, and their places behind the valence.
+pub const POINT_WIDTH: usize = 3;
+
+pub const START_WORD: usize = 1;
+
+pub const MARK_WORD: usize = 2;
+
+// The words of an edge, and their places behind the origin.
+pub const EDGE_WIDTH: usize = 8;
+
+pub const DEST_WORD: usize = 1;
+
+pub const LEFT_FACE_WORD: usize = 2;
+
+pub const RIGHT_FACE_WORD: usize = 3;
+
+pub const LEFT_CW_WORD: usize = 4;
+
+pub const LEFT_ACW_WORD: usize = 5;
+
+pub const RIGHT_CW_WORD: usize = 6;
+
+pub const RIGHT_ACW_WORD: usize = 7;
+
+// The words of a face, and the places of its four corners behind the start edge.
+pub const FACE_WIDTH: usize = 5;
+
+pub const FIRST_CORNER_WORD: usize = 1;
+
+pub const SECOND_CORNER_WORD: usize = 2;
+
+pub const THIRD_CORNER_WORD: usize = 3;
+
+pub const FOURTH_CORNER_WORD: usize = 4;
+
+// The most edges of a face, and the most points of a border, where the first four stand once more at the end.
+pub const LONGEST_PERIMETER: usize = 64;
+
+pub const LONGEST_BORDER: usize = LONGEST_PERIMETER + 4;
+
+// The most points, edges and faces that a step makes.
+pub const POINT_CEILING: usize = 65536;
+
+pub const EDGE_CEILING: usize = 131072;
+
+pub const FACE_CEILING: usize = 65536;
 
 // How many points, edges and faces a mesh has.
 pub struct Counts {
@@ -29,25 +84,25 @@ pub fn index(row: u32) -> usize
 pub fn point_rows(positions: &[f64], points: &[u32]) -> usize
     ensures { λ r. ⌜ r ≡ pointRows (now (positions .entry)) (now (points .entry)) ⌝ }
 {
-    least(positions.len() / 3, points.len() / 3)
+    least(positions.len() / POSITION_WIDTH, points.len() / POINT_WIDTH)
 }
 
 // How many whole edges the two tables hold.
 pub fn edge_rows(edges: &[u32], intervals: &[f64]) -> usize
     ensures { λ r. ⌜ r ≡ edgeRows (now (edges .entry)) (now (intervals .entry)) ⌝ }
 {
-    least(edges.len() / 8, intervals.len())
+    least(edges.len() / EDGE_WIDTH, intervals.len())
 }
 
 // How many whole faces the table holds.
 pub fn face_rows(faces: &[u32]) -> usize
     ensures { λ r. ⌜ r ≡ faceRows (now (faces .entry)) ⌝ }
 {
-    faces.len() / 5
+    faces.len() / FACE_WIDTH
 }
 
 // The lesser of two numbers.
-pub fn least(a: usize, b: usize) -> usize
+fn least(a: usize, b: usize) -> usize
     ensures { λ r. ⌜ r ≡ min a b ⌝ }
 {
     if a <= b { a } else { b }

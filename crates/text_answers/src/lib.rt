@@ -9,13 +9,16 @@ use building_tests::Bounds;
 use built_meshes::Built;
 use text_meshes::TextBuilt;
 
+// The most bytes of a text that `refine` takes.
+pub const REFINE_BYTES: usize = 16384;
+
 // Whether a text of n bytes is over the limit of bytes, which `refine` alone has.
 pub fn is_too_long(bounds: Bounds, n: usize) -> bool
     ensures { λ r. ⌜ r ≡ tooLong bounds n ⌝ }
 {
     match bounds {
         Bounds::General => false,
-        Bounds::Refine => 16384 < n,
+        Bounds::Refine => REFINE_BYTES < n,
     }
 }
 

@@ -7,15 +7,21 @@ ghost use mathlib.Core.Path.{_≡_};
 ghost use mathlib.Core.Bool.{false};
 ghost use Prim.Native.Nat.{_*_, _≤_};
 ghost use lib.ListN.{length, take};
+ghost use Rattle.tables.specs.Layout.{positionWidth};
 ghost use Rattle.tables.specs.Mesh.{meshOf};
 ghost use Rattle.building_tests.specs.Lent.{lists, limitsOf};
+ghost use Rattle.built_meshes.specs.Lists.{general};
 ghost use Rattle.built_meshes.specs.Building.{build};
 ghost use Rattle.text_meshes.specs.TextBuilding.{Outcome, toldOutcome, buildTextIf, buildText};
 use building::build;
 use building_tests::Bounds;
+use building_tests::MOST_FACES;
+use building_tests::MOST_LISTED;
+use building_tests::MOST_POINTS;
 use built_meshes::Ground;
 use mesh_text::Reading;
 use mesh_text::read_text;
+use tables::POSITION_WIDTH;
 use text_answers::is_too_long;
 use text_answers::sizes_of;
 use text_answers::told;
@@ -37,7 +43,7 @@ fn build_first(
     faces: &mut [u32],
     bounds: Bounds,
 ) -> TextBuilt
-    requires { ⌜ 3 * p ≤ length (now coordinates) ⌝ }
+    requires { ⌜ positionWidth * p ≤ length (now coordinates) ⌝ }
     requires { ⌜ 4 * f ≤ length (now sides) ⌝ }
     requires { ⌜ n ≤ length (now listed) ⌝ }
     requires { ⌜ n ≤ length (now beside) ⌝ }
@@ -46,10 +52,10 @@ fn build_first(
         (record { answer = r; tables = meshOf (now (positions .exit)) (now (points .exit)) (now (edges .exit)) (now (intervals .exit)) (now (faces .exit)) })
         (toldOutcome
         (build (limitsOf bounds)
-        (lists (take (3 * p) (now (coordinates .entry))) (take (4 * f) (now (sides .entry))) (take n (now (listed .entry))) (take n (now (beside .entry))))
+        (lists (take (positionWidth * p) (now (coordinates .entry))) (take (4 * f) (now (sides .entry))) (take n (now (listed .entry))) (take n (now (beside .entry))))
         (meshOf (now (positions .entry)) (now (points .entry)) (now (edges .entry)) (now (intervals .entry)) (now (faces .entry))))) ⌝ }
 {
-    let a = 3 * p;
+    let a = POSITION_WIDTH * p;
     let b = 4 * f;
     let built = build(
         &coordinates[..a],
@@ -80,10 +86,10 @@ fn read_and_build(
     intervals: &mut [f64],
     faces: &mut [u32],
 ) -> TextBuilt
-    requires { ⌜ 12288 ≤ length (now coordinates) ⌝ }
-    requires { ⌜ 16384 ≤ length (now sides) ⌝ }
-    requires { ⌜ 16384 ≤ length (now listed) ⌝ }
-    requires { ⌜ 16384 ≤ length (now beside) ⌝ }
+    requires { ⌜ positionWidth * general .points ≤ length (now coordinates) ⌝ }
+    requires { ⌜ 4 * general .faces ≤ length (now sides) ⌝ }
+    requires { ⌜ general .listed ≤ length (now listed) ⌝ }
+    requires { ⌜ general .listed ≤ length (now beside) ⌝ }
     ensures { λ r. ⌜
         _≡_ {A = Outcome}
         (record { answer = r; tables = meshOf (now (positions .exit)) (now (points .exit)) (now (edges .exit)) (now (intervals .exit)) (now (faces .exit)) })
@@ -130,10 +136,10 @@ pub fn build_text(
     if is_too_long(bounds, text.len()) {
         return TextBuilt::Refused(Ground::OverCounts);
     }
-    let mut coordinates = [0.0; 12288];
-    let mut sides = [0u32; 16384];
-    let mut listed = [0u32; 16384];
-    let mut beside = [0.0; 16384];
+    let mut coordinates = [0.0; POSITION_WIDTH * MOST_POINTS];
+    let mut sides = [0u32; 4 * MOST_FACES];
+    let mut listed = [0u32; MOST_LISTED];
+    let mut beside = [0.0; MOST_LISTED];
     read_and_build(
         text,
         bounds,

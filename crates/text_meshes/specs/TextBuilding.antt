@@ -1,5 +1,6 @@
 -- Building from a text, in the order of document 01's grounds: the bytes that `refine` allows, the form, and then the building from
 -- the lists that the text stands for, whose first ground is that of the counts.
+--     refineBytes             the most bytes of a text that `refine` takes
 --     tooLong b n             n bytes are over the limit of bytes, which `refine` alone has
 --     listsOf t               the lists that a text stands for
 --     told a                  an answer of building from lists, as one of building from a text
@@ -28,9 +29,12 @@ use Rattle.building_tests.specs.declared.Bounds.the-variants.{General, Refine}
 use Rattle.text_meshes.specs.declared.TextBuilt.{TextBuilt}
 use Rattle.text_meshes.specs.declared.TextBuilt.the-variants.{Accepted, NotText, Refused}
 
+abbrev pub refineBytes : ℕ
+refineBytes = 16384
+
 abbrev pub tooLong : Bounds → ℕ → Bool
 tooLong General n = false
-tooLong Refine n = ltb 16384 n
+tooLong Refine n = ltb refineBytes n
 
 abbrev pub listsOf : TextMesh → Lists
 listsOf t = lists (coordinates t) (lengths t) (listedPoints t) (intervals t)

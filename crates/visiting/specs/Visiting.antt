@@ -9,6 +9,7 @@ use mathlib.Core.List.{List}
 use Prim.Native.Nat.{ℕ, _+_, _-_, _*_, _≤_, _<_}
 use lib.ListN.{length, getD}
 use lib.Ieee.{Float}
+use Rattle.tables.specs.Layout.{pointWidth, edgeWidth, faceWidth, longestPerimeter, pointCeiling, edgeCeiling, faceCeiling}
 use Rattle.tables.specs.Mesh.{Mesh}
 use Rattle.walks.specs.Steps.{faceTables}
 use Rattle.refined_meshes.specs.State.{State, take}
@@ -22,48 +23,50 @@ abbrev pub bare : Mesh → Mesh
 bare m = faceTables (m .edges) (m .faces)
 
 pub record Holds (m : Mesh) (np ne nf : ℕ) : Type 0 where
-  pub points : np * 3 ≤ length (m .points)
-  pub edges : ne * 8 ≤ length (m .edges)
+  pub points : np * pointWidth ≤ length (m .points)
+  pub edges : ne * edgeWidth ≤ length (m .edges)
   pub intervals : ne ≤ length (m .intervals)
-  pub faces : nf * 5 ≤ length (m .faces)
+  pub faces : nf * faceWidth ≤ length (m .faces)
 
 pub record Ceilings (np ne nf : ℕ) : Type 0 where
-  pub points : np + ne + nf ≤ 65536
-  pub edges : 4 * ne ≤ 131072
-  pub faces : 2 * ne ≤ 65536
+  pub points : np + ne + nf ≤ pointCeiling
+  pub edges : 4 * ne ≤ edgeCeiling
+  pub faces : 2 * ne ≤ faceCeiling
 
 pub record RingFits (oe pe : List ℕ) (rows : RingRows) (ps es : List ℕ) (is : List Float) (fs : List ℕ) : Type 0 where
   pub small : Small rows
-  pub centre : rows .centre * 3 + 3 ≤ length ps
-  pub joins : (rows .joins + rows .size) * 8 ≤ length es
+  pub centre : rows .centre * pointWidth + pointWidth ≤ length ps
+  pub joins : (rows .joins + rows .size) * edgeWidth ≤ length es
   pub intervals : rows .joins + rows .size ≤ length is
-  pub face : rows .face * 5 + 5 ≤ length fs
-  pub faces : (rows .faces + (rows .size - 1)) * 5 ≤ length fs
+  pub face : rows .face * faceWidth + faceWidth ≤ length fs
+  pub faces : (rows .faces + (rows .size - 1)) * faceWidth ≤ length fs
   pub mesh-rows : Rows oe pe (rows .size)
   pub edge-rows : Rows es pe (rows .size)
-  pub firsts : (i : ℕ) → i < rows .size → firstOf oe es (rows .face) (getD pe i 0) * 8 + 8 ≤ length es
-  pub seconds : (i : ℕ) → i < rows .size → secondOf oe es (rows .face) (getD pe i 0) * 8 + 8 ≤ length es
+  pub firsts : (i : ℕ) → i < rows .size → firstOf oe es (rows .face) (getD pe i 0) * edgeWidth + edgeWidth ≤ length es
+  pub seconds : (i : ℕ) → i < rows .size → secondOf oe es (rows .face) (getD pe i 0) * edgeWidth + edgeWidth ≤ length es
 
 pub record AlongFits (oe : List ℕ) (np f : ℕ) (pe : List ℕ) (n : ℕ) (s : State) : Type 0 where
   pub some-places : 0 < n
-  pub few-places : n ≤ 64
+  pub few-places : n ≤ longestPerimeter
   pub mesh-rows : Rows oe pe n
   pub rows : (i : ℕ) → i < n → InRows (s .edges) (s .intervals) (getD pe i 0)
-  pub old-points : np * 3 ≤ length (s .points)
-  pub centre : s .pointsTaken * 3 + 3 ≤ length (s .points)
-  pub few-points : s .pointsTaken < 65536
+  pub old-points : np * pointWidth ≤ length (s .points)
+  pub centre : s .pointsTaken * pointWidth + pointWidth ≤ length (s .points)
+  pub few-points : s .pointsTaken < pointCeiling
   pub room :
       Room (s .points) (s .edges) (s .intervals) (splitAll np pe n (take 1 0 0 s) .pointsTaken) (splitAll np pe n (take 1 0 0 s) .edgesTaken + n)
-  pub face : f * 5 + 5 ≤ length (s .faces)
-  pub face-below : f < 65536
-  pub faces : (s .facesTaken + (n - 1)) * 5 ≤ length (s .faces)
+  pub face : f * faceWidth + faceWidth ≤ length (s .faces)
+  pub face-below : f < faceCeiling
+  pub faces : (s .facesTaken + (n - 1)) * faceWidth ≤ length (s .faces)
   pub few-faces : s .facesTaken + n ≤ 65537
-  pub firsts : (i : ℕ) → i < n → firstOf oe (splitAll np pe n (take 1 0 0 s) .edges) f (getD pe i 0) * 8 + 8 ≤ length (s .edges)
-  pub seconds : (i : ℕ) → i < n → secondOf oe (splitAll np pe n (take 1 0 0 s) .edges) f (getD pe i 0) * 8 + 8 ≤ length (s .edges)
+  pub firsts :
+      (i : ℕ) → i < n → firstOf oe (splitAll np pe n (take 1 0 0 s) .edges) f (getD pe i 0) * edgeWidth + edgeWidth ≤ length (s .edges)
+  pub seconds :
+      (i : ℕ) → i < n → secondOf oe (splitAll np pe n (take 1 0 0 s) .edges) f (getD pe i 0) * edgeWidth + edgeWidth ≤ length (s .edges)
 
 pub record Fits (m : Mesh) (np ne nf : ℕ) (order : List ℕ) (s : State) : Type 0 where
   pub ceilings : Ceilings np ne nf
-  pub edges : ne * 8 ≤ length (m .edges)
-  pub faces : nf * 5 ≤ length (m .faces)
+  pub edges : ne * edgeWidth ≤ length (m .edges)
+  pub faces : nf * faceWidth ≤ length (m .faces)
   pub ordered : nf ≤ length order
   pub each : (k : ℕ) → k < nf → VisitFits m np ne nf (getD order k 0) (visits m np ne k order s)

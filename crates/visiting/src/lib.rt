@@ -8,6 +8,7 @@ ghost use mathlib.Core.List.{List, []};
 ghost use Prim.Native.Nat.{ℕ, _+_, _-_, _*_, _≤_, _<_};
 ghost use lib.ListN.{length};
 ghost use lib.Ieee.{Float};
+ghost use Rattle.tables.specs.Layout.{edgeWidth, faceWidth};
 ghost use Rattle.tables.specs.declared.Counts.{Counts};
 ghost use Rattle.walks.specs.Steps.{faceTables};
 ghost use Rattle.refined_meshes.specs.Turns.{turns};
@@ -29,6 +30,11 @@ use ring_places::put_found;
 use ring_places::put_places;
 use splitting::split_all;
 use tables::Counts;
+use tables::EDGE_WIDTH;
+use tables::FACE_WIDTH;
+use tables::LONGEST_BORDER;
+use tables::LONGEST_PERIMETER;
+use tables::POINT_WIDTH;
 use tables::copy_numbers;
 use tables::copy_words;
 use tables::index;
@@ -39,15 +45,15 @@ fn put_ring_edges(
     oldedges: &[u32],
     edges: &mut [u32],
     intervals: &mut [f64],
-    perimeter: &[u32; 64],
-    firsts: &[u32; 64],
-    seconds: &[u32; 64],
-    mids: &[u32; 64],
-    found: &[f64; 64],
+    perimeter: &[u32; LONGEST_PERIMETER],
+    firsts: &[u32; LONGEST_PERIMETER],
+    seconds: &[u32; LONGEST_PERIMETER],
+    mids: &[u32; LONGEST_PERIMETER],
+    found: &[f64; LONGEST_PERIMETER],
     rows: RingRows,
 )
     requires { ⌜ Small rows ⌝ }
-    requires { ⌜ (rows .joins + rows .size) * 8 ≤ length (now edges) ⌝ }
+    requires { ⌜ (rows .joins + rows .size) * edgeWidth ≤ length (now edges) ⌝ }
     requires { ⌜ rows .joins + rows .size ≤ length (now intervals) ⌝ }
     requires { ⌜ Rows (now oldedges) (now perimeter) (rows .size) ⌝ }
     requires { ⌜ Rows (now edges) (now firsts) (rows .size) ⌝ }
@@ -79,8 +85,8 @@ fn put_ring(
     edges: &mut [u32],
     intervals: &mut [f64],
     faces: &mut [u32],
-    perimeter: &[u32; 64],
-    found: &[f64; 64],
+    perimeter: &[u32; LONGEST_PERIMETER],
+    found: &[f64; LONGEST_PERIMETER],
     rows: RingRows,
 )
     requires { ⌜ RingFits (now oldedges) (now perimeter) rows (now points) (now edges) (now intervals) (now faces) ⌝ }
@@ -96,9 +102,9 @@ fn put_ring(
         (tablesOf (now (points .entry)) (now (edges .entry)) (now (intervals .entry)) (now (faces .entry))
         (record { points = p; edges = rows .joins; faces = rows .faces })))) ⌝ }
 {
-    let mut firsts = [0u32; 64];
-    let mut seconds = [0u32; 64];
-    let mut mids = [0u32; 64];
+    let mut firsts = [0u32; LONGEST_PERIMETER];
+    let mut seconds = [0u32; LONGEST_PERIMETER];
+    let mut mids = [0u32; LONGEST_PERIMETER];
     put_places(
         oldedges,
         edges,
@@ -133,7 +139,7 @@ fn visit_along(
     faces: &mut [u32],
     np: usize,
     f: usize,
-    perimeter: &[u32; 64],
+    perimeter: &[u32; LONGEST_PERIMETER],
     n: usize,
     taken: Counts,
 ) -> Counts
@@ -144,7 +150,7 @@ fn visit_along(
         (visitAlong (faceTables (now (oldedges .entry)) []) np f (now (perimeter .entry)) n
         (tablesOf (now (points .entry)) (now (edges .entry)) (now (intervals .entry)) (now (faces .entry)) taken)) ⌝ }
 {
-    let mut found = [0.0; 64];
+    let mut found = [0.0; LONGEST_PERIMETER];
     put_found(intervals, perimeter, n, &mut found);
     let first = Counts {
         points: taken.points + 1,
@@ -177,7 +183,7 @@ fn visit_along(
 }
 
 // Visits the face f of the mesh with the counts `old`; answers the rows taken then.
-pub fn visit(
+fn visit(
     oldedges: &[u32],
     oldfaces: &[u32],
     points: &mut [u32],
@@ -189,8 +195,8 @@ pub fn visit(
     taken: Counts,
 ) -> Counts
     requires { ⌜ Ceilings (old .points) (old .edges) (old .faces) ⌝ }
-    requires { ⌜ old .edges * 8 ≤ length (now oldedges) ⌝ }
-    requires { ⌜ old .faces * 5 ≤ length (now oldfaces) ⌝ }
+    requires { ⌜ old .edges * edgeWidth ≤ length (now oldedges) ⌝ }
+    requires { ⌜ old .faces * faceWidth ≤ length (now oldfaces) ⌝ }
     requires { ⌜
         VisitFits (faceTables (now oldedges) (now oldfaces)) (old .points) (old .edges) (old .faces) f
         (tablesOf (now points) (now edges) (now intervals) (now faces) taken) ⌝ }
@@ -200,8 +206,8 @@ pub fn visit(
         (visit (faceTables (now (oldedges .entry)) (now (oldfaces .entry))) (old .points) (old .edges) f
         (tablesOf (now (points .entry)) (now (edges .entry)) (now (intervals .entry)) (now (faces .entry)) taken)) ⌝ }
 {
-    let mut perimeter = [0u32; 64];
-    let mut about = [0u32; 68];
+    let mut perimeter = [0u32; LONGEST_PERIMETER];
+    let mut about = [0u32; LONGEST_BORDER];
     let n = put_border(oldedges, oldfaces, old.edges, f, &mut perimeter, &mut about);
     visit_along(
         oldedges,
@@ -218,7 +224,7 @@ pub fn visit(
 }
 
 // Visits the faces in the order; answers the rows taken then.
-pub fn visits(
+fn visits(
     oldedges: &[u32],
     oldfaces: &[u32],
     points: &mut [u32],
@@ -278,10 +284,10 @@ fn copy_rows(
         (old .points) (old .edges) (old .faces)
         (meshOf [] (now (points .entry)) (now (edges .entry)) (now (intervals .entry)) (now (faces .entry)))) ⌝ }
 {
-    copy_words(oldpoints, points, old.points * 3);
-    copy_words(oldedges, edges, old.edges * 8);
+    copy_words(oldpoints, points, old.points * POINT_WIDTH);
+    copy_words(oldedges, edges, old.edges * EDGE_WIDTH);
     copy_numbers(oldintervals, intervals, old.edges);
-    copy_words(oldfaces, faces, old.faces * 5);
+    copy_words(oldfaces, faces, old.faces * FACE_WIDTH);
 }
 
 // Makes the topology of the refined mesh in the scratch tables: the mesh's rows are copied, then its faces are visited in the

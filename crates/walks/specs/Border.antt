@@ -8,6 +8,7 @@ use mathlib.Core.Bool.{true, false}
 use mathlib.Core.List.{List, [], _∷_, _++_, map}
 use Prim.Native.Nat.{ℕ, zero, suc, _-_}
 use lib.ListN.{length, getD, replicate}
+use Rattle.tables.specs.Layout.{longestPerimeter, longestBorder}
 use Rattle.tables.specs.Mesh.{Mesh}
 use Rattle.audited_meshes.specs.Walks.{Walk, back, lost, firstPoint, faceWalk}
 use Rattle.walks.specs.declared.FaceBorder.{FaceBorder}
@@ -20,8 +21,14 @@ again zero ps = ps
 again (suc k) ps = again k ps ++ getD (again k ps) k 0 ∷ []
 
 abbrev pub borderOf : Mesh → ℕ → Walk → FaceBorder
-borderOf m f (back es) = record { back = true; n = length es; edges = padded 64 es; points = padded 68 (again 4 (map (firstPoint m f) es)) }
-borderOf m f lost = record { back = false; n = 0; edges = padded 64 []; points = padded 68 [] }
+borderOf m f (back es) =
+    record {
+      back = true;
+      n = length es;
+      edges = padded longestPerimeter es;
+      points = padded longestBorder (again 4 (map (firstPoint m f) es));
+    }
+borderOf m f lost = record { back = false; n = 0; edges = padded longestPerimeter []; points = padded longestBorder [] }
 
 unfoldable pub border : Mesh → ℕ → ℕ → FaceBorder
 unfolding faceWalk

@@ -3,6 +3,9 @@
 // point, or does not meet its start within its bound is lost, and says so.
 // Not here: whether the mesh is closed (`audit`).
 // Definitions: `specs/Steps.antt`, `specs/Border.antt`. Laws for callers: `proofs/Laws.antt`.
+use tables::LONGEST_BORDER;
+use tables::LONGEST_PERIMETER;
+
 pub mod t_nurcc_control_point;
 pub mod t_nurcc_face;
 pub mod t_nurcc_iter;
@@ -31,6 +34,6 @@ pub enum FoundEdge {
 pub struct FaceBorder {
     pub back: bool,
     pub n: usize,
-    pub edges: [u32; 64],
-    pub points: [u32; 68],
+    pub edges: [u32; LONGEST_PERIMETER],
+    pub points: [u32; LONGEST_BORDER],
 }

@@ -3,6 +3,7 @@ ghost use mathlib.Core.Path.{_≡_};
 ghost use mathlib.Core.List.{[]};
 ghost use Prim.Native.Nat.{_+_, _*_, _≤_};
 ghost use lib.ListN.{length};
+ghost use Rattle.tables.specs.Layout.{pointWidth, edgeWidth};
 ghost use Rattle.audited_meshes.specs.Walks.{touches, acwOfPoint, pointWalk};
 ghost use Rattle.walks.specs.Steps.{faceTables, pointTables, passedBy, radialOver};
 ghost use Rattle.walks.specs.Neighbour.{edgeTo};
@@ -13,6 +14,10 @@ use crate::t_nurcc_iter::point_step;
 use crate::t_nurcc_iter::point_walk;
 use records::load_edge_words;
 use t_spline::TnurccVertexEnd;
+use tables::DEST_WORD;
+use tables::EDGE_WIDTH;
+use tables::POINT_WIDTH;
+use tables::START_WORD;
 use tables::index;
 
 // The edges about point p, anticlockwise from its start edge, in the lent words: as many as the walk passes, none if it is lost.
@@ -23,8 +28,8 @@ pub fn radial_edges(
     p: usize,
     radial: &mut [u32],
 ) -> Passed
-    requires { ⌜ ne * 8 ≤ length (now edges) ⌝ }
-    requires { ⌜ p * 3 + 3 ≤ length (now points) ⌝ }
+    requires { ⌜ ne * edgeWidth ≤ length (now edges) ⌝ }
+    requires { ⌜ p * pointWidth + pointWidth ≤ length (now points) ⌝ }
     ensures { λ r. ⌜ r ≡ passedBy (pointWalk (pointTables (now (points .entry)) (now (edges .entry))) ne (length (now (radial .entry))) p) ⌝ }
     ensures { λ r. ⌜ now (radial .exit) ≡ radialOver (pointWalk (pointTables (now (points .entry)) (now (edges .entry))) ne (length (now (radial .entry))) p) (now (radial .entry)) ⌝ }
 {
@@ -33,7 +38,7 @@ pub fn radial_edges(
         return Passed::Lost;
     };
     let mut i = 0;
-    let mut e = points[p * 3 + 1];
+    let mut e = points[p * POINT_WIDTH + START_WORD];
     while i < n {
         radial[i] = e;
         e = acw_of_point(edges, p, index(e));
@@ -44,7 +49,7 @@ pub fn radial_edges(
 
 // The next edge anticlockwise about point p from edge e, which touches it.
 pub fn acw_of_point(edges: &[u32], p: usize, e: usize) -> u32
-    requires { ⌜ e * 8 + 8 ≤ length (now edges) ⌝ }
+    requires { ⌜ e * edgeWidth + edgeWidth ≤ length (now edges) ⌝ }
     ensures { λ r. ⌜ r ≡ acwOfPoint (faceTables (now (edges .entry)) []) p e ⌝ }
 {
     let edge = load_edge_words(edges, e);
@@ -56,14 +61,14 @@ pub fn acw_of_point(edges: &[u32], p: usize, e: usize) -> u32
 
 // Whether point p is an end of edge e.
 pub fn touches(edges: &[u32], p: usize, e: usize) -> bool
-    requires { ⌜ e * 8 + 8 ≤ length (now edges) ⌝ }
+    requires { ⌜ e * edgeWidth + edgeWidth ≤ length (now edges) ⌝ }
     ensures { λ r. ⌜ r ≡ touches (faceTables (now (edges .entry)) []) p e ⌝ }
 {
-    let b = e * 8;
+    let b = e * EDGE_WIDTH;
     if index(edges[b]) == p {
         return true;
     }
-    index(edges[b + 1]) == p
+    index(edges[b + DEST_WORD]) == p
 }
 
 // The first edge about point p, of at most k from its start edge, that touches point q too.
@@ -75,11 +80,11 @@ pub fn edge_from_opposing_point(
     p: usize,
     q: usize,
 ) -> FoundEdge
-    requires { ⌜ ne * 8 ≤ length (now edges) ⌝ }
-    requires { ⌜ p * 3 + 3 ≤ length (now points) ⌝ }
+    requires { ⌜ ne * edgeWidth ≤ length (now edges) ⌝ }
+    requires { ⌜ p * pointWidth + pointWidth ≤ length (now points) ⌝ }
     ensures { λ r. ⌜ r ≡ edgeTo (pointTables (now (points .entry)) (now (edges .entry))) ne k p q ⌝ }
 {
-    let start = points[p * 3 + 1];
+    let start = points[p * POINT_WIDTH + START_WORD];
     let mut n = 0;
     let mut e = start;
     while n < k {

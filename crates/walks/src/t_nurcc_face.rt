@@ -4,18 +4,24 @@ ghost use mathlib.Core.List.{List};
 ghost use Prim.Native.Nat.{ℕ, _+_, _*_, _≤_};
 ghost use lib.Dec.{ltb};
 ghost use lib.ListN.{length, replicate};
+ghost use Rattle.tables.specs.Layout.{edgeWidth, faceWidth, longestPerimeter, longestBorder};
 ghost use Rattle.walks.specs.declared.FaceBorder.{FaceBorder};
 ghost use Rattle.walks.specs.Steps.{faceTables};
 ghost use Rattle.walks.specs.Border.{padded, again, border};
 use crate::FaceBorder;
 use crate::Step;
 use crate::t_nurcc_iter::face_step;
+use tables::FACE_WIDTH;
+use tables::LONGEST_BORDER;
+use tables::LONGEST_PERIMETER;
 use tables::index;
 
 // Stores the first four points once more behind the first n.
-fn put_first_four(points: &mut [u32; 68], n: usize)
-    requires { ⌜ n ≤ 64 ⌝ }
-    ensures { λ _. ⌜ ((ps : List ℕ) → length ps ≡ n → now (points .entry) ≡ padded 68 ps → now (points .exit) ≡ padded 68 (again 4 ps)) ⌝ }
+fn put_first_four(points: &mut [u32; LONGEST_BORDER], n: usize)
+    requires { ⌜ n ≤ longestPerimeter ⌝ }
+    ensures { λ _. ⌜
+        ((ps : List ℕ) → length ps ≡ n → now (points .entry) ≡ padded longestBorder ps →
+        now (points .exit) ≡ padded longestBorder (again 4 ps)) ⌝ }
 {
     points[n] = points[0];
     points[n + 1] = points[1];
@@ -24,12 +30,12 @@ fn put_first_four(points: &mut [u32; 68], n: usize)
 }
 
 // Makes the arrays of a border 0, for a walk that is lost.
-fn clear(perimeter: &mut [u32; 64], points: &mut [u32; 68])
-    ensures { λ _. ⌜ now (perimeter .exit) ≡ replicate 64 0 ⌝ }
-    ensures { λ _. ⌜ now (points .exit) ≡ replicate 68 0 ⌝ }
+fn clear(perimeter: &mut [u32; LONGEST_PERIMETER], points: &mut [u32; LONGEST_BORDER])
+    ensures { λ _. ⌜ now (perimeter .exit) ≡ replicate longestPerimeter 0 ⌝ }
+    ensures { λ _. ⌜ now (points .exit) ≡ replicate longestBorder 0 ⌝ }
 {
-    *perimeter = [0; 64];
-    *points = [0; 68];
+    *perimeter = [0; LONGEST_PERIMETER];
+    *points = [0; LONGEST_BORDER];
 }
 
 // Stores the border of face f, from its start edge along the edges below ne, in arrays of 0: its edges, and its points with the
@@ -39,22 +45,22 @@ pub fn put_border(
     faces: &[u32],
     ne: usize,
     f: usize,
-    perimeter: &mut [u32; 64],
-    points: &mut [u32; 68],
+    perimeter: &mut [u32; LONGEST_PERIMETER],
+    points: &mut [u32; LONGEST_BORDER],
 ) -> usize
-    requires { ⌜ ne * 8 ≤ length (now edges) ⌝ }
-    requires { ⌜ f * 5 + 5 ≤ length (now faces) ⌝ }
-    requires { ⌜ now perimeter ≡ replicate 64 0 ⌝ }
-    requires { ⌜ now points ≡ replicate 68 0 ⌝ }
+    requires { ⌜ ne * edgeWidth ≤ length (now edges) ⌝ }
+    requires { ⌜ f * faceWidth + faceWidth ≤ length (now faces) ⌝ }
+    requires { ⌜ now perimeter ≡ replicate longestPerimeter 0 ⌝ }
+    requires { ⌜ now points ≡ replicate longestBorder 0 ⌝ }
     ensures { λ r. ⌜
         _≡_ {A = FaceBorder}
         (record { back = ltb 0 r; n = r; edges = now (perimeter .exit); points = now (points .exit) })
         (border (faceTables (now (edges .entry)) (now (faces .entry))) ne f) ⌝ }
 {
-    let start = faces[f * 5];
+    let start = faces[f * FACE_WIDTH];
     let mut n = 0;
     let mut e = start;
-    while n < 64 {
+    while n < LONGEST_PERIMETER {
         let Step::To { point, next } = face_step(edges, ne, f, index(e)) else {
             clear(perimeter, points);
             return 0;
@@ -74,12 +80,12 @@ pub fn put_border(
 
 // The border of face f, from its start edge, along the edges below ne.
 pub fn border(edges: &[u32], faces: &[u32], ne: usize, f: usize) -> FaceBorder
-    requires { ⌜ ne * 8 ≤ length (now edges) ⌝ }
-    requires { ⌜ f * 5 + 5 ≤ length (now faces) ⌝ }
+    requires { ⌜ ne * edgeWidth ≤ length (now edges) ⌝ }
+    requires { ⌜ f * faceWidth + faceWidth ≤ length (now faces) ⌝ }
     ensures { λ r. ⌜ r ≡ border (faceTables (now (edges .entry)) (now (faces .entry))) ne f ⌝ }
 {
-    let mut perimeter = [0u32; 64];
-    let mut points = [0u32; 68];
+    let mut perimeter = [0u32; LONGEST_PERIMETER];
+    let mut points = [0u32; LONGEST_BORDER];
     let n = put_border(edges, faces, ne, f, &mut perimeter, &mut points);
     FaceBorder {
         back: 0 < n,

@@ -2,6 +2,7 @@
 ghost use mathlib.Core.Path.{_≡_};
 ghost use Prim.Native.Nat.{_+_, _*_, _≤_};
 ghost use lib.ListN.{length};
+ghost use Rattle.tables.specs.Layout.{pointWidth, edgeWidth, faceWidth};
 ghost use Rattle.audited_meshes.specs.Walks.{faceWalk, pointWalk};
 ghost use Rattle.walks.specs.Steps.{faceTables, pointTables, faceStep, pointStep, passedBy};
 use crate::Passed;
@@ -9,11 +10,15 @@ use crate::Step;
 use records::load_edge_words;
 use t_spline::TnurccFaceSide;
 use t_spline::TnurccVertexEnd;
+use tables::FACE_WIDTH;
+use tables::LONGEST_PERIMETER;
+use tables::POINT_WIDTH;
+use tables::START_WORD;
 use tables::index;
 
 // One step about face f from edge e, among the edges below ne.
 pub fn face_step(edges: &[u32], ne: usize, f: usize, e: usize) -> Step
-    requires { ⌜ ne * 8 ≤ length (now edges) ⌝ }
+    requires { ⌜ ne * edgeWidth ≤ length (now edges) ⌝ }
     ensures { λ r. ⌜ r ≡ faceStep (now (edges .entry)) ne f e ⌝ }
 {
     if ne <= e {
@@ -37,7 +42,7 @@ pub fn face_step(edges: &[u32], ne: usize, f: usize, e: usize) -> Step
 
 // One step about point p from edge e, among the edges below ne.
 pub fn point_step(edges: &[u32], ne: usize, p: usize, e: usize) -> Step
-    requires { ⌜ ne * 8 ≤ length (now edges) ⌝ }
+    requires { ⌜ ne * edgeWidth ≤ length (now edges) ⌝ }
     ensures { λ r. ⌜ r ≡ pointStep (now (edges .entry)) ne p e ⌝ }
 {
     if ne <= e {
@@ -61,14 +66,14 @@ pub fn point_step(edges: &[u32], ne: usize, p: usize, e: usize) -> Step
 
 // The number of edges that the walk about face f passes, of at most 64.
 pub fn face_walk(edges: &[u32], faces: &[u32], ne: usize, f: usize) -> Passed
-    requires { ⌜ ne * 8 ≤ length (now edges) ⌝ }
-    requires { ⌜ f * 5 + 5 ≤ length (now faces) ⌝ }
+    requires { ⌜ ne * edgeWidth ≤ length (now edges) ⌝ }
+    requires { ⌜ f * faceWidth + faceWidth ≤ length (now faces) ⌝ }
     ensures { λ r. ⌜ r ≡ passedBy (faceWalk (faceTables (now (edges .entry)) (now (faces .entry))) ne f) ⌝ }
 {
-    let start = faces[f * 5];
+    let start = faces[f * FACE_WIDTH];
     let mut n = 0;
     let mut e = start;
-    while n < 64 {
+    while n < LONGEST_PERIMETER {
         let Step::To { point: _, next } = face_step(edges, ne, f, index(e)) else {
             return Passed::Lost;
         };
@@ -83,11 +88,11 @@ pub fn face_walk(edges: &[u32], faces: &[u32], ne: usize, f: usize) -> Passed
 
 // The number of edges that the walk about point p passes, of at most k.
 pub fn point_walk(edges: &[u32], points: &[u32], ne: usize, k: usize, p: usize) -> Passed
-    requires { ⌜ ne * 8 ≤ length (now edges) ⌝ }
-    requires { ⌜ p * 3 + 3 ≤ length (now points) ⌝ }
+    requires { ⌜ ne * edgeWidth ≤ length (now edges) ⌝ }
+    requires { ⌜ p * pointWidth + pointWidth ≤ length (now points) ⌝ }
     ensures { λ r. ⌜ r ≡ passedBy (pointWalk (pointTables (now (points .entry)) (now (edges .entry))) ne k p) ⌝ }
 {
-    let start = points[p * 3 + 1];
+    let start = points[p * POINT_WIDTH + START_WORD];
     let mut v = 0;
     let mut e = start;
     while v < k {

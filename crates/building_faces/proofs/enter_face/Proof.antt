@@ -1,6 +1,7 @@
 -- enter_face meets its contract: the face's tests, then its perimeter.
 use mathlib.Core.List.{[]}
 use mathlib.Core.Path.{_∙_, sym}
+use native.Mathlib.Omega.{arith}
 use Rattle.tables.specs.Mesh.{meshOf}
 use Rattle.building_faces.specs.Rings.{stateAt}
 use Rattle.building_faces.proofs.FacePassing.{fit-placed, passed-fit, passed-unfit}
@@ -22,7 +23,11 @@ returns : tie.Need-returns
 returns c = ((λ cs ps z. passed-fit (c .before .before .before .before .before .before .before .before .before .before .before .before .before .before .before .before .before .before .before .before .before .before .before .before .before .before .before .before .args .sides .now) (c .before .before .before .before .before .before .before .before .before .before .before .before .before .before .before .before .before .before .before .before .before .before .before .before .before .before .before .before .args .listed .now) (c .before .before .before .before .before .before .before .before .before .before .before .before .before .before .before .before .before .before .before .before .before .before .before .before .before .before .before .before .args .beside .now) (c .before .before .before .before .before .before .before .before .before .before .before .before .before .before .before .before .before .before .before .before .before .before .before .before .before .before .before .before .args .np) (c .before .before .before .before .before .before .before .before .before .before .before .before .before .before .before .before .before .before .before .before .before .before .before .before .before .before .before .before .args .f) (c .before .before .before .before .before .before .before .before .before .before .before .before .before .before .before .before .before .before .before .before .before .before .before .before .before .before .before .before .args .a) (c .before .before .before .before .before .before .before .before .before .before .before .before .before .before .before .before .before .before .before .before .before .before .before .before .before .before .before .before .args .n) (c .before .before .before .before .before .before .before .before .before .before .before .before .before .before .before .before .before .before .before .before .before .before .before .before .before .before .before .before .pre .1 .1 .0) cs z (stateAt (meshOf ps (c .before .before .before .before .before .before .before .before .before .before .before .before .before .before .before .before .before .before .before .before .before .before .before .before .before .before .before .before .args .points .now) (c .before .before .before .before .before .before .before .before .before .before .before .before .before .before .before .before .before .before .before .before .before .before .before .before .before .before .before .before .args .edges .now) (c .before .before .before .before .before .before .before .before .before .before .before .before .before .before .before .before .before .before .before .before .before .before .before .before .before .before .before .before .args .intervals .now) (c .before .before .before .before .before .before .before .before .before .before .before .before .before .before .before .before .before .before .before .before .before .before .before .before .before .before .before .before .args .faces .now)) (c .before .before .before .before .before .before .before .before .before .before .before .before .before .before .before .before .before .before .before .before .before .before .before .before .before .before .before .before .args .k)) _ (sym (rw (c .before .before .before .before .before .before .before .before .before .before .before .before .before .before .before .before .before .before .before .index .ensures) at (c .before .before .before .before .before .before .before .before .before .before .before .before .before .before .before .before .before .before .face-verdict .ensures cs)) ∙ c .before .before .before .before .before .before .before .before .before .before .before .before .before .before .before .before .enum-told .given .1) (c .before .before .before .before .before .before .before .before .before .before .enter-perimeter .ensures .0 cs (c .before .before .before .before .before .before .before .before .before .before .before .before .before .before .before .before .before .before .before .before .before .before .before .before .before .before .before .before .args .sides .now) ps)), c .before .before .before .before .before .before .before .before .before .before .enter-perimeter .ensures .1)
 
 returns-2 : tie.Need-returns-2
-returns-2 c = ((λ cs ps z. passed-unfit (c .before .before .before .before .before .before .before .before .before .before .before .before .before .args .sides .now) (c .before .before .before .before .before .before .before .before .before .before .before .before .before .args .listed .now) (c .before .before .before .before .before .before .before .before .before .before .before .before .before .args .beside .now) (c .before .before .before .before .before .before .before .before .before .before .before .before .before .args .np) (c .before .before .before .before .before .before .before .before .before .before .before .before .before .args .f) (c .before .before .before .before .before .before .before .before .before .before .before .before .before .args .a) (c .before .before .before .before .before .before .before .before .before .before .before .before .before .args .n) (c .before .before .before .before .before .before .before .before .before .before .before .before .before .pre .1 .1 .0) cs z (stateAt (meshOf ps (c .before .before .before .before .before .before .before .before .before .before .before .before .before .args .points .now) (c .before .before .before .before .before .before .before .before .before .before .before .before .before .args .edges .now) (c .before .before .before .before .before .before .before .before .before .before .before .before .before .args .intervals .now) (c .before .before .before .before .before .before .before .before .before .before .before .before .before .args .faces .now)) (c .before .before .before .before .before .before .before .before .before .before .before .before .before .args .k)) (c .before .g .given .0 .0) (sym (rw (c .before .before .before .before .index .ensures) at (c .before .before .before .face-verdict .ensures cs)) ∙ c .before .g .given .1)), tt)
+returns-2 c =
+    let h = c .before .before .before .before .before .before .before .before .before .before .before .before .before .pre in (
+      (λ cs ps z. passed-unfit (c .before .before .before .before .before .before .before .before .before .before .before .before .before .args .sides .now) (c .before .before .before .before .before .before .before .before .before .before .before .before .before .args .listed .now) (c .before .before .before .before .before .before .before .before .before .before .before .before .before .args .beside .now) (c .before .before .before .before .before .before .before .before .before .before .before .before .before .args .np) (c .before .before .before .before .before .before .before .before .before .before .before .before .before .args .f) (c .before .before .before .before .before .before .before .before .before .before .before .before .before .args .a) (c .before .before .before .before .before .before .before .before .before .before .before .before .before .args .n) (c .before .before .before .before .before .before .before .before .before .before .before .before .before .pre .1 .1 .0) cs z (stateAt (meshOf ps (c .before .before .before .before .before .before .before .before .before .before .before .before .before .args .points .now) (c .before .before .before .before .before .before .before .before .before .before .before .before .before .args .edges .now) (c .before .before .before .before .before .before .before .before .before .before .before .before .before .args .intervals .now) (c .before .before .before .before .before .before .before .before .before .before .before .before .before .args .faces .now)) (c .before .before .before .before .before .before .before .before .before .before .before .before .before .args .k)) (c .before .g .given .0 .0) (sym (rw (c .before .before .before .before .index .ensures) at (c .before .before .before .face-verdict .ensures cs)) ∙ c .before .g .given .1)),
+      (c .before .before .before .before .before .before .before .before .before .before .before .before .before .args .k, h .0, omega (arith, h .1 .1 .1 .0)),
+    )
 
 pub enter-face-spec : {M : Type 1} → statement M
 enter-face-spec =
