@@ -1,22 +1,23 @@
 #!/bin/sh
-# Builds the oracle as oracle/target/oracle, over the library oracle/target/liboracle.rlib. The six Rust files are
-# compiled where they stand, through links, after their sums are compared with SOURCES.sha256; they are looked for in
-# $TNURCC_SRC, or in shared/docs/src beside the repository.
+# Builds the oracle as oracle/target/oracle, over the library oracle/target/liboracle.rlib, unless both are younger than
+# what they are made of. The six Rust files are compiled where they stand, through links, after their sums are compared
+# with SOURCES.sha256; they are looked for in $TNURCC_SRC, or in shared/docs/src beside the repository.
+# Needed: rustc, cc, the six Rust files.
 set -eu
 here=$(cd "$(dirname "$0")" && pwd)
-sources=${TNURCC_SRC:-$here/../../shared/docs/src}
+root=$here/..
+. "$root/tools/needed.sh"
+needed oracle/build.sh rustc cc sources
 tree=$here/target/tree
-
-fail() {
-    echo "oracle: $1" >&2
-    exit 1
-}
-
-command -v rustc >/dev/null || fail "rustc is not installed"
-[ -d "$sources" ] || fail "no Rust sources at $sources (TNURCC_SRC names their folder)"
+oracle=$here/target/oracle
 sources=$(cd "$sources" && pwd)
-(cd "$sources" && sha256sum --check --quiet "$here/SOURCES.sha256") ||
-    fail "the sources in $sources are not the six files"
+if ! (cd "$sources" && sha256sum --check --quiet "$here/SOURCES.sha256"); then
+    echo "oracle: the sources in $sources are not the six files" >&2
+    exit 1
+fi
+if [ -x "$oracle" ] && [ -z "$(find "$here/src" "$here/build.sh" "$here/SOURCES.sha256" -newer "$oracle" -type f)" ]; then
+    exit 0
+fi
 
 rm -rf "$tree"
 mkdir -p "$here/target"
@@ -26,4 +27,4 @@ ln -s "$t_spline"/mod.rs "$t_spline"/t_nurcc "$t_spline"/t_nurcc_edge "$t_spline
     "$t_spline"/t_nurcc_control_point.rs "$t_spline"/t_nurcc_face.rs "$tree/t_spline"
 rustc --edition 2024 -O --crate-type rlib --crate-name oracle -o "$here/target/liboracle.rlib" "$tree/lib.rs"
 rustc --edition 2024 -O --crate-name oracle_main --extern oracle="$here/target/liboracle.rlib" \
-    -o "$here/target/oracle" "$tree/main.rs"
+    -o "$oracle" "$tree/main.rs"

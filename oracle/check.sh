@@ -1,5 +1,6 @@
 #!/bin/sh
-# Builds the oracle and checks that it gives document 01's figures.
+# Builds the oracle if it is not up to date, and checks that it gives document 01's figures.
+# Needed: as for build.sh.
 set -eu
 here=$(cd "$(dirname "$0")" && pwd)
 passed=0

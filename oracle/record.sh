@@ -1,8 +1,12 @@
 #!/bin/sh
 # Makes all samples anew in oracle/target/samples and says whether they differ from those in oracle/samples.
 # With --write they are put in their place.
+# Needed: python3, and as for build.sh.
 set -eu
 here=$(cd "$(dirname "$0")" && pwd)
+root=$here/..
+. "$root/tools/needed.sh"
+needed oracle/record.sh python3 rustc cc sources
 fresh=$here/target/samples
 
 "$here/build.sh"

@@ -13,14 +13,14 @@
 set -eu
 here=$(cd "$(dirname "$0")" && pwd)
 root=$here/..
+. "$root/tools/needed.sh"
+needed station/harness.sh rt cc rustc sources
 out=$here/target
 library=$root/target/staticlib/libstation.a
 oracle=$root/oracle/target/liboracle.rlib
 
 "$here/library.sh"
-if [ ! -f "$oracle" ] || [ -n "$(find "$root/oracle/src" "$root/oracle/build.sh" -newer "$oracle" -type f)" ]; then
-    "$root/oracle/build.sh"
-fi
+"$root/oracle/build.sh"
 mkdir -p "$out"
 if [ ! -f "$out/station" ] || [ -n "$(find "$here/src" "$library" "$oracle" -newer "$out/station" -type f)" ]; then
     rustc --edition 2024 -O --crate-name station --extern oracle="$oracle" -C link-arg="$library" \

@@ -5,6 +5,8 @@
 set -eu
 here=$(cd "$(dirname "$0")" && pwd)
 root=$here/..
+. "$root/tools/needed.sh"
+needed station/run.sh rt cc rustc python3
 out=$here/target
 library=$root/target/staticlib/libstation.a
 samples=$root/oracle/samples

@@ -1,7 +1,7 @@
 // Whether tables of any content, with counts of any size, are a closed mesh (document 01, "Audit").
 // It is near linear in the mesh, has no memory but locals and writes nothing.
 // Not here: what is asked (`audited_meshes`: `audit`, and its quick form, which this code follows), the tests of its rows and
-// walks (`audit_tests`).
+// walks (`audit_tests`, `audit_edges`, `audit_faces`).
 // Contract: `audit`. Definitions: `specs/Parts.antt`. Laws: `proofs/Whole.antt`.
 ghost use mathlib.Core.Path.{_≡_};
 ghost use mathlib.Core.List.{[]};
@@ -12,10 +12,10 @@ ghost use Rattle.tables.specs.Mesh.{origin, dest, meshOf};
 ghost use Rattle.audited_meshes.specs.Audit.{countsFit, audit};
 ghost use Rattle.walks.specs.Steps.{faceTables};
 ghost use Rattle.audit.specs.Parts.{rowsFit, walksFit};
-use audit_tests::edges::are_one_edges;
-use audit_tests::edges::edges_fit;
-use audit_tests::faces::face_walks_fit;
-use audit_tests::faces::faces_fit;
+use audit_edges::are_one_edges;
+use audit_edges::edges_fit;
+use audit_faces::face_walks_fit;
+use audit_faces::faces_fit;
 use audit_tests::points::point_walks_fit;
 use audit_tests::points::points_fit;
 use audit_tests::points::valences_fit;

@@ -1,5 +1,2 @@
 pub mod Laws
 pub mod PointTests
-pub mod FaceTests
-pub mod EdgeTests
-pub mod Alone

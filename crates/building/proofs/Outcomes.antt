@@ -34,7 +34,7 @@ use Rattle.building_tests.specs.declared.Bounds.{Bounds}
 use Rattle.building_tests.specs.declared.Bounds.the-variants.{General, Refine}
 use Rattle.edge_search.specs.Chains.{Newest, Standing}
 use Rattle.building_faces.specs.Rings.{stateAt, Lent}
-use Rattle.building_whole.specs.Zeroing.{zeroedTo}
+use Rattle.building_rows.specs.Zeroing.{zeroedTo}
 use Rattle.building.specs.Concluding.{concluded, answeredFrom, Begun, Zeroed}
 
 -- ---- the ends of `conclude`

@@ -17,7 +17,7 @@ use Rattle.built_meshes.specs.Whole.{marked}
 use Rattle.built_meshes.specs.declared.Verdict.{Verdict}
 use Rattle.built_meshes.specs.declared.Verdict.the-variants.{Fit, Unfit}
 use Rattle.built_meshes.specs.declared.Built.the-variants.{Accepted}
-use Rattle.building_whole.specs.Zeroing.{zeroedTo}
+use Rattle.building_rows.specs.Zeroing.{zeroedTo}
 use Rattle.building_tests.specs.Lent.{limitsOf}
 use Rattle.building_tests.specs.declared.Bounds.{Bounds}
 

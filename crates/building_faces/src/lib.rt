@@ -1,7 +1,7 @@
 // Faces entered into the tables: one place of a perimeter after the other, each edge connected to the one before and the first to
 // the last, then the face's row (document 01, "Building"; grounds 10 to 15).
 // Carries over the loop of `try_new` of t_nurcc/mod.rs.
-// Not here: the places stepped (`perimeters`), the grounds of the lists and of the whole (`building_tests`, `building_whole`).
+// Not here: the places stepped (`perimeters`), the grounds of the lists and of the whole (`building_lists`, `building_whole`).
 // Definitions: `Perimeters` and `Building` of `built_meshes`; `specs/Rings.antt`. Laws: `proofs/Turns.antt`.
 ghost use mathlib.Core.Path.{_≡_};
 ghost use mathlib.Core.List.{List, []};

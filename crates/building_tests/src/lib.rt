@@ -1,11 +1,10 @@
-// The tests that building makes before it enters an edge: grounds 2 and 3 on the lists that are lent, grounds 10 to 13 on one face.
-// Not here: ground 4 and grounds 20 to 22 (`building_whole`), grounds 14 and 15 (`edge_search`).
-// Definitions: `Lists` and `Faces` of `built_meshes`; `specs/Lent.antt`. Laws for callers: `proofs/Laws.antt`.
+// The limits of building, and the tests that it makes of one face before it enters an edge: grounds 10 to 13.
+// Not here: grounds 2 and 3 (`building_lists`), 4 (`building_rows`), 14 and 15 (`edge_search`), 20 to 22 (`building_whole`).
+// Definitions: `Faces` of `built_meshes`; `specs/Lent.antt`. Laws for callers: `proofs/Laws.antt`.
 ghost use mathlib.Core.Path.{_≡_};
 ghost use Rattle.building_tests.specs.Lent.{limitsOf, mostOf};
 
 pub mod faces;
-pub mod lists;
 
 // The limits of building: the most points, faces and listed points.
 pub const MOST_POINTS: usize = 4096;

@@ -1,6 +1,4 @@
-// What building asks of the lent tables before the faces are entered and after: ground 4, the rows that it counts made zero, grounds
-// 20 to 22, and the marks of extraordinary points.
-// Not here: the lists and single faces (`building_tests`), the faces entered (`building_faces`), the whole (`building`).
-// Definitions: `Whole` of `built_meshes`; `specs/Zeroing.antt`. Laws: `proofs/Laws.antt`.
-pub mod rows;
+// What building asks of the tables after the faces are entered: grounds 20 to 22, and the marks of extraordinary points.
+// Not here: ground 4 (`building_rows`), single faces (`building_tests`), the faces entered (`building_faces`), the whole (`building`).
+// Definitions: `Whole` of `built_meshes`. Laws: `proofs/Laws.antt`.
 pub mod whole;

@@ -8,11 +8,11 @@
 //   6 to 10  how many words or numbers of the tables of positions, points, edges, intervals and faces are lent
 //   11 to 15 the same of the scratch tables
 ghost use Prim.Native.Nat.{_≤_};
-use crate::built::Change;
-use crate::built::Lengths;
-use crate::fields::field;
-use crate::fields::word;
 use building_tests::Bounds;
+use oracle_builds::built::Change;
+use oracle_builds::built::Lengths;
+use oracle_tables::fields::field;
+use oracle_tables::fields::word;
 
 // The limits that the head names.
 pub fn bounds(bytes: &[u8], head: usize) -> Bounds

@@ -1,0 +1,104 @@
+-- The tests of one edge: what each of its tests decides. Assumes nothing.
+use mathlib.Core.Path.{_≡_, refl}
+use mathlib.Core.Bool.{Bool, true, false, not, _&&_}
+use mathlib.Core.List.{List, []}
+use mathlib.Core.Logic.{_≢_}
+use Prim.Native.Nat.{ℕ}
+use lib.Dec.{eqb, ltb}
+use lib.Ieee.{Float}
+use borrow.Author.Tests.{eq-eqb, ne-eqb}
+use Rattle.tables.specs.Mesh.{Mesh, origin, dest, leftFace, rightFace, leftCw, leftAcw, rightCw, rightAcw, interval}
+use Rattle.audited_meshes.specs.Walks.{touches, borders, cwOfFace}
+use Rattle.audited_meshes.specs.Audit.{edgeInRange, intervalFit, acwLinks, linked}
+use Rattle.audited_meshes.specs.Audited.{EdgeInRange}
+use Rattle.audited_meshes.specs.Quick.{edgeFit}
+use Rattle.audited_meshes.proofs.Audited.{edgeInRange-is}
+use Rattle.walks.specs.Steps.{faceTables}
+use Rattle.audit_tests.specs.Parts.{edgeRows, linksBack}
+use Rattle.audit_tests.proofs.Laws.{and-false, and-assoc, and-four}
+
+-- two numbers below n and two below k
+abbrev pub below : ℕ → ℕ → ℕ → ℕ → ℕ → ℕ → Bool
+below a b c d n k = ltb a n && ltb b n && ltb c k && ltb d k
+
+module _ (es : List ℕ) where
+  abbrev at : Mesh
+  at = faceTables es []
+
+  pub in-range-is :
+      (np ne nf e : ℕ) →
+      edgeInRange at np ne nf e
+      ≡ (below (origin at e) (dest at e) (leftFace at e) (rightFace at e) np nf && below (leftCw at e) (leftAcw at e) (rightCw at e) (rightAcw at e) ne ne)
+  unfolding edgeInRange
+  in-range-is np ne nf e = and-four (below (origin at e) (dest at e) (leftFace at e) (rightFace at e) np nf) _ _ _ _
+
+  pub acw-links-is : (e p f a : ℕ) → acwLinks at e p f a ≡ (touches at p a && linksBack es 4 f a e)
+  acw-links-is e p f a = and-assoc (touches at p a) (borders at f a) (eqb (cwOfFace at f a) e)
+
+  -- the four links of an edge, in turn
+  module _ (e : ℕ) where
+    abbrev pub left-acw : Bool
+    left-acw = acwLinks at e (dest at e) (leftFace at e) (leftAcw at e)
+
+    abbrev pub right-acw : Bool
+    right-acw = acwLinks at e (origin at e) (rightFace at e) (rightAcw at e)
+
+    abbrev pub left-cw : Bool
+    left-cw = linksBack es 5 (leftFace at e) (leftCw at e) e
+
+    abbrev pub right-cw : Bool
+    right-cw = linksBack es 5 (rightFace at e) (rightCw at e) e
+
+    pub linked-1 : left-acw ≡ false → linked at e ≡ false
+    unfolding linked
+    linked-1 h = rw h
+
+    pub linked-2 : right-acw ≡ false → linked at e ≡ false
+    unfolding linked
+    linked-2 h = rw (h, and-false left-acw)
+
+    pub linked-3 : left-cw ≡ false → linked at e ≡ false
+    unfolding linked
+    linked-3 h = rw (h, and-false (left-acw && right-acw))
+
+    pub linked-4 : left-acw ≡ true → right-acw ≡ true → left-cw ≡ true → linked at e ≡ right-cw
+    unfolding linked
+    linked-4 a b c = rw (a, b, c)
+
+-- the tests of an edge, in turn
+module _ (m : Mesh) (np ne nf e : ℕ) where
+  pub edge-range : edgeInRange m np ne nf e ≡ false → edgeFit m np ne nf e ≡ false
+  unfolding edgeFit
+  edge-range h = rw h
+
+  pub edge-interval : intervalFit (interval m e) ≡ false → edgeFit m np ne nf e ≡ false
+  unfolding edgeFit
+  edge-interval h = rw (h, and-false (edgeInRange m np ne nf e))
+
+  pub edge-ends : origin m e ≡ dest m e → edgeFit m np ne nf e ≡ false
+  unfolding edgeFit
+  edge-ends h = rw (eq-eqb (origin m e) (dest m e) h, and-false (edgeInRange m np ne nf e && intervalFit (interval m e)))
+
+  pub edge-sides : leftFace m e ≡ rightFace m e → edgeFit m np ne nf e ≡ false
+  unfolding edgeFit
+  edge-sides h =
+      rw (eq-eqb (leftFace m e) (rightFace m e) h, and-false (edgeInRange m np ne nf e && intervalFit (interval m e) && not (eqb (origin m e) (dest m e))))
+
+  pub edge-links :
+      edgeInRange m np ne nf e ≡ true → intervalFit (interval m e) ≡ true → origin m e ≢ dest m e → leftFace m e ≢ rightFace m e →
+      edgeFit m np ne nf e ≡ linked m e
+  unfolding edgeFit
+  edge-links a b c d = rw (a, b, ne-eqb (origin m e) (dest m e) c, ne-eqb (leftFace m e) (rightFace m e) d)
+
+  -- what the first test says
+  pub edge-in-range : edgeInRange m np ne nf e ≡ true → EdgeInRange m np ne nf e
+  edge-in-range h = edgeInRange-is m np ne nf e .0 h
+
+-- these tests look at the table of edges alone
+pub edge-range-rows : (es : List ℕ) (is : List Float) (np ne nf e : ℕ) → edgeInRange (edgeRows es is) np ne nf e ≡ edgeInRange (faceTables es []) np ne nf e
+unfolding edgeInRange
+edge-range-rows es is np ne nf e = refl
+
+pub linked-rows : (es : List ℕ) (is : List Float) (e : ℕ) → linked (edgeRows es is) e ≡ linked (faceTables es []) e
+unfolding linked
+linked-rows es is e = refl

@@ -1,0 +1,150 @@
+-- The test of one face: what each of its tests decides. Assumes nothing.
+use mathlib.Core.Path.{_≡_, refl, sym, _∙_, ap, ap₂, subst}
+use mathlib.Core.Bool.{Bool, true, false, not, _&&_, _||_, cond}
+use mathlib.Core.List.{List, map}
+use mathlib.Core.Logic.{_≢_}
+use Prim.Native.Nat.{ℕ, _+_, _<_, _≤_}
+use native.Mathlib.Omega.{arith}
+use lib.Dec.{eqb, ltb, leb}
+use lib.ListN.{length, getD, length-map}
+use borrow.Author.Tests.{lt-ltb, le-ltb, le-leb, lt-leb, leb-true}
+use Rattle.closed_meshes.specs.Renumbering.{sumTo}
+use Rattle.tables.specs.Mesh.{Mesh, none, faceStart, corner}
+use Rattle.audited_meshes.specs.Folds.{every, distinct}
+use Rattle.audited_meshes.specs.Walks.{Walk, back, lost, passed, firstPoint, faceWalk}
+use Rattle.audited_meshes.specs.Quick.{faceFit, faceBack}
+use Rattle.walks.specs.declared.FaceBorder.{FaceBorder}
+use Rattle.walks.specs.Border.{borderOf, border}
+use Rattle.walks.proofs.Laws.{border-point, border-walk, getD-map}
+use Rattle.walks.proofs.Back.{faceWalk-within}
+use Rattle.audit_tests.specs.Parts.{apart, faceSize, facesWalked}
+use Rattle.audit_tests.proofs.Laws.{and-false, every-none, every-more, every-stop, every-all, every-cong, sumTo-none, sumTo-more, sumTo-stop, sumTo-all}
+
+module _ (m : Mesh) (np ne f : ℕ) where
+  abbrev pub cornerHere : ℕ → Bool
+  cornerHere k = ltb (corner m f k) np || eqb (corner m f k) none
+
+  pub face-start : ne ≤ faceStart m f → faceFit m np ne f ≡ false
+  unfolding faceFit
+  face-start h = rw (le-ltb (faceStart m f) ne h)
+
+  pub face-corner : (k : ℕ) → k < 4 → cornerHere k ≡ false → faceFit m np ne f ≡ false
+  unfolding faceFit
+  face-corner k l h = rw (every-stop 4 k cornerHere l h) (and-false (ltb (faceStart m f) ne))
+
+  pub face-last : faceStart m f < ne → cornerHere 0 ≡ true → cornerHere 1 ≡ true → cornerHere 2 ≡ true → faceFit m np ne f ≡ cornerHere 3
+  unfolding faceFit every
+  face-last h a b c = rw (lt-ltb (faceStart m f) ne h, a, b, c)
+
+-- ---- the size of a face, by its border
+
+abbrev allApart : List ℕ → ℕ → Bool
+allApart ks n = every n (λ i. every i (λ j. apart ks i j))
+
+module _ (m : Mesh) (f : ℕ) (es : List ℕ) where
+  -- the points of the border are those of the walk, as far as they are looked at
+  apart-border : allApart (borderOf m f (back es) .points) (length es) ≡ distinct (map (firstPoint m f) es)
+  unfolding distinct
+  apart-border =
+      every-cong (length es) _ _
+      (λ i l. every-cong i _ _ (λ j k. ap₂ (λ (a b : ℕ). not (eqb a b)) (same i l) (same j (omega arith))))
+      ∙ ap (λ (n : ℕ). every n (λ i. every i (λ j. apart (map (firstPoint m f) es) i j))) (sym (length-map es (firstPoint m f)))
+    where
+      same : (i : ℕ) → i < length es → getD (borderOf m f (back es) .points) i 0 ≡ getD (map (firstPoint m f) es) i 0
+      same i l = border-point m f es i l ∙ sym (getD-map (firstPoint m f) es i l)
+
+-- the size of a face by its walk
+abbrev sizeBy : Mesh → ℕ → Walk → ℕ
+sizeBy m f w = cond (faceBack m f w) (passed w) 0
+
+walk-short : (m : Mesh) (f : ℕ) (w : Walk) → borderOf m f w .n < 3 → sizeBy m f w ≡ 0
+unfolding faceBack
+walk-short m f (back es) l = rw (lt-leb 3 (length es) l)
+walk-short m f lost l = refl
+
+walk-size : (m : Mesh) (f : ℕ) (w : Walk) → 3 ≤ borderOf m f w .n
+    → sizeBy m f w ≡ cond (allApart (borderOf m f w .points) (borderOf m f w .n)) (borderOf m f w .n) 0
+unfolding faceBack
+walk-size m f (back es) l = rw (le-leb 3 (length es) l) (ap (λ (d : Bool). cond d (length es) 0) (sym (apart-border m f es)))
+walk-size m f lost l = absurd (omega arith)
+
+module _ (m : Mesh) (ne f : ℕ) (b : FaceBorder) (e : b ≡ border m ne f) where
+  by-walk : b ≡ borderOf m f (faceWalk m ne f)
+  by-walk = e ∙ border-walk m ne f
+
+  pub size-within : b .n ≤ 64
+  size-within = subst (λ (k : ℕ). k ≤ 64) (sym (ap (λ (x : FaceBorder). x .n) by-walk ∙ count-border (faceWalk m ne f))) (faceWalk-within m ne f)
+    where
+      count-border : (w : Walk) → borderOf m f w .n ≡ passed w
+      count-border (back es) = refl
+      count-border lost = refl
+
+  pub size-short : b .n < 3 → 0 ≡ faceSize m ne f
+  size-short l = sym (walk-short m f (faceWalk m ne f) (subst (λ (x : FaceBorder). x .n < 3) by-walk l))
+
+  pub size-is : 3 ≤ b .n → (d : Bool) → d ≡ allApart (b .points) (b .n) → cond d (b .n) 0 ≡ faceSize m ne f
+  size-is l d q =
+      sym (walk-size m f (faceWalk m ne f) (subst (λ (x : FaceBorder). 3 ≤ x .n) by-walk l)
+      ∙ ap (λ (x : FaceBorder). cond (allApart (x .points) (x .n)) (x .n) 0) (sym by-walk)
+      ∙ ap (λ (t : Bool). cond t (b .n) 0) (sym q))
+
+-- ---- the sizes of faces in turn
+
+walk-zero : (m : Mesh) (f : ℕ) (w : Walk) → sizeBy m f w ≡ 0 → faceBack m f w ≡ false
+unfolding faceBack
+walk-zero m f (back es) h = go (leb 3 (length es)) (distinct (map (firstPoint m f) es)) refl h
+  where
+    go : (a d : Bool) → leb 3 (length es) ≡ a → cond (a && d) (length es) 0 ≡ 0 → (a && d) ≡ false
+    go true true t h = absurd (omega (arith, leb-true 3 (length es) t))
+    go true false t h = refl
+    go false d t h = refl
+walk-zero m f lost h = refl
+
+walk-some : (b : Bool) (n : ℕ) → cond b n 0 ≢ 0 → (b ≡ true) × (cond b n 0 ≡ n)
+walk-some true n h = (refl, refl)
+walk-some false n h = absurd (h refl)
+
+walk-small : (b : Bool) (n : ℕ) → n ≤ 64 → cond b n 0 ≤ 64
+walk-small true n h = h
+walk-small false n h = omega arith
+
+module _ (m : Mesh) (ne : ℕ) where
+  abbrev come : ℕ → Bool
+  come f = faceBack m f (faceWalk m ne f)
+
+  abbrev size : ℕ → ℕ
+  size f = passed (faceWalk m ne f)
+
+  pub size-small : (f n : ℕ) → n ≡ faceSize m ne f → n ≤ 64
+  size-small f n h = subst (λ (k : ℕ). k ≤ 64) (sym h) (walk-small (come f) (size f) (faceWalk-within m ne f))
+
+  -- the sizes of the first f faces, which all come back, add up to sum
+  pub record Added (total f sum : ℕ) : Type 0 where
+    pub all-back : every f come ≡ true
+    pub added : sum ≡ sumTo f size
+    pub not-past : sum ≤ total
+
+  pub added-start : (total : ℕ) → Added total 0 0
+  added-start total = record { all-back = every-none come; added = sym (sumTo-none size); not-past = omega arith }
+
+  module _ (nf total f sum : ℕ) (h : Added total f sum) (n : ℕ) (e : n ≡ faceSize m ne f) where
+    pub added-zero : f < nf → n ≡ 0 → false ≡ facesWalked m ne nf total
+    added-zero l z = sym (rw (every-stop nf f come l (walk-zero m f (faceWalk m ne f) (sym e ∙ z))))
+
+    module _ (some : n ≢ 0) where
+      is-some : (come f ≡ true) × (faceSize m ne f ≡ size f)
+      is-some = walk-some (come f) (size f) (λ q. some (e ∙ q))
+
+      pub added-past : f < nf → total < sum + n → false ≡ facesWalked m ne nf total
+      added-past l p =
+          sym (rw (sym (sumTo-stop size f sum (h .added) nf total n l (e ∙ is-some .1) p)) (and-false (every nf come)))
+
+      pub added-more : sum + n ≤ total → Added total (f + 1) (sum + n)
+      added-more p = record {
+        all-back = every-more f come (h .all-back) (is-some .0);
+        added = sumTo-more size f sum (h .added) n (e ∙ is-some .1);
+        not-past = p;
+      }
+
+  pub added-all : (nf total f sum : ℕ) → Added total f sum → nf ≡ f → eqb sum total ≡ facesWalked m ne nf total
+  added-all nf total f sum h e = sumTo-all size f sum (h .added) nf total e ∙ sym (rw (every-all nf f come (h .all-back) e))

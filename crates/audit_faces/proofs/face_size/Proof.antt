@@ -1,0 +1,32 @@
+-- face_size meets its contract, by the border.
+use mathlib.Core.Bool.{true, false}
+use mathlib.Core.Path.{sym, _∙_}
+use borrow.Author.Needs.{needs}
+use Rattle.audit_faces.proofs.FaceTests.{size-within, size-short, size-is}
+use Rattle.walks.specs.Steps.{faceTables}
+use Rattle.audit_faces.proofs.face_size.Statement.{statement}
+use Rattle.audit_faces.proofs.face_size.Tie as tie
+
+returns : tie.Need-returns
+returns c =
+    let a = c .before .before .before .before .before .before .args in
+    size-short (faceTables (a .edges .now) (a .faces .now)) (a .ne) (a .f) _ (c .before .put-border .ensures) (c .if1 .taken)
+
+are-distinct-requires : tie.Need-are-distinct-requires
+are-distinct-requires c κs =
+    let a = c .before .before .before .before .before .before .before .args in
+    size-within (faceTables (a .edges .now) (a .faces .now)) (a .ne) (a .f) _ (c .before .before .put-border .ensures)
+
+returns-2 : tie.Need-returns-2
+returns-2 c =
+    let a = c .before .before .before .before .before .before .before .before .before .args in
+    size-is (faceTables (a .edges .now) (a .faces .now)) (a .ne) (a .f) _ (c .before .before .before .before .put-border .ensures) (c .before .before .before .if1 .left) true (sym (c .if2 .taken) ∙ c .before .are-distinct .ensures)
+
+returns-3 : tie.Need-returns-3
+returns-3 c =
+    let a = c .before .before .before .before .before .before .before .before .before .args in
+    size-is (faceTables (a .edges .now) (a .faces .now)) (a .ne) (a .f) _ (c .before .before .before .before .put-border .ensures) (c .before .before .before .if1 .left) false (sym (c .if2 .left) ∙ c .before .are-distinct .ensures)
+
+pub face-size-spec : {M : Type 1} → statement M
+face-size-spec =
+    tie.close (tie.spec (λ c κs. search needs) returns are-distinct-requires returns-2 returns-3)

@@ -1,0 +1,140 @@
+// The tests of the audit about faces: the test of one row and the loops over the rows.
+// Not here: the audit made of them (`audit`). Definitions: `Parts` of `audit_tests`, `Quick` of `audited_meshes`.
+ghost use mathlib.Core.Path.{_≡_};
+ghost use mathlib.Core.Bool.{_||_};
+ghost use mathlib.Core.List.{[]};
+ghost use Prim.Native.Nat.{_+_, _*_, _≤_};
+ghost use lib.Dec.{eqb, ltb};
+ghost use lib.ListN.{length};
+ghost use Rattle.tables.specs.Layout.{edgeWidth, faceWidth, longestPerimeter};
+ghost use Rattle.tables.specs.Mesh.{none};
+ghost use Rattle.audited_meshes.specs.Folds.{every};
+ghost use Rattle.audited_meshes.specs.Quick.{faceFit};
+ghost use Rattle.walks.specs.Steps.{faceTables};
+ghost use Rattle.audit_tests.specs.Parts.{apart, faceSize, facesWalked};
+use t_spline::NONE;
+use tables::FACE_WIDTH;
+use tables::FIRST_CORNER_WORD;
+use tables::FOURTH_CORNER_WORD;
+use tables::LONGEST_BORDER;
+use tables::LONGEST_PERIMETER;
+use tables::SECOND_CORNER_WORD;
+use tables::THIRD_CORNER_WORD;
+use tables::index;
+use walks::t_nurcc_face::put_border;
+
+// Whether a corner is a point number or the none mark.
+fn corner_fit(word: u32, np: usize) -> bool
+    ensures { λ r. ⌜ r ≡ (ltb word np || eqb word none) ⌝ }
+{
+    if index(word) < np {
+        return true;
+    }
+    word == NONE
+}
+
+// The test of face f.
+fn face_fit(faces: &[u32], np: usize, ne: usize, f: usize) -> bool
+    requires { ⌜ f * faceWidth + faceWidth ≤ length (now faces) ⌝ }
+    ensures { λ r. ⌜ r ≡ faceFit (faceTables [] (now (faces .entry))) np ne f ⌝ }
+{
+    let b = f * FACE_WIDTH;
+    if ne <= index(faces[b]) {
+        return false;
+    }
+    if !corner_fit(faces[b + FIRST_CORNER_WORD], np) {
+        return false;
+    }
+    if !corner_fit(faces[b + SECOND_CORNER_WORD], np) {
+        return false;
+    }
+    if !corner_fit(faces[b + THIRD_CORNER_WORD], np) {
+        return false;
+    }
+    corner_fit(faces[b + FOURTH_CORNER_WORD], np)
+}
+
+// The test of the first nf faces.
+pub fn faces_fit(faces: &[u32], np: usize, ne: usize, nf: usize) -> bool
+    requires { ⌜ nf * faceWidth ≤ length (now faces) ⌝ }
+    ensures { λ r. ⌜ r ≡ every nf (λ f. faceFit (faceTables [] (now (faces .entry))) np ne f) ⌝ }
+{
+    let mut f = 0;
+    while f < nf {
+        if !face_fit(faces, np, ne, f) {
+            return false;
+        }
+        f += 1;
+    }
+    true
+}
+
+// Whether the point at place i is at none of the places before it.
+fn is_new(points: &[u32; LONGEST_BORDER], i: usize) -> bool
+    requires { ⌜ i ≤ 67 ⌝ }
+    ensures { λ r. ⌜ r ≡ every i (λ j. apart (now (points .entry)) i j) ⌝ }
+{
+    let p = points[i];
+    let mut j = 0;
+    while j < i {
+        if points[j] == p {
+            return false;
+        }
+        j += 1;
+    }
+    true
+}
+
+// Whether no point stands twice in the first n places.
+fn are_distinct(points: &[u32; LONGEST_BORDER], n: usize) -> bool
+    requires { ⌜ n ≤ longestPerimeter ⌝ }
+    ensures { λ r. ⌜ r ≡ every n (λ i. every i (λ j. apart (now (points .entry)) i j)) ⌝ }
+{
+    let mut i = 0;
+    while i < n {
+        if !is_new(points, i) {
+            return false;
+        }
+        i += 1;
+    }
+    true
+}
+
+// The number of edges of face f; 0 if its walk does not come back, passes fewer than 3 edges or a point twice.
+fn face_size(edges: &[u32], faces: &[u32], ne: usize, f: usize) -> usize
+    requires { ⌜ ne * edgeWidth ≤ length (now edges) ⌝ }
+    requires { ⌜ f * faceWidth + faceWidth ≤ length (now faces) ⌝ }
+    ensures { λ r. ⌜ r ≡ faceSize (faceTables (now (edges .entry)) (now (faces .entry))) ne f ⌝ }
+{
+    let mut perimeter = [0u32; LONGEST_PERIMETER];
+    let mut points = [0u32; LONGEST_BORDER];
+    let n = put_border(edges, faces, ne, f, &mut perimeter, &mut points);
+    if n < 3 {
+        return 0;
+    }
+    if are_distinct(&points, n) { n } else { 0 }
+}
+
+// Whether the walk about each of the first nf faces comes back and passes no point twice, and their sizes add up to a total. The
+// sum stops where it is past the total.
+pub fn face_walks_fit(edges: &[u32], faces: &[u32], ne: usize, nf: usize, total: usize) -> bool
+    requires { ⌜ ne * edgeWidth ≤ length (now edges) ⌝ }
+    requires { ⌜ nf * faceWidth ≤ length (now faces) ⌝ }
+    requires { ⌜ total * 4 ≤ 18446744073709551615 ⌝ }
+    ensures { λ r. ⌜ r ≡ facesWalked (faceTables (now (edges .entry)) (now (faces .entry))) ne nf total ⌝ }
+{
+    let mut sum = 0;
+    let mut f = 0;
+    while f < nf {
+        let n = face_size(edges, faces, ne, f);
+        if n == 0 {
+            return false;
+        }
+        sum += n;
+        if total < sum {
+            return false;
+        }
+        f += 1;
+    }
+    sum == total
+}

@@ -1,0 +1,53 @@
+-- counts_fit meets its contract: each test decides one of the definition's.
+use borrow.Author.Tests.{le-leb, lt-leb, eq-eqb, ne-eqb}
+use native.Mathlib.Omega.{arith}
+use Rattle.built_meshes.specs.Lists.{countsFit}
+use Rattle.building_tests.proofs.Laws.{faces-few}
+use borrow.Author.Needs.{needs}
+use Rattle.building_lists.proofs.counts_fit.Statement.{statement}
+use Rattle.building_lists.proofs.counts_fit.Tie as tie
+
+returns : tie.Need-returns
+unfolding countsFit
+returns c = rw (← c .before .before .most .ensures, lt-leb _ _ (c .if1 .taken))
+
+returns-2 : tie.Need-returns-2
+unfolding countsFit
+returns-2 c = rw (← c .before .before .before .before .most .ensures, le-leb _ _ (c .before .before .if1 .left), lt-leb _ _ (c .if2 .taken))
+
+returns-3 : tie.Need-returns-3
+unfolding countsFit
+returns-3 c = rw (← c .before .before .before .before .before .before .most .ensures, le-leb _ _ (c .before .before .before .before .if1 .left), le-leb _ _ (c .before .before .if2 .left), lt-leb _ _ (c .if3 .taken))
+
+returns-4 : tie.Need-returns-4
+unfolding countsFit
+returns-4 c = rw (← c .before .before .before .before .before .before .before .most .ensures, le-leb _ _ (c .before .before .before .before .before .if1 .left), le-leb _ _ (c .before .before .before .if2 .left), le-leb _ _ (c .before .if3 .left), ne-eqb _ _ (c .if4 .taken))
+
+returns-5 : tie.Need-returns-5
+unfolding countsFit
+returns-5 c = rw (← c .before .before .before .before .before .before .before .before .most .ensures, le-leb _ _ (c .before .before .before .before .before .before .if1 .left), le-leb _ _ (c .before .before .before .before .if2 .left), le-leb _ _ (c .before .before .if3 .left), eq-eqb _ _ (c .before .if4 .left), ne-eqb _ _ (c .if5 .taken))
+
+returns-6 : tie.Need-returns-6
+unfolding countsFit
+returns-6 c = rw (← c .before .before .before .before .before .before .before .before .before .most .ensures, le-leb _ _ (c .before .before .before .before .before .before .before .if1 .left), le-leb _ _ (c .before .before .before .before .before .if2 .left), le-leb _ _ (c .before .before .before .if3 .left), eq-eqb _ _ (c .before .before .if4 .left), eq-eqb _ _ (c .before .if5 .left), ne-eqb _ _ (c .if6 .taken))
+
+sum-of-requires : tie.Need-sum-of-requires
+sum-of-requires c κs = let h = faces-few (c .before .before .before .before .before .before .before .before .before .before .before .before .before .before .args .bounds) (c .before .before .before .before .before .before .before .before .before .most .result) (c .before .before .before .before .before .before .before .before .before .most .ensures) in omega arith
+
+returns-7 : tie.Need-returns-7
+unfolding countsFit
+returns-7 c = rw (← c .before .before .before .before .before .before .before .before .before .before .most .ensures, le-leb _ _ (c .before .before .before .before .before .before .before .before .if1 .left), le-leb _ _ (c .before .before .before .before .before .before .if2 .left), le-leb _ _ (c .before .before .before .before .if3 .left), eq-eqb _ _ (c .before .before .before .if4 .left), eq-eqb _ _ (c .before .before .if5 .left), eq-eqb _ _ (c .before .if6 .left), c .sum-of .ensures)
+
+pub counts-fit-spec : {M : Type 1} → statement M
+counts-fit-spec =
+    tie.close
+    (tie.spec
+    (λ c κs. search needs)
+    returns
+    returns-2
+    returns-3
+    returns-4
+    returns-5
+    returns-6
+    sum-of-requires
+    returns-7)

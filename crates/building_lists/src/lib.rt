@@ -1,0 +1,103 @@
+// The tests that building makes of the lists as a whole: grounds 2 and 3.
+// Not here: the limits and the tests of one face (`building_tests`).
+// Contracts: `counts_fit`, `numbers_fit`. Definitions: `Lists` of `built_meshes`.
+ghost use mathlib.Core.Path.{_≡_};
+ghost use mathlib.Core.List.{[]};
+ghost use Prim.Native.Nat.{_≤_};
+ghost use lib.Ieee.{nan};
+ghost use lib.Ieee.Scale.{finite};
+ghost use lib.ListN.{length, getD};
+ghost use Rattle.closed_meshes.specs.Renumbering.{sumTo};
+ghost use Rattle.audited_meshes.specs.Folds.{every};
+ghost use Rattle.audited_meshes.specs.Audit.{intervalFit};
+ghost use Rattle.built_meshes.specs.Lists.{countsFit, numbersFit};
+ghost use Rattle.building_tests.specs.Lent.{lists, limitsOf};
+use building_tests::Bounds;
+use intervals::interval_fits;
+use positions::is_finite;
+use tables::POSITION_WIDTH;
+use tables::index;
+
+// The sum of all words.
+fn sum_of(words: &[u32]) -> usize
+    requires { ⌜ length (now words) ≤ 16387 ⌝ }
+    ensures { λ r. ⌜ r ≡ sumTo (length (now (words .entry))) (λ k. getD (now (words .entry)) k 0) ⌝ }
+{
+    let mut sum = 0;
+    let mut k = 0;
+    while k < words.len() {
+        sum = sum + index(words[k]);
+        k += 1;
+    }
+    sum
+}
+
+// Whether the lists are within the limits and their lengths agree.
+pub fn counts_fit(
+    coordinates: &[f64],
+    sides: &[u32],
+    listed: &[u32],
+    beside: &[f64],
+    bounds: Bounds,
+) -> bool
+    ensures { λ r. ⌜ r ≡ countsFit (limitsOf bounds) (lists (now (coordinates .entry)) (now (sides .entry)) (now (listed .entry)) (now (beside .entry))) ⌝ }
+{
+    let most = bounds.most();
+    if most.points < coordinates.len() / POSITION_WIDTH {
+        return false;
+    }
+    if most.faces < sides.len() / 4 {
+        return false;
+    }
+    if most.listed < listed.len() {
+        return false;
+    }
+    if coordinates.len() % POSITION_WIDTH != 0 {
+        return false;
+    }
+    if sides.len() % 4 != 0 {
+        return false;
+    }
+    if listed.len() != beside.len() {
+        return false;
+    }
+    sum_of(sides) == listed.len()
+}
+
+// Whether all coordinates are finite.
+fn all_finite(coordinates: &[f64]) -> bool
+    ensures { λ r. ⌜ r ≡ every (length (now (coordinates .entry))) (λ k. finite (getD (now (coordinates .entry)) k nan)) ⌝ }
+{
+    let mut k = 0;
+    while k < coordinates.len() {
+        if !is_finite(coordinates[k]) {
+            return false;
+        }
+        k += 1;
+    }
+    true
+}
+
+// Whether all intervals are finite with their sign bit clear.
+fn all_fit(beside: &[f64]) -> bool
+    ensures { λ r. ⌜ r ≡ every (length (now (beside .entry))) (λ k. intervalFit (getD (now (beside .entry)) k nan)) ⌝ }
+{
+    let mut k = 0;
+    while k < beside.len() {
+        if !interval_fits(beside[k]) {
+            return false;
+        }
+        k += 1;
+    }
+    true
+}
+
+// Whether all numbers are fit.
+pub fn numbers_fit(coordinates: &[f64], beside: &[f64]) -> bool
+    ensures { λ r. ⌜ r ≡ numbersFit (lists (now (coordinates .entry)) [] [] (now (beside .entry))) ⌝ }
+{
+    if all_finite(coordinates) {
+        return all_fit(beside);
+    }
+    false
+}

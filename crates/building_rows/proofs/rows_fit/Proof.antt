@@ -1,0 +1,25 @@
+-- rows_fit meets its contract: the tests in the definition's order.
+use borrow.Author.Tests.{le-leb, lt-leb}
+use borrow.Author.Needs.{needs}
+use Rattle.building_rows.proofs.rows_fit.Statement.{statement}
+use Rattle.building_rows.proofs.rows_fit.Tie as tie
+
+returns : tie.Need-returns
+returns c = rw (lt-leb _ _ (rw (c .before .point-rows .ensures) at (c .if1 .taken)))
+
+returns-2 : tie.Need-returns-2
+returns-2 c = rw (le-leb _ _ (rw (c .before .before .before .point-rows .ensures) at (c .before .before .if1 .left)), lt-leb _ _ (rw (c .before .face-rows .ensures) at (c .if2 .taken)))
+
+returns-3 : tie.Need-returns-3
+returns-3 c = rw (le-leb _ _ (rw (c .before .before .before .before .point-rows .ensures) at (c .before .before .before .if1 .left)), le-leb _ _ (rw (c .before .before .face-rows .ensures) at (c .before .if2 .left)), c .edge-rows .ensures)
+
+pub rows-fit-spec : {M : Type 1} → statement M
+rows-fit-spec =
+    tie.close
+    (tie.spec
+    (λ c κs. search needs)
+    returns
+    (λ c κs. search needs)
+    returns-2
+    (λ c κs. search needs)
+    returns-3)

@@ -1,0 +1,206 @@
+// Building from a text or from lists, with document 01's numbers for what is refused.
+ghost use mathlib.Core.Path.{_≡_};
+ghost use Prim.Native.Nat.{_≤_};
+ghost use lib.ListN.{length};
+use answer_numbers::ground_number;
+use building::build;
+use building_tests::Bounds;
+use built_meshes::Built;
+use mesh_text::read_text;
+use oracle_tables::fields::least;
+use oracle_tables::held::Lent;
+use oracle_tables::held::Tables;
+use oracle_tables::held::filled;
+use tables::Counts;
+use text_building::build_text;
+use text_meshes::TextBuilt;
+
+// How many points, edges and faces a mesh has, or document 01's number of the ground on which it is refused.
+pub enum Answer {
+    Accepted(Counts),
+    Refused(u32),
+}
+
+// What building answered, and the tables after it.
+pub struct Start {
+    pub answer: Answer,
+    pub tables: Tables,
+}
+
+// How many numbers of the four lists are handed over.
+pub struct Lengths {
+    pub coordinates: usize,
+    pub sides: usize,
+    pub listed: usize,
+    pub beside: usize,
+}
+
+// How the lists of a text are changed before they are built: their lengths, and a word of the side lengths.
+pub struct Change {
+    pub lengths: Lengths,
+    pub place: usize,
+    pub word: u32,
+}
+
+// The answer of building from a text.
+fn answer_of(built: TextBuilt) -> Answer {
+    match built {
+        TextBuilt::Accepted(counts) => Answer::Accepted(counts),
+        TextBuilt::NotText => Answer::Refused(1),
+        TextBuilt::Refused(g) => Answer::Refused(ground_number(g)),
+    }
+}
+
+// Builds from a text in as much of the tables as is lent.
+fn build_lent(
+    text: &[u8],
+    bounds: Bounds,
+    lent: Lent,
+    positions: &mut [f64],
+    points: &mut [u32],
+    edges: &mut [u32],
+    intervals: &mut [f64],
+    faces: &mut [u32],
+) -> Answer {
+    let a = least(lent.positions, positions.len());
+    let b = least(lent.points, points.len());
+    let c = least(lent.edges, edges.len());
+    let d = least(lent.intervals, intervals.len());
+    let e = least(lent.faces, faces.len());
+    let built = build_text(
+        text,
+        bounds,
+        &mut positions[..a],
+        &mut points[..b],
+        &mut edges[..c],
+        &mut intervals[..d],
+        &mut faces[..e],
+    );
+    answer_of(built)
+}
+
+// Builds from a text in as much of filled tables as is lent.
+pub fn build_bytes(text: &[u8], bounds: Bounds, lent: Lent) -> Start {
+    let t = filled();
+    let mut positions = t.positions;
+    let mut points = t.points;
+    let mut edges = t.edges;
+    let mut intervals = t.intervals;
+    let mut faces = t.faces;
+    let answer = build_lent(
+        text,
+        bounds,
+        lent,
+        &mut positions,
+        &mut points,
+        &mut edges,
+        &mut intervals,
+        &mut faces,
+    );
+    let tables = Tables {
+        positions,
+        points,
+        edges,
+        intervals,
+        faces,
+    };
+    Start { answer, tables }
+}
+
+// Builds from the first numbers of lists.
+pub fn build_lists(
+    coordinates: &[f64],
+    sides: &[u32],
+    listed: &[u32],
+    beside: &[f64],
+    lengths: Lengths,
+    positions: &mut [f64],
+    points: &mut [u32],
+    edges: &mut [u32],
+    intervals: &mut [f64],
+    faces: &mut [u32],
+    bounds: Bounds,
+) -> Answer {
+    let a = least(lengths.coordinates, coordinates.len());
+    let b = least(lengths.sides, sides.len());
+    let c = least(lengths.listed, listed.len());
+    let d = least(lengths.beside, beside.len());
+    match build(
+        &coordinates[..a],
+        &sides[..b],
+        &listed[..c],
+        &beside[..d],
+        positions,
+        points,
+        edges,
+        intervals,
+        faces,
+        bounds,
+    ) {
+        Built::Accepted(counts) => Answer::Accepted(counts),
+        Built::Refused(g) => Answer::Refused(ground_number(g)),
+    }
+}
+
+// Builds from the first numbers of lists in filled tables.
+fn build_in_filled(
+    coordinates: &[f64],
+    sides: &[u32],
+    listed: &[u32],
+    beside: &[f64],
+    lengths: Lengths,
+    bounds: Bounds,
+) -> Start {
+    let t = filled();
+    let mut positions = t.positions;
+    let mut points = t.points;
+    let mut edges = t.edges;
+    let mut intervals = t.intervals;
+    let mut faces = t.faces;
+    let answer = build_lists(
+        coordinates,
+        sides,
+        listed,
+        beside,
+        lengths,
+        &mut positions,
+        &mut points,
+        &mut edges,
+        &mut intervals,
+        &mut faces,
+        bounds,
+    );
+    let tables = Tables {
+        positions,
+        points,
+        edges,
+        intervals,
+        faces,
+    };
+    Start { answer, tables }
+}
+
+// Puts a word, where the list has such a place.
+pub fn put_word(words: &mut [u32], place: usize, word: u32)
+    ensures { λ _. ⌜ length (now (words .exit)) ≡ length (now (words .entry)) ⌝ }
+{
+    if place < words.len() {
+        words[place] = word;
+    }
+}
+
+// Builds from the lists of a text, changed.
+pub fn build_changed(text: &[u8], bounds: Bounds, change: Change) -> Start {
+    let limits = mesh_text::Counts {
+        points: 100,
+        faces: 100,
+        listed: 400,
+    };
+    let mut xs = [0.0f64; 300];
+    let mut ls = [0u32; 400];
+    let mut ps = [0u32; 400];
+    let mut ds = [0.0f64; 400];
+    read_text(text, limits, &mut xs, &mut ls, &mut ps, &mut ds);
+    put_word(&mut ls, change.place, change.word);
+    build_in_filled(&xs, &ls, &ps, &ds, change.lengths, bounds)
+}

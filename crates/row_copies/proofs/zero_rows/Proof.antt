@@ -1,0 +1,36 @@
+-- zero_rows meets its contract, table by table.
+use native.Mathlib.Omega.{arith}
+use borrow.Author.Needs.{needs}
+use Rattle.steps.specs.Step.{zeroedRows}
+use Rattle.row_copies.proofs.zero_rows.Statement.{statement}
+use Rattle.row_copies.proofs.zero_rows.Tie as tie
+
+mul-zero-words-3 : tie.Need-mul-zero-words-3
+mul-zero-words-3 c = omega (arith, c .before .before .before .before .before .before .before .before .before .before .before .before .before .before .before .before .before .before .before .before .before .before .before .before .before .before)
+
+zero-words-requires-3 : tie.Need-zero-words-requires-3
+zero-words-requires-3 c κs = omega (arith, c .before .before .before .before .before .before .before .before .before .before .before .before .before .before .before .before .before .before .before .before .before .before .before .before .before .before)
+
+returns : tie.Need-returns
+unfolding zeroedRows
+returns c = rw (c .before .before .before .before .before .before .before .before .before .before .before .before .before .before .before .before .before .before .before .before .before .zero-numbers .ensures, c .before .before .before .before .before .before .before .before .before .before .before .before .before .before .before .before .zero-words .ensures, c .before .before .before .before .before .before .before .before .before .before .before .zero-words2 .ensures, c .before .before .before .before .before .before .before .zero-numbers2 .ensures, c .before .before .zero-words3 .ensures)
+
+pub zero-rows-spec : {M : Type 1} → statement M
+zero-rows-spec =
+    tie.close
+    (tie.spec
+    (λ c. search needs)
+    (λ c κs. search needs)
+    (λ c. search needs)
+    (λ c κs. search needs)
+    (λ c. search needs)
+    (λ c κs. search needs)
+    (λ c κs. search needs)
+    mul-zero-words-3
+    zero-words-requires-3
+    (λ c. search needs)
+    (λ c. search needs)
+    (λ c. search needs)
+    (λ c. search needs)
+    (λ c. search needs)
+    returns)
