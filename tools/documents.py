@@ -24,12 +24,11 @@ STATED = """
 ABOUT = {
     "closed_meshes": "closed meshes over any rows, their refinement, names, what two meshes share",
     "positions": "positions, small and finite numbers",
-    "t_spline": "the ends, sides and neighbours of an edge",
+    "t_spline": "the neighbours and the faces of an edge",
     "edge_links": "connecting two edges",
     "perimeters": "the places beside a place of a perimeter",
     "tables": "the five tables",
     "t_nurcc_edge": "connecting two rows",
-    "walks": "borders and walks in tables",
     "audited_meshes": "the audit",
     "text_numbers": "forms on bytes, decimal and hexadecimal numbers",
     "mesh_lines": "the lines of mesh text 1",

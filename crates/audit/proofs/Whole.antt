@@ -14,30 +14,31 @@ use lib.ListN.{length}
 use lib.Ieee.{Float}
 use borrow.Author.Tests.{le-leb, lt-leb}
 use Rattle.closed_meshes.specs.Renumbering.{sumTo}
-use Rattle.tables.specs.Mesh.{Mesh, valence, start, origin, dest, leftFace, rightFace, interval, meshOf}
+use Rattle.tables.specs.Counted.{countsOf, rowsFor}
+use Rattle.tables.specs.Mesh.{Mesh, valence, start, origin, dest, leftFace, rightFace, interval, meshOf, positionTables as pointsOf, edgeTables as edgesOf, faceRows as facesOf}
 use Rattle.audited_meshes.specs.Folds.{every}
 use Rattle.audited_meshes.specs.Walks.{Walk, back, lost, passed, acwOfPoint, faceWalk, pointWalk}
-use Rattle.audited_meshes.specs.Audit.{pointRows as pointsOf, edgeRows as edgesOf, faceRows as facesOf, countsFit, edgeInRange, intervalFit, linked, audit}
+use Rattle.audited_meshes.specs.Audit.{edgeInRange, intervalFit, linked, audit}
 use Rattle.audited_meshes.specs.Quick.{pointFit, edgeFit, faceFit, faceBack, free, alone, aloneAt, oneEdge, quick}
 use Rattle.audited_meshes.proofs.Tests.{and-is, every-is, self-is}
-use Rattle.audited_meshes.proofs.Audited.{countsFit-is, edgeInRange-is}
+use Rattle.audited_meshes.proofs.Audited.{rowsFor-is, edgeInRange-is}
 use Rattle.audited_meshes.proofs.Quick.{quick-is-audit}
-use Rattle.walks.specs.Steps.{faceTables, pointTables}
+use Rattle.tables.specs.Parts.{faceTables, pointTables, positionTables, edgeTables}
 use Rattle.audit.specs.Parts.{rowsFit, walksFit}
-use Rattle.audit_tests.specs.Parts.{pointRows, edgeRows, walkFits, facesWalked}
+use Rattle.audit_tests.specs.Parts.{walkFits, facesWalked}
 use Rattle.audit_tests.proofs.Laws.{and-false, every-cong, first-of-three, second-of-three, third-of-three, first-of-four, second-of-four, third-of-four, fourth-of-four}
 
 module _ (m : Mesh) (np ne nf : ℕ) where
-  pub counts-points : (r : ℕ) → r ≡ pointsOf m → r < np → false ≡ countsFit m np ne nf
-  unfolding countsFit
+  pub counts-points : (r : ℕ) → r ≡ pointsOf m → r < np → false ≡ rowsFor (countsOf np ne nf) m
+  unfolding rowsFor
   counts-points r e l = sym (rw (lt-leb np (pointsOf m) (omega arith)))
 
-  pub counts-edges : (r : ℕ) → r ≡ edgesOf m → r < ne → false ≡ countsFit m np ne nf
-  unfolding countsFit
+  pub counts-edges : (r : ℕ) → r ≡ edgesOf m → r < ne → false ≡ rowsFor (countsOf np ne nf) m
+  unfolding rowsFor
   counts-edges r e l = sym (rw (lt-leb ne (edgesOf m) (omega arith), and-false (leb np (pointsOf m))))
 
-  pub counts-faces : (r s t : ℕ) → r ≡ pointsOf m → s ≡ edgesOf m → t ≡ facesOf m → np ≤ r → ne ≤ s → leb nf t ≡ countsFit m np ne nf
-  unfolding countsFit
+  pub counts-faces : (r s t : ℕ) → r ≡ pointsOf m → s ≡ edgesOf m → t ≡ facesOf m → np ≤ r → ne ≤ s → leb nf t ≡ rowsFor (countsOf np ne nf) m
+  unfolding rowsFor
   counts-faces r s t a b c k l =
       ap (leb nf) c ∙ sym (rw (le-leb np (pointsOf m) (omega arith), le-leb ne (edgesOf m) (omega arith)))
 
@@ -48,9 +49,9 @@ module _ (m : Mesh) (np ne nf : ℕ) where
     pub intervals-fit : ne ≤ length (m .intervals)
     pub faces-fit : nf * 5 ≤ length (m .faces)
 
-  pub counts-rows : countsFit m np ne nf ≡ true → Rows
+  pub counts-rows : rowsFor (countsOf np ne nf) m ≡ true → Rows
   counts-rows h =
-      let c = countsFit-is m np ne nf .0 h in
+      let c = rowsFor-is m np ne nf .0 h in
       record {
         positions-fit = omega (arith, c .0 .0);
         points-fit = omega (arith, c .0 .0);
@@ -116,12 +117,12 @@ module _ (xs : List Float) (ps es : List ℕ) (is : List Float) (fs : List ℕ) 
   walks-whole np ne nf = rw (facesWalked-rows ne nf (2 * ne), every-cong ne (λ e. oneEdge (pointTables ps es) ne e) (λ e. oneEdge whole-mesh ne e) (λ e l. oneEdge-rows ne e))
 
   whole : (np ne nf : ℕ)
-      → (countsFit whole-mesh np ne nf && rowsFit xs ps es is fs np ne nf && walksFit ps es fs np ne nf) ≡ audit whole-mesh np ne nf
+      → (rowsFor (countsOf np ne nf) whole-mesh && rowsFit xs ps es is fs np ne nf && walksFit ps es fs np ne nf) ≡ audit whole-mesh np ne nf
   unfolding quick
   whole np ne nf =
-      ap₂ (λ (r w : Bool). countsFit whole-mesh np ne nf && r && w) (rows-whole np ne nf) (walks-whole np ne nf)
+      ap₂ (λ (r w : Bool). rowsFor (countsOf np ne nf) whole-mesh && r && w) (rows-whole np ne nf) (walks-whole np ne nf)
       ∙ sym
-      (regroup (countsFit whole-mesh np ne nf) (every np (λ p. pointFit whole-mesh ne p)) (every ne (λ e. edgeFit whole-mesh np ne nf e))
+      (regroup (rowsFor (countsOf np ne nf) whole-mesh) (every np (λ p. pointFit whole-mesh ne p)) (every ne (λ e. edgeFit whole-mesh np ne nf e))
       (every nf (λ f. faceFit whole-mesh np ne f)) (eqb (sumTo np (λ p. valence whole-mesh p)) (2 * ne))
       (every nf (λ f. faceBack whole-mesh f (faceWalk whole-mesh ne f))) (eqb (sumTo nf (λ f. passed (faceWalk whole-mesh ne f))) (2 * ne))
       (every np (λ p. walkFits whole-mesh ne p)) (every ne (λ e. oneEdge whole-mesh ne e)))
@@ -130,10 +131,10 @@ module _ (xs : List Float) (ps es : List ℕ) (is : List Float) (fs : List ℕ) 
   -- the tests of single rows in turn
   module _ (np ne nf : ℕ) where
     abbrev points-pass : Bool
-    points-pass = every np (λ p. pointFit (pointRows xs ps) ne p)
+    points-pass = every np (λ p. pointFit (positionTables xs ps) ne p)
 
     abbrev edges-pass : Bool
-    edges-pass = every ne (λ e. edgeFit (edgeRows es is) np ne nf e)
+    edges-pass = every ne (λ e. edgeFit (edgeTables es is) np ne nf e)
 
     abbrev faces-pass : Bool
     faces-pass = every nf (λ f. faceFit (faceTables [] fs) np ne f)
@@ -180,22 +181,22 @@ module _ (xs : List Float) (ps es : List ℕ) (is : List Float) (fs : List ℕ) 
     walks-edges = fourth-of-four valences-pass face-walks-pass point-walks-pass one-edges-pass
 
     -- the parts of the audit in turn
-    pub audit-counts : countsFit whole-mesh np ne nf ≡ false → false ≡ audit whole-mesh np ne nf
-    audit-counts h = first-of-three (countsFit whole-mesh np ne nf) (rowsFit xs ps es is fs np ne nf) (walksFit ps es fs np ne nf) h ∙ whole np ne nf
+    pub audit-counts : rowsFor (countsOf np ne nf) whole-mesh ≡ false → false ≡ audit whole-mesh np ne nf
+    audit-counts h = first-of-three (rowsFor (countsOf np ne nf) whole-mesh) (rowsFit xs ps es is fs np ne nf) (walksFit ps es fs np ne nf) h ∙ whole np ne nf
 
     pub audit-rows : rowsFit xs ps es is fs np ne nf ≡ false → false ≡ audit whole-mesh np ne nf
-    audit-rows h = second-of-three (countsFit whole-mesh np ne nf) (rowsFit xs ps es is fs np ne nf) (walksFit ps es fs np ne nf) h ∙ whole np ne nf
+    audit-rows h = second-of-three (rowsFor (countsOf np ne nf) whole-mesh) (rowsFit xs ps es is fs np ne nf) (walksFit ps es fs np ne nf) h ∙ whole np ne nf
 
-    pub audit-walks : countsFit whole-mesh np ne nf ≡ true → rowsFit xs ps es is fs np ne nf ≡ true → walksFit ps es fs np ne nf ≡ audit whole-mesh np ne nf
-    audit-walks h k = third-of-three (countsFit whole-mesh np ne nf) (rowsFit xs ps es is fs np ne nf) (walksFit ps es fs np ne nf) h k ∙ whole np ne nf
+    pub audit-walks : rowsFor (countsOf np ne nf) whole-mesh ≡ true → rowsFit xs ps es is fs np ne nf ≡ true → walksFit ps es fs np ne nf ≡ audit whole-mesh np ne nf
+    audit-walks h k = third-of-three (rowsFor (countsOf np ne nf) whole-mesh) (rowsFit xs ps es is fs np ne nf) (walksFit ps es fs np ne nf) h k ∙ whole np ne nf
 
   pub ends-below : (np ne nf : ℕ) → rowsFit xs ps es is fs np ne nf ≡ true
       → (e : ℕ) → e < ne → (origin (faceTables es []) e < np) × (dest (faceTables es []) e < np)
   unfolding rowsFit edgeFit
   ends-below np ne nf h e l =
-      let m : Mesh = edgeRows es is in
+      let m : Mesh = edgeTables es is in
       let edges : every ne (λ e. edgeFit m np ne nf e) ≡ true =
-      and-is (and-is (self-is (every np (λ p. pointFit (pointRows xs ps) ne p))) (self-is (every ne (λ e. edgeFit m np ne nf e))))
+      and-is (and-is (self-is (every np (λ p. pointFit (positionTables xs ps) ne p))) (self-is (every ne (λ e. edgeFit m np ne nf e))))
       (self-is (every nf (λ f. faceFit (faceTables [] fs) np ne f))) .0 h .0 .1 in
       let edge : edgeFit m np ne nf e ≡ true = every-is ne (λ k. self-is (edgeFit m np ne nf k)) .0 edges e l in
       let r = edgeInRange-is m np ne nf e .0

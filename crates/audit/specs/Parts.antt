@@ -11,13 +11,13 @@ use Rattle.tables.specs.Mesh.{valence}
 use Rattle.audited_meshes.specs.Folds.{every}
 use Rattle.audited_meshes.specs.Walks.{faceWalk, pointWalk}
 use Rattle.audited_meshes.specs.Quick.{pointFit, edgeFit, faceFit, faceBack, pointBack, oneEdge}
-use Rattle.walks.specs.Steps.{faceTables, pointTables}
-use Rattle.audit_tests.specs.Parts.{pointRows, edgeRows, walkFits, facesWalked}
+use Rattle.tables.specs.Parts.{faceTables, pointTables, positionTables, edgeTables}
+use Rattle.audit_tests.specs.Parts.{walkFits, facesWalked}
 
 unfoldable pub rowsFit : List Float → List ℕ → List ℕ → List Float → List ℕ → ℕ → ℕ → ℕ → Bool
 unfolding every pointFit edgeFit faceFit
 rowsFit xs ps es is fs np ne nf =
-    every np (λ p. pointFit (pointRows xs ps) ne p) && every ne (λ e. edgeFit (edgeRows es is) np ne nf e)
+    every np (λ p. pointFit (positionTables xs ps) ne p) && every ne (λ e. edgeFit (edgeTables es is) np ne nf e)
     && every nf (λ f. faceFit (faceTables [] fs) np ne f)
 
 unfoldable pub walksFit : List ℕ → List ℕ → List ℕ → ℕ → ℕ → ℕ → Bool

@@ -9,8 +9,9 @@ ghost use Prim.Native.Nat.{ℕ, _*_, _≤_, _<_};
 ghost use lib.ListN.{length};
 ghost use Rattle.tables.specs.Layout.{positionWidth, pointWidth, edgeWidth, faceWidth};
 ghost use Rattle.tables.specs.Mesh.{origin, dest, meshOf};
-ghost use Rattle.audited_meshes.specs.Audit.{countsFit, audit};
-ghost use Rattle.walks.specs.Steps.{faceTables};
+ghost use Rattle.tables.specs.Counted.{countsOf, rowsFor};
+ghost use Rattle.audited_meshes.specs.Audit.{audit};
+ghost use Rattle.tables.specs.Parts.{faceTables};
 ghost use Rattle.audit.specs.Parts.{rowsFit, walksFit};
 use audit_edges::are_one_edges;
 use audit_edges::edges_fit;
@@ -33,7 +34,7 @@ fn counts_fit(
     faces: &[u32],
     counts: Counts,
 ) -> bool
-    ensures { λ r. ⌜ r ≡ countsFit (meshOf (now (positions .entry)) (now (points .entry)) (now (edges .entry)) (now (intervals .entry)) (now (faces .entry))) (counts .points) (counts .edges) (counts .faces) ⌝ }
+    ensures { λ r. ⌜ r ≡ rowsFor (countsOf (counts .points) (counts .edges) (counts .faces)) (meshOf (now (positions .entry)) (now (points .entry)) (now (edges .entry)) (now (intervals .entry)) (now (faces .entry))) ⌝ }
 {
     if point_rows(positions, points) < counts.points {
         return false;

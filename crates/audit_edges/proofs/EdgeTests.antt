@@ -13,9 +13,9 @@ use Rattle.audited_meshes.specs.Audit.{edgeInRange, intervalFit, acwLinks, link
 use Rattle.audited_meshes.specs.Audited.{EdgeInRange}
 use Rattle.audited_meshes.specs.Quick.{edgeFit}
 use Rattle.audited_meshes.proofs.Audited.{edgeInRange-is}
-use Rattle.walks.specs.Steps.{faceTables}
-use Rattle.audit_tests.specs.Parts.{edgeRows, linksBack}
+use Rattle.audit_tests.specs.Parts.{linksBack}
 use Rattle.audit_tests.proofs.Laws.{and-false, and-assoc, and-four}
+use Rattle.tables.specs.Parts.{faceTables, edgeTables}
 
 -- two numbers below n and two below k
 abbrev pub below : ℕ → ℕ → ℕ → ℕ → ℕ → ℕ → Bool
@@ -95,10 +95,10 @@ module _ (m : Mesh) (np ne nf e : ℕ) where
   edge-in-range h = edgeInRange-is m np ne nf e .0 h
 
 -- these tests look at the table of edges alone
-pub edge-range-rows : (es : List ℕ) (is : List Float) (np ne nf e : ℕ) → edgeInRange (edgeRows es is) np ne nf e ≡ edgeInRange (faceTables es []) np ne nf e
+pub edge-range-rows : (es : List ℕ) (is : List Float) (np ne nf e : ℕ) → edgeInRange (edgeTables es is) np ne nf e ≡ edgeInRange (faceTables es []) np ne nf e
 unfolding edgeInRange
 edge-range-rows es is np ne nf e = refl
 
-pub linked-rows : (es : List ℕ) (is : List Float) (e : ℕ) → linked (edgeRows es is) e ≡ linked (faceTables es []) e
+pub linked-rows : (es : List ℕ) (is : List Float) (e : ℕ) → linked (edgeTables es is) e ≡ linked (faceTables es []) e
 unfolding linked
 linked-rows es is e = refl

@@ -11,8 +11,8 @@ ghost use Rattle.tables.specs.Mesh.{origin, dest, leftCw, leftAcw, rightCw, rig
 ghost use Rattle.audited_meshes.specs.Folds.{every};
 ghost use Rattle.audited_meshes.specs.Audit.{edgeInRange, linked, acwLinks};
 ghost use Rattle.audited_meshes.specs.Quick.{edgeFit, free, aloneAt, oneEdge};
-ghost use Rattle.walks.specs.Steps.{faceTables, pointTables};
-ghost use Rattle.audit_tests.specs.Parts.{edgeRows, linksBack};
+ghost use Rattle.audit_tests.specs.Parts.{linksBack};
+ghost use Rattle.tables.specs.Parts.{faceTables, pointTables, edgeTables};
 use intervals::interval_fits;
 use tables::DEST_WORD;
 use tables::EDGE_WIDTH;
@@ -147,7 +147,7 @@ fn edge_fit(edges: &[u32], intervals: &[f64], np: usize, ne: usize, nf: usize, e
     requires { ⌜ ne * edgeWidth ≤ length (now edges) ⌝ }
     requires { ⌜ ne ≤ length (now intervals) ⌝ }
     requires { ⌜ e < ne ⌝ }
-    ensures { λ r. ⌜ r ≡ edgeFit (edgeRows (now (edges .entry)) (now (intervals .entry))) np ne nf e ⌝ }
+    ensures { λ r. ⌜ r ≡ edgeFit (edgeTables (now (edges .entry)) (now (intervals .entry))) np ne nf e ⌝ }
 {
     let b = e * EDGE_WIDTH;
     if !edge_in_range(edges, np, ne, nf, e) {
@@ -169,7 +169,7 @@ fn edge_fit(edges: &[u32], intervals: &[f64], np: usize, ne: usize, nf: usize, e
 pub fn edges_fit(edges: &[u32], intervals: &[f64], np: usize, ne: usize, nf: usize) -> bool
     requires { ⌜ ne * edgeWidth ≤ length (now edges) ⌝ }
     requires { ⌜ ne ≤ length (now intervals) ⌝ }
-    ensures { λ r. ⌜ r ≡ every ne (λ e. edgeFit (edgeRows (now (edges .entry)) (now (intervals .entry))) np ne nf e) ⌝ }
+    ensures { λ r. ⌜ r ≡ every ne (λ e. edgeFit (edgeTables (now (edges .entry)) (now (intervals .entry))) np ne nf e) ⌝ }
 {
     let mut e = 0;
     while e < ne {

@@ -1,6 +1,4 @@
 -- The parts of the quick test, each over the tables that it looks at.
---     pointRows xs ps         a mesh of which the tables of positions and points alone are looked at
---     edgeRows es is          a mesh of which the tables of edges and intervals alone are looked at
 --     linksBack es k f a e    edge a borders face f and has the link back to edge e there: the link at place k of its words if f is
 --                             on its left, two places further if it is on its right; 4 for clockwise links, 5 for anticlockwise
 --     walkFits m ne p         the walk about point p comes back after its valence
@@ -9,27 +7,20 @@
 --                             twice; else 0
 --     facesWalked m ne nf t   the walks about the first nf faces come back so, and their lengths add up to t
 use mathlib.Core.Bool.{Bool, not, _&&_, cond}
-use mathlib.Core.List.{List, []}
+use mathlib.Core.List.{List}
 use Prim.Native.Nat.{ℕ, _+_, _*_}
 use lib.Dec.{eqb}
 use lib.ListN.{getD}
-use lib.Ieee.{Float}
 use Rattle.closed_meshes.specs.Renumbering.{sumTo}
 use Rattle.tables.specs.Layout.{edgeWidth}
-use Rattle.tables.specs.Mesh.{Mesh, valence, leftFace}
+use Rattle.tables.specs.Mesh.{Mesh, valence, leftFace, edgeTable}
 use Rattle.audited_meshes.specs.Folds.{every}
 use Rattle.audited_meshes.specs.Walks.{passed, borders, faceWalk, pointWalk}
 use Rattle.audited_meshes.specs.Quick.{faceBack, pointBack}
 
-abbrev pub pointRows : List Float → List ℕ → Mesh
-pointRows xs ps = record { positions = xs; points = ps; edges = []; intervals = []; faces = [] }
-
-abbrev pub edgeRows : List ℕ → List Float → Mesh
-edgeRows es is = record { positions = []; points = []; edges = es; intervals = is; faces = [] }
-
 abbrev pub linksBack : List ℕ → ℕ → ℕ → ℕ → ℕ → Bool
 linksBack es k f a e =
-    let m : Mesh = edgeRows es [] in
+    let m : Mesh = edgeTable es in
     borders m f a && eqb (cond (eqb (leftFace m a) f) (getD es (a * edgeWidth + k) 0) (getD es (a * edgeWidth + (k + 2)) 0)) e
 
 abbrev pub walkFits : Mesh → ℕ → ℕ → Bool

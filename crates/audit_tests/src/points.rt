@@ -9,8 +9,8 @@ ghost use Rattle.tables.specs.Layout.{positionWidth, pointWidth, edgeWidth};
 ghost use Rattle.tables.specs.Mesh.{valence};
 ghost use Rattle.audited_meshes.specs.Folds.{every};
 ghost use Rattle.audited_meshes.specs.Quick.{pointFit};
-ghost use Rattle.walks.specs.Steps.{pointTables};
-ghost use Rattle.audit_tests.specs.Parts.{pointRows, walkFits};
+ghost use Rattle.tables.specs.Parts.{pointTables, positionTables};
+ghost use Rattle.audit_tests.specs.Parts.{walkFits};
 use records::load_position;
 use tables::MARK_WORD;
 use tables::POINT_WIDTH;
@@ -23,7 +23,7 @@ use walks::t_nurcc_iter::point_walk;
 fn point_fit(positions: &[f64], points: &[u32], ne: usize, p: usize) -> bool
     requires { ⌜ p * positionWidth + positionWidth ≤ length (now positions) ⌝ }
     requires { ⌜ p * pointWidth + pointWidth ≤ length (now points) ⌝ }
-    ensures { λ r. ⌜ r ≡ pointFit (pointRows (now (positions .entry)) (now (points .entry))) ne p ⌝ }
+    ensures { λ r. ⌜ r ≡ pointFit (positionTables (now (positions .entry)) (now (points .entry))) ne p ⌝ }
 {
     let b = p * POINT_WIDTH;
     if ne <= index(points[b + START_WORD]) {
@@ -45,7 +45,7 @@ fn point_fit(positions: &[f64], points: &[u32], ne: usize, p: usize) -> bool
 pub fn points_fit(positions: &[f64], points: &[u32], ne: usize, np: usize) -> bool
     requires { ⌜ np * positionWidth ≤ length (now positions) ⌝ }
     requires { ⌜ np * pointWidth ≤ length (now points) ⌝ }
-    ensures { λ r. ⌜ r ≡ every np (λ p. pointFit (pointRows (now (positions .entry)) (now (points .entry))) ne p) ⌝ }
+    ensures { λ r. ⌜ r ≡ every np (λ p. pointFit (positionTables (now (positions .entry)) (now (points .entry))) ne p) ⌝ }
 {
     let mut p = 0;
     while p < np {

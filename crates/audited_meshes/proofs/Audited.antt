@@ -9,13 +9,14 @@ use native.Mathlib.Decide.{decLe}
 use lib.Dec.{eqb, ltb}
 use lib.ListN.{length, getD}
 use lib.Ieee.Scale.{finite}
-use Rattle.tables.specs.Mesh.{Mesh, none, x, y, z, valence, start, mark, origin, dest, leftFace, rightFace, leftCw, leftAcw, rightCw, rightAcw, interval, faceStart, corner}
+use Rattle.tables.specs.Counted.{countsOf, rowsFor}
+use Rattle.tables.specs.Mesh.{Mesh, none, x, y, z, valence, start, mark, origin, dest, leftFace, rightFace, leftCw, leftAcw, rightCw, rightAcw, interval, faceStart, corner, pointRows, edgeRows, faceRows}
 use Rattle.closed_meshes.specs.Renumbering.{sumTo}
-use Rattle.audited_meshes.specs.Folds.{every, occurrences, distinct}
-use Rattle.audited_meshes.specs.Walks.{Walk, back, lost, borders, touches, acwOfFace, acwOfPoint, cwOfFace, firstPoint, faceWalk, pointWalk}
-use Rattle.audited_meshes.specs.Audit.{pointRows, edgeRows, faceRows, countsFit, edgeInRange, inRange, intervalFit, numbersFit, sameEnds, edgesDiffer, acwLinks, cwLinks, linked, faceWalked, pointWalked, cornersFit, marksFit, audit}
-use Rattle.audited_meshes.specs.Audited.{Borders, Touches, SameEnds, Distinct, Passes, EdgeInRange, AcwLinks, CwLinks, FaceWalked, PointWalked}
-use Rattle.audited_meshes.specs.Claims.{AuditIsAudited}
+use Rattle.audited_meshes.specs.Folds.{every, occurrences, distinct, Distinct}
+use Rattle.audited_meshes.specs.Walks.{Walk, back, lost, borders, touches, acwOfFace, acwOfPoint, cwOfFace, firstPoint, faceWalk, pointWalk, Touches}
+use Rattle.audited_meshes.specs.Audit.{edgeInRange, inRange, intervalFit, numbersFit, sameEnds, edgesDiffer, acwLinks, cwLinks, linked, faceWalked, pointWalked, cornersFit, marksFit, audit}
+use Rattle.audited_meshes.specs.Audited.{Borders, SameEnds, Passes, EdgeInRange, AcwLinks, CwLinks, FaceWalked, PointWalked}
+use Rattle.audited_meshes.specs.Forms.{AuditIsAudited}
 use Rattle.audited_meshes.proofs.Tests.{Is, and-is, or-is, not-is, if-is, eqb-is, ltb-is, leb-is, self-is, every-is}
 use Rattle.audited_meshes.proofs.Folds.{sumTo-le, sumTo-const, length-sumTo}
 use Rattle.audited_meshes.proofs.Walks.{passes-on, passes-once, walk-of-passes, passes-of-walk}
@@ -215,9 +216,9 @@ one-edge-is m ne = (into, λ h e l i k same. absurd (differ e i k (h e i l (omeg
 -- ---- the whole audit
 
 module _ (m : Mesh) (np ne nf : ℕ) where
-  pub countsFit-is : Is (countsFit m np ne nf) (((np ≤ pointRows m) × (ne ≤ edgeRows m)) × (nf ≤ faceRows m))
-  unfolding countsFit
-  countsFit-is = and-is (and-is (leb-is np (pointRows m)) (leb-is ne (edgeRows m))) (leb-is nf (faceRows m))
+  pub rowsFor-is : Is (rowsFor (countsOf np ne nf) m) (((np ≤ pointRows m) × (ne ≤ edgeRows m)) × (nf ≤ faceRows m))
+  unfolding rowsFor
+  rowsFor-is = and-is (and-is (leb-is np (pointRows m)) (leb-is ne (edgeRows m))) (leb-is nf (faceRows m))
 
   inRange-is :
       Is (inRange m np ne nf)
@@ -269,7 +270,7 @@ audit-is-audited m np ne nf =
     (and-is
     (and-is
     (and-is
-    (and-is (and-is (and-is (and-is (countsFit-is m np ne nf) (inRange-is m np ne nf)) (numbersFit-is m np ne nf)) (edgesDiffer-is m np ne nf)) (every-is ne (linked-is m)))
+    (and-is (and-is (and-is (and-is (rowsFor-is m np ne nf) (inRange-is m np ne nf)) (numbersFit-is m np ne nf)) (edgesDiffer-is m np ne nf)) (every-is ne (linked-is m)))
     (every-is nf (faceWalked-is m ne)))
     (every-is np (pointWalked-is m ne)))
     (cornersFit-is m np ne nf))

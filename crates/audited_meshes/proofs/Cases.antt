@@ -7,17 +7,18 @@ use Prim.Native.Nat.{ℕ}
 use lib.ListN.{set, take}
 use lib.IntN.{pos}
 use lib.Ieee.{nan, inf, fin}
+use Rattle.tables.specs.Counted.{countsOf, rowsFor}
 use Rattle.tables.specs.Mesh.{Mesh}
 use Rattle.audited_meshes.specs.Folds.{every}
 use Rattle.audited_meshes.specs.Walks.{faceWalk, pointWalk}
-use Rattle.audited_meshes.specs.Audit.{audit, countsFit, inRange, numbersFit, edgesDiffer, linked, faceWalked, pointWalked, cornersFit, marksFit}
+use Rattle.audited_meshes.specs.Audit.{audit, inRange, numbersFit, edgesDiffer, linked, faceWalked, pointWalked, cornersFit, marksFit}
 use Rattle.audited_meshes.proofs.Meshes.{tetrahedron, cube, twoTriangles, torus, polygon, doubleEdge, mergedFaces, pinched, bowTie, withPositions, withPoints, withEdges, withIntervals, withFaces}
 
 -- the clauses of the audit in their order: counts, references, numbers, edges, links, faces, points, corners, marks
 abbrev clauses : Mesh → ℕ → ℕ → ℕ → List Bool
-unfolding every countsFit inRange numbersFit edgesDiffer linked faceWalked faceWalk pointWalked pointWalk cornersFit marksFit
+unfolding every rowsFor inRange numbersFit edgesDiffer linked faceWalked faceWalk pointWalked pointWalk cornersFit marksFit
 clauses m np ne nf =
-    countsFit m np ne nf
+    rowsFor (countsOf np ne nf) m
     ∷ inRange m np ne nf
     ∷ numbersFit m np ne
     ∷ edgesDiffer m ne

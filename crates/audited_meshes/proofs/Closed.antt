@@ -15,8 +15,8 @@ use Rattle.closed_meshes.proofs.Counting.{row-path}
 use Rattle.closed_meshes.proofs.Darts.{edge-flip, first-flip}
 use Rattle.tables.specs.Mesh.{Mesh, valence, start, faceStart}
 use Rattle.audited_meshes.specs.Folds.{occurrences}
-use Rattle.audited_meshes.specs.Walks.{acwOfFace, cwOfFace, acwOfPoint, firstPoint}
-use Rattle.audited_meshes.specs.Audited.{Borders, Touches, AcwLinks, CwLinks, FaceWalked, PointWalked, Audited}
+use Rattle.audited_meshes.specs.Walks.{acwOfFace, cwOfFace, acwOfPoint, firstPoint, Touches}
+use Rattle.audited_meshes.specs.Audited.{Borders, AcwLinks, CwLinks, FaceWalked, PointWalked, Audited}
 use Rattle.audited_meshes.proofs.Walks.{passes-head, passes-on}
 use Rattle.audited_meshes.proofs.Positions.{position, position-below, getD-position, getD-map-below, passes-step, passes-moves}
 use Rattle.audited_meshes.proofs.Cycles.{cycles-of-walks}

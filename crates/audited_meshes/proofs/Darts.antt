@@ -7,8 +7,8 @@ use Rattle.closed_meshes.specs.Mesh.{Mesh as MeshOver, Dart, lft, rgt, edge, fi
 use Rattle.closed_meshes.specs.Renumbering.{Row}
 use Rattle.closed_meshes.proofs.Counting.{row-path}
 use Rattle.tables.specs.Mesh.{Mesh, origin, leftFace}
-use Rattle.audited_meshes.specs.Walks.{acwOfFace, cwOfFace, acwOfPoint, firstPoint}
-use Rattle.audited_meshes.specs.Audited.{Borders, Touches}
+use Rattle.audited_meshes.specs.Walks.{acwOfFace, cwOfFace, acwOfPoint, firstPoint, Touches}
+use Rattle.audited_meshes.specs.Audited.{Borders}
 use Rattle.audited_meshes.specs.Rows.{Stands}
 
 -- the number of a row, and of the edge of a dart

@@ -14,9 +14,9 @@ use Rattle.closed_meshes.specs.Renumbering.{Row}
 use Rattle.closed_meshes.proofs.Counting.{row-path}
 use Rattle.closed_meshes.proofs.Darts.{edge-flip, flip-flip, face-next, face-prev}
 use Rattle.tables.specs.Mesh.{Mesh, none, start, origin, dest, leftFace, rightFace, leftCw, leftAcw, rightCw, rightAcw, faceStart, corner}
-use Rattle.audited_meshes.specs.Folds.{occurrences}
-use Rattle.audited_meshes.specs.Walks.{acwOfFace, cwOfFace, acwOfPoint, firstPoint}
-use Rattle.audited_meshes.specs.Audited.{Borders, Touches, SameEnds, Distinct, Passes, EdgeInRange, AcwLinks, CwLinks, FaceWalked, PointWalked, Audited}
+use Rattle.audited_meshes.specs.Folds.{occurrences, Distinct}
+use Rattle.audited_meshes.specs.Walks.{acwOfFace, cwOfFace, acwOfPoint, firstPoint, Touches}
+use Rattle.audited_meshes.specs.Audited.{Borders, SameEnds, Passes, EdgeInRange, AcwLinks, CwLinks, FaceWalked, PointWalked, Audited}
 use Rattle.audited_meshes.specs.Rows.{place, cornerWord, Stands, Fit}
 use Rattle.audited_meshes.specs.Claims.{AuditIsClosed}
 use Rattle.audited_meshes.proofs.Walks.{passes-once}

@@ -10,8 +10,8 @@ use lib.Dec.{leb}
 use lib.ListN.{length}
 use Rattle.tables.specs.Mesh.{Mesh, valence, start, origin, dest}
 use Rattle.audited_meshes.specs.Folds.{occurrences}
-use Rattle.audited_meshes.specs.Walks.{touches, acwOfPoint}
-use Rattle.audited_meshes.specs.Audited.{Touches, SameEnds, Passes, last, more, PointWalked}
+use Rattle.audited_meshes.specs.Walks.{touches, acwOfPoint, Touches}
+use Rattle.audited_meshes.specs.Audited.{SameEnds, Passes, last, more, PointWalked}
 use Rattle.audited_meshes.specs.Quick.{free, alone, aloneAt, oneEdge}
 use Rattle.audited_meshes.proofs.Tests.{Is, and-is, or-is, not-is, eqb-is, ltb-is}
 use Rattle.audited_meshes.proofs.Walks.{occurrences-here, in-longer, passes-on}

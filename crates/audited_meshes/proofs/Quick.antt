@@ -9,20 +9,20 @@ use native.Mathlib.Decide.{decLe}
 use lib.Dec.{leb}
 use lib.ListN.{length}
 use lib.Ieee.Scale.{finite}
-use Rattle.tables.specs.Mesh.{Mesh, none, x, y, z, valence, start, mark, origin, dest, leftFace, rightFace, interval, faceStart, corner}
+use Rattle.tables.specs.Mesh.{Mesh, none, x, y, z, valence, start, mark, origin, dest, leftFace, rightFace, interval, faceStart, corner, pointRows, edgeRows, faceRows}
 use Rattle.closed_meshes.specs.Renumbering.{sumTo}
-use Rattle.audited_meshes.specs.Folds.{one, occurrences, distinct}
-use Rattle.audited_meshes.specs.Walks.{Walk, back, lost, edgesOf, passed, borders, touches, acwOfFace, acwOfPoint, firstPoint, faceWalk, pointWalk}
-use Rattle.audited_meshes.specs.Audit.{pointRows, edgeRows, faceRows, intervalFit}
-use Rattle.audited_meshes.specs.Audited.{Borders, Touches, Distinct, Passes, EdgeInRange, PointWalked, Audited}
+use Rattle.audited_meshes.specs.Folds.{one, occurrences, distinct, Distinct}
+use Rattle.audited_meshes.specs.Walks.{Walk, back, lost, edgesOf, passed, borders, touches, acwOfFace, acwOfPoint, firstPoint, faceWalk, pointWalk, Touches}
+use Rattle.audited_meshes.specs.Audit.{intervalFit}
+use Rattle.audited_meshes.specs.Audited.{Borders, Passes, EdgeInRange, PointWalked, Audited}
 use Rattle.audited_meshes.specs.Quick.{pointFit, edgeFit, faceFit, faceBack, pointBack, oneEdge, quick}
-use Rattle.audited_meshes.specs.Claims.{QuickIsAudit}
+use Rattle.audited_meshes.specs.Forms.{QuickIsAudit}
 use Rattle.audited_meshes.proofs.Tests.{Is, and-is, not-is, eqb-is, ltb-is, leb-is, self-is, every-is, same-test}
 use Rattle.audited_meshes.proofs.Folds.{sumTo-cong}
 use Rattle.audited_meshes.proofs.Walks.{passes-on, passes-once}
 use Rattle.audited_meshes.proofs.Sums.{sum-is}
 use Rattle.audited_meshes.proofs.OneEdge.{oneEdge-is}
-use Rattle.audited_meshes.proofs.Audited.{borders-is, touches-is, edgeInRange-is, Linked, linked-is, distinct-is, countsFit-is, corners-is, mark-is, faceWalk-is, pointWalk-is, audit-is-audited}
+use Rattle.audited_meshes.proofs.Audited.{borders-is, touches-is, edgeInRange-is, Linked, linked-is, distinct-is, rowsFor-is, corners-is, mark-is, faceWalk-is, pointWalk-is, audit-is-audited}
 
 -- ---- the tests of one row
 
@@ -176,7 +176,7 @@ module _ (m : Mesh) (np ne nf : ℕ) where
       (and-is
       (and-is
       (and-is
-      (and-is (and-is (countsFit-is m np ne nf) (every-is np (pointFit-is m np ne nf))) (every-is ne (edgeFit-is m np ne nf)))
+      (and-is (and-is (rowsFor-is m np ne nf) (every-is np (pointFit-is m np ne nf))) (every-is ne (edgeFit-is m np ne nf)))
       (every-is nf (faceFit-is m np ne nf)))
       (eqb-is (sumTo np (λ p. valence m p)) (2 * ne)))
       (every-is nf (λ f. faceBack-is m f (faceWalk m ne f))))

@@ -1,7 +1,5 @@
 -- The audit: whether tables of any content, with the counts np, ne, nf of points, edges and faces, are a closed mesh. It is
 -- document 01's paragraph "Audit", clause by clause in its order, as tests that compute.
---     pointRows edgeRows faceRows m    the lent rows of a kind: as many as all its slices hold whole
---     countsFit                        counts fit the lent rows
 --     edgeInRange                      the references of one edge are in range
 --     inRange                          all references are in range
 --     intervalFit                      a finite number with its sign bit clear
@@ -18,30 +16,16 @@
 --     audit                            all of it
 use mathlib.Core.Bool.{Bool, false, not, _&&_, _||_}
 use mathlib.Core.List.{map}
-use Prim.Native.Nat.{ℕ, _/_, min}
+use Prim.Native.Nat.{ℕ}
 use lib.Dec.{eqb, ltb, leb}
 use lib.ListN.{length}
 use lib.Ieee.{Float, nan, inf, fin}
 use lib.Ieee.Scale.{finite}
 use Rattle.tables.specs.Layout.{positionWidth, pointWidth, edgeWidth, faceWidth, longestPerimeter}
 use Rattle.tables.specs.Mesh.{Mesh, none, x, y, z, valence, start, mark, origin, dest, leftFace, rightFace, leftCw, leftAcw, rightCw, rightAcw, interval, faceStart, corner}
+use Rattle.tables.specs.Counted.{countsOf, rowsFor}
 use Rattle.audited_meshes.specs.Folds.{every, occurrences, distinct}
 use Rattle.audited_meshes.specs.Walks.{Walk, back, lost, borders, touches, acwOfFace, cwOfFace, firstPoint, faceWalk, pointWalk}
-
--- points: 3 words and 3 coordinates
-abbrev pub pointRows : Mesh → ℕ
-pointRows m = min (length (m .positions) / positionWidth) (length (m .points) / pointWidth)
-
--- edges: 8 words and 1 interval
-abbrev pub edgeRows : Mesh → ℕ
-edgeRows m = min (length (m .edges) / edgeWidth) (length (m .intervals))
-
--- faces: 5 words
-abbrev pub faceRows : Mesh → ℕ
-faceRows m = length (m .faces) / faceWidth
-
-unfoldable pub countsFit : Mesh → ℕ → ℕ → ℕ → Bool
-countsFit m np ne nf = leb np (pointRows m) && leb ne (edgeRows m) && leb nf (faceRows m)
 
 unfoldable pub edgeInRange : Mesh → ℕ → ℕ → ℕ → ℕ → Bool
 edgeInRange m np ne nf e =
@@ -110,8 +94,8 @@ marksFit m np = every np (λ p. eqb (mark m p) 0 || eqb (mark m p) 1)
 
 -- a walk about a point that passes each of its edges once passes at most ne edges
 unfoldable pub audit : Mesh → ℕ → ℕ → ℕ → Bool
-unfolding countsFit inRange numbersFit edgesDiffer every linked faceWalked faceWalk pointWalked pointWalk cornersFit marksFit
+unfolding rowsFor inRange numbersFit edgesDiffer every linked faceWalked faceWalk pointWalked pointWalk cornersFit marksFit
 audit m np ne nf =
-    countsFit m np ne nf && inRange m np ne nf && numbersFit m np ne && edgesDiffer m ne && every ne (λ e. linked m e)
+    rowsFor (countsOf np ne nf) m && inRange m np ne nf && numbersFit m np ne && edgesDiffer m ne && every ne (λ e. linked m e)
     && every nf (λ f. faceWalked m ne f (faceWalk m ne f)) && every np (λ p. pointWalked m ne p (pointWalk m ne ne p))
     && cornersFit m np nf && marksFit m np

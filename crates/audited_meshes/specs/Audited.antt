@@ -1,7 +1,6 @@
 -- The audit as propositions: the clauses of document 01's paragraph "Audit", in its order.
---     Borders m f e, Touches m p e     face f is on a side of edge e; point p is an end of edge e
+--     Borders m f e                    face f is on a side of edge e
 --     SameEnds m e i                   the edges e and i join the same two points, in either direction
---     Distinct ks                      no number stands twice in ks
 --     Passes step On s e es            the walk from e passes the edges es in turn, each of which is On, and then meets s
 --     EdgeInRange                      the references of one edge are in range
 --     AcwLinks, CwLinks                what the anticlockwise and the clockwise links must do
@@ -12,25 +11,19 @@ use mathlib.Core.Bool.{true}
 use mathlib.Core.List.{List, [], _∷_, map}
 use mathlib.Core.Logic.{_⊎_, _≢_}
 use Prim.Native.Nat.{ℕ, _≤_, _<_}
-use lib.ListN.{length, getD}
+use lib.ListN.{length}
 use lib.Ieee.Scale.{finite}
 use Rattle.tables.specs.Layout.{longestPerimeter}
-use Rattle.tables.specs.Mesh.{Mesh, none, x, y, z, valence, start, mark, origin, dest, leftFace, rightFace, leftCw, leftAcw, rightCw, rightAcw, interval, faceStart, corner}
-use Rattle.audited_meshes.specs.Folds.{occurrences}
-use Rattle.audited_meshes.specs.Walks.{acwOfFace, cwOfFace, acwOfPoint, firstPoint}
-use Rattle.audited_meshes.specs.Audit.{pointRows, edgeRows, faceRows, intervalFit}
+use Rattle.tables.specs.Mesh.{Mesh, none, x, y, z, valence, start, mark, origin, dest, leftFace, rightFace, leftCw, leftAcw, rightCw, rightAcw, interval, faceStart, corner, pointRows, edgeRows, faceRows}
+use Rattle.audited_meshes.specs.Folds.{occurrences, Distinct}
+use Rattle.audited_meshes.specs.Walks.{acwOfFace, cwOfFace, acwOfPoint, firstPoint, Touches}
+use Rattle.audited_meshes.specs.Audit.{intervalFit}
 
 abbrev pub Borders : Mesh → ℕ → ℕ → Type 0
 Borders m f e = (leftFace m e ≡ f) ⊎ (rightFace m e ≡ f)
 
-abbrev pub Touches : Mesh → ℕ → ℕ → Type 0
-Touches m p e = (origin m e ≡ p) ⊎ (dest m e ≡ p)
-
 abbrev pub SameEnds : Mesh → ℕ → ℕ → Type 0
 SameEnds m e i = ((origin m e ≡ origin m i) × (dest m e ≡ dest m i)) ⊎ ((origin m e ≡ dest m i) × (dest m e ≡ origin m i))
-
-abbrev pub Distinct : List ℕ → Type 0
-Distinct ks = (i j : ℕ) → i < length ks → j < i → getD ks i 0 ≢ getD ks j 0
 
 pub data Passes (step : ℕ → ℕ) (On : ℕ → Type 0) (s : ℕ) : ℕ → List ℕ → Type 0 where
   last : {e : ℕ} → On e → step e ≡ s → Passes step On s e (e ∷ [])

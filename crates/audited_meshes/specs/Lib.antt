@@ -4,4 +4,5 @@ pub mod Audit
 pub mod Audited
 pub mod Quick
 pub mod Rows
+pub mod Forms
 pub mod Claims

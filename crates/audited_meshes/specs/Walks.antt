@@ -1,7 +1,7 @@
 -- Walks about faces and points, over tables of any content. "A walk takes one step anticlockwise about a point or face until
 -- it meets its start; a walk's answer also gives the number of edges passed" (document 01).
 --     borders m f e            face f is on a side of edge e
---     touches m p e            point p is an end of edge e
+--     touches m p e, Touches   point p is an end of edge e, as a test and as a proposition
 --     acwOfFace m f e          the edge one step anticlockwise about face f from edge e, which borders it
 --     cwOfFace m f e           the edge one step clockwise
 --     acwOfPoint m p e         the edge one step anticlockwise about point p from edge e, which touches it
@@ -13,8 +13,10 @@
 --     walk step on s ..        the walk by one step, along edges that pass the test `on`, until it meets s
 --     faceWalk m ne f          the walk about face f from its start edge, along the edges below ne, of at most 64 edges
 --     pointWalk m ne k p       the walk about point p from its start edge, along the edges below ne, of at most k edges
+use mathlib.Core.Path.{_≡_}
 use mathlib.Core.Bool.{Bool, true, false, _&&_, _||_, cond}
 use mathlib.Core.List.{List, [], _∷_}
+use mathlib.Core.Logic.{_⊎_}
 use Prim.Native.Nat.{ℕ, zero, suc}
 use lib.Dec.{eqb, ltb}
 use lib.ListN.{length}
@@ -26,6 +28,9 @@ borders m f e = eqb (leftFace m e) f || eqb (rightFace m e) f
 
 abbrev pub touches : Mesh → ℕ → ℕ → Bool
 touches m p e = eqb (origin m e) p || eqb (dest m e) p
+
+abbrev pub Touches : Mesh → ℕ → ℕ → Type 0
+Touches m p e = (origin m e ≡ p) ⊎ (dest m e ≡ p)
 
 -- LeftAcw on the left side, RightAcw on the right
 abbrev pub acwOfFace : Mesh → ℕ → ℕ → ℕ

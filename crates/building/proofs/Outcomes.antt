@@ -11,16 +11,16 @@ use mathlib.Core.List.{List, []}
 use Prim.Native.Nat.{ℕ, zero, _*_, _≤_, _<_}
 use native.Mathlib.Nat.{le-of-eq}
 use native.Mathlib.Omega.{arith}
-use lib.Dec.{leb}
 use lib.Ieee.{Float, ofBits, binary64}
 use lib.ListN.{length, getD, drop, replicate, List·getD-append, getD-replicate, length-replicate}
 use Rattle.tables.specs.Mesh.{Mesh, none, meshOf}
 use Rattle.tables.specs.Rows.{over, zeroed}
+use Rattle.tables.specs.Counted.{countsOf, rowsFor, zeroedRows}
 use Rattle.tables.proofs.Laws.{length-zeroed}
-use Rattle.audited_meshes.specs.Audit.{pointRows, edgeRows, faceRows}
-use Rattle.built_meshes.specs.Lists.{Lists, Limits, pointsOf, facesOf, offset, countsFit, numbersFit, rowsFit}
+use Rattle.built_meshes.specs.Lists.{Lists, pointsOf, facesOf, rowsOf, offset, countsFit, numbersFit}
+use Rattle.tables.specs.declared.Sizes.{Sizes}
 use Rattle.built_meshes.specs.Perimeters.{State, Step, on, stopped}
-use Rattle.built_meshes.specs.Building.{Outcome, refusal, zeroedRows, wholeIf, facesFrom, answered, allFaces, buildIf, build}
+use Rattle.built_meshes.specs.Building.{Outcome, refusal, wholeIf, facesFrom, answered, allFaces, buildIf, build}
 use Rattle.built_meshes.specs.Whole.{marked, finished, wholeVerdict}
 use Rattle.built_meshes.specs.declared.Ground.{Ground}
 use Rattle.built_meshes.specs.declared.Ground.the-variants.{OverCounts, UnfitNumber, FewRows}
@@ -34,7 +34,6 @@ use Rattle.building_tests.specs.declared.Bounds.{Bounds}
 use Rattle.building_tests.specs.declared.Bounds.the-variants.{General, Refine}
 use Rattle.edge_search.specs.Chains.{Newest, Standing}
 use Rattle.building_faces.specs.Rings.{stateAt, Lent}
-use Rattle.building_rows.specs.Zeroing.{zeroedTo}
 use Rattle.building.specs.Concluding.{concluded, answeredFrom, Begun, Zeroed}
 
 -- ---- the ends of `conclude`
@@ -51,15 +50,15 @@ module _ (cs : List Float) (np nl nf : ℕ) (m : Mesh) (k : ℕ) (v : Verdict) w
   unfolding concluded
   concluded-fit row ps pts h r a b = rw (h, r, a, b)
 
-  pub concluded-unfit : (g : Ground) (new : Mesh) → v ≡ Unfit g → new ≡ zeroedTo np nl nf m
+  pub concluded-unfit : (g : Ground) (new : Mesh) → v ≡ Unfit g → new ≡ zeroedRows (countsOf np nl nf) m
       → _≡_ {A = Outcome} (record { answer = Refused g; tables = new }) (concluded cs np nl nf m k v)
   unfolding concluded
   concluded-unfit g new h z = rw (h, z)
 
 -- ---- before the faces
 
-pub zeroedTo-rows : (l : Lists) (m : Mesh) → zeroedTo (pointsOf l) (length (l .listed)) (facesOf l) m ≡ zeroedRows l m
-unfolding zeroedTo zeroedRows
+pub zeroedTo-rows : (l : Lists) (m : Mesh)
+    → zeroedRows (countsOf (pointsOf l) (length (l .listed)) (facesOf l)) m ≡ zeroedRows (rowsOf l) m
 zeroedTo-rows l m = refl
 
 -- what the tables have room for
@@ -81,7 +80,7 @@ limits-few Refine = (omega arith, omega arith, omega arith)
 
 pub rooms : (l : Lists) (m : Mesh) → Begun l m → Rooms l m
 rooms l m h =
-    let c : Limits = limitsOf (h .bounds) in
+    let c : Sizes = limitsOf (h .bounds) in
     let counted : Counted c l = counts-is c l (h .counts) in
     let roomy : Roomy l m = rows-is l m (h .rows) in
     let few = limits-few (h .bounds) in
@@ -98,7 +97,7 @@ rooms l m h =
       all-listed = listed-all c l m counted (numbers-is l (h .numbers)) roomy (omega (arith, few .1));
     }
 
-pub rooms-zeroed : (l : Lists) (m t : Mesh) → t ≡ zeroedRows l m → Rooms l m → Rooms l t
+pub rooms-zeroed : (l : Lists) (m t : Mesh) → t ≡ zeroedRows (rowsOf l) m → Rooms l m → Rooms l t
 unfolding zeroedRows
 rooms-zeroed l m t z r =
     rw z
@@ -162,7 +161,7 @@ lent-rooms l t ch r room =
 
 -- ---- after the faces: t are the zeroed tables, n those after the faces
 
-module _ (l : Lists) (m t : Mesh) (begun : Begun l m) (zero : t ≡ zeroedRows l m) where
+module _ (l : Lists) (m t : Mesh) (begun : Begun l m) (zero : t ≡ zeroedRows (rowsOf l) m) where
   faces-few : limitsOf (begun .bounds) .faces ≤ none
   faces-few = let few = limits-few (begun .bounds) in omega (arith, few .1)
 
@@ -170,23 +169,23 @@ module _ (l : Lists) (m t : Mesh) (begun : Begun l m) (zero : t ≡ zeroedRows l
   unfolding allFaces
   all-from x h = rw zero at h
 
-  zeroed-tables : (x : Step State) → x ≡ allFaces l m → zeroedRows l (tablesOf x) ≡ zeroedRows l m
+  zeroed-tables : (x : Step State) → x ≡ allFaces l m → zeroedRows (rowsOf l) (tablesOf x) ≡ zeroedRows (rowsOf l) m
   zeroed-tables x h =
-      ap (λ (y : Step State). zeroedRows l (tablesOf y)) h
+      ap (λ (y : Step State). zeroedRows (rowsOf l) (tablesOf y)) h
       ∙ zeroed-after (limitsOf (begun .bounds)) l m faces-few (begun .counts) (begun .numbers) (begun .rows)
 
   pub stopped-outcome : (g : Ground) (n after : Mesh) → stopped g n ≡ facesFrom (facesOf l) l 0 0 (on (stateAt t 0))
-      → after ≡ zeroedTo (pointsOf l) (length (l .listed)) (facesOf l) n
+      → after ≡ zeroedRows (rowsOf l) n
       → _≡_ {A = Outcome} (record { answer = Refused g; tables = after }) (answeredFrom l m)
   unfolding answeredFrom answered
   stopped-outcome g n after h z =
-      rw (← all-from (stopped g n) h, z, zeroedTo-rows l n, zeroed-tables (stopped g n) (all-from (stopped g n) h))
+      rw (← all-from (stopped g n) h, z, zeroed-tables (stopped g n) (all-from (stopped g n) h))
 
-  verdict-outcome : (k : ℕ) (n : Mesh) (v : Verdict) → zeroedRows l n ≡ zeroedRows l m
+  verdict-outcome : (k : ℕ) (n : Mesh) (v : Verdict) → zeroedRows (rowsOf l) n ≡ zeroedRows (rowsOf l) m
       → concluded (l .coordinates) (pointsOf l) (length (l .listed)) (facesOf l) n k v ≡ wholeIf l m (stateAt n k) v
   unfolding concluded wholeIf finished
   verdict-outcome k n Fit z = refl
-  verdict-outcome k n (Unfit g) z = ap (λ (x : Mesh). refusal g x) (zeroedTo-rows l n ∙ z)
+  verdict-outcome k n (Unfit g) z = ap (λ (x : Mesh). refusal g x) z
 
   pub on-outcome : (k : ℕ) (n : Mesh) (o : Outcome) → on (stateAt n k) ≡ facesFrom (facesOf l) l 0 0 (on (stateAt t 0))
       → o ≡ concluded (l .coordinates) (pointsOf l) (length (l .listed)) (facesOf l) n k (wholeVerdict n (pointsOf l) k)
@@ -202,9 +201,7 @@ pub numbers-same : (cs : List Float) (ss ls : List ℕ) (be : List Float) → nu
 unfolding numbersFit
 numbers-same cs ss ls be = refl
 
-pub rows-same : (l : Lists) (m : Mesh)
-    → (leb (pointsOf l) (pointRows m) && leb (facesOf l) (faceRows m) && leb (length (l .listed)) (edgeRows m)) ≡ rowsFit l m
-unfolding rowsFit
+pub rows-same : (l : Lists) (m : Mesh) → rowsFor (countsOf (pointsOf l) (length (l .listed)) (facesOf l)) m ≡ rowsFor (rowsOf l) m
 rows-same l m = refl
 
 module _ (b : Bounds) (l : Lists) (m : Mesh) where
@@ -216,11 +213,11 @@ module _ (b : Bounds) (l : Lists) (m : Mesh) where
   unfolding build buildIf
   refused-numbers h k = rw (h, k)
 
-  pub refused-rows : countsFit (limitsOf b) l ≡ true → numbersFit l ≡ true → rowsFit l m ≡ false → refusal FewRows m ≡ build (limitsOf b) l m
+  pub refused-rows : countsFit (limitsOf b) l ≡ true → numbersFit l ≡ true → rowsFor (rowsOf l) m ≡ false → refusal FewRows m ≡ build (limitsOf b) l m
   unfolding build buildIf
   refused-rows h k r = rw (h, k, r)
 
-  pub begun-build : (o : Outcome) → countsFit (limitsOf b) l ≡ true → numbersFit l ≡ true → rowsFit l m ≡ true → o ≡ answeredFrom l m
+  pub begun-build : (o : Outcome) → countsFit (limitsOf b) l ≡ true → numbersFit l ≡ true → rowsFor (rowsOf l) m ≡ true → o ≡ answeredFrom l m
       → o ≡ build (limitsOf b) l m
   unfolding build buildIf answeredFrom
   begun-build o h k r a = a ∙ rw (h, k, r)

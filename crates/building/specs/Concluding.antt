@@ -11,18 +11,18 @@ use lib.Ieee.{Float}
 use Rattle.tables.specs.Layout.{positionWidth}
 use Rattle.tables.specs.Mesh.{Mesh}
 use Rattle.tables.specs.Rows.{over}
-use Rattle.built_meshes.specs.Lists.{Lists, countsFit, numbersFit, rowsFit}
-use Rattle.built_meshes.specs.Building.{Outcome, refusal, zeroedRows, answered, allFaces}
+use Rattle.tables.specs.Counted.{countsOf, rowsFor, zeroedRows}
+use Rattle.built_meshes.specs.Lists.{Lists, rowsOf, countsFit, numbersFit}
+use Rattle.built_meshes.specs.Building.{Outcome, refusal, answered, allFaces}
 use Rattle.built_meshes.specs.Whole.{marked}
 use Rattle.built_meshes.specs.declared.Verdict.{Verdict}
 use Rattle.built_meshes.specs.declared.Verdict.the-variants.{Fit, Unfit}
 use Rattle.built_meshes.specs.declared.Built.the-variants.{Accepted}
-use Rattle.building_rows.specs.Zeroing.{zeroedTo}
 use Rattle.building_tests.specs.Lent.{limitsOf}
 use Rattle.building_tests.specs.declared.Bounds.{Bounds}
 
 unfoldable pub concluded : List Float → ℕ → ℕ → ℕ → Mesh → ℕ → Verdict → Outcome
-unfolding over marked zeroedTo
+unfolding over marked zeroedRows
 concluded cs np nl nf m k Fit =
     record {
       answer = Accepted (record { points = np; edges = k; faces = nf });
@@ -35,7 +35,7 @@ concluded cs np nl nf m k Fit =
             faces = m .faces;
           };
     }
-concluded cs np nl nf m k (Unfit g) = refusal g (zeroedTo np nl nf m)
+concluded cs np nl nf m k (Unfit g) = refusal g (zeroedRows (countsOf np nl nf) m)
 
 -- what is answered of the lists l and the tables m when all faces were tried
 unfoldable pub answeredFrom : Lists → Mesh → Outcome
@@ -47,10 +47,10 @@ pub record Begun (l : Lists) (m : Mesh) : Type 0 where
   pub bounds : Bounds
   pub counts : countsFit (limitsOf bounds) l ≡ true
   pub numbers : numbersFit l ≡ true
-  pub rows : rowsFit l m ≡ true
+  pub rows : rowsFor (rowsOf l) m ≡ true
 
 -- the tables t are such tables with the rows that ground 4 counts made zero
 pub record Zeroed (l : Lists) (t : Mesh) : Type 0 where
   pub lent : Mesh
   pub begun : Begun l lent
-  pub zero : t ≡ zeroedRows l lent
+  pub zero : t ≡ zeroedRows (rowsOf l) lent

@@ -7,8 +7,9 @@ ghost use Prim.Native.Nat.{_+_, _*_, _/_, _≤_};
 ghost use lib.ListN.{length};
 ghost use Rattle.tables.specs.Layout.{positionWidth, pointWidth, edgeWidth, faceWidth};
 ghost use Rattle.tables.specs.Mesh.{Mesh, meshOf};
-ghost use Rattle.built_meshes.specs.Lists.{general};
-ghost use Rattle.built_meshes.specs.Building.{Outcome, zeroedRows, build};
+ghost use Rattle.built_meshes.specs.Lists.{general, rowsOf};
+ghost use Rattle.built_meshes.specs.Building.{Outcome, build};
+ghost use Rattle.tables.specs.Counted.{zeroedRows};
 ghost use Rattle.built_meshes.specs.Whole.{wholeVerdict};
 ghost use Rattle.building_tests.specs.Lent.{lists, limitsOf};
 ghost use Rattle.building.specs.Concluding.{concluded, answeredFrom, Begun, Zeroed};
@@ -89,7 +90,7 @@ fn build_zeroed(
 ) -> Built
     requires { ⌜ Zeroed (lists (now coordinates) (now sides) (now listed) (now beside)) (meshOf (now positions) (now points) (now edges) (now intervals) (now faces)) ⌝ }
     requires { ⌜ general .points + 2 * general .listed ≤ length (now chain) ⌝ }
-    ensures { λ r. ⌜ ((m : Mesh) → Begun (lists (now (coordinates .entry)) (now (sides .entry)) (now (listed .entry)) (now (beside .entry))) m → (meshOf (now (positions .entry)) (now (points .entry)) (now (edges .entry)) (now (intervals .entry)) (now (faces .entry))) ≡ zeroedRows (lists (now (coordinates .entry)) (now (sides .entry)) (now (listed .entry)) (now (beside .entry))) m → _≡_ {A = Outcome} (record { answer = r; tables = meshOf (now (positions .exit)) (now (points .exit)) (now (edges .exit)) (now (intervals .exit)) (now (faces .exit)) }) (answeredFrom (lists (now (coordinates .entry)) (now (sides .entry)) (now (listed .entry)) (now (beside .entry))) m)) ⌝ }
+    ensures { λ r. ⌜ ((m : Mesh) → Begun (lists (now (coordinates .entry)) (now (sides .entry)) (now (listed .entry)) (now (beside .entry))) m → (meshOf (now (positions .entry)) (now (points .entry)) (now (edges .entry)) (now (intervals .entry)) (now (faces .entry))) ≡ zeroedRows (rowsOf (lists (now (coordinates .entry)) (now (sides .entry)) (now (listed .entry)) (now (beside .entry)))) m → _≡_ {A = Outcome} (record { answer = r; tables = meshOf (now (positions .exit)) (now (points .exit)) (now (edges .exit)) (now (intervals .exit)) (now (faces .exit)) }) (answeredFrom (lists (now (coordinates .entry)) (now (sides .entry)) (now (listed .entry)) (now (beside .entry))) m)) ⌝ }
 {
     let np = coordinates.len() / POSITION_WIDTH;
     let nl = listed.len();

@@ -1,15 +1,12 @@
 // What building asks of the lent tables before the faces are entered: ground 4, and the rows that it counts made zero.
 // Not here: the grounds of the lists (`building_lists`) and of the whole (`building_whole`).
-// Contracts: `rows_fit`, `zero_rows`. Definitions: `specs/Zeroing.antt`.
+// Contracts: `rows_fit`, `zero_rows`. Definitions: `specs/Counted.antt` of `tables`.
 ghost use mathlib.Core.Path.{_≡_};
-ghost use mathlib.Core.Bool.{_&&_};
 ghost use Prim.Native.Nat.{_*_, _≤_};
-ghost use lib.Dec.{leb};
 ghost use lib.ListN.{length};
 ghost use Rattle.tables.specs.Layout.{positionWidth, pointWidth, edgeWidth, faceWidth};
 ghost use Rattle.tables.specs.Mesh.{Mesh, meshOf};
-ghost use Rattle.audited_meshes.specs.Audit.{pointRows, edgeRows, faceRows};
-ghost use Rattle.building_rows.specs.Zeroing.{zeroedTo};
+ghost use Rattle.tables.specs.Counted.{countsOf, rowsFor, zeroedRows};
 use tables::EDGE_WIDTH;
 use tables::FACE_WIDTH;
 use tables::POINT_WIDTH;
@@ -31,15 +28,16 @@ pub fn rows_fit(
     nl: usize,
     nf: usize,
 ) -> bool
-    ensures { λ r. ⌜ _≡_ r (leb np (pointRows (meshOf (now (positions .entry)) (now (points .entry)) (now (edges .entry)) (now (intervals .entry)) (now (faces .entry)))) && leb nf (faceRows (meshOf (now (positions .entry)) (now (points .entry)) (now (edges .entry)) (now (intervals .entry)) (now (faces .entry)))) && leb nl (edgeRows (meshOf (now (positions .entry)) (now (points .entry)) (now (edges .entry)) (now (intervals .entry)) (now (faces .entry))))) ⌝ }
+    ensures { λ r. ⌜ r ≡ rowsFor (countsOf np nl nf)
+        (meshOf (now (positions .entry)) (now (points .entry)) (now (edges .entry)) (now (intervals .entry)) (now (faces .entry))) ⌝ }
 {
     if point_rows(positions, points) < np {
         return false;
     }
-    if face_rows(faces) < nf {
+    if edge_rows(edges, intervals) < nl {
         return false;
     }
-    nl <= edge_rows(edges, intervals)
+    nf <= face_rows(faces)
 }
 
 // Makes the rows of np points, nl edges and nf faces zero.
@@ -58,7 +56,7 @@ pub fn zero_rows(
     requires { ⌜ nl * edgeWidth ≤ length (now edges) ⌝ }
     requires { ⌜ nl ≤ length (now intervals) ⌝ }
     requires { ⌜ nf * faceWidth ≤ length (now faces) ⌝ }
-    ensures { λ _. ⌜ _≡_ {A = Mesh} (meshOf (now (positions .exit)) (now (points .exit)) (now (edges .exit)) (now (intervals .exit)) (now (faces .exit))) (zeroedTo np nl nf (meshOf (now (positions .entry)) (now (points .entry)) (now (edges .entry)) (now (intervals .entry)) (now (faces .entry)))) ⌝ }
+    ensures { λ _. ⌜ _≡_ {A = Mesh} (meshOf (now (positions .exit)) (now (points .exit)) (now (edges .exit)) (now (intervals .exit)) (now (faces .exit))) (zeroedRows (countsOf np nl nf) (meshOf (now (positions .entry)) (now (points .entry)) (now (edges .entry)) (now (intervals .entry)) (now (faces .entry)))) ⌝ }
 {
     zero_numbers(positions, np * POSITION_WIDTH);
     zero_words(points, np * POINT_WIDTH);

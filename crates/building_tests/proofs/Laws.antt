@@ -16,15 +16,15 @@ use lib.Ieee.{Float, nan, add, sub, ofBits, binary64}
 use lib.ListN.{getD}
 use Rattle.closed_meshes.specs.Renumbering.{sumTo}
 use Rattle.audited_meshes.specs.Folds.{every}
-use Rattle.built_meshes.specs.Lists.{size, Limits}
+use Rattle.built_meshes.specs.Lists.{size}
 use Rattle.built_meshes.specs.Faces.{sizeFit, inRange, noPointTwice, sideSum, apart, sumsFit, faceVerdict}
 use Rattle.built_meshes.specs.declared.Verdict.{Verdict}
 use Rattle.built_meshes.specs.declared.Verdict.the-variants.{Fit, Unfit}
 use Rattle.built_meshes.specs.declared.Ground.the-variants.{FaceSize, OutOfRange, PointTwice, NonRectangularFace}
-use Rattle.building_tests.specs.Lent.{lists, limitsOf, mostOf}
+use Rattle.building_tests.specs.Lent.{lists, limitsOf}
 use Rattle.building_tests.specs.declared.Bounds.{Bounds}
 use Rattle.building_tests.specs.declared.Bounds.the-variants.{General, Refine}
-use Rattle.building_tests.specs.declared.Most.{Most}
+use Rattle.tables.specs.declared.Sizes.{Sizes}
 
 pub every-none : (test : ℕ → Bool) → every 0 test ≡ true
 unfolding every
@@ -79,9 +79,9 @@ module _ (ss : List ℕ) (f : ℕ) {a b c d : ℕ} (ea : a ≡ getD ss (f * 4) 0
   unfolding apart
   sums-read is at es et eu ev = rw (es, et, eu, ev, ea, eb, ec, ed, add-zero (f * 4))
 
-pub faces-few : (b : Bounds) (s : Most) → mostOf s ≡ limitsOf b → s .faces ≤ 4096
-faces-few General s e = let h : s .faces ≡ 4096 = ap (λ (c : Limits). c .faces) e in omega arith
-faces-few Refine s e = let h : s .faces ≡ 64 = ap (λ (c : Limits). c .faces) e in omega arith
+pub faces-few : (b : Bounds) (s : Sizes) → s ≡ limitsOf b → s .faces ≤ 4096
+faces-few General s e = let h : s .faces ≡ 4096 = ap (λ (c : Sizes). c .faces) e in omega arith
+faces-few Refine s e = let h : s .faces ≡ 64 = ap (λ (c : Sizes). c .faces) e in omega arith
 
 -- the verdict by the four tests
 abbrev pub verdictBy : Bool → Bool → Bool → Bool → Verdict

@@ -2,7 +2,8 @@
 // Not here: grounds 2 and 3 (`building_lists`), 4 (`building_rows`), 14 and 15 (`edge_search`), 20 to 22 (`building_whole`).
 // Definitions: `Faces` of `built_meshes`; `specs/Lent.antt`. Laws for callers: `proofs/Laws.antt`.
 ghost use mathlib.Core.Path.{_≡_};
-ghost use Rattle.building_tests.specs.Lent.{limitsOf, mostOf};
+ghost use Rattle.building_tests.specs.Lent.{limitsOf};
+use tables::Sizes;
 
 pub mod faces;
 
@@ -26,24 +27,18 @@ pub enum Bounds {
     Refine,
 }
 
-// The most points, faces and listed points.
-pub struct Most {
-    pub points: usize,
-    pub faces: usize,
-    pub listed: usize,
-}
-
 impl Bounds {
-    pub fn most(self) -> Most
-        ensures { λ r. ⌜ mostOf r ≡ limitsOf self ⌝ }
+    // The most points, faces and listed points.
+    pub fn most(self) -> Sizes
+        ensures { λ r. ⌜ r ≡ limitsOf self ⌝ }
     {
         match self {
-            Bounds::General => Most {
+            Bounds::General => Sizes {
                 points: MOST_POINTS,
                 faces: MOST_FACES,
                 listed: MOST_LISTED,
             },
-            Bounds::Refine => Most {
+            Bounds::Refine => Sizes {
                 points: REFINE_POINTS,
                 faces: REFINE_FACES,
                 listed: REFINE_LISTED,

@@ -13,7 +13,8 @@ use lib.Ieee.{Float}
 use lib.ListN.{getD, set}
 use Rattle.tables.specs.Mesh.{Mesh, meshOf}
 use Rattle.audited_meshes.specs.Walks.{Walk, back, lost, passed, pointWalk}
-use Rattle.walks.specs.Steps.{pointTables, passedBy}
+use Rattle.walks.specs.Steps.{passedBy}
+use Rattle.tables.specs.Parts.{pointTables}
 use Rattle.walks.specs.declared.Passed.the-variants as Answers
 use Rattle.built_meshes.specs.Whole.{noMissingFace, everyEdged, noMissedEdge, wholeVerdict, markOf, marked}
 use Rattle.built_meshes.specs.declared.Verdict.{Verdict}

@@ -10,7 +10,7 @@ ghost use Rattle.tables.specs.Layout.{pointWidth, edgeWidth};
 ghost use Rattle.tables.specs.Mesh.{valence, meshOf};
 ghost use Rattle.audited_meshes.specs.Walks.{passed, pointWalk};
 ghost use Rattle.built_meshes.specs.Whole.{noMissingFace, everyEdged, noMissedEdge, wholeVerdict, markOf, marked};
-ghost use Rattle.walks.specs.Steps.{pointTables};
+ghost use Rattle.tables.specs.Parts.{pointTables};
 use built_meshes::Ground;
 use built_meshes::Verdict;
 use t_spline::NONE;

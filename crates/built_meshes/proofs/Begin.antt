@@ -14,14 +14,15 @@ use lib.Ieee.Scale.{finite}
 use lib.ListN.{length, getD, drop, replicate, List·getD-append, getD-replicate, length-replicate}
 use borrow.Author.Tests.{leb-false, eqb-false}
 use Rattle.t_spline.specs.Edge.{none}
-use Rattle.tables.specs.Mesh.{Mesh, valence}
+use Rattle.tables.specs.Mesh.{Mesh, valence, pointRows, edgeRows, faceRows}
 use Rattle.tables.specs.Rows.{zeroed}
 use Rattle.closed_meshes.specs.Renumbering.{sumTo}
 use Rattle.audited_meshes.specs.Folds.{every}
-use Rattle.audited_meshes.specs.Audit.{pointRows, edgeRows, faceRows, intervalFit}
+use Rattle.audited_meshes.specs.Audit.{intervalFit}
 use Rattle.audited_meshes.proofs.Tests.{and-is, eqb-is, leb-is, self-is, every-is}
-use Rattle.built_meshes.specs.Lists.{Lists, Limits, pointsOf, facesOf, offset, countsFit, numbersFit, rowsFit}
-use Rattle.built_meshes.specs.Building.{zeroedRows}
+use Rattle.built_meshes.specs.Lists.{Lists, pointsOf, facesOf, rowsOf, offset, countsFit, numbersFit}
+use Rattle.tables.specs.declared.Sizes.{Sizes}
+use Rattle.tables.specs.Counted.{rowsFor, zeroedRows}
 use Rattle.built_meshes.specs.Beyond.{Within}
 use Rattle.built_meshes.specs.Claims.{zeroEdge}
 use Rattle.built_meshes.specs.Grounds.{Over-counts, many-points, many-faces, many-listed, point-cut, face-cut, unlike, sum-unlike, Unfit-number, coordinate, interval, Few-rows, few-points, few-faces, few-edges}
@@ -33,7 +34,7 @@ use Rattle.built_meshes.proofs.Faces.{every-false, and-false}
 
 -- ---- ground 2
 
-pub record Counted (c : Limits) (l : Lists) : Type 0 where
+pub record Counted (c : Sizes) (l : Lists) : Type 0 where
   pub points-few : pointsOf l ≤ c .points
   pub faces-few : facesOf l ≤ c .faces
   pub listed-few : length (l .listed) ≤ c .listed
@@ -42,7 +43,7 @@ pub record Counted (c : Limits) (l : Lists) : Type 0 where
   pub alike : length (l .listed) ≡ length (l .intervals)
   pub sum-alike : sumTo (length (l .sides)) (λ k. getD (l .sides) k 0) ≡ length (l .listed)
 
-pub counts-is : (c : Limits) (l : Lists) → countsFit c l ≡ true → Counted c l
+pub counts-is : (c : Sizes) (l : Lists) → countsFit c l ≡ true → Counted c l
 unfolding countsFit
 counts-is c l h =
     let z =
@@ -65,7 +66,7 @@ counts-is c l h =
       sum-alike = z .1;
     }
 
-pub counts-fail : (c : Limits) (l : Lists) → countsFit c l ≡ false → Over-counts c l
+pub counts-fail : (c : Sizes) (l : Lists) → countsFit c l ≡ false → Over-counts c l
 unfolding countsFit
 counts-fail c l h = go7 (and-false _ _ h)
   where
@@ -96,7 +97,7 @@ counts-fail c l h = go7 (and-false _ _ h)
     go7 (inl z) = go6 (and-false _ _ z)
     go7 (inr z) = sum-unlike (eqb-false _ _ z)
 
-pub counted-fits : (c : Limits) (l : Lists) → Counted c l → ¬ Over-counts c l
+pub counted-fits : (c : Sizes) (l : Lists) → Counted c l → ¬ Over-counts c l
 counted-fits c l h (many-points z) = omega (arith, h .points-few)
 counted-fits c l h (many-faces z) = omega (arith, h .faces-few)
 counted-fits c l h (many-listed z) = omega (arith, h .listed-few)
@@ -138,23 +139,23 @@ pub record Roomy (l : Lists) (m : Mesh) : Type 0 where
   pub faces-enough : facesOf l ≤ faceRows m
   pub edges-enough : length (l .listed) ≤ edgeRows m
 
-pub rows-is : (l : Lists) (m : Mesh) → rowsFit l m ≡ true → Roomy l m
-unfolding rowsFit
+pub rows-is : (l : Lists) (m : Mesh) → rowsFor (rowsOf l) m ≡ true → Roomy l m
+unfolding rowsFor
 rows-is l m h =
-    let z = and-is (and-is (leb-is (pointsOf l) (pointRows m)) (leb-is (facesOf l) (faceRows m))) (leb-is (length (l .listed)) (edgeRows m)) .0 h in
-    record { points-enough = z .0 .0; faces-enough = z .0 .1; edges-enough = z .1 }
+    let z = and-is (and-is (leb-is (pointsOf l) (pointRows m)) (leb-is (length (l .listed)) (edgeRows m))) (leb-is (facesOf l) (faceRows m)) .0 h in
+    record { points-enough = z .0 .0; faces-enough = z .1; edges-enough = z .0 .1 }
 
-pub rows-fail : (l : Lists) (m : Mesh) → rowsFit l m ≡ false → Few-rows l m
-unfolding rowsFit
+pub rows-fail : (l : Lists) (m : Mesh) → rowsFor (rowsOf l) m ≡ false → Few-rows l m
+unfolding rowsFor
 rows-fail l m h = go (and-false _ _ h)
   where
-    go2 : (leb (pointsOf l) (pointRows m) ≡ false) ⊎ (leb (facesOf l) (faceRows m) ≡ false) → Few-rows l m
+    go2 : (leb (pointsOf l) (pointRows m) ≡ false) ⊎ (leb (length (l .listed)) (edgeRows m) ≡ false) → Few-rows l m
     go2 (inl z) = few-points (leb-false _ _ z)
-    go2 (inr z) = few-faces (leb-false _ _ z)
+    go2 (inr z) = few-edges (leb-false _ _ z)
 
-    go : (leb (pointsOf l) (pointRows m) && leb (facesOf l) (faceRows m) ≡ false) ⊎ (leb (length (l .listed)) (edgeRows m) ≡ false) → Few-rows l m
+    go : (leb (pointsOf l) (pointRows m) && leb (length (l .listed)) (edgeRows m) ≡ false) ⊎ (leb (facesOf l) (faceRows m) ≡ false) → Few-rows l m
     go (inl z) = go2 (and-false _ _ z)
-    go (inr z) = few-edges (leb-false _ _ z)
+    go (inr z) = few-faces (leb-false _ _ z)
 
 pub roomy-fits : (l : Lists) (m : Mesh) → Roomy l m → ¬ Few-rows l m
 roomy-fits l m h (few-points z) = omega (arith, h .points-enough)
@@ -190,7 +191,7 @@ unfolding zeroed
 getD-zeroed n i z d xs h =
     List·getD-append (replicate n z) (drop n xs) d i (subst (λ k. i < k) (sym (length-replicate n z)) h) ∙ getD-replicate n i z d h
 
-module _ (c : Limits) (l : Lists) (m : Mesh) (counted' : Counted c l) (numbered : Numbered l) (roomy : Roomy l m) (few : c .faces ≤ none) where
+module _ (c : Sizes) (l : Lists) (m : Mesh) (counted' : Counted c l) (numbered : Numbered l) (roomy : Roomy l m) (few : c .faces ≤ none) where
   pub listed-all : offset l (facesOf l) ≡ length (l .listed)
   unfolding offset
   listed-all =
@@ -212,7 +213,7 @@ module _ (c : Limits) (l : Lists) (m : Mesh) (counted' : Counted c l) (numbered 
   faces-fit : facesOf l * 5 ≤ length (m .faces)
   faces-fit = omega (arith, roomy .faces-enough)
 
-  pub within-zeroed : Within l m (zeroedRows l m)
+  pub within-zeroed : Within l m (zeroedRows (rowsOf l) m)
   unfolding zeroedRows
   within-zeroed =
       record {
@@ -223,15 +224,15 @@ module _ (c : Limits) (l : Lists) (m : Mesh) (counted' : Counted c l) (numbered 
         faces = behind-zeroed (facesOf l * 5) 0 (m .faces) faces-fit;
       }
 
-  pub row-zeroed : (e : ℕ) → e < length (l .listed) → row (zeroedRows l m) e ≡ zeroEdge
+  pub row-zeroed : (e : ℕ) → e < length (l .listed) → row (zeroedRows (rowsOf l) m) e ≡ zeroEdge
   unfolding zeroedRows
   row-zeroed e b =
-      edgeAt-words (zeroedRows l m .edges) (zeroedRows l m .intervals) e
-      ∙ ofWords-cong (λ j. 0) (λ j. getD (zeroedRows l m .edges) (e * 8 + j) 0) (ofBits binary64 0) (getD (zeroedRows l m .intervals) e nan)
+      edgeAt-words (zeroedRows (rowsOf l) m .edges) (zeroedRows (rowsOf l) m .intervals) e
+      ∙ ofWords-cong (λ j. 0) (λ j. getD (zeroedRows (rowsOf l) m .edges) (e * 8 + j) 0) (ofBits binary64 0) (getD (zeroedRows (rowsOf l) m .intervals) e nan)
       (λ j h. getD-zeroed (length (l .listed) * 8) (e * 8 + j) 0 0 (m .edges) (omega arith))
       (getD-zeroed (length (l .listed)) e (ofBits binary64 0) nan (m .intervals) b)
 
-  pub ready : Ready l (zeroedRows l m)
+  pub ready : Ready l (zeroedRows (rowsOf l) m)
   ready =
       record {
         points-room = rw (within-zeroed .points .0) points-fit;
@@ -251,7 +252,7 @@ module _ (c : Limits) (l : Lists) (m : Mesh) (counted' : Counted c l) (numbered 
   no-chain f i (inl h) = absurd (omega (arith, h .0))
   no-chain f i (inr h) = absurd (omega (arith, h .1))
 
-  pub faces-none : Faces l 0 (record { mesh = zeroedRows l m; edges = 0 })
+  pub faces-none : Faces l 0 (record { mesh = zeroedRows (rowsOf l) m; edges = 0 })
   unfolding zeroedRows counted sumTo offset
   faces-none =
       record {
@@ -277,5 +278,5 @@ module _ (c : Limits) (l : Lists) (m : Mesh) (counted' : Counted c l) (numbered 
         corners = λ f c b. absurd (omega arith);
       }
     where
-      blank : (p : ℕ) → p < pointsOf l → valence (zeroedRows l m) p ≡ 0
+      blank : (p : ℕ) → p < pointsOf l → valence (zeroedRows (rowsOf l) m) p ≡ 0
       blank p b = getD-zeroed (pointsOf l * 3) (p * 3) 0 0 (m .points) (omega arith)

@@ -14,9 +14,9 @@ use Rattle.tables.specs.Rows.{putFrom, putRow, over, zeroed}
 use Rattle.tables.proofs.Laws.{length-putRow, length-over, length-zeroed}
 use Rattle.tables.specs.Records.{edgeWords}
 use Rattle.t_nurcc_edge.specs.Connected.{pairOf, connectedRows}
-use Rattle.built_meshes.specs.Lists.{Lists, pointsOf, facesOf}
+use Rattle.built_meshes.specs.Lists.{Lists, pointsOf, facesOf, rowsOf}
 use Rattle.built_meshes.specs.Edges.{touched}
-use Rattle.built_meshes.specs.Building.{zeroedRows}
+use Rattle.tables.specs.Counted.{zeroedRows}
 use Rattle.built_meshes.specs.Beyond.{Behind, Within}
 
 module _ {A : Type 0} where
@@ -67,7 +67,7 @@ within-trans l h k =
       faces = (k .faces .0 ∙ h .faces .0, k .faces .1 ∙ h .faces .1);
     }
 
-pub zeroedRows-within : (l : Lists) (m m' : Mesh) → Within l m m' → zeroedRows l m' ≡ zeroedRows l m
+pub zeroedRows-within : (l : Lists) (m m' : Mesh) → Within l m m' → zeroedRows (rowsOf l) m' ≡ zeroedRows (rowsOf l) m
 unfolding zeroedRows
 zeroedRows-within l m m' h =
     rw (

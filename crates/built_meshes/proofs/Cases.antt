@@ -1,18 +1,58 @@
 -- Building computed: pieces of which two grounds hold (the first in document 01's order is
 -- answered), and the tables afterwards, word for word.
 use mathlib.Core.Path.{_≡_, refl}
-use mathlib.Core.Bool.{true, false}
+use mathlib.Core.Bool.{Bool, true, false, _&&_}
 use mathlib.Core.List.{List, [], _∷_, _++_}
 use Prim.Native.Nat.{ℕ, zero, suc, _*_}
-use lib.ListN.{replicate}
+use lib.Dec.{eqb}
+use lib.ListN.{length, replicate}
 use lib.Ieee.{Float, nan, inf, ofBits, neg, add, sub, le, lt, binary64}
 use Rattle.edge_links.specs.Connect.{linksOf}
 use Rattle.tables.specs.Mesh.{Mesh, none}
-use Rattle.built_meshes.specs.Lists.{Lists, Limits, general, refine}
+use Rattle.built_meshes.specs.Lists.{Lists, general, refine, pointsOf, facesOf}
+use Rattle.tables.specs.declared.Sizes.{Sizes}
+use Rattle.built_meshes.specs.Answers.{numbersOf}
 use Rattle.built_meshes.specs.Building.{build}
-use Rattle.built_meshes.specs.Pieces.{unit, two, nought, backToBack, justEnough, Piece, piece, asExpected, allOf}
+use Rattle.built_meshes.specs.Pieces.{unit, two, nought, backToBack}
 use Rattle.built_meshes.specs.declared.Ground.the-variants.{SameWay}
 use Rattle.built_meshes.specs.declared.Built.the-variants.{Accepted, Refused}
+
+-- ---- pieces
+
+-- tables with just the rows that the lists need, all words 7
+abbrev justEnough : Lists → Mesh
+justEnough l =
+    record {
+      positions = replicate (pointsOf l * 3) two;
+      points = replicate (pointsOf l * 3) 7;
+      edges = replicate (length (l .listed) * 8) 7;
+      intervals = replicate (length (l .listed)) two;
+      faces = replicate (facesOf l * 5) 7;
+    }
+
+record Piece : Type 0 where
+  limits : Sizes
+  lists : Lists
+  tables : Mesh
+  answer : List ℕ
+
+abbrev piece : Lists → List ℕ → Piece
+piece l ns = record { limits = general; lists = l; tables = justEnough l; answer = ns }
+
+abbrev sameNumbers : List ℕ → List ℕ → Bool
+sameNumbers [] [] = true
+sameNumbers [] (n ∷ ns) = false
+sameNumbers (k ∷ ks) [] = false
+sameNumbers (k ∷ ks) (n ∷ ns) = eqb k n && sameNumbers ks ns
+
+asExpected : Piece → Bool
+unfolding build
+asExpected x = sameNumbers (numbersOf (build (x .limits) (x .lists) (x .tables) .answer)) (x .answer)
+
+abbrev allOf : List Piece → Bool
+unfolding asExpected
+allOf [] = true
+allOf (x ∷ xs) = asExpected x && allOf xs
 
 -- ---- the order of the grounds
 
@@ -43,7 +83,7 @@ withCoordinates l xs = record { coordinates = xs; sides = l .sides; listed = l .
 abbrev points : ℕ → Lists
 points n = triangles n 0 []
 
-abbrev pieceIn : Limits → Lists → Mesh → List ℕ → Piece
+abbrev pieceIn : Sizes → Lists → Mesh → List ℕ → Piece
 pieceIn c l m ns = record { limits = c; lists = l; tables = m; answer = ns }
 
 abbrev noTables : Mesh

@@ -16,8 +16,9 @@ use lib.Dec.{eqb}
 use lib.ListN.{length, length-set}
 use lib.Seq.{getD-set-same, getD-set-other}
 use borrow.Author.Tests.{eqb-true, eqb-false, eq-eqb, ne-eqb}
-use Rattle.t_spline.specs.Connection.{indexOf, connectionAt}
-use Rattle.t_spline.specs.Edge.{none, connectionOf, withConnection, acwOnSide, cwOnSide, faceFromSide, sameFace}
+use Rattle.t_spline.specs.Connection.{indexOf}
+use Rattle.t_spline.specs.Ends.{connectionAt, acwOnSide, cwOnSide, faceFromSide}
+use Rattle.t_spline.specs.Edge.{none, connectionOf, withConnection, sameFace}
 use Rattle.edge_links.specs.Connect.{linksOf, vertexState, linked, served, connected}
 use Rattle.t_spline.specs.declared.TnurccEdge.{TnurccEdge}
 use Rattle.t_spline.specs.declared.TnurccConnection.{TnurccConnection}

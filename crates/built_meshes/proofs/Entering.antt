@@ -16,7 +16,8 @@ use lib.ListN.{length}
 use borrow.Author.Tests.{eqb-true, eqb-false, eq-eqb, ne-eqb}
 use Rattle.perimeters.specs.Places.{nextPlace}
 use Rattle.perimeters.proofs.Laws.{next-below, next-differs}
-use Rattle.t_spline.specs.Edge.{none, faceFromSide}
+use Rattle.t_spline.specs.Edge.{none}
+use Rattle.t_spline.specs.Ends.{faceFromSide}
 use Rattle.t_spline.specs.declared.TnurccEdge.{TnurccEdge}
 use Rattle.t_spline.specs.declared.TnurccFaceSide.{TnurccFaceSide}
 use Rattle.t_spline.specs.declared.TnurccFaceSide.the-variants.{Left, Right}
@@ -24,9 +25,8 @@ use Rattle.tables.specs.Mesh.{Mesh, valence, start, origin, dest, rightFace}
 use Rattle.tables.specs.Records.{edgeWords}
 use Rattle.closed_meshes.specs.Renumbering.{sumTo}
 use Rattle.audited_meshes.specs.Folds.{one}
-use Rattle.audited_meshes.specs.Walks.{touches}
+use Rattle.audited_meshes.specs.Walks.{touches, Touches}
 use Rattle.audited_meshes.specs.Audit.{intervalFit}
-use Rattle.audited_meshes.specs.Audited.{Touches}
 use Rattle.audited_meshes.proofs.Folds.{below-suc, sumTo-cong}
 use Rattle.audited_meshes.proofs.Tests.{Is, and-is, or-is, eqb-is}
 use Rattle.built_meshes.specs.Lists.{Lists, pointsOf, size}

@@ -18,7 +18,8 @@ use Rattle.closed_meshes.specs.Renumbering.{sumTo}
 use Rattle.audited_meshes.specs.Folds.{every}
 use Rattle.audited_meshes.proofs.Folds.{below-suc}
 use Rattle.audited_meshes.proofs.Tests.{Is, and-is, not-is, eqb-is, ltb-is, leb-is, every-is}
-use Rattle.built_meshes.specs.Lists.{Lists, Limits, pointsOf, facesOf, size, offset}
+use Rattle.built_meshes.specs.Lists.{Lists, pointsOf, facesOf, size, offset}
+use Rattle.tables.specs.declared.Sizes.{Sizes}
 use Rattle.built_meshes.specs.Faces.{sizeFit, inRange, noPointTwice, apart, sumsFit, faceVerdict}
 use Rattle.built_meshes.specs.Perimeters.{State, Step, on, stopped, perimeter}
 use Rattle.built_meshes.specs.Places.{pointOf, nextOf, Runs}
@@ -56,7 +57,7 @@ and-false false b h = inl refl
 
 -- ---- one face
 
-module _ (c : Limits) (l : Lists) (m₀ : Mesh) where
+module _ (c : Sizes) (l : Lists) (m₀ : Mesh) where
   pub data Face-verdict (f : ℕ) : Verdict → Type 0 where
     fit : FaceSound l f → small (apart l f (offset l f)) ≡ true → Face-verdict f Fit
     unfit : {g : Ground} → Holds c l m₀ g → 10 ≤ numberOf g → Face-verdict f (Unfit g)

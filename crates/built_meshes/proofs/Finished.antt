@@ -13,16 +13,17 @@ use lib.Ieee.{nan}
 use lib.Ieee.Scale.{finite}
 use lib.ListN.{length, getD, set, take, drop, length-set, List·getD-append}
 use lib.Seq.{getD-set-same, getD-set-other, getD-take, length-take-le}
-use Rattle.t_spline.specs.Edge.{none, faceFromSide}
+use Rattle.t_spline.specs.Edge.{none}
+use Rattle.t_spline.specs.Ends.{faceFromSide}
 use Rattle.t_spline.specs.declared.TnurccFaceSide.{TnurccFaceSide}
 use Rattle.t_spline.specs.declared.TnurccFaceSide.the-variants.{Left, Right}
-use Rattle.tables.specs.Mesh.{Mesh, z, valence, start, mark}
+use Rattle.tables.specs.Mesh.{Mesh, z, valence, start, mark, pointRows, edgeRows, faceRows}
 use Rattle.tables.specs.Rows.{over}
 use Rattle.audited_meshes.specs.Walks.{passed, pointWalk}
-use Rattle.audited_meshes.specs.Audit.{pointRows, edgeRows, faceRows}
 use Rattle.audited_meshes.specs.Audited.{Audited}
 use Rattle.audited_meshes.proofs.Folds.{below-suc}
-use Rattle.built_meshes.specs.Lists.{Lists, Limits, pointsOf, facesOf}
+use Rattle.built_meshes.specs.Lists.{Lists, pointsOf, facesOf}
+use Rattle.tables.specs.declared.Sizes.{Sizes}
 use Rattle.built_meshes.specs.Perimeters.{State}
 use Rattle.built_meshes.specs.Whole.{markOf, marked, finished}
 use Rattle.built_meshes.specs.Beyond.{Behind, Within}
@@ -128,7 +129,7 @@ module _ (l : Lists) (k : ℕ) (s : State) (all : Faces l k s) where
 
 -- ---- the audit's clauses
 
-module _ (c : Limits) (l : Lists) (m₀ : Mesh) (counted' : Counted c l) (numbered : Numbered l) (roomy : Roomy l m₀) (few : c .faces ≤ none)
+module _ (c : Sizes) (l : Lists) (m₀ : Mesh) (counted' : Counted c l) (numbered : Numbered l) (roomy : Roomy l m₀) (few : c .faces ≤ none)
     (s : State) (all : Faces l (facesOf l) s) (fit : Fit-faces c l m₀ (facesOf l)) (within : Within l m₀ (s .mesh))
     (right : (e : ℕ) → e < s .edges → row (s .mesh) e .«face_right» ≢ none) (edged : (p : ℕ) → p < pointsOf l → valence (s .mesh) p ≢ 0)
     (walked : (p : ℕ) → p < pointsOf l → valence (s .mesh) p ≤ passed (pointWalk (s .mesh) (s .edges) (valence (s .mesh) p) p)) where

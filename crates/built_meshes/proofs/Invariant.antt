@@ -14,14 +14,14 @@ use native.Mathlib.Omega.{arith}
 use lib.Dec.{eqb}
 use Rattle.perimeters.specs.Places.{nextPlace}
 use Rattle.perimeters.proofs.Laws.{next-below, next-injective}
-use Rattle.t_spline.specs.Edge.{none, faceFromSide}
+use Rattle.t_spline.specs.Edge.{none}
+use Rattle.t_spline.specs.Ends.{faceFromSide}
 use Rattle.t_spline.specs.declared.TnurccFaceSide.{TnurccFaceSide}
 use Rattle.tables.specs.Mesh.{Mesh, valence, start, origin, dest, interval}
 use Rattle.closed_meshes.specs.Renumbering.{sumTo}
 use Rattle.audited_meshes.specs.Folds.{one}
-use Rattle.audited_meshes.specs.Walks.{touches}
+use Rattle.audited_meshes.specs.Walks.{touches, Touches}
 use Rattle.audited_meshes.specs.Audit.{intervalFit}
-use Rattle.audited_meshes.specs.Audited.{Touches}
 use Rattle.audited_meshes.proofs.Folds.{sumTo-cong}
 use Rattle.built_meshes.specs.Lists.{Lists, pointsOf, size}
 use Rattle.built_meshes.specs.Places.{pointOf, nextOf}

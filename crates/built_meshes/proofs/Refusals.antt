@@ -10,19 +10,21 @@ use native.Mathlib.Decide.{decLt}
 use lib.Dec.{eqb, ltb}
 use lib.ListN.{length}
 use borrow.Author.Tests.{eqb-true, ltb-true, not-false}
-use Rattle.t_spline.specs.Edge.{none, faceFromSide}
+use Rattle.t_spline.specs.Edge.{none}
+use Rattle.t_spline.specs.Ends.{faceFromSide}
 use Rattle.t_spline.specs.declared.TnurccFaceSide.{TnurccFaceSide}
 use Rattle.t_spline.specs.declared.TnurccFaceSide.the-variants.{Left, Right}
 use Rattle.tables.specs.Mesh.{Mesh, valence, start, origin, dest, rightFace}
 use Rattle.closed_meshes.specs.Renumbering.{sumTo}
 use Rattle.audited_meshes.specs.Folds.{one, occurrences}
-use Rattle.audited_meshes.specs.Walks.{Walk, back, lost, passed, edgesOf, touches, acwOfPoint, pointWalk}
-use Rattle.audited_meshes.specs.Audited.{Touches, PointWalked}
+use Rattle.audited_meshes.specs.Walks.{Walk, back, lost, passed, edgesOf, touches, acwOfPoint, pointWalk, Touches}
+use Rattle.audited_meshes.specs.Audited.{PointWalked}
 use Rattle.audited_meshes.proofs.Folds.{below-suc, length-sumTo}
 use Rattle.audited_meshes.proofs.Tests.{not-is, eqb-is, ltb-is, every-is}
 use Rattle.audited_meshes.proofs.Walks.{passes-on}
 use Rattle.audited_meshes.proofs.Audited.{touches-is, pointWalk-is}
-use Rattle.built_meshes.specs.Lists.{Lists, Limits, pointsOf, facesOf, size}
+use Rattle.built_meshes.specs.Lists.{Lists, pointsOf, facesOf, size}
+use Rattle.tables.specs.declared.Sizes.{Sizes}
 use Rattle.built_meshes.specs.Perimeters.{State, on}
 use Rattle.built_meshes.specs.Places.{IsPlace, Runs, Differ}
 use Rattle.built_meshes.specs.Answers.{numberOf}
@@ -63,7 +65,7 @@ record Hit (p e : ℕ) (t : State) : Type 0 where
   hits : Touches (t .mesh) p e
   misses : occurrences e (edgesOf (pointWalk (t .mesh) (t .edges) (valence (t .mesh) p) p)) ≡ 0
 
-module _ (c : Limits) (l : Lists) (m₀ : Mesh) (s : State) (all : Faces l (facesOf l) s) where
+module _ (c : Sizes) (l : Lists) (m₀ : Mesh) (s : State) (all : Faces l (facesOf l) s) where
   abbrev m : Mesh
   m = s .mesh
 

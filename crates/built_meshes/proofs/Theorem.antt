@@ -15,11 +15,13 @@ use Rattle.tables.specs.declared.Counts.{Counts}
 use Rattle.audited_meshes.specs.Folds.{one}
 use Rattle.audited_meshes.proofs.Folds.{sumTo-cong, sumTo-const}
 use Rattle.audited_meshes.proofs.Audited.{audit-is-audited}
-use Rattle.built_meshes.specs.Lists.{Lists, Limits, pointsOf, facesOf, countsFit, numbersFit, rowsFit}
+use Rattle.built_meshes.specs.Lists.{Lists, pointsOf, facesOf, rowsOf, countsFit, numbersFit}
+use Rattle.tables.specs.declared.Sizes.{Sizes}
+use Rattle.tables.specs.Counted.{rowsFor, zeroedRows}
 use Rattle.built_meshes.specs.Perimeters.{State, Step, on, stopped}
 use Rattle.built_meshes.specs.Answers.{numberOf}
 use Rattle.built_meshes.specs.Whole.{wholeVerdict, finished}
-use Rattle.built_meshes.specs.Building.{zeroedRows, Outcome, refusal, wholeIf, answered, allFaces, buildIf, build}
+use Rattle.built_meshes.specs.Building.{Outcome, refusal, wholeIf, answered, allFaces, buildIf, build}
 use Rattle.built_meshes.specs.Beyond.{Within}
 use Rattle.built_meshes.specs.Grounds.{Holds}
 use Rattle.built_meshes.specs.Claims.{Refused-by, Refusals-hold, Accepts-exactly, Audited-counts, Accepted-audited, Untouched-beyond}
@@ -44,15 +46,15 @@ counted-all m ne right =
     (λ e b. ap (λ t. suc (one (not t))) (ne-eqb (row m e .«face_right») none (right e b)))
     ∙ sumTo-const ne 2
 
-module _ (c : Limits) (l : Lists) (m : Mesh) (few : c .faces ≤ none) where
+module _ (c : Sizes) (l : Lists) (m : Mesh) (few : c .faces ≤ none) where
   data Came-out : Outcome → Type 0 where
     refuses-early : {g : Ground} → Holds c l m g → numberOf g < 10 → Came-out (refusal g m)
-    refuses : {g : Ground} → Holds c l m g → 10 ≤ numberOf g → Within l m (zeroedRows l m) → Came-out (refusal g (zeroedRows l m))
+    refuses : {g : Ground} → Holds c l m g → 10 ≤ numberOf g → Within l m (zeroedRows (rowsOf l) m) → Came-out (refusal g (zeroedRows (rowsOf l) m))
     accepts : {k : Counts} {t : Mesh} → Audited-counts l t k → Within l m t → ((g : Ground) → ¬ Holds c l m g) → Came-out (record { answer = Accepted k; tables = t })
 
   module _ (counted' : Counted c l) (numbered : Numbered l) (roomy : Roomy l m) where
     module _ (s : State) (stands : allFaces l m ≡ on s) (all : Faces l (facesOf l) s) (fit : Fit-faces c l m (facesOf l)) (within : Within l m (s .mesh))
-        (later : (x : ℕ) → s .edges ≤ x → row (s .mesh) x ≡ row (zeroedRows l m) x) (w : Whole-fit c l m s all) where
+        (later : (x : ℕ) → s .edges ≤ x → row (s .mesh) x ≡ row (zeroedRows (rowsOf l) m) x) (w : Whole-fit c l m s all) where
       nothing-holds : (g : Ground) → ¬ Holds c l m g
       nothing-holds OverCounts h = counted-fits c l counted' h
       nothing-holds UnfitNumber h = numbered-fits l numbered h
@@ -87,19 +89,19 @@ module _ (c : Limits) (l : Lists) (m : Mesh) (few : c .faces ≤ none) where
     unfolding answered wholeIf allFaces
     answered-came =
         go (allFaces l m) refl
-        (faces-came c l m (record { mesh = zeroedRows l m; edges = 0 }) (ready c l m counted' numbered roomy few) (faces-none c l m counted' numbered roomy few))
+        (faces-came c l m (record { mesh = zeroedRows (rowsOf l) m; edges = 0 }) (ready c l m counted' numbered roomy few) (faces-none c l m counted' numbered roomy few))
       where
-        zeros : Within l m (zeroedRows l m)
+        zeros : Within l m (zeroedRows (rowsOf l) m)
         zeros = within-zeroed c l m counted' numbered roomy few
 
         whole : (s : State) → allFaces l m ≡ on s → (all : Faces l (facesOf l) s) → Fit-faces c l m (facesOf l) → Within l m (s .mesh) →
-            ((x : ℕ) → s .edges ≤ x → row (s .mesh) x ≡ row (zeroedRows l m) x) →
+            ((x : ℕ) → s .edges ≤ x → row (s .mesh) x ≡ row (zeroedRows (rowsOf l) m) x) →
             (x : Verdict) → Whole-verdict c l m s all x → Came-out (wholeIf l m s x)
         whole s stands all fit within later x (whole-fit w) =
             accepts (audited-counts s stands all fit within later w) (within-after s stands all fit within later w) (nothing-holds s stands all fit within later w)
         whole s stands all fit within later x (whole-unfit {g = g} h n) = refuses {g = g} h (omega arith) zeros
 
-        go : (x : Step State) → allFaces l m ≡ x → Faces-came c l m (record { mesh = zeroedRows l m; edges = 0 }) x → Came-out (answered l m x)
+        go : (x : Step State) → allFaces l m ≡ x → Faces-came c l m (record { mesh = zeroedRows (rowsOf l) m; edges = 0 }) x → Came-out (answered l m x)
         go x e (stand {t = s} all fit within later) =
             whole s e all fit (within-trans l (within-zeroed c l m counted' numbered roomy few) within) later (wholeVerdict (s .mesh) (pointsOf l) (s .edges)) (whole-verdict-is c l m s all e)
         go x e (stop {g = g} h n o) = refuses {g = g} h n zeros
@@ -108,15 +110,15 @@ module _ (c : Limits) (l : Lists) (m : Mesh) (few : c .faces ≤ none) where
   unfolding build buildIf
   build-came = counts (countsFit c l) refl
     where
-      rows : Counted c l → Numbered l → (b : Bool) → rowsFit l m ≡ b → Came-out (buildIf true true b l m)
+      rows : Counted c l → Numbered l → (b : Bool) → rowsFor (rowsOf l) m ≡ b → Came-out (buildIf true true b l m)
       rows h k true e = answered-came h k (rows-is l m e)
       rows h k false e = refuses-early {g = FewRows} (rows-fail l m e) (omega arith)
 
-      numbers : Counted c l → (b : Bool) → numbersFit l ≡ b → Came-out (buildIf true b (rowsFit l m) l m)
-      numbers h true e = rows h (numbers-is l e) (rowsFit l m) refl
+      numbers : Counted c l → (b : Bool) → numbersFit l ≡ b → Came-out (buildIf true b (rowsFor (rowsOf l) m) l m)
+      numbers h true e = rows h (numbers-is l e) (rowsFor (rowsOf l) m) refl
       numbers h false e = refuses-early {g = UnfitNumber} (numbers-fail l e) (omega arith)
 
-      counts : (b : Bool) → countsFit c l ≡ b → Came-out (buildIf b (numbersFit l) (rowsFit l m) l m)
+      counts : (b : Bool) → countsFit c l ≡ b → Came-out (buildIf b (numbersFit l) (rowsFor (rowsOf l) m) l m)
       counts true e = numbers (counts-is c l e) (numbersFit l) refl
       counts false e = refuses-early {g = OverCounts} (counts-fail c l e) (omega arith)
 
@@ -169,16 +171,16 @@ tablesOf (on s) = s .mesh
 tablesOf (stopped g t) = t
 
 pub zeroed-after :
-    (c : Limits) (l : Lists) (m : Mesh) → c .faces ≤ none → countsFit c l ≡ true → numbersFit l ≡ true → rowsFit l m ≡ true →
-    zeroedRows l (tablesOf (allFaces l m)) ≡ zeroedRows l m
+    (c : Sizes) (l : Lists) (m : Mesh) → c .faces ≤ none → countsFit c l ≡ true → numbersFit l ≡ true → rowsFor (rowsOf l) m ≡ true →
+    zeroedRows (rowsOf l) (tablesOf (allFaces l m)) ≡ zeroedRows (rowsOf l) m
 unfolding allFaces
 zeroed-after c l m few counts numbers rows =
     zeroedRows-within l m (tablesOf (allFaces l m))
     (within-trans l (within-zeroed c l m (counts-is c l counts) (numbers-is l numbers) (rows-is l m rows) few)
     (go (allFaces l m)
-    (faces-came c l m (record { mesh = zeroedRows l m; edges = 0 }) (ready c l m (counts-is c l counts) (numbers-is l numbers) (rows-is l m rows) few)
+    (faces-came c l m (record { mesh = zeroedRows (rowsOf l) m; edges = 0 }) (ready c l m (counts-is c l counts) (numbers-is l numbers) (rows-is l m rows) few)
     (faces-none c l m (counts-is c l counts) (numbers-is l numbers) (rows-is l m rows) few))))
   where
-    go : (x : Step State) → Faces-came c l m (record { mesh = zeroedRows l m; edges = 0 }) x → Within l (zeroedRows l m) (tablesOf x)
+    go : (x : Step State) → Faces-came c l m (record { mesh = zeroedRows (rowsOf l) m; edges = 0 }) x → Within l (zeroedRows (rowsOf l) m) (tablesOf x)
     go x (stand all fit within later) = within
     go x (stop h n within) = within

@@ -14,13 +14,14 @@ use lib.ListN.{length, getD, length-map}
 use borrow.Author.Tests.{eq-eqb, ne-eqb}
 use Rattle.perimeters.specs.Places.{nextPlace, prevPlace}
 use Rattle.perimeters.proofs.Laws.{next-more, next-last, next-below, next-next-differs, prev-below, next-prev}
-use Rattle.t_spline.specs.Edge.{none, faceFromSide}
+use Rattle.t_spline.specs.Edge.{none}
+use Rattle.t_spline.specs.Ends.{faceFromSide}
 use Rattle.t_spline.specs.declared.TnurccFaceSide.{TnurccFaceSide}
 use Rattle.t_spline.specs.declared.TnurccFaceSide.the-variants.{Left, Right}
 use Rattle.tables.specs.Mesh.{Mesh, valence, start, origin, dest, leftFace, rightFace, faceStart}
 use Rattle.audited_meshes.specs.Folds.{one, occurrences}
-use Rattle.audited_meshes.specs.Walks.{Walk, back, lost, passed, touches, acwOfFace, cwOfFace, acwOfPoint, firstPoint, pointWalk}
-use Rattle.audited_meshes.specs.Audited.{Borders, Touches, SameEnds, Passes, last, more, AcwLinks, CwLinks, FaceWalked, PointWalked}
+use Rattle.audited_meshes.specs.Walks.{Walk, back, lost, passed, touches, acwOfFace, cwOfFace, acwOfPoint, firstPoint, pointWalk, Touches}
+use Rattle.audited_meshes.specs.Audited.{Borders, SameEnds, Passes, last, more, AcwLinks, CwLinks, FaceWalked, PointWalked}
 use Rattle.audited_meshes.proofs.Folds.{below-suc, sumTo-tight, length-sumTo}
 use Rattle.audited_meshes.proofs.Walks.{occurrences-here, passes-on, passes-once}
 use Rattle.audited_meshes.proofs.Audited.{touches-is, pointWalk-is}

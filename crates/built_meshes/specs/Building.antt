@@ -1,18 +1,16 @@
 -- Building: every set of lists becomes a mesh in the lent tables, or meets the first ground that holds.
---     zeroedRows l m          the tables m with the rows that ground 4 counts made zero
 --     facePassed, facesFrom   one face with its tests, and k faces from face f on
 --     allFaces l m            all faces, from tables whose counted rows are zero
 --     Outcome                 the answer, and the tables afterwards
 --     build c l m             building from the lists l in the lent tables m, within the limits c
 -- Grounds 2 to 4 leave the tables as they are, the others leave the counted rows zero; rows beyond are never touched.
 use mathlib.Core.Bool.{Bool, true, false}
-use Prim.Native.Nat.{ℕ, zero, suc, _+_, _*_}
-use lib.ListN.{length}
-use lib.Ieee.{ofBits, binary64}
+use Prim.Native.Nat.{ℕ, zero, suc, _+_}
 use Rattle.tables.specs.Layout.{positionWidth, pointWidth, edgeWidth, faceWidth}
 use Rattle.tables.specs.Mesh.{Mesh}
-use Rattle.tables.specs.Rows.{zeroed}
-use Rattle.built_meshes.specs.Lists.{Lists, Limits, pointsOf, facesOf, size, countsFit, numbersFit, rowsFit}
+use Rattle.tables.specs.Counted.{rowsFor, zeroedRows}
+use Rattle.built_meshes.specs.Lists.{Lists, pointsOf, facesOf, rowsOf, size, countsFit, numbersFit}
+use Rattle.tables.specs.declared.Sizes.{Sizes}
 use Rattle.built_meshes.specs.Faces.{faceVerdict}
 use Rattle.built_meshes.specs.Perimeters.{State, Step, on, stopped, perimeter}
 use Rattle.built_meshes.specs.Whole.{wholeVerdict, finished}
@@ -22,17 +20,6 @@ use Rattle.built_meshes.specs.declared.Verdict.{Verdict}
 use Rattle.built_meshes.specs.declared.Verdict.the-variants.{Fit, Unfit}
 use Rattle.built_meshes.specs.declared.Built.{Built}
 use Rattle.built_meshes.specs.declared.Built.the-variants.{Accepted, Refused}
-
-unfoldable pub zeroedRows : Lists → Mesh → Mesh
-unfolding zeroed
-zeroedRows l m =
-    record {
-      positions = zeroed (pointsOf l * positionWidth) (ofBits binary64 0) (m .positions);
-      points = zeroed (pointsOf l * pointWidth) 0 (m .points);
-      edges = zeroed (length (l .listed) * edgeWidth) 0 (m .edges);
-      intervals = zeroed (length (l .listed)) (ofBits binary64 0) (m .intervals);
-      faces = zeroed (facesOf l * faceWidth) 0 (m .faces);
-    }
 
 -- ---- the faces
 
@@ -64,16 +51,16 @@ unfoldable pub wholeIf : Lists → Mesh → State → Verdict → Outcome
 unfolding zeroedRows finished
 wholeIf l m s Fit =
     record { answer = Accepted (record { points = pointsOf l; edges = s .edges; faces = facesOf l }); tables = finished l (s .mesh) }
-wholeIf l m s (Unfit g) = refusal g (zeroedRows l m)
+wholeIf l m s (Unfit g) = refusal g (zeroedRows (rowsOf l) m)
 
 unfoldable pub answered : Lists → Mesh → Step State → Outcome
 unfolding zeroedRows wholeIf wholeVerdict
 answered l m (on s) = wholeIf l m s (wholeVerdict (s .mesh) (pointsOf l) (s .edges))
-answered l m (stopped g t) = refusal g (zeroedRows l m)
+answered l m (stopped g t) = refusal g (zeroedRows (rowsOf l) m)
 
 unfoldable pub allFaces : Lists → Mesh → Step State
 unfolding facesFrom zeroedRows
-allFaces l m = facesFrom (facesOf l) l 0 0 (on (record { mesh = zeroedRows l m; edges = 0 }))
+allFaces l m = facesFrom (facesOf l) l 0 0 (on (record { mesh = zeroedRows (rowsOf l) m; edges = 0 }))
 
 unfoldable pub buildIf : Bool → Bool → Bool → Lists → Mesh → Outcome
 unfolding answered allFaces
@@ -82,6 +69,6 @@ buildIf true false rows l m = refusal UnfitNumber m
 buildIf true true false l m = refusal FewRows m
 buildIf true true true l m = answered l m (allFaces l m)
 
-unfoldable pub build : Limits → Lists → Mesh → Outcome
-unfolding countsFit numbersFit rowsFit buildIf
-build c l m = buildIf (countsFit c l) (numbersFit l) (rowsFit l m) l m
+unfoldable pub build : Sizes → Lists → Mesh → Outcome
+unfolding countsFit numbersFit rowsFor buildIf
+build c l m = buildIf (countsFit c l) (numbersFit l) (rowsFor (rowsOf l) m) l m

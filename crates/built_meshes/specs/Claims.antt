@@ -13,28 +13,30 @@ use lib.ListN.{length}
 use lib.Ieee.{ofBits, binary64}
 use Rattle.t_spline.specs.declared.TnurccEdge.{TnurccEdge}
 use Rattle.tables.specs.Mesh.{Mesh, none}
+use Rattle.tables.specs.Counted.{zeroedRows}
 use Rattle.tables.specs.Records.{edgeAt}
 use Rattle.tables.specs.declared.Counts.{Counts}
 use Rattle.audited_meshes.specs.Audit.{audit}
-use Rattle.built_meshes.specs.Lists.{Lists, Limits, pointsOf, facesOf}
+use Rattle.built_meshes.specs.Lists.{Lists, pointsOf, facesOf, rowsOf}
+use Rattle.tables.specs.declared.Sizes.{Sizes}
 use Rattle.built_meshes.specs.Answers.{numberOf}
-use Rattle.built_meshes.specs.Building.{zeroedRows, build}
+use Rattle.built_meshes.specs.Building.{build}
 use Rattle.built_meshes.specs.Beyond.{Within}
 use Rattle.built_meshes.specs.Grounds.{Holds}
 use Rattle.built_meshes.specs.declared.Ground.{Ground}
 use Rattle.built_meshes.specs.declared.Built.the-variants.{Accepted, Refused}
 
-pub record Refused-by (c : Limits) (l : Lists) (m : Mesh) (g : Ground) : Type 0 where
+pub record Refused-by (c : Sizes) (l : Lists) (m : Mesh) (g : Ground) : Type 0 where
   pub holds : Holds c l m g
   pub untouched : numberOf g < 10 → build c l m .tables ≡ m
-  pub zeroed : 10 ≤ numberOf g → build c l m .tables ≡ zeroedRows l m
+  pub zeroed : 10 ≤ numberOf g → build c l m .tables ≡ zeroedRows (rowsOf l) m
 
 abbrev pub Refusals-hold : Type 0
-Refusals-hold = (c : Limits) (l : Lists) (m : Mesh) → c .faces ≤ none → (g : Ground) → build c l m .answer ≡ Refused g → Refused-by c l m g
+Refusals-hold = (c : Sizes) (l : Lists) (m : Mesh) → c .faces ≤ none → (g : Ground) → build c l m .answer ≡ Refused g → Refused-by c l m g
 
 abbrev pub Accepts-exactly : Type 0
 Accepts-exactly =
-    (c : Limits) (l : Lists) (m : Mesh) → c .faces ≤ none →
+    (c : Sizes) (l : Lists) (m : Mesh) → c .faces ≤ none →
     ((k : Counts) × (build c l m .answer ≡ Accepted k)) ↔ ((g : Ground) → ¬ Holds c l m g)
 
 abbrev pub zeroEdge : TnurccEdge
@@ -57,8 +59,8 @@ pub record Audited-counts (l : Lists) (t : Mesh) (k : Counts) : Type 0 where
 
 abbrev pub Accepted-audited : Type 0
 Accepted-audited =
-    (c : Limits) (l : Lists) (m : Mesh) → c .faces ≤ none → (k : Counts) → build c l m .answer ≡ Accepted k →
+    (c : Sizes) (l : Lists) (m : Mesh) → c .faces ≤ none → (k : Counts) → build c l m .answer ≡ Accepted k →
     Audited-counts l (build c l m .tables) k
 
 abbrev pub Untouched-beyond : Type 0
-Untouched-beyond = (c : Limits) (l : Lists) (m : Mesh) → c .faces ≤ none → Within l m (build c l m .tables)
+Untouched-beyond = (c : Sizes) (l : Lists) (m : Mesh) → c .faces ≤ none → Within l m (build c l m .tables)

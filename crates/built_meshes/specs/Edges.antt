@@ -14,7 +14,7 @@ use lib.ListN.{getD, set}
 use lib.Ieee.{Float}
 use Rattle.t_spline.specs.declared.TnurccEdge.{TnurccEdge}
 use Rattle.tables.specs.Layout.{pointWidth, startWord, edgeWidth, rightFaceWord}
-use Rattle.tables.specs.Mesh.{Mesh, none, origin, dest, rightFace}
+use Rattle.tables.specs.Mesh.{Mesh, none, origin, dest, rightFace, meshOf}
 use Rattle.tables.specs.Rows.{putRow}
 use Rattle.tables.specs.Records.{edgeWords}
 use Rattle.t_nurcc_edge.specs.Connected.{connectedRows}
@@ -56,16 +56,11 @@ touched ws p e = set (set ws (p * pointWidth) (getD ws (p * pointWidth) 0 + 1)) 
 
 unfoldable pub newEdge : Mesh → ℕ → ℕ → ℕ → ℕ → Float → Mesh
 newEdge m k f p q v =
-    record {
-      positions = m .positions;
-      points = touched (touched (m .points) p k) q k;
-      edges = putRow (m .edges) (k * edgeWidth) (edgeWords (edgeOf k f p q v));
-      intervals = set (m .intervals) k v;
-      faces = m .faces;
-    }
+    meshOf (m .positions) (touched (touched (m .points) p k) q k) (putRow (m .edges) (k * edgeWidth) (edgeWords (edgeOf k f p q v)))
+    (set (m .intervals) k v) (m .faces)
 
 abbrev pub withEdges : Mesh → List ℕ → Mesh
-withEdges m es = record { positions = m .positions; points = m .points; edges = es; intervals = m .intervals; faces = m .faces }
+withEdges m es = meshOf (m .positions) (m .points) es (m .intervals) (m .faces)
 
 unfoldable pub filled : Mesh → ℕ → ℕ → Mesh
 filled m e f = withEdges m (set (m .edges) (e * edgeWidth + rightFaceWord) f)

@@ -11,13 +11,13 @@ use lib.Ieee.{nan}
 use lib.Ieee.Scale.{finite}
 use Rattle.positions.specs.Position.{small}
 use Rattle.tables.specs.Layout.{positionWidth, longestPerimeter}
-use Rattle.tables.specs.Mesh.{Mesh, valence}
+use Rattle.tables.specs.Mesh.{Mesh, valence, pointRows, edgeRows, faceRows}
 use Rattle.closed_meshes.specs.Renumbering.{sumTo}
 use Rattle.audited_meshes.specs.Folds.{occurrences}
-use Rattle.audited_meshes.specs.Walks.{edgesOf, pointWalk}
-use Rattle.audited_meshes.specs.Audit.{pointRows, edgeRows, faceRows, intervalFit}
-use Rattle.audited_meshes.specs.Audited.{Touches}
-use Rattle.built_meshes.specs.Lists.{Lists, Limits, pointsOf, facesOf, size, offset}
+use Rattle.audited_meshes.specs.Walks.{edgesOf, pointWalk, Touches}
+use Rattle.audited_meshes.specs.Audit.{intervalFit}
+use Rattle.built_meshes.specs.Lists.{Lists, pointsOf, facesOf, size, offset}
+use Rattle.tables.specs.declared.Sizes.{Sizes}
 use Rattle.built_meshes.specs.Faces.{apart}
 use Rattle.built_meshes.specs.Perimeters.{State, on}
 use Rattle.built_meshes.specs.Places.{pointOf, IsPlace, Runs, Differ}
@@ -26,7 +26,7 @@ use Rattle.built_meshes.specs.declared.Ground.{Ground}
 use Rattle.built_meshes.specs.declared.Ground.the-variants.{OverCounts, UnfitNumber, FewRows, FaceSize, OutOfRange, PointTwice, NonRectangularFace, EdgeTripleFace, SameWay, MissingFace, NoEdge, MissedEdge}
 
 -- 2: over the limits, or list lengths disagree
-pub data Over-counts (c : Limits) (l : Lists) : Type 0 where
+pub data Over-counts (c : Sizes) (l : Lists) : Type 0 where
   many-points : c .points < pointsOf l → Over-counts c l
   many-faces : c .faces < facesOf l → Over-counts c l
   many-listed : c .listed < length (l .listed) → Over-counts c l
@@ -133,7 +133,7 @@ pub record Missed-edge (l : Lists) (m : Mesh) : Type 0 where
   pub touches : Touches (state .mesh) point edge
   pub misses : occurrences edge (edgesOf (pointWalk (state .mesh) (state .edges) (valence (state .mesh) point) point)) ≡ 0
 
-abbrev pub Holds : Limits → Lists → Mesh → Ground → Type 0
+abbrev pub Holds : Sizes → Lists → Mesh → Ground → Type 0
 Holds c l m OverCounts = Over-counts c l
 Holds c l m UnfitNumber = Unfit-number l
 Holds c l m FewRows = Few-rows l m

@@ -1,14 +1,13 @@
--- What is handed to building, and its grounds 2, 3 and 4.
+-- What is handed to building, and its grounds 2 and 3.
 --     Lists                   coordinates, 3 a point; side lengths, 4 a face; listed points; the interval beside each
---     Limits                  the most points, faces and listed points
---     general, refine         the limits of building, and those of the program refine
+--     general, refine         the most points, faces and listed points of building, and of the program refine
 --     pointsOf, facesOf       how many points and faces the lists give
+--     rowsOf l                the rows that ground 4 counts: for the points, the faces, and for as many edges as points are listed
 --     side l f k              the length of side k of face f, from 0
 --     size l f                the number of listed points of all four sides of face f
 --     offset l f              where the listed points of face f begin: the sides are joined in their order
 --     countsFit               within the limits, and the lengths of the lists agree: else ground 2
 --     numbersFit              all numbers finite, intervals with sign bit clear: else ground 3
---     rowsFit                 the tables have rows for the points, the faces, and for as many edges as points are listed: else 4
 -- A listed point past the end of its list reads as 0, a number as a NaN.
 use mathlib.Core.Bool.{Bool, _&&_}
 use mathlib.Core.List.{List}
@@ -18,10 +17,11 @@ use lib.ListN.{length, getD}
 use lib.Ieee.{Float, nan}
 use lib.Ieee.Scale.{finite}
 use Rattle.tables.specs.Layout.{positionWidth}
-use Rattle.tables.specs.Mesh.{Mesh}
+use Rattle.tables.specs.declared.Counts.{Counts}
+use Rattle.tables.specs.declared.Sizes.{Sizes}
 use Rattle.closed_meshes.specs.Renumbering.{sumTo}
 use Rattle.audited_meshes.specs.Folds.{every}
-use Rattle.audited_meshes.specs.Audit.{pointRows, edgeRows, faceRows, intervalFit}
+use Rattle.audited_meshes.specs.Audit.{intervalFit}
 
 pub record Lists : Type 0 where
   pub coordinates : List Float
@@ -29,15 +29,10 @@ pub record Lists : Type 0 where
   pub listed : List ℕ
   pub intervals : List Float
 
-pub record Limits : Type 0 where
-  pub points : ℕ
-  pub faces : ℕ
-  pub listed : ℕ
-
-abbrev pub general : Limits
+abbrev pub general : Sizes
 general = record { points = 4096; faces = 4096; listed = 16384 }
 
-abbrev pub refine : Limits
+abbrev pub refine : Sizes
 refine = record { points = 64; faces = 64; listed = 256 }
 
 abbrev pub pointsOf : Lists → ℕ
@@ -45,6 +40,9 @@ pointsOf l = length (l .coordinates) / positionWidth
 
 abbrev pub facesOf : Lists → ℕ
 facesOf l = length (l .sides) / 4
+
+abbrev pub rowsOf : Lists → Counts
+rowsOf l = record { points = pointsOf l; edges = length (l .listed); faces = facesOf l }
 
 abbrev pub side : Lists → ℕ → ℕ → ℕ
 side l f k = getD (l .sides) (f * 4 + k) 0
@@ -56,7 +54,7 @@ unfoldable pub offset : Lists → ℕ → ℕ
 unfolding sumTo
 offset l f = sumTo f (λ k. size l k)
 
-unfoldable pub countsFit : Limits → Lists → Bool
+unfoldable pub countsFit : Sizes → Lists → Bool
 unfolding sumTo
 countsFit c l =
     leb (pointsOf l) (c .points) && leb (facesOf l) (c .faces) && leb (length (l .listed)) (c .listed)
@@ -69,6 +67,3 @@ unfolding every
 numbersFit l =
     every (length (l .coordinates)) (λ k. finite (getD (l .coordinates) k nan))
     && every (length (l .intervals)) (λ k. intervalFit (getD (l .intervals) k nan))
-
-unfoldable pub rowsFit : Lists → Mesh → Bool
-rowsFit l m = leb (pointsOf l) (pointRows m) && leb (facesOf l) (faceRows m) && leb (length (l .listed)) (edgeRows m)

@@ -12,7 +12,7 @@ use lib.Ieee.{nan}
 use Rattle.t_spline.specs.declared.TnurccFace.{TnurccFace}
 use Rattle.perimeters.specs.Places.{nextPlace}
 use Rattle.tables.specs.Layout.{faceWidth}
-use Rattle.tables.specs.Mesh.{Mesh, none}
+use Rattle.tables.specs.Mesh.{Mesh, none, meshOf}
 use Rattle.tables.specs.Rows.{putRow}
 use Rattle.tables.specs.Records.{faceWords}
 use Rattle.built_meshes.specs.Lists.{Lists, size}
@@ -68,13 +68,7 @@ faceOf e = record { edge = e; corners = none ∷ none ∷ none ∷ none ∷ [] }
 
 abbrev pub withFace : Mesh → ℕ → ℕ → Mesh
 withFace m f e =
-    record {
-      positions = m .positions;
-      points = m .points;
-      edges = m .edges;
-      intervals = m .intervals;
-      faces = putRow (m .faces) (f * faceWidth) (faceWords (faceOf e));
-    }
+    meshOf (m .positions) (m .points) (m .edges) (m .intervals) (putRow (m .faces) (f * faceWidth) (faceWords (faceOf e)))
 
 -- the first edge connected to the last
 unfoldable pub closedUp : ℕ → Step Ring → Step State

@@ -11,7 +11,7 @@ use Prim.Native.Nat.{ℕ, zero, suc, _+_, _*_}
 use lib.Dec.{eqb, ltb}
 use lib.ListN.{getD, set}
 use Rattle.tables.specs.Layout.{positionWidth, pointWidth, markWord}
-use Rattle.tables.specs.Mesh.{Mesh, none, valence, rightFace}
+use Rattle.tables.specs.Mesh.{Mesh, none, valence, rightFace, meshOf}
 use Rattle.tables.specs.Rows.{over}
 use Rattle.audited_meshes.specs.Folds.{every}
 use Rattle.audited_meshes.specs.Walks.{passed, pointWalk}
@@ -49,10 +49,4 @@ marked (suc k) ws = let before = marked k ws in set before (k * pointWidth + mar
 unfoldable pub finished : Lists → Mesh → Mesh
 unfolding marked over
 finished l m =
-    record {
-      positions = over (pointsOf l * positionWidth) (l .coordinates) (m .positions);
-      points = marked (pointsOf l) (m .points);
-      edges = m .edges;
-      intervals = m .intervals;
-      faces = m .faces;
-    }
+    meshOf (over (pointsOf l * positionWidth) (l .coordinates) (m .positions)) (marked (pointsOf l) (m .points)) (m .edges) (m .intervals) (m .faces)

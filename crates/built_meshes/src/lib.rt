@@ -1,7 +1,7 @@
 // What building makes of lists of coordinates, side lengths, listed points and intervals (document 01, "Building"), as a
 // definition, with its theorems: what it accepts passes the audit, and it accepts exactly what no ground holds of.
 // Carries over `try_new` of t_nurcc/mod.rs. Not here: the code that builds.
-// Definitions, in the order of reading: `specs/Lists.antt` (what is handed in, grounds 2 to 4), `specs/Faces.antt` (grounds 10 to
+// Definitions, in the order of reading: `specs/Lists.antt` (what is handed in, grounds 2 and 3), `specs/Faces.antt` (grounds 10 to
 // 13), `specs/Edges.antt` (one edge, grounds 14 and 15), `specs/Perimeters.antt` (one face), `specs/Whole.antt` (grounds 20 to
 // 22), `specs/Building.antt` (the whole), `specs/Answers.antt` (document 01's numbers).
 // Claims: `specs/Claims.antt`, over `specs/Grounds.antt` (when each ground holds, of the places of `specs/Places.antt`) and

@@ -5,7 +5,8 @@ use mathlib.Core.Logic.{_⊎_, inl, inr}
 use Prim.Native.Nat.{ℕ, zero, suc, _+_, _-_, _≤_, _<_}
 use native.Mathlib.Omega.{arith}
 use native.Mathlib.Decide.{decLt, decLe}
-use Rattle.closed_meshes.specs.Cycles.{Cycles, steps, PassedOnce}
+use Rattle.closed_meshes.specs.Cycles.{Cycles}
+use Rattle.closed_meshes.specs.Borders.{steps, PassedOnce}
 
 -- The number j of steps from rank r on to rank k in a cycle of n.
 Shifted : ℕ → ℕ → ℕ → ℕ → Type 0

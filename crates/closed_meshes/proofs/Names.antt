@@ -8,9 +8,9 @@ use Rattle.closed_meshes.specs.Mesh.{Mesh, Dart}
 use Rattle.closed_meshes.specs.Closed.{Closed}
 use Rattle.closed_meshes.specs.Refinement.{NewPoint, old, mid, facePoint, NewEdge, org, dst, join}
 use Rattle.closed_meshes.specs.Renumbering.{Injective, Bijection}
-use Rattle.closed_meshes.specs.Names.{PointName, EdgeName, FaceName, givenPoint, midpointOf, facePointOf, givenEdge, destinationHalfOf, joiningEdgeOf, givenFace, newFaceOf, newPointName, newEdgeName, newFaceName}
-use Rattle.closed_meshes.specs.Shared.{Stage}
-use Rattle.closed_meshes.specs.Runs.{given, Step, Run, begin, then, NamesDiffer, RunsNameApart}
+use Rattle.closed_meshes.specs.Names.{PointName, EdgeName, FaceName, givenPoint, midpointOf, facePointOf, givenEdge, destinationHalfOf, joiningEdgeOf, givenFace, newFaceOf}
+use Rattle.closed_meshes.specs.Runs.{newPointName, newEdgeName, newFaceName, given, Step, Run, begin, then, RunsNameApart}
+use Rattle.closed_meshes.specs.Shared.{Stage, NamesDiffer}
 use Rattle.closed_meshes.proofs.Darts.{dart-of-face}
 use Rattle.closed_meshes.proofs.Isomorphisms.{onto}
 

@@ -3,9 +3,10 @@ use mathlib.Core.Path.{_≡_, _∙_, ap}
 use mathlib.Core.List.{[], _∷_, map}
 use mathlib.Core.Option.{some}
 use Rattle.closed_meshes.specs.Mesh.{Mesh, place0, place1, place2, place3, Dart, edge, first}
-use Rattle.closed_meshes.specs.Cycles.{steps, walk}
+use Rattle.closed_meshes.specs.Cycles.{walk}
+use Rattle.closed_meshes.specs.Borders.{steps, newBorder, NewBorders, NewCorners}
 use Rattle.closed_meshes.specs.Closed.{Closed}
-use Rattle.closed_meshes.specs.Refinement.{NewEdge, refined, newCorner, newBorder, NewBorders, NewCorners}
+use Rattle.closed_meshes.specs.Refinement.{NewEdge, refined, newCorner}
 use Rattle.closed_meshes.proofs.Darts.{face-prev}
 use Rattle.closed_meshes.proofs.NewDarts.{start-half, end-half, inward, outward, next', edge-start-half, edge-end-half, first-start-half, first-end-half, next-start-half, next-end-half}
 use Rattle.closed_meshes.proofs.Unique.{next-unique, size-unique, faceDart-unique}

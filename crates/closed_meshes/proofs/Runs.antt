@@ -5,9 +5,9 @@ use Rattle.closed_meshes.specs.Mesh.{Mesh, Dart, edge, face}
 use Rattle.closed_meshes.specs.Closed.{Closed}
 use Rattle.closed_meshes.specs.Refinement.{NewPoint, old, mid, facePoint, NewEdge, org, dst, join, refined}
 use Rattle.closed_meshes.specs.Renumbering.{Isomorphism, Touching}
-use Rattle.closed_meshes.specs.Names.{joiningEdgeOf, newFaceOf, newPointName, newEdgeName, newFaceName}
+use Rattle.closed_meshes.specs.Names.{joiningEdgeOf, newFaceOf}
+use Rattle.closed_meshes.specs.Runs.{newPointName, newEdgeName, newFaceName, given, Step, Run, begin, then}
 use Rattle.closed_meshes.specs.Shared.{Stage}
-use Rattle.closed_meshes.specs.Runs.{given, Step, Run, begin, then}
 use Rattle.closed_meshes.proofs.Groupoid.{isomorphism-refl, isomorphism-sym, isomorphism-trans}
 use Rattle.closed_meshes.proofs.Isomorphisms.{edge-mapDart, first-to, face-to, carries-over}
 use Rattle.closed_meshes.proofs.RefinementLifts.{lifted}

@@ -2,8 +2,8 @@
 use mathlib.Core.Path.{_≡_, refl, sym, _∙_, ap}
 use mathlib.Core.Option.{Option, none, some, Option·map}
 use Rattle.closed_meshes.specs.Renumbering.{Injective, Bijection, Isomorphism}
-use Rattle.closed_meshes.specs.Shared.{Stage, SharedEdge, Shared}
-use Rattle.closed_meshes.specs.Runs.{NamesDiffer, SharedIsAll}
+use Rattle.closed_meshes.specs.Shared.{Stage, SharedEdge, Shared, NamesDiffer}
+use Rattle.closed_meshes.specs.Runs.{SharedIsAll}
 
 -- Rows with the same names correspond.
 module _

@@ -6,8 +6,8 @@ use mathlib.Core.Option.{Option, none, some, Option·map}
 use Prim.Native.Nat.{ℕ, zero, suc}
 use Rattle.closed_meshes.specs.Mesh.{Dart, face}
 use Rattle.closed_meshes.specs.Cycles.{walk}
-use Rattle.closed_meshes.specs.Shared.{Stage, passed, border, SharedEdge, Shared}
-use Rattle.closed_meshes.specs.Runs.{NamesDiffer, TwoRuns}
+use Rattle.closed_meshes.specs.Shared.{Stage, passed, border, SharedEdge, Shared, NamesDiffer}
+use Rattle.closed_meshes.specs.Runs.{TwoRuns}
 use Rattle.closed_meshes.proofs.Isomorphisms.{dartTo, edge-mapDart, first-to, face-to}
 use Rattle.closed_meshes.proofs.RefinementLifts.{next-to, size-to}
 use Rattle.closed_meshes.proofs.Names.{names-differ}

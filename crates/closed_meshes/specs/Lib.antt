@@ -3,6 +3,7 @@ pub mod Cycles
 pub mod Closed
 pub mod Refinement
 pub mod Renumbering
+pub mod Borders
 pub mod Names
 pub mod Shared
 pub mod Runs

@@ -7,16 +7,10 @@
 --     pointRow edgeRow      the rows of the refined mesh, by kind
 --     newCorner d k         the four corners of the new face d
 --     refined m c           the refined mesh of the mesh m, which is closed by c
---     newBorder d           the edges and points that a walk about the new face d passes in turn, begun at d's first point
 --     StaysClosed           the claim: a refined closed mesh is closed
---     NewBorders            the claim: the walk about a new face passes its border
---     NewCorners            the claim: the corners of a new face are the points that the walk passes, from the face point on
-use mathlib.Core.Path.{_≡_}
-use mathlib.Core.List.{List, [], _∷_, map}
 use mathlib.Core.Option.{Option, some}
 use Prim.Native.Nat.{ℕ}
 use Rattle.closed_meshes.specs.Mesh.{Mesh, Place, place0, place1, place2, place3, Dart, lft, rgt, edge, first, face}
-use Rattle.closed_meshes.specs.Cycles.{steps, walk}
 use Rattle.closed_meshes.specs.Closed.{Closed}
 
 pub data NewPoint (P E F : Type 0) : Type 0 where
@@ -116,24 +110,5 @@ module _ {P E F : Type 0} (m : Mesh P E F) (c : Closed m) where
         corner = newCorner;
       }
 
-  abbrev pub newBorder : Dart E → List (NewEdge E × NewPoint P E F)
-  newBorder d =
-      (firstHalf d, old (first m d))
-      ∷ (join d, mid (edge d))
-      ∷ (join (c .prev d), facePoint (face m d))
-      ∷ (secondHalf (c .prev d), mid (edge (c .prev d)))
-      ∷ []
-
 abbrev pub StaysClosed : Type 1
 StaysClosed = (P E F : Type 0) (m : Mesh P E F) (c : Closed m) → Closed (refined m c)
-
-abbrev pub NewBorders : Type 1
-NewBorders =
-    (P E F : Type 0) (m : Mesh P E F) (c : Closed m) (c' : Closed (refined m c)) (d : Dart E) →
-    map (λ x. (edge x, first (refined m c) x)) (walk (c' .next) (c' .size d) (c' .faceDart d)) ≡ newBorder m c d
-
-abbrev pub NewCorners : Type 1
-NewCorners =
-    (P E F : Type 0) (m : Mesh P E F) (c : Closed m) (c' : Closed (refined m c)) (d : Dart E) →
-    map (λ x. some (first (refined m c) x)) (walk (c' .next) (c' .size d) (steps (c' .next) 2 (c' .faceDart d)))
-    ≡ newCorner m c d place0 ∷ newCorner m c d place1 ∷ newCorner m c d place2 ∷ newCorner m c d place3 ∷ []

@@ -1,22 +1,39 @@
 -- Runs of refinements from one closed mesh.
 --     given m c             the first mesh, each row named by itself
+--     newPointName newEdgeName newFaceName k m n     the names after step number k, by kind, of the refinement of m with the names n
 --     Step k s s'           s' is the refinement of s on kinds under some numbering, and its rows have the names of step number k
 --     Run s k s'            k steps lead from s to s', numbered from 1
---     NamesDiffer s         no two rows of a kind share a name
 --     RunsNameApart         the claim: names differ after every step of a run
 --     TwoRuns               the claim: two runs from one closed mesh with equally many steps are shared
 --     SharedIsAll           the claim: meshes that are shared are one but for the numbers of their rows and their start edges
 use mathlib.Core.Path.{_≡_}
 use Prim.Native.Nat.{ℕ, zero, suc}
-use Rattle.closed_meshes.specs.Mesh.{Mesh, Dart}
+use Rattle.closed_meshes.specs.Mesh.{Mesh, Dart, edge, first, face}
 use Rattle.closed_meshes.specs.Closed.{Closed}
-use Rattle.closed_meshes.specs.Refinement.{NewPoint, NewEdge, refined}
-use Rattle.closed_meshes.specs.Renumbering.{Injective, Isomorphism}
-use Rattle.closed_meshes.specs.Names.{givenNames, newPointName, newEdgeName, newFaceName}
-use Rattle.closed_meshes.specs.Shared.{Stage, Shared}
+use Rattle.closed_meshes.specs.Refinement.{NewPoint, old, mid, facePoint, NewEdge, org, dst, join, refined}
+use Rattle.closed_meshes.specs.Renumbering.{Isomorphism}
+use Rattle.closed_meshes.specs.Names.{PointName, EdgeName, FaceName, Names, midpointOf, facePointOf, destinationHalfOf, joiningEdgeOf, newFaceOf, givenNames}
+use Rattle.closed_meshes.specs.Shared.{Stage, Shared, NamesDiffer}
 
 abbrev pub given : {P E F : Type 0} (m : Mesh P E F) → Closed m → Stage P E F
 given {P} {E} {F} m c = record { Point = P; Edge = E; Face = F; mesh = m; closed = c; names = givenNames }
+
+module _ {P E F P' E' F' : Type 0} (k : ℕ) (m : Mesh P' E' F') (n : Names P E F P' E' F') where
+  -- Old points keep their names; a midpoint is named by its old edge, a face point by its face.
+  abbrev pub newPointName : NewPoint P' E' F' → PointName P E F
+  newPointName (old p) = n .point p
+  newPointName (mid e) = midpointOf k (n .edge e)
+  newPointName (facePoint f) = facePointOf k (n .face f)
+
+  -- Origin halves keep their names; a destination half is named by its old edge, a joining edge by (face, edge).
+  abbrev pub newEdgeName : NewEdge E' → EdgeName P E F
+  newEdgeName (org e) = n .edge e
+  newEdgeName (dst e) = destinationHalfOf k (n .edge e)
+  newEdgeName (join d) = joiningEdgeOf k (n .face (face m d)) (n .edge (edge d))
+
+  -- A new face is named by (face, old point).
+  abbrev pub newFaceName : Dart E' → FaceName P E F
+  newFaceName d = newFaceOf k (n .face (face m d)) (n .point (first m d))
 
 module _ {P E F : Type 0} where
   -- The numbering is any bijection of the kinds of rows onto the rows of s'. Start edges are free: they are no part of an
@@ -34,11 +51,6 @@ module _ {P E F : Type 0} where
   pub data Run (s : Stage P E F) : ℕ → Stage P E F → Type 1 where
     begin : Run s zero s
     then : {k : ℕ} {s' s'' : Stage P E F} → Run s k s' → Step (suc k) s' s'' → Run s (suc k) s''
-
-  pub record NamesDiffer (s : Stage P E F) : Type 0 where
-    pub points : Injective (s .names .point)
-    pub edges : Injective (s .names .edge)
-    pub faces : Injective (s .names .face)
 
 abbrev pub RunsNameApart : Type 1
 RunsNameApart =

@@ -4,12 +4,14 @@
 --     border s d            the names of the edges and points that the walk about d's face passes in turn, begun at d
 --     SharedEdge s s' e e'  the edges e and e' agree, every reference read as a name
 --     Shared s s'           the same names occur in both meshes and, every reference read as a name, rows of one name agree
+--     NamesDiffer s         no two rows of a kind share a name
 use mathlib.Core.Path.{_≡_}
 use mathlib.Core.List.{List, map}
 use mathlib.Core.Option.{Option·map}
 use Rattle.closed_meshes.specs.Mesh.{Mesh, Place, Dart, edge, first, face}
 use Rattle.closed_meshes.specs.Cycles.{walk}
 use Rattle.closed_meshes.specs.Closed.{Closed}
+use Rattle.closed_meshes.specs.Renumbering.{Injective}
 use Rattle.closed_meshes.specs.Names.{PointName, EdgeName, Names}
 
 pub record Stage (P E F : Type 0) : Type 1 where
@@ -61,3 +63,8 @@ module _ {P E F : Type 0} where
     pub corners :
         (f : s .Face) (f' : s' .Face) → s .names .face f ≡ s' .names .face f' → (k : Place) →
         Option·map (s .names .point) (s .mesh .corner f k) ≡ Option·map (s' .names .point) (s' .mesh .corner f' k)
+
+  pub record NamesDiffer (s : Stage P E F) : Type 0 where
+    pub points : Injective (s .names .point)
+    pub edges : Injective (s .names .edge)
+    pub faces : Injective (s .names .face)

@@ -8,6 +8,7 @@
 //     specs/Closed.antt        when a mesh is closed
 //     specs/Refinement.antt    one refinement in closed form, on kinds of rows
 //     specs/Renumbering.antt   isomorphisms, rows as numbers
+//     specs/Borders.antt       what walks pass: each dart once, the border of a new face
 //     specs/Names.antt         the names of rows in a run
 //     specs/Shared.antt        what two meshes with names share
 //     specs/Runs.antt          runs of refinements

@@ -7,7 +7,8 @@ use native.Mathlib.Omega.{arith}
 use borrow.Author.Tests.{ne-eqb}
 use lib.Dec.{eqb}
 use lib.ListN.{getD}
-use Rattle.t_spline.specs.Connection.{indexOf, connectionAt}
+use Rattle.t_spline.specs.Connection.{indexOf}
+use Rattle.t_spline.specs.Ends.{connectionAt}
 use Rattle.edge_links.specs.Connect.{linksOf}
 use Rattle.edge_links.specs.declared.Links.{Links}
 use Rattle.edge_links.specs.declared.Links.the-variants.{Both, Mismatch}

@@ -5,14 +5,13 @@
 --     linked i j ls p       the pair of edges, of rows i and j, with the links set
 --     served b f v i j p    the same for one face state, if b says that it holds
 --     connected i e j o     both edges after all face states were served, in the Rust's order
---     joinable e o          whether the two share a face and a point: a mismatched state makes no link and counts too
 -- Face states: 0 left of both, 1 right of both, 2 left of the first and right of the other, 3 the other way round.
 -- Vertex states: 0 origin of the first and destination of the other, 1 the other way round, 2 origin of both,
 -- 3 destination of both.
 use mathlib.Core.Bool.{Bool, true, false, _&&_, cond}
 use mathlib.Core.List.{List, [], _∷_}
 use Prim.Native.Nat.{ℕ}
-use lib.Dec.{eqb, ltb}
+use lib.Dec.{eqb}
 use Rattle.t_spline.specs.Edge.{withConnection, sameFace}
 use Rattle.t_spline.specs.declared.TnurccEdge.{TnurccEdge}
 use Rattle.t_spline.specs.declared.TnurccConnection.{TnurccConnection}
@@ -71,13 +70,3 @@ connected i e j o =
     (served (sameFace (e .«face_left») (o .«face_right»)) 2 (vertexState e o) i j
     (served (sameFace (e .«face_left») (o .«face_left»)) 0 (vertexState e o) i j
     (record { first = e; other = o }))))
-
--- some face state holds
-abbrev pub shareFace : TnurccEdge → TnurccEdge → Bool
-shareFace e o =
-    cond (sameFace (e .«face_left») (o .«face_left»)) true
-    (cond (sameFace (e .«face_left») (o .«face_right»)) true
-    (cond (sameFace (e .«face_right») (o .«face_left»)) true (sameFace (e .«face_right») (o .«face_right»))))
-
-abbrev pub joinable : TnurccEdge → TnurccEdge → Bool
-joinable e o = cond (shareFace e o) (ltb (vertexState e o) 4) false

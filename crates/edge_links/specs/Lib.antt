@@ -1,1 +1,2 @@
 pub mod Connect
+pub mod Joinable

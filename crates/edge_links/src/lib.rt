@@ -1,9 +1,10 @@
 // Connecting two edges, by value: the constant table of links, and the states that look into it.
 // Carries over the part of `connect` of t_nurcc_edge/mod.rs that looks at no table.
 // Not here: connecting two rows of a table (`t_nurcc_edge`).
-// Contracts cite `specs/Connect.antt`. Laws of the table: `proofs/LinkTable.antt`.
+// Contracts cite `specs/Connect.antt` and `specs/Joinable.antt`. Laws of the table: `proofs/LinkTable.antt`.
 ghost use mathlib.Core.Path.{_≡_};
-ghost use Rattle.edge_links.specs.Connect.{linksOf, vertexState, linked, served, connected, shareFace, joinable};
+ghost use Rattle.edge_links.specs.Connect.{linksOf, vertexState, linked, served, connected};
+ghost use Rattle.edge_links.specs.Joinable.{shareFace, joinable};
 use t_spline::TnurccConnection;
 use t_spline::TnurccEdge;
 use t_spline::t_nurcc_edge::same_face;

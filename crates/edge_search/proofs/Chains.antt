@@ -22,14 +22,14 @@ use lib.Ieee.{Float}
 use lib.ListN.{length, getD, set}
 use lib.Seq.{getD-set-other}
 use borrow.Author.Tests.{eqb-true, eq-eqb, ne-eqb}
-use Rattle.tables.specs.Mesh.{Mesh, none, origin, dest, meshOf}
+use Rattle.tables.specs.Mesh.{Mesh, none, origin, dest, meshOf, edgeTable}
 use Rattle.audited_meshes.specs.Walks.{touches}
 use Rattle.built_meshes.specs.declared.Found.{Found}
 use Rattle.built_meshes.specs.declared.Found.the-variants.{At, Nothing}
 use Rattle.built_meshes.specs.declared.Ground.the-variants.{EdgeTripleFace, SameWay}
 use Rattle.built_meshes.specs.Edges.{joins, orLast, edgeBetween, newEdge, enteredAt, enteredIf, entered, filled}
 use Rattle.built_meshes.proofs.Entering.{Finds, finds, finds-none, found-is}
-use Rattle.edge_search.specs.Chains.{edgeTable, linkTo, SameEnds, Newest, olderLink, Chained, Standing}
+use Rattle.edge_search.specs.Chains.{linkTo, SameEnds, Newest, olderLink, Chained, Standing}
 use Rattle.edge_search.specs.Places.{edgesAfter, EnteredBy, FilledBy}
 use Rattle.edge_search.specs.declared.Entry.{Entry}
 use Rattle.edge_search.specs.declared.Entry.the-variants.{Made, Refused}

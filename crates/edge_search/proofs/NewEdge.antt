@@ -15,13 +15,13 @@ use lib.Ieee.{Float}
 use lib.ListN.{length, getD, set, length-set}
 use lib.Seq.{getD-set-same, getD-set-other}
 use borrow.Author.Tests.{eq-eqb, ne-eqb}
-use Rattle.tables.specs.Mesh.{Mesh, origin, dest, meshOf}
+use Rattle.tables.specs.Mesh.{Mesh, origin, dest, meshOf, edgeTable}
 use Rattle.tables.specs.Rows.{putRow}
 use Rattle.tables.specs.Records.{edgeWords}
 use Rattle.tables.proofs.Laws.{length-putRow, getD-putRow, getD-putRow-before}
 use Rattle.audited_meshes.specs.Walks.{touches}
 use Rattle.built_meshes.specs.Edges.{edgeOf, touched, newEdge}
-use Rattle.edge_search.specs.Chains.{edgeTable, Newest, chainedEdge, Standing, Room}
+use Rattle.edge_search.specs.Chains.{Newest, chainedEdge, Standing, Room}
 use Rattle.edge_search.proofs.Chains.{newest-kept, newest-more, newest-top}
 
 pub length-touched : (ws : List ℕ) (p e : ℕ) → length (touched ws p e) ≡ length ws

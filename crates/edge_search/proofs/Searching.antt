@@ -5,12 +5,12 @@ use mathlib.Core.Bool.{Bool, true, false, cond}
 use mathlib.Core.List.{List}
 use Prim.Native.Nat.{ℕ, suc, _≤_, _<_}
 use native.Mathlib.Omega.{arith}
-use Rattle.tables.specs.Mesh.{Mesh}
+use Rattle.tables.specs.Mesh.{Mesh, edgeTable}
 use Rattle.audited_meshes.specs.Walks.{touches}
 use Rattle.built_meshes.specs.declared.Found.{Found}
 use Rattle.built_meshes.specs.declared.Found.the-variants.{At, Nothing}
 use Rattle.built_meshes.specs.Edges.{joins, orLast, edgeBetween}
-use Rattle.edge_search.specs.Chains.{edgeTable, linkTo, Newest, olderLink, Chained}
+use Rattle.edge_search.specs.Chains.{linkTo, Newest, olderLink, Chained}
 use Rattle.edge_search.proofs.Chains.{edgeBetween-gap, older-newest}
 
 abbrev pub orElse : Found → Found → Found

@@ -3,7 +3,6 @@
 --     at p                    the link to the newest edge that touches point p
 --     at np + e * 2           the link to the newest edge before e that touches the origin of e
 --     at np + e * 2 + 1       the link to the newest edge before e that touches the destination of e
---     edgeTable es            a mesh of which the table of edges alone is looked at
 --     SameEnds                every edge has the same ends in two tables
 --     linkTo l                the edge of a link
 --     Newest es p b l         the link l goes to the newest of the edges below b that touch point p
@@ -20,13 +19,10 @@ use lib.Dec.{eqb}
 use lib.ListN.{length, getD, set}
 use lib.Ieee.{Float}
 use Rattle.tables.specs.Layout.{pointWidth, edgeWidth}
-use Rattle.tables.specs.Mesh.{Mesh, origin, dest}
+use Rattle.tables.specs.Mesh.{origin, dest, edgeTable}
 use Rattle.audited_meshes.specs.Walks.{touches}
 use Rattle.built_meshes.specs.declared.Found.{Found}
 use Rattle.built_meshes.specs.declared.Found.the-variants.{At, Nothing}
-
-abbrev pub edgeTable : List ℕ → Mesh
-edgeTable es = record { positions = []; points = []; edges = es; intervals = []; faces = [] }
 
 -- every edge has the same ends in both tables
 pub record SameEnds (es new : List ℕ) : Type 0 where

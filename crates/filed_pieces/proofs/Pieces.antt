@@ -3,7 +3,7 @@ use mathlib.Core.Path.{refl}
 use lib.Ieee.{add, sub, mul, div, neg, le, lt, ofBits, ofInt}
 use Rattle.tables.specs.Rows.{over, zeroed}
 use Rattle.audited_meshes.specs.Walks.{faceWalk}
-use Rattle.walks.specs.Border.{again}
+use Rattle.audited_meshes.specs.Folds.{again}
 use Rattle.refined_meshes.specs.Turns.{turns, filled}
 use Rattle.refined_meshes.specs.State.{putEdge, putPoint, putStart, putFace, copied}
 use Rattle.refined_meshes.specs.Split.{split, splitWhole}

@@ -7,11 +7,11 @@
 use mathlib.Core.Path.{_≡_}
 use mathlib.Core.List.{List, [], _∷_, _++_, map}
 use Prim.Native.Nat.{ℕ, _*_}
-use lib.ListN.{length, replicate}
+use lib.ListN.{replicate}
 use Rattle.tables.specs.Layout.{positionWidth, pointWidth, edgeWidth, faceWidth}
-use Rattle.tables.specs.Mesh.{Mesh}
+use Rattle.tables.specs.Mesh.{Mesh, meshOf}
 use Rattle.tables.specs.declared.Counts.{Counts}
-use Rattle.built_meshes.specs.Lists.{Lists, general, pointsOf, facesOf}
+use Rattle.built_meshes.specs.Lists.{Lists, general, rowsOf}
 use Rattle.built_meshes.specs.Answers.{numbersOf}
 use Rattle.built_meshes.specs.Building.{Outcome, build}
 use Rattle.built_meshes.specs.Pieces.{unit, two, nought, tiny, aboveTiny, cube, backToBack, even}
@@ -34,17 +34,8 @@ pub record Piece : Type 0 where
 -- tables of so many rows, all words 7, all numbers 2
 abbrev pub used : Counts → Mesh
 used c =
-    record {
-      positions = replicate (c .points * positionWidth) two;
-      points = replicate (c .points * pointWidth) 7;
-      edges = replicate (c .edges * edgeWidth) 7;
-      intervals = replicate (c .edges) two;
-      faces = replicate (c .faces * faceWidth) 7;
-    }
-
--- the rows that ground 4 counts: twice the edges of an accepted mesh, so that a step from as many has room too
-abbrev pub rowsOf : Lists → Counts
-rowsOf l = record { points = pointsOf l; edges = length (l .listed); faces = facesOf l }
+    meshOf (replicate (c .points * positionWidth) two) (replicate (c .points * pointWidth) 7) (replicate (c .edges * edgeWidth) 7)
+    (replicate (c .edges) two) (replicate (c .faces * faceWidth) 7)
 
 abbrev pub stepped : Outcome → Mesh → List (List ℕ)
 stepped o t = steppedIf (o .answer) (o .tables) t
@@ -53,6 +44,7 @@ stepped o t = steppedIf (o .answer) (o .tables) t
     steppedIf (Accepted c) m t = numbersOf (Accepted c) ∷ stepNumbers (step m c (numbered (c .faces)) t .answer) ∷ []
     steppedIf (Refused g) m t = numbersOf (Refused g) ∷ []
 
+-- The rows that ground 4 counts are twice the edges of an accepted mesh, so that a step from as many has room too.
 unfoldable pub answersTo : Asked → Lists → List (List ℕ)
 answersTo toBuild l = numbersOf (build general l (used (rowsOf l)) .answer) ∷ []
 answersTo toRefine l = stepped (build general l (used (refinedCounts (rowsOf l)))) (used (refinedCounts (rowsOf l)))

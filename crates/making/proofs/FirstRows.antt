@@ -8,7 +8,7 @@ use lib.Ieee.{Float}
 use Rattle.tables.specs.Mesh.{Mesh, meshOf}
 use Rattle.tables.specs.Rows.{zeroed}
 use Rattle.tables.specs.declared.Counts.{Counts}
-use Rattle.steps.specs.Step.{firstRows, zeroedRows}
+use Rattle.tables.specs.Counted.{firstRows, zeroedRows}
 
 -- a part of n elements put back before the rest
 zeroed-back : {A : Type 0} (n : ℕ) (z : A) (part xs : List A) → length part ≡ n → zeroed n z (part ++ drop n xs) ≡ zeroed n z xs

@@ -14,7 +14,7 @@ use Rattle.audited_meshes.specs.Rows.{HoldsClosed}
 use Rattle.audited_meshes.proofs.Audited.{audit-is-audited}
 use Rattle.audited_meshes.proofs.Holds.{audit-is-closed}
 use Rattle.closed_meshes.specs.Refinement.{mid, facePoint}
-use Rattle.walks.specs.Steps.{faceTables}
+use Rattle.tables.specs.Parts.{faceTables}
 use Rattle.visiting.specs.Visiting.{Holds, Fits}
 use Rattle.visiting.proofs.Fitting.{holds-of-closed, holds-of-rows, fits-of-closed}
 use Rattle.refined_meshes.specs.State.{State, withPositions, copied}

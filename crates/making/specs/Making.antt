@@ -5,9 +5,9 @@ use mathlib.Core.Path.{_≡_}
 use mathlib.Core.Bool.{Bool, true, false}
 use mathlib.Core.List.{List}
 use Prim.Native.Nat.{ℕ, _+_, _*_, _≤_}
-use Rattle.tables.specs.Mesh.{Mesh}
+use Rattle.tables.specs.Mesh.{Mesh, pointRows, edgeRows, faceRows}
 use Rattle.tables.specs.declared.Counts.{Counts}
-use Rattle.audited_meshes.specs.Audit.{audit, pointRows, edgeRows, faceRows}
+use Rattle.audited_meshes.specs.Audit.{audit}
 use Rattle.refined_meshes.specs.Order.{EachOnce}
 use Rattle.visiting.specs.Visiting.{Ceilings}
 use Rattle.steps.specs.Step.{Made, whole, notFinite}

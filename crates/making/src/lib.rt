@@ -3,7 +3,8 @@
 // Not here: whether a step may be made (`step_grounds`), and the tables written back (`refining`).
 // Definitions: `steps`, specs/Step.antt, `made`; what must hold: specs/Making.antt.
 ghost use mathlib.Core.Path.{_≡_};
-ghost use Rattle.steps.specs.Step.{firstRows, zeroedRows, made};
+ghost use Rattle.steps.specs.Step.{made};
+ghost use Rattle.tables.specs.Counted.{firstRows, zeroedRows};
 ghost use Rattle.steps.specs.Rows.{Room};
 ghost use Rattle.tables.specs.Mesh.{meshOf};
 ghost use Rattle.making.specs.Making.{Ready, madeAs};

@@ -10,7 +10,8 @@ use lib.Seq.{sets}
 use lib.Dec.{ltb}
 use borrow.Author.Tests.{lt-ltb, le-ltb}
 use Rattle.text_numbers.proofs.Stores.{sets-append}
-use Rattle.mesh_answers.specs.Lines.{decimalDigits, hexByte, hexBytes, numberField, bitsField, threeFields, atLine, refusedLine, Written}
+use Rattle.mesh_answers.specs.Lines.{decimalDigits, hexByte, hexBytes, numberField, bitsField, threeFields, atLine, refusedLine}
+use Rattle.mesh_answers.specs.Writing.{Written}
 use Rattle.text_numbers.specs.Form.{bytes}
 
 pub length-hex : (k n : ℕ) → length (hexBytes k n) ≡ k

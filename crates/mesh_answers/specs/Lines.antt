@@ -5,13 +5,9 @@
 --     stepLine p e f       how many points, edges and faces after the step
 --     atLine x y z         where point 0 is after the step, by the bits of its coordinates
 --     refusedLine n        the ground of a refusal
---     Written              what a writer leaves
 use mathlib.Core.List.{List, [], _∷_, _++_}
-use mathlib.Core.Path.{_≡_}
 use mathlib.Core.Bool.{cond}
 use Prim.Native.Nat.{ℕ, zero, suc, _+_, _/_, _%_}
-use lib.ListN.{length}
-use lib.Seq.{sets}
 use lib.Dec.{ltb}
 use Rattle.text_numbers.specs.Form.{bytes}
 
@@ -53,8 +49,3 @@ atLine x y z = threeFields (bytes "[at 0") (bitsField x) (bitsField y) (bitsFiel
 
 abbrev pub refusedLine : ℕ → List ℕ
 refusedLine n = (bytes "[refused" ++ numberField n) ++ bytes "]\n"
-
--- the bytes xs stand in the list out′ from a place on, all else is as in out, and r is the place after them
-pub record Written (out : List ℕ) (at : ℕ) (xs : List ℕ) (r : ℕ) (out′ : List ℕ) : Type 0 where
-  pub place : r ≡ at + length xs
-  pub list : out′ ≡ sets out at xs

@@ -4,7 +4,8 @@
 ghost use mathlib.Core.Path.{_≡_};
 ghost use Prim.Native.Nat.{_+_, _≤_, _<_};
 ghost use lib.ListN.{length};
-ghost use Rattle.mesh_answers.specs.Lines.{decimalDigits, hexByte, hexBytes, numberField, bitsField, threeFields, meshLine, stepLine, atLine, refusedLine, Written};
+ghost use Rattle.mesh_answers.specs.Lines.{decimalDigits, hexByte, hexBytes, numberField, bitsField, threeFields, meshLine, stepLine, atLine, refusedLine};
+ghost use Rattle.mesh_answers.specs.Writing.{Written};
 
 // Writes the bytes of t from a place on, and answers the place after them.
 fn write(out: &mut [u8], at: usize, t: &[u8]) -> usize

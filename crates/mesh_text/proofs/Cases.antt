@@ -8,7 +8,8 @@ use Rattle.text_numbers.specs.Form.{bytes, found, given, times, stands, literal
 use Rattle.text_numbers.specs.Numbers.{digitValue, value, digit, bits, digits, decimalFrom, decimal}
 use Rattle.mesh_lines.specs.Grammar.{coordinate, point, listed, side, face, flat}
 use Rattle.mesh_text.specs.Text.{ends, mesh, text}
-use Rattle.mesh_text.specs.Reading.{listedPoints, Lists, within, readInto}
+use Rattle.mesh_text.specs.Reading.{Lists, within, readInto}
+use Rattle.mesh_text.specs.Lists.{listedPoints}
 use Rattle.mesh_text.specs.declared.Reading.the-variants as Reading
 
 -- how many points, faces and listed points a text has; nothing for a text that is not of the form

@@ -15,13 +15,14 @@ use Rattle.text_numbers.specs.Numbers.{float}
 use Rattle.text_numbers.proofs.Laws.{total, onward-found}
 use Rattle.mesh_lines.specs.Grammar.{Listed, point, face, flat, sidePoints, sideIntervals}
 use Rattle.mesh_text.specs.Text.{Mesh, ends, mesh, text}
-use Rattle.mesh_text.specs.Reading.{coordinates, lengths, listedPoints, intervals, counts, Lists, filled, within, readInto}
-use Rattle.mesh_text.specs.declared.Counts.{Counts}
+use Rattle.mesh_text.specs.Reading.{counts, Lists, filled, within, readInto}
+use Rattle.mesh_text.specs.Lists.{coordinates, lengths, listedPoints, intervals}
+use Rattle.tables.specs.declared.Sizes.{Sizes}
 use Rattle.mesh_text.specs.declared.Reading.{Reading}
 use Rattle.mesh_text.specs.declared.Reading.the-variants as Reading
 use Rattle.mesh_lines.proofs.Laws.{same-count, length-point, length-face}
 
-pub record ReadText (s : List ℕ) (limits : Counts) (l : Lists) (c : Counts) : Type 0 where
+pub record ReadText (s : List ℕ) (limits : Sizes) (l : Lists) (c : Sizes) : Type 0 where
   pub what : Mesh
   pub place : ℕ
   pub form : text s ≡ found what place
@@ -29,7 +30,7 @@ pub record ReadText (s : List ℕ) (limits : Counts) (l : Lists) (c : Counts) : 
   pub fits : within c limits (length (l .coordinates)) (length (l .lengths)) (length (l .listed)) (length (l .intervals)) ≡ true
   pub lists : readInto s limits l .lists ≡ filled what l
 
-pub read-means : (s : List ℕ) (limits : Counts) (l : Lists) (c : Counts) → readInto s limits l .reading ≡ Reading.Read c → ReadText s limits l c
+pub read-means : (s : List ℕ) (limits : Sizes) (l : Lists) (c : Sizes) → readInto s limits l .reading ≡ Reading.Read c → ReadText s limits l c
 unfolding readInto
 read-means s limits l c e = go (text s) refl
   where

@@ -1,3 +1,4 @@
 pub mod Text
+pub mod Lists
 pub mod Reading
 pub mod Parts

@@ -9,7 +9,7 @@ use Rattle.text_numbers.specs.Form.{Found, given}
 use Rattle.mesh_lines.specs.Grammar.{flat}
 use Rattle.mesh_lines.specs.Parts.{lengthWord}
 use Rattle.mesh_text.specs.Text.{Mesh}
-use Rattle.mesh_text.specs.Reading.{listedPoints}
+use Rattle.mesh_text.specs.Lists.{listedPoints}
 use Rattle.mesh_text.specs.declared.Total.{Total}
 use Rattle.mesh_text.specs.declared.Total.the-variants as Total
 

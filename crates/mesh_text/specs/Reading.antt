@@ -1,38 +1,23 @@
 -- What reading a text answers, and what it leaves in the lent lists.
---     coordinates lengths listedPoints intervals m   the four lists that a text stands for
 --     counts m                     how many points, faces and listed points
 --     Lists                        the four lent lists
 --     within c limits xs ls ps ds  the counts are within the limits and the rooms of the lists
 --     readInto s limits l          the answer, and the lists after it
-use mathlib.Core.List.{List, map}
+use mathlib.Core.List.{List}
 use mathlib.Core.Bool.{Bool, _&&_, cond}
 use Prim.Native.Nat.{ℕ, _*_}
 use lib.ListN.{length}
 use lib.Seq.{sets}
 use lib.Dec.{leb}
 use lib.Ieee.{Float}
-use Rattle.text_numbers.specs.Numbers.{float}
 use Rattle.text_numbers.specs.Form.{given}
-use Rattle.mesh_lines.specs.Grammar.{flat, sidePoints, sideIntervals}
 use Rattle.mesh_text.specs.Text.{Mesh, text}
-use Rattle.mesh_text.specs.declared.Counts.{Counts}
+use Rattle.mesh_text.specs.Lists.{coordinates, lengths, listedPoints, intervals}
+use Rattle.tables.specs.declared.Sizes.{Sizes}
 use Rattle.mesh_text.specs.declared.Reading.{Reading}
 use Rattle.mesh_text.specs.declared.Reading.the-variants as Reading
 
-abbrev pub coordinates : Mesh → List Float
-coordinates m = flat (map float) (m .points)
-
--- of each side, how many points it lists
-abbrev pub lengths : Mesh → List ℕ
-lengths m = flat (map length) (m .faces)
-
-abbrev pub listedPoints : Mesh → List ℕ
-listedPoints m = flat (flat sidePoints) (m .faces)
-
-abbrev pub intervals : Mesh → List Float
-intervals m = flat (flat sideIntervals) (m .faces)
-
-abbrev pub counts : Mesh → Counts
+abbrev pub counts : Mesh → Sizes
 counts m = record { points = length (m .points); faces = length (m .faces); listed = length (listedPoints m) }
 
 pub record Lists : Type 0 where
@@ -51,7 +36,7 @@ filled m l = record {
 }
 
 -- the counts c are within the limits and within the rooms of the four lists, and a length fits a word of 32 bits
-unfoldable pub within : Counts → Counts → ℕ → ℕ → ℕ → ℕ → Bool
+unfoldable pub within : Sizes → Sizes → ℕ → ℕ → ℕ → ℕ → Bool
 within c limits xs ls ps ds =
     leb (c .points) (limits .points) && (leb (c .faces) (limits .faces) && (leb (c .listed) (limits .listed) && (leb (c .listed) 4294967295
     && (leb (3 * c .points) xs && (leb (4 * c .faces) ls && (leb (c .listed) ps && leb (c .listed) ds))))))
@@ -61,7 +46,7 @@ pub record Answer : Type 0 where
   pub lists : Lists
 
 -- the form of the whole text is tested before anything is counted; a text that is not read leaves the lists as they are
-unfoldable pub readInto : List ℕ → Counts → Lists → Answer
+unfoldable pub readInto : List ℕ → Sizes → Lists → Answer
 readInto s limits l =
     given (λ m n.
     cond (within (counts m) limits (length (l .coordinates)) (length (l .lengths)) (length (l .listed)) (length (l .intervals)))

@@ -1,30 +1,26 @@
 // Mesh text 1 (document 01, "Mesh text"): its grammar, and a reader of it.
 // Not here: its lines (`mesh_lines`), grounds 3 and later (building), the answers' lines (`mesh_answers`).
-// Contract: `read_text`. Definitions: `specs/Text.antt` (the grammar), `specs/Reading.antt` (the answer and the lists).
+// Contract: `read_text`. Definitions: `specs/Text.antt` (the grammar), `specs/Lists.antt` (the lists that
+// a text stands for), `specs/Reading.antt` (the answer and the lent lists).
 // Laws for callers: `proofs/Read.antt`.
 ghost use mathlib.Core.Path.{_≡_};
 ghost use Prim.Native.Nat.{_≤_};
 ghost use lib.ListN.{length};
 ghost use Rattle.mesh_lines.specs.Parts.{stored};
 ghost use Rattle.mesh_text.specs.Text.{ends, text};
-ghost use Rattle.mesh_text.specs.Reading.{coordinates, listedPoints, intervals, within, Answer, readInto};
+ghost use Rattle.mesh_text.specs.Reading.{within, Answer, readInto};
+ghost use Rattle.mesh_text.specs.Lists.{coordinates, listedPoints, intervals};
 ghost use Rattle.mesh_text.specs.Parts.{lengthWords, totalOf, AtTotal};
 use mesh_lines::Lines;
 use mesh_lines::Run;
 use mesh_lines::faces;
 use mesh_lines::points;
+use tables::Sizes;
 use text_numbers::stands;
-
-// How many points, faces and listed points a text has, or may have.
-pub struct Counts {
-    pub points: usize,
-    pub faces: usize,
-    pub listed: usize,
-}
 
 // What reading a text answers. Not of the form is ground 1, over the limits ground 2.
 pub enum Reading {
-    Read(Counts),
+    Read(Sizes),
     NotText,
     OverLimits,
 }
@@ -81,7 +77,7 @@ fn sizes(s: &[u8]) -> Total
 }
 
 // Whether the counts are within the limits and within the rooms of the four lists.
-fn within(c: Counts, limits: Counts, xs: usize, ls: usize, ps: usize, ds: usize) -> bool
+fn within(c: Sizes, limits: Sizes, xs: usize, ls: usize, ps: usize, ds: usize) -> bool
     ensures { λ r. ⌜ r ≡ within c limits xs ls ps ds ⌝ }
 {
     if limits.points < c.points {
@@ -115,7 +111,7 @@ fn within(c: Counts, limits: Counts, xs: usize, ls: usize, ps: usize, ds: usize)
 // A text that is not of the form, or is over the limits or the room of the lists, leaves the lists as they are.
 pub fn read_text(
     s: &[u8],
-    limits: Counts,
+    limits: Sizes,
     xs: &mut [f64],
     ls: &mut [u32],
     ps: &mut [u32],
@@ -129,7 +125,7 @@ pub fn read_text(
     let Total::Of(points, faces, listed) = sizes(s) else {
         return Reading::NotText;
     };
-    let c = Counts {
+    let c = Sizes {
         points,
         faces,
         listed,

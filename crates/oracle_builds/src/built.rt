@@ -191,7 +191,7 @@ pub fn put_word(words: &mut [u32], place: usize, word: u32)
 
 // Builds from the lists of a text, changed.
 pub fn build_changed(text: &[u8], bounds: Bounds, change: Change) -> Start {
-    let limits = mesh_text::Counts {
+    let limits = tables::Sizes {
         points: 100,
         faces: 100,
         listed: 400,

@@ -11,8 +11,7 @@ use native.Mathlib.Numerals.{add-one}
 use borrow.Author.Tests.{lt-ltb, le-ltb, eqb-true, eqb-false}
 use lib.ListN.{length, getD, set, replicate, length-set, length-replicate}
 use lib.Seq.{getD-set-same, getD-set-other}
-use Rattle.audited_meshes.specs.Folds.{every, distinct}
-use Rattle.audited_meshes.specs.Audited.{Distinct}
+use Rattle.audited_meshes.specs.Folds.{every, distinct, Distinct}
 use Rattle.audited_meshes.proofs.Tests.{every-is, self-is}
 use Rattle.audited_meshes.proofs.Audited.{distinct-is}
 use Rattle.orders.specs.Orders.{window, fresh, noted, Apart, ApartAbove, Marks}

@@ -15,7 +15,8 @@ use Rattle.tables.specs.Rows.{putRow}
 use Rattle.tables.specs.Mesh.{Mesh}
 use Rattle.tables.specs.declared.Counts.{Counts}
 use Rattle.refined_meshes.specs.State.{State}
-use Rattle.position_rules.specs.FacePoint.{faceMesh, facePointOf}
+use Rattle.position_rules.specs.FacePoint.{facePointOf}
+use Rattle.tables.specs.Parts.{withoutPoints}
 use Rattle.position_rules.proofs.Claims.{facePoint-tables}
 use Rattle.placing.specs.Placing.{EdgesFit, PointsFit}
 use Rattle.steps.specs.Positions.{Placing, on, stopped, put, putNext, placed, placedAll, facePointRow, edgePointRow, facePointRule, edgePointRule, oldPointRule}
@@ -56,13 +57,13 @@ placed-stopped (suc n) row rule = ap (putNext (row n) (rule n)) (placed-stopped 
 
 module _ (m : Mesh) (c : Counts) (s : State) where
   faces-same :
-      _≡_ {A = ℕ → Position} (λ f. facePointOf (faceMesh (m .positions) (m .edges) (m .intervals) (m .faces)) (c .edges) f)
+      _≡_ {A = ℕ → Position} (λ f. facePointOf (withoutPoints (m .positions) (m .edges) (m .intervals) (m .faces)) (c .edges) f)
       (λ f. facePointOf m (c .edges) f)
   faces-same = fun-ext (λ f. facePoint-tables m (c .edges) f)
 
   -- what the loop over the faces leaves, by the rule over the whole mesh
   pub faces-placed : (r : Placing) {q : Placing}
-      → placed (c .faces) (facePointRow s) (λ f ps. facePointOf (faceMesh (m .positions) (m .edges) (m .intervals) (m .faces)) (c .edges) f) r ≡ q
+      → placed (c .faces) (facePointRow s) (λ f ps. facePointOf (withoutPoints (m .positions) (m .edges) (m .intervals) (m .faces)) (c .edges) f) r ≡ q
       → placed (c .faces) (facePointRow s) (facePointRule m c) r ≡ q
   faces-placed r h = ap (λ (g : ℕ → Position). placed (c .faces) (facePointRow s) (λ f ps. g f) r) (sym faces-same) ∙ h
 

@@ -8,7 +8,8 @@ ghost use Prim.Native.Nat.{_+_, _*_};
 ghost use lib.ListN.{getD};
 ghost use Rattle.tables.specs.Layout.{edgeWidth, destWord, faceWidth, firstCornerWord};
 ghost use Rattle.tables.specs.Mesh.{meshOf};
-ghost use Rattle.position_rules.specs.FacePoint.{faceMesh, facePointOf};
+ghost use Rattle.position_rules.specs.FacePoint.{facePointOf};
+ghost use Rattle.tables.specs.Parts.{withoutPoints};
 ghost use Rattle.position_rules.specs.EdgePoint.{edgePoint};
 ghost use Rattle.position_rules.specs.OldPoint.{oldPoint};
 ghost use Rattle.position_rules.specs.Places.{edgePointAt, facePointAt};
@@ -41,7 +42,7 @@ fn place_face_points(
     requires { ⌜ FacesFit (now positions) (now edges) (now intervals) (now faces) ne nf (now quads) (now places) ⌝ }
     ensures { λ r. ⌜
         placed nf (λ f. getD (now (quads .entry)) (f * faceWidth + firstCornerWord) 0)
-        (λ f ps. facePointOf (faceMesh (now (positions .entry)) (now (edges .entry)) (now (intervals .entry)) (now (faces .entry))) ne f)
+        (λ f ps. facePointOf (withoutPoints (now (positions .entry)) (now (edges .entry)) (now (intervals .entry)) (now (faces .entry))) ne f)
         (on (now (places .entry)))
         ≡ came r (now (places .exit)) ⌝ }
 {

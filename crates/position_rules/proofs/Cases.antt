@@ -13,7 +13,7 @@ use Rattle.positions.specs.declared.Placed.the-variants.{At, NotFinite}
 use Rattle.positions.specs.Position.{zeros, placedAt}
 use Rattle.tables.specs.Mesh.{Mesh}
 use Rattle.audited_meshes.specs.Walks.{faceWalk}
-use Rattle.walks.specs.Border.{again}
+use Rattle.audited_meshes.specs.Folds.{again}
 use Rattle.position_rules.specs.Intervals.{acwAbout, cwAbout, threeTerms}
 use Rattle.refined_meshes.specs.Turns.{turns}
 use Rattle.position_rules.specs.FacePoint.{sixTerms, windowWeight, windowSum, facePoint, facePointAbout, facePointOf}

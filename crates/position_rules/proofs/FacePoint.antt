@@ -14,12 +14,13 @@ use lib.Ieee.{Float}
 use Rattle.perimeters.specs.Places.{around}
 use Rattle.tables.specs.Mesh.{Mesh, leftFace}
 use Rattle.audited_meshes.specs.Walks.{back, edgesOf, faceWalk, firstPoint}
-use Rattle.walks.specs.Steps.{faceTables}
-use Rattle.walks.specs.Border.{padded, again, borderOf, border}
+use Rattle.tables.specs.Parts.{faceTables, withoutPoints}
+use Rattle.walks.specs.Border.{padded, borderOf, border}
+use Rattle.audited_meshes.specs.Folds.{again}
 use Rattle.walks.specs.declared.FaceBorder.{FaceBorder}
 use Rattle.walks.proofs.Laws.{getD-padded, border-walk, border-point, border-point-again}
 use Rattle.position_rules.specs.declared.WeightedSum.{WeightedSum}
-use Rattle.position_rules.specs.FacePoint.{windowSum, overWeight, facePoint, facePointAbout, facePointOf, faceMesh}
+use Rattle.position_rules.specs.FacePoint.{windowSum, overWeight, facePoint, facePointAbout, facePointOf}
 use Rattle.position_rules.specs.Fits.{BorderFits, PointsFit, FacePointFits}
 
 cond-there : (b : Bool) (i j n : ℕ) → i * 3 + 3 ≤ n → j * 3 + 3 ≤ n → cond b i j * 3 + 3 ≤ n
@@ -72,13 +73,13 @@ module _ (ps : List Float) (es : List ℕ) (is : List Float) (fs : List ℕ) (ne
           subst (λ i. getD (borderOf (faceTables es fs) f (back (h .border)) .points) i 0 * 3 + 3 ≤ length ps) more
           (rw (border-point-again (faceTables es fs) f (h .border) k (omega (arith, h .at-least-3)) few) (first-there k few))
 
-  walked-mesh : faceWalk (faceMesh ps es is fs) ne f ≡ back (h .border)
+  walked-mesh : faceWalk (withoutPoints ps es is fs) ne f ≡ back (h .border)
   unfolding faceWalk
   walked-mesh = h .walked
 
-  about : facePointOf (faceMesh ps es is fs) ne f ≡ facePointAbout (faceMesh ps es is fs) f (h .border)
+  about : facePointOf (withoutPoints ps es is fs) ne f ≡ facePointAbout (withoutPoints ps es is fs) f (h .border)
   unfolding facePointOf
-  about = ap (λ w. facePointAbout (faceMesh ps es is fs) f (edgesOf w)) walked-mesh
+  about = ap (λ w. facePointAbout (withoutPoints ps es is fs) f (edgesOf w)) walked-mesh
 
   -- what is read from the arrays is read from the lists that they hold
   sum-of-arrays :
@@ -93,7 +94,7 @@ module _ (ps : List Float) (es : List ℕ) (is : List Float) (fs : List ℕ) (ne
 
   pub facePoint-of-border : (b : FaceBorder) (s : WeightedSum) → b ≡ border (faceTables es fs) ne f
       → s ≡ windowSum ps es is (λ j. getD (b .points) j 0) (λ j. getD (b .edges) (around (b .n) j) 0) (b .n)
-      → overWeight s ≡ facePointOf (faceMesh ps es is fs) ne f
+      → overWeight s ≡ facePointOf (withoutPoints ps es is fs) ne f
   unfolding facePointAbout facePoint
   facePoint-of-border b s e q =
       let Sum : FaceBorder → WeightedSum = λ x. windowSum ps es is (λ j. getD (x .points) j 0) (λ j. getD (x .edges) (around (x .n) j) 0) (x .n) in

@@ -18,7 +18,7 @@ use Rattle.positions.specs.Position.{finitePosition}
 use Rattle.tables.specs.Mesh.{interval}
 use Rattle.audited_meshes.specs.Walks.{edgesOf, firstPoint}
 use Rattle.audited_meshes.specs.Audit.{intervalFit}
-use Rattle.walks.specs.Border.{again}
+use Rattle.audited_meshes.specs.Folds.{again}
 use Rattle.position_rules.specs.Intervals.{A2, C2, threeTerms}
 use Rattle.position_rules.specs.FacePoint.{sixTerms, windowWeight, windowSum, overWeight, facePoint, facePointAbout, facePointOf}
 use Rattle.position_rules.specs.Fits.{EdgesFit}

@@ -16,13 +16,13 @@ use Rattle.closed_meshes.specs.Mesh.{Dart, lft, rgt, second, face}
 use Rattle.closed_meshes.specs.Closed.{Closed}
 use Rattle.closed_meshes.specs.Renumbering.{Row}
 use Rattle.tables.specs.Mesh.{Mesh, origin, dest, faceStart}
-use Rattle.audited_meshes.specs.Walks.{back, faceWalk, firstPoint, acwOfFace, borders}
-use Rattle.audited_meshes.specs.Audited.{Borders, Touches, SameEnds, Audited}
+use Rattle.audited_meshes.specs.Walks.{back, faceWalk, firstPoint, acwOfFace, borders, Touches}
+use Rattle.audited_meshes.specs.Audited.{Borders, SameEnds, Audited}
 use Rattle.audited_meshes.proofs.Audited.{on-face-is}
 use Rattle.audited_meshes.proofs.Rows.{rows, rows-stand}
 use Rattle.audited_meshes.proofs.Darts.{number, num, Seen, acwOfFace-dart, firstPoint-dart}
 use Rattle.audited_meshes.proofs.Closed.{closed-rows}
-use Rattle.walks.specs.Border.{again}
+use Rattle.audited_meshes.specs.Folds.{again}
 use Rattle.walks.proofs.Back.{back-first, back-on, back-next}
 use Rattle.walks.proofs.Laws.{getD-padded, border-point, border-point-again}
 use Rattle.position_rules.specs.Claims.{borderPoint, WindowEdges}

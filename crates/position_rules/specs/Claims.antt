@@ -18,11 +18,12 @@ use lib.Ieee.{Float, add, mul, fits, ofBits, binary64}
 use Rattle.perimeters.specs.Places.{around}
 use Rattle.positions.specs.Position.{finitePosition}
 use Rattle.tables.specs.Mesh.{Mesh, none, start, interval}
-use Rattle.audited_meshes.specs.Walks.{back, faceWalk, pointWalk, firstPoint}
+use Rattle.audited_meshes.specs.Walks.{back, faceWalk, pointWalk, firstPoint, Touches}
 use Rattle.audited_meshes.specs.Audit.{intervalFit}
-use Rattle.audited_meshes.specs.Audited.{Touches, Audited}
-use Rattle.walks.specs.Border.{again}
-use Rattle.position_rules.specs.FacePoint.{faceMesh, facePointOf}
+use Rattle.audited_meshes.specs.Audited.{Audited}
+use Rattle.position_rules.specs.FacePoint.{facePointOf}
+use Rattle.audited_meshes.specs.Folds.{again}
+use Rattle.tables.specs.Parts.{withoutPoints}
 use Rattle.position_rules.specs.EdgePoint.{edgePoint}
 use Rattle.position_rules.specs.OldPoint.{radialEdge, oldPoint}
 use Rattle.position_rules.specs.Rules.{edgePointOf, oldPointOf}
@@ -30,7 +31,7 @@ use Rattle.position_rules.specs.Places.{edgePointAt, facePointAt}
 
 abbrev pub FacePointTables : Type 0
 FacePointTables =
-    (m : Mesh) (ne f : ℕ) → facePointOf (faceMesh (m .positions) (m .edges) (m .intervals) (m .faces)) ne f ≡ facePointOf m ne f
+    (m : Mesh) (ne f : ℕ) → facePointOf (withoutPoints (m .positions) (m .edges) (m .intervals) (m .faces)) ne f ≡ facePointOf m ne f
 
 abbrev pub borderPoint : Mesh → ℕ → List ℕ → ℕ → ℕ
 borderPoint m f es j = getD (again 4 (map (firstPoint m f) es)) j 0

@@ -5,10 +5,9 @@
 --     windowWeight         the weight of the window p0 .. p4 that begins at place i
 --     windowSum            the sums over the first windows
 --     facePoint            the weighted sum of the middle points p2 over the sum of the weights, of n windows
---     faceMesh ps es is fs a mesh of which the points' own words are not looked at
 --     facePointAbout       the face point of the face that a walk went about
 --     facePointOf m ne f   the face point of face f, by the walk about it along the edges below ne
-use mathlib.Core.List.{List, [], map}
+use mathlib.Core.List.{List, map}
 use Prim.Native.Nat.{ℕ, _+_}
 use lib.ListN.{getD, length}
 use lib.Ieee.{Float, nan, add, mul, neg, ofBits, binary64}
@@ -17,8 +16,8 @@ use Rattle.positions.specs.Position.{zeros, quotient}
 use Rattle.perimeters.specs.Places.{around}
 use Rattle.tables.specs.Mesh.{Mesh}
 use Rattle.tables.specs.Records.{positionAt}
+use Rattle.audited_meshes.specs.Folds.{again}
 use Rattle.audited_meshes.specs.Walks.{faceWalk, edgesOf, firstPoint}
-use Rattle.walks.specs.Border.{again}
 use Rattle.refined_meshes.specs.Turns.{turns}
 use Rattle.position_rules.specs.declared.WeightedSum.{WeightedSum}
 use Rattle.position_rules.specs.Intervals.{A2, C2, threeTerms}
@@ -47,9 +46,6 @@ overWeight s = quotient (s .sum) (s .weight)
 
 unfoldable pub facePoint : List Float → List ℕ → List Float → (ℕ → ℕ) → (ℕ → ℕ) → ℕ → Position
 facePoint ps es is pt ed n = overWeight (windowSum ps es is pt ed n)
-
-abbrev pub faceMesh : List Float → List ℕ → List Float → List ℕ → Mesh
-faceMesh ps es is fs = record { positions = ps; points = []; edges = es; intervals = is; faces = fs }
 
 -- the points of the border followed by the first four again, and its edges round to the start
 unfoldable pub facePointAbout : Mesh → ℕ → List ℕ → Position

@@ -17,7 +17,7 @@ use Rattle.tables.specs.Layout.{positionWidth, pointWidth, startWord, edgeWidth
 use Rattle.tables.specs.Layout.{destWord, leftFaceWord, rightFaceWord, leftCwWord, leftAcwWord, rightCwWord, rightAcwWord}
 use Rattle.tables.specs.Records.{edgeAt}
 use Rattle.audited_meshes.specs.Walks.{back, faceWalk}
-use Rattle.walks.specs.Steps.{faceTables}
+use Rattle.tables.specs.Parts.{faceTables}
 use Rattle.position_rules.specs.Intervals.{acwAbout}
 
 pub record EdgesFit (es : List ℕ) (is : List Float) (ne : ℕ) : Type 0 where

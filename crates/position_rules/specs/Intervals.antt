@@ -7,23 +7,22 @@
 --     threeTerms es is p e     d + A2 + C2 of e about p
 -- Every sum here and in the rules is taken from left to right, and rounded at each addition.
 use mathlib.Core.Bool.{cond}
-use mathlib.Core.List.{List, []}
+use mathlib.Core.List.{List}
 use Prim.Native.Nat.{ℕ}
 use lib.Dec.{eqb}
 use lib.ListN.{getD}
 use lib.Ieee.{Float, nan, add, binary64}
-use Rattle.tables.specs.Mesh.{Mesh, origin, leftAcw, rightAcw}
+use Rattle.tables.specs.Mesh.{Mesh, edgeTable, origin, leftAcw, rightAcw}
 use Rattle.audited_meshes.specs.Walks.{acwOfPoint}
-use Rattle.walks.specs.Steps.{faceTables}
 
 -- LeftCw at the origin, RightCw at the destination
 unfoldable pub acwAbout : List ℕ → ℕ → ℕ → ℕ
-acwAbout es p e = acwOfPoint (faceTables es []) p e
+acwAbout es p e = acwOfPoint (edgeTable es) p e
 
 -- RightAcw at the origin, LeftAcw at the destination
 unfoldable pub cwAbout : List ℕ → ℕ → ℕ → ℕ
 cwAbout es p e =
-    let m : Mesh = faceTables es [] in
+    let m : Mesh = edgeTable es in
     cond (eqb (origin m e) p) (rightAcw m e) (leftAcw m e)
 
 abbrev pub A1 : List ℕ → List Float → ℕ → ℕ → Float

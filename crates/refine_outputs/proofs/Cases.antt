@@ -12,7 +12,7 @@ use Rattle.mesh_answers.specs.Lines.{decimalDigits, hexByte, hexBytes}
 use Rattle.refine_outputs.specs.Output.{output}
 use Rattle.tables.specs.Rows.{over, zeroed}
 use Rattle.audited_meshes.specs.Walks.{faceWalk}
-use Rattle.walks.specs.Border.{again}
+use Rattle.audited_meshes.specs.Folds.{again}
 use Rattle.refined_meshes.specs.Turns.{filled, turns}
 use Rattle.refined_meshes.specs.State.{copied, putEdge, putFace, putPoint, putStart}
 use Rattle.refined_meshes.specs.Split.{split, splitWhole}

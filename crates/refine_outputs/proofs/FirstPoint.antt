@@ -17,7 +17,8 @@ use Rattle.tables.specs.declared.Counts.{Counts}
 use Rattle.tables.proofs.Laws.{length-over}
 use Rattle.refined_meshes.specs.State.{State}
 use Rattle.steps.specs.Positions.{on, placed, placedAll, facePointRow, edgePointRow, facePointRule, edgePointRule, oldPointRule}
-use Rattle.steps.specs.Step.{refinedCounts, firstRows, overRows, step}
+use Rattle.steps.specs.Step.{refinedCounts, step}
+use Rattle.tables.specs.Counted.{firstRows, overRows}
 use Rattle.steps.specs.declared.Stepped.{Stepped}
 use Rattle.steps.specs.declared.Stepped.the-variants.{Refined, NotClosed, NotEachFaceOnce, NoRoom, NotFinite}
 use Rattle.steps.proofs.Rows.{exact-firstRows}

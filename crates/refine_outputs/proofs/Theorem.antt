@@ -12,10 +12,9 @@ use lib.Ieee.{Float, ofBits, toBits, binary64}
 use lib.ListN.{length, length-append, length-replicate}
 use lib.Seq.{length-sets}
 use borrow.Author.Tests.{lt-ltb, leb-true}
-use Rattle.tables.specs.Mesh.{Mesh}
+use Rattle.tables.specs.Mesh.{Mesh, pointRows, edgeRows, faceRows}
 use Rattle.tables.specs.Records.{positionAt}
 use Rattle.tables.specs.declared.Counts.{Counts}
-use Rattle.audited_meshes.specs.Audit.{pointRows, edgeRows, faceRows}
 use Rattle.audited_meshes.proofs.Tests.{and-is, leb-is, self-is}
 use Rattle.text_numbers.specs.Form.{bytes}
 use Rattle.mesh_answers.specs.Lines.{meshLine, stepLine}
@@ -23,17 +22,19 @@ use Rattle.mesh_answers.proofs.Laws.{length-counts, length-at, length-refused}
 use Rattle.built_meshes.specs.Answers.{numberOf}
 use Rattle.building_tests.specs.declared.Bounds.the-variants.{Refine}
 use Rattle.text_meshes.specs.TextBuilding.{buildText}
-use Rattle.text_meshes.specs.Claims.{AsLong, Within-limits}
+use Rattle.text_meshes.specs.Within.{AsLong, Within-limits}
 use Rattle.text_meshes.specs.declared.TextBuilt.{TextBuilt}
 use Rattle.text_meshes.specs.declared.TextBuilt.the-variants.{Accepted, NotText, Refused}
 use Rattle.text_meshes.proofs.Theorem.{accepted-within}
-use Rattle.steps.specs.Step.{refinedCounts, rowsFor, withinCeilings, roomFor, firstRows, Made, whole, notFinite, made, ended, stepIf}
+use Rattle.steps.specs.Step.{refinedCounts, withinCeilings, roomFor, Made, whole, notFinite, made, ended, stepBy}
+use Rattle.tables.specs.Counted.{rowsFor, firstRows}
 use Rattle.steps.specs.declared.Stepped.{Stepped}
 use Rattle.steps.specs.declared.Stepped.the-variants.{Refined, NotClosed, NotEachFaceOnce, NoRoom, NotFinite}
 use Rattle.steps.proofs.Grounds.{step-is}
 use Rattle.runs.specs.Runs.{numbered}
 use Rattle.refine_outputs.specs.Output.{lent, pointLines, stepLines, linesOf, numberedStep, outputIf, output, Writing, writingIf, refine}
-use Rattle.refine_outputs.specs.Claims.{Long-text, Two-answers, Fits}
+use Rattle.refine_outputs.specs.Claims.{Two-answers}
+use Rattle.refine_outputs.specs.Bytes.{Long-text, Fits}
 use Rattle.refine_outputs.proofs.Orders.{numbered-once}
 
 pub long-text : Long-text
@@ -75,7 +76,7 @@ ended-answer m c t notFinite = inr refl
 
 step-answer : (m : Mesh) (c : Counts) → Within-limits Refine lent m c
     → (numberedStep c m .answer ≡ Refined (refinedCounts c)) ⊎ (numberedStep c m .answer ≡ NotFinite)
-unfolding numberedStep stepIf
+unfolding numberedStep stepBy
 step-answer m c w =
     let hp = w .few-points in
     let he = w .few-edges in

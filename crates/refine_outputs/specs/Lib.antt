@@ -1,3 +1,4 @@
 pub mod Output
 pub mod FirstPoint
 pub mod Claims
+pub mod Bytes

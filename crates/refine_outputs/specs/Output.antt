@@ -16,7 +16,7 @@ use lib.ListN.{length, replicate}
 use lib.Seq.{sets}
 use lib.Ieee.{Float, ofBits, toBits, binary64}
 use Rattle.tables.specs.Layout.{positionWidth, pointWidth, edgeWidth, faceWidth}
-use Rattle.tables.specs.Mesh.{Mesh}
+use Rattle.tables.specs.Mesh.{Mesh, meshOf}
 use Rattle.tables.specs.Records.{positionAt}
 use Rattle.tables.specs.declared.Counts.{Counts}
 use Rattle.building_tests.specs.declared.Bounds.the-variants.{Refine}
@@ -36,13 +36,8 @@ outputBytes = 256
 
 unfoldable pub lent : Mesh
 lent =
-    record {
-      positions = replicate (256 * positionWidth) (ofBits binary64 0);
-      points = replicate (256 * pointWidth) 0;
-      edges = replicate (512 * edgeWidth) 0;
-      intervals = replicate 512 (ofBits binary64 0);
-      faces = replicate (256 * faceWidth) 0;
-    }
+    meshOf (replicate (256 * positionWidth) (ofBits binary64 0)) (replicate (256 * pointWidth) 0) (replicate (512 * edgeWidth) 0)
+    (replicate 512 (ofBits binary64 0)) (replicate (256 * faceWidth) 0)
 
 abbrev pub pointLine : List Float → List ℕ
 pointLine ps =

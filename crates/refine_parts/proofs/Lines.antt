@@ -18,7 +18,8 @@ use Rattle.steps.specs.declared.Stepped.{Stepped}
 use Rattle.steps.specs.declared.Stepped.the-variants.{Refined}
 use Rattle.text_numbers.specs.Form.{bytes}
 use Rattle.text_numbers.proofs.Laws.{and-both}
-use Rattle.mesh_answers.specs.Lines.{stepLine, Written}
+use Rattle.mesh_answers.specs.Lines.{stepLine}
+use Rattle.mesh_answers.specs.Writing.{Written}
 use Rattle.mesh_answers.proofs.Laws.{written-append, length-counts}
 use Rattle.refine_outputs.specs.Output.{pointLine, pointLines, stepLines}
 use Rattle.refine_outputs.specs.FirstPoint.{PointThere, PointReady}

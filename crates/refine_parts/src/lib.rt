@@ -8,7 +8,7 @@ ghost use Prim.Native.Nat.{_+_, _≤_};
 ghost use lib.ListN.{length};
 ghost use Rattle.tables.specs.Layout.{faceCeiling};
 ghost use Rattle.runs.specs.Runs.{numbered};
-ghost use Rattle.mesh_answers.specs.Lines.{Written};
+ghost use Rattle.mesh_answers.specs.Writing.{Written};
 ghost use Rattle.refine_outputs.specs.Output.{pointLine, stepLines};
 ghost use Rattle.refine_outputs.specs.FirstPoint.{PointThere, PointReady};
 use mesh_answers::write_at;

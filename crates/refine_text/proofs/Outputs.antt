@@ -20,7 +20,8 @@ use Rattle.steps.specs.Step.{step}
 use Rattle.steps.specs.declared.Stepped.{Stepped}
 use Rattle.runs.specs.Runs.{numbered}
 use Rattle.text_numbers.specs.Form.{bytes}
-use Rattle.mesh_answers.specs.Lines.{meshLine, refusedLine, Written}
+use Rattle.mesh_answers.specs.Lines.{meshLine, refusedLine}
+use Rattle.mesh_answers.specs.Writing.{Written}
 use Rattle.mesh_answers.proofs.Laws.{written-append, length-counts}
 use Rattle.refine_outputs.specs.Output.{lent, stepLines, linesOf, numberedStep, outputIf, outputFrom, output, refine}
 use Rattle.refine_outputs.specs.FirstPoint.{PointReady}

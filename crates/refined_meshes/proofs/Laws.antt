@@ -9,7 +9,7 @@ use Rattle.tables.specs.Mesh.{Mesh}
 use Rattle.refined_meshes.specs.Turns.{turns}
 use Rattle.refined_meshes.specs.State.{State, edgeOf, take}
 use Rattle.refined_meshes.specs.Split.{splitWhole}
-use Rattle.refined_meshes.specs.Ring.{Ring, onLeft, firstHalfOf, secondHalfOf, putJoin, putFirst, putSecond, putNewFace, putFacePoint}
+use Rattle.refined_meshes.specs.Ring.{Ring, firstHalfOf, secondHalfOf, putJoin, putFirst, putSecond, putNewFace, putFacePoint}
 use Rattle.refined_meshes.specs.Visits.{foundOn, splitAll, ringOf, putRing, visitAlong}
 use Rattle.refined_meshes.proofs.Turns.{turns-cong, filled-cong}
 
@@ -68,11 +68,11 @@ module _ (m : Mesh) (np f n : ℕ) (es es' : List ℕ) (same : (i : ℕ) → i <
         facesFrom = s .facesTaken;
         edges = es;
         firsts =
-            filled-cong n (λ i. firstHalfOf (onLeft m f (getD es i 0)) s (getD es i 0)) (λ i. firstHalfOf (onLeft m f (getD es' i 0)) s (getD es' i 0))
-            (replicate 64 0) (λ i l. ap (λ e. firstHalfOf (onLeft m f e) s e) (same i l)) k;
+            filled-cong n (λ i. firstHalfOf (m .edges) (s .edges) f (getD es i 0)) (λ i. firstHalfOf (m .edges) (s .edges) f (getD es' i 0))
+            (replicate 64 0) (λ i l. ap (λ e. firstHalfOf (m .edges) (s .edges) f e) (same i l)) k;
         seconds =
-            filled-cong n (λ i. secondHalfOf (onLeft m f (getD es i 0)) s (getD es i 0)) (λ i. secondHalfOf (onLeft m f (getD es' i 0)) s (getD es' i 0))
-            (replicate 64 0) (λ i l. ap (λ e. secondHalfOf (onLeft m f e) s e) (same i l)) k;
+            filled-cong n (λ i. secondHalfOf (m .edges) (s .edges) f (getD es i 0)) (λ i. secondHalfOf (m .edges) (s .edges) f (getD es' i 0))
+            (replicate 64 0) (λ i l. ap (λ e. secondHalfOf (m .edges) (s .edges) f e) (same i l)) k;
         mids =
             filled-cong n (λ i. edgeOf s (getD es i 0) .dest) (λ i. edgeOf s (getD es' i 0) .dest) (replicate 64 0)
             (λ i l. ap (λ e. edgeOf s e .dest) (same i l)) k;

@@ -8,7 +8,7 @@ use native.Mathlib.Decide.{decLt}
 use Rattle.perimeters.specs.Places.{nextPlace, prevPlace}
 use Rattle.perimeters.proofs.Laws.{next-more, next-last, prev-below, next-prev}
 use Rattle.closed_meshes.specs.Mesh.{Mesh, Dart, face}
-use Rattle.closed_meshes.specs.Cycles.{steps}
+use Rattle.closed_meshes.specs.Borders.{steps}
 use Rattle.closed_meshes.specs.Closed.{Closed}
 use Rattle.closed_meshes.proofs.Cycles.{rank-steps, cls-steps-start, steps-len, steps-rank, rank-injective}
 

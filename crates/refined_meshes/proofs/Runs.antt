@@ -15,10 +15,9 @@ use Rattle.closed_meshes.specs.Mesh.{Mesh as MeshOver, edge}
 use Rattle.closed_meshes.specs.Closed.{Closed}
 use Rattle.closed_meshes.specs.Refinement.{org}
 use Rattle.closed_meshes.specs.Renumbering.{Bijection, Row, sumTo}
-use Rattle.tables.specs.Mesh.{Mesh}
+use Rattle.tables.specs.Mesh.{Mesh, pointRows, edgeRows, faceRows}
 use Rattle.tables.specs.Rows.{over}
 use Rattle.tables.proofs.Laws.{length-over}
-use Rattle.audited_meshes.specs.Audit.{pointRows, edgeRows, faceRows}
 use Rattle.audited_meshes.specs.Walks.{edgesOf, passed, faceWalk}
 use Rattle.audited_meshes.specs.Rows.{Stands, HoldsClosed}
 use Rattle.refined_meshes.specs.State.{State, copied}

@@ -17,7 +17,7 @@ use Rattle.closed_meshes.specs.Closed.{Closed}
 use Rattle.closed_meshes.specs.Refinement.{old, mid, facePoint, org, dst, join, firstHalf, secondHalf}
 use Rattle.closed_meshes.specs.Renumbering.{Bijection, Row, sumTo}
 use Rattle.closed_meshes.proofs.NewDarts.{start-half, end-half, inward, outward}
-use Rattle.tables.specs.Mesh.{Mesh, interval}
+use Rattle.tables.specs.Mesh.{Mesh, edgeTable, leftAcw, rightCw, interval}
 use Rattle.audited_meshes.specs.Walks.{firstPoint}
 use Rattle.audited_meshes.specs.Rows.{Stands}
 use Rattle.refined_meshes.specs.State.{State, edgeOf, take}
@@ -171,12 +171,12 @@ module _
           link-is : (i : ℕ) → i < n → link m c order all (dartAt c f i) ≡ edgeNo c order (dst (edge (dartAt c f i)))
           link-is i l = after .content .linked (dartAt c f i) (past-on i l) (rw (face-dartAt c f i) (omega arith))
 
-          first-read : (d : Dart (Row ne)) → link m c order all d ≡ edgeNo c order (dst (edge d)) → firstHalfOf (isLeft d) all (edge d .0) ≡ edgeNo c order (firstHalf d)
+          first-read : (d : Dart (Row ne)) → link m c order all d ≡ edgeNo c order (dst (edge d)) → cond (isLeft d) (edge d .0) (rightCw (edgeTable (all .edges)) (edge d .0)) ≡ edgeNo c order (firstHalf d)
           unfolding link side edgeNo
           first-read (lft e) q = refl
           first-read (rgt e) q = q
 
-          second-read : (d : Dart (Row ne)) → link m c order all d ≡ edgeNo c order (dst (edge d)) → secondHalfOf (isLeft d) all (edge d .0) ≡ edgeNo c order (secondHalf d)
+          second-read : (d : Dart (Row ne)) → link m c order all d ≡ edgeNo c order (dst (edge d)) → cond (isLeft d) (leftAcw (edgeTable (all .edges)) (edge d .0)) (edge d .0) ≡ edgeNo c order (secondHalf d)
           unfolding link side edgeNo
           second-read (lft e) q = q
           second-read (rgt e) q = refl
@@ -233,11 +233,11 @@ module _
                 face-is = face-read;
                 first-is =
                     λ i l.
-                    getD-filled n (λ i. firstHalfOf (onLeft m (f .0) (getD es i 0)) all (getD es i 0)) (replicate 64 0) 0 (room-64 0) i l
+                    getD-filled n (λ i. firstHalfOf (m .edges) (all .edges) (f .0) (getD es i 0)) (replicate 64 0) 0 (room-64 0) i l
                     ∙ rw (left-read i l, perimeter i l) (first-read (dartAt c f i) (link-is i l));
                 second-is =
                     λ i l.
-                    getD-filled n (λ i. secondHalfOf (onLeft m (f .0) (getD es i 0)) all (getD es i 0)) (replicate 64 0) 0 (room-64 0) i l
+                    getD-filled n (λ i. secondHalfOf (m .edges) (all .edges) (f .0) (getD es i 0)) (replicate 64 0) 0 (room-64 0) i l
                     ∙ rw (left-read i l, perimeter i l) (second-read (dartAt c f i) (link-is i l));
                 mid-is =
                     λ i l.

@@ -11,8 +11,7 @@ use mathlib.Core.List.{List}
 use Prim.Native.Nat.{ℕ, _+_, _-_, _*_, _≤_, _<_}
 use lib.ListN.{length, getD}
 use Rattle.tables.specs.Layout.{pointWidth, edgeWidth, faceWidth, longestPerimeter}
-use Rattle.tables.specs.Mesh.{Mesh}
-use Rattle.audited_meshes.specs.Audit.{pointRows, edgeRows, faceRows}
+use Rattle.tables.specs.Mesh.{Mesh, pointRows, edgeRows, faceRows}
 use Rattle.audited_meshes.specs.Walks.{edgesOf, passed, faceWalk, firstPoint}
 use Rattle.audited_meshes.specs.Rows.{HoldsClosed}
 use Rattle.refined_meshes.specs.State.{State, edgeOf, take, copied}

@@ -7,7 +7,7 @@ use mathlib.Core.Path.{_≡_}
 use Prim.Native.Nat.{ℕ, suc, _<_}
 use lib.Dec.{eqb}
 use lib.ListN.{length, getD}
-use Rattle.audited_meshes.specs.Audited.{Distinct}
+use Rattle.audited_meshes.specs.Folds.{Distinct}
 
 pub record EachOnce (nf : ℕ) (order : List ℕ) : Type 0 where
   pub as-many : length order ≡ nf

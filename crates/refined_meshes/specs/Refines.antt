@@ -16,8 +16,7 @@ use Rattle.closed_meshes.specs.Mesh.{Mesh as MeshOver, Dart, edge, flip, face}
 use Rattle.closed_meshes.specs.Closed.{Closed}
 use Rattle.closed_meshes.specs.Refinement.{old, mid, facePoint, org, dst, join, firstHalf, refined}
 use Rattle.closed_meshes.specs.Renumbering.{Isomorphism, Touching, Row}
-use Rattle.tables.specs.Mesh.{Mesh, start, mark, dest, interval, faceStart, corner}
-use Rattle.audited_meshes.specs.Audit.{pointRows, edgeRows, faceRows}
+use Rattle.tables.specs.Mesh.{Mesh, start, mark, dest, interval, faceStart, corner, pointRows, edgeRows, faceRows}
 use Rattle.audited_meshes.specs.Rows.{Stands, HoldsClosed}
 use Rattle.refined_meshes.specs.State.{withPositions}
 use Rattle.refined_meshes.specs.Split.{half}

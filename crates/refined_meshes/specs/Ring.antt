@@ -5,7 +5,8 @@
 --     onLeft m f e                      the face f is on the left of the edge e
 --     Ring                              the face, the rows taken for it, and what stands at the places of its perimeter
 --     joinRow r i, faceRow r i          the row of the joining edge to the midpoint of place i; of the new face at its first point
---     firstHalfOf secondHalfOf          h1 and h2, found from the row that keeps the origin half
+--     firstHalfOf secondHalfOf old new f e      h1 and h2 of the edge e along the face f, found from the row that keeps the origin half: old is the
+--                                       mesh's table of edges, new the scratch table
 --     withSide b f a c e                the edge e with the face f and the neighbours a and c, anticlockwise and clockwise, on its left or right
 --     putJoin putFirst putSecond putNewFace r i s      what is written at place i
 --     putFacePoint r s                  the row of the face point
@@ -17,7 +18,7 @@ use lib.ListN.{getD}
 use lib.Ieee.{Float, nan, add, binary64}
 use Rattle.t_spline.specs.declared.TnurccEdge.{TnurccEdge}
 use Rattle.perimeters.specs.Places.{nextPlace, prevPlace}
-use Rattle.tables.specs.Mesh.{Mesh, leftFace}
+use Rattle.tables.specs.Mesh.{Mesh, leftFace, edgeTable, leftAcw, rightCw}
 use Rattle.audited_meshes.specs.Walks.{firstPoint}
 use Rattle.refined_meshes.specs.State.{State, edgeOf, putEdge, putPoint, putFace}
 
@@ -46,13 +47,11 @@ faceRow r i = cond (eqb i 0) (r .face) (r .facesFrom + (i - 1))
 
 -- Of an edge with the face on its left the origin half comes first on the perimeter, and its LeftAcw is the other half; with the
 -- face on its right it comes second, and its RightCw is the other half.
-abbrev pub firstHalfOf : Bool → State → ℕ → ℕ
-firstHalfOf true s e = e
-firstHalfOf false s e = getD (edgeOf s e .connections) 2 0
+abbrev pub firstHalfOf : List ℕ → List ℕ → ℕ → ℕ → ℕ
+firstHalfOf old new f e = cond (onLeft (edgeTable old) f e) e (rightCw (edgeTable new) e)
 
-abbrev pub secondHalfOf : Bool → State → ℕ → ℕ
-secondHalfOf true s e = getD (edgeOf s e .connections) 1 0
-secondHalfOf false s e = e
+abbrev pub secondHalfOf : List ℕ → List ℕ → ℕ → ℕ → ℕ
+secondHalfOf old new f e = cond (onLeft (edgeTable old) f e) (leftAcw (edgeTable new) e) e
 
 abbrev pub withSide : Bool → ℕ → ℕ → ℕ → TnurccEdge → TnurccEdge
 withSide true f a c e =

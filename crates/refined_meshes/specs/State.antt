@@ -1,6 +1,7 @@
 -- The scratch tables while faces are visited: their rows, and how many rows of each kind are taken. Positions are no part of it: no
 -- visit reads or writes them, and they are put into their rows later.
 --     State                    the four tables and the rows taken so far
+--     stateOf ps es is fs p e f   the four tables with p points, e edges and f faces taken
 --     withPositions ps s       the five tables, with ps for positions
 --     edgeOf s e               the edge in row e
 --     putEdge e r s            the edge r stored in row e
@@ -14,7 +15,7 @@ use lib.ListN.{set}
 use lib.Ieee.{Float}
 use Rattle.t_spline.specs.declared.TnurccEdge.{TnurccEdge}
 use Rattle.tables.specs.Layout.{pointWidth, startWord, edgeWidth, faceWidth}
-use Rattle.tables.specs.Mesh.{Mesh}
+use Rattle.tables.specs.Mesh.{Mesh, meshOf}
 use Rattle.tables.specs.Rows.{putRow, over}
 use Rattle.tables.specs.Records.{edgeAt, edgeWords}
 
@@ -27,82 +28,40 @@ pub record State : Type 0 where
   pub edgesTaken : ℕ
   pub facesTaken : ℕ
 
+abbrev pub stateOf : List ℕ → List ℕ → List Float → List ℕ → ℕ → ℕ → ℕ → State
+stateOf ps es is fs p e f =
+    record { points = ps; edges = es; intervals = is; faces = fs; pointsTaken = p; edgesTaken = e; facesTaken = f }
+
 abbrev pub withPositions : List Float → State → Mesh
-withPositions ps s =
-    record { positions = ps; points = s .points; edges = s .edges; intervals = s .intervals; faces = s .faces }
+withPositions ps s = meshOf ps (s .points) (s .edges) (s .intervals) (s .faces)
 
 abbrev pub edgeOf : State → ℕ → TnurccEdge
 edgeOf s e = edgeAt (s .edges) (s .intervals) e
 
 unfoldable pub putEdge : ℕ → TnurccEdge → State → State
 putEdge e r s =
-    record {
-      points = s .points;
-      edges = putRow (s .edges) (e * edgeWidth) (edgeWords r);
-      intervals = set (s .intervals) e (r .«knot_interval»);
-      faces = s .faces;
-      pointsTaken = s .pointsTaken;
-      edgesTaken = s .edgesTaken;
-      facesTaken = s .facesTaken;
-    }
+    stateOf (s .points) (putRow (s .edges) (e * edgeWidth) (edgeWords r)) (set (s .intervals) e (r .«knot_interval»)) (s .faces)
+    (s .pointsTaken) (s .edgesTaken) (s .facesTaken)
 
 unfoldable pub putPoint : ℕ → ℕ → ℕ → ℕ → State → State
 putPoint p v e k s =
-    record {
-      points = putRow (s .points) (p * pointWidth) (v ∷ e ∷ k ∷ []);
-      edges = s .edges;
-      intervals = s .intervals;
-      faces = s .faces;
-      pointsTaken = s .pointsTaken;
-      edgesTaken = s .edgesTaken;
-      facesTaken = s .facesTaken;
-    }
+    stateOf (putRow (s .points) (p * pointWidth) (v ∷ e ∷ k ∷ [])) (s .edges) (s .intervals) (s .faces) (s .pointsTaken) (s .edgesTaken) (s .facesTaken)
 
 unfoldable pub putStart : ℕ → ℕ → State → State
 putStart p e s =
-    record {
-      points = set (s .points) (p * pointWidth + startWord) e;
-      edges = s .edges;
-      intervals = s .intervals;
-      faces = s .faces;
-      pointsTaken = s .pointsTaken;
-      edgesTaken = s .edgesTaken;
-      facesTaken = s .facesTaken;
-    }
+    stateOf (set (s .points) (p * pointWidth + startWord) e) (s .edges) (s .intervals) (s .faces) (s .pointsTaken) (s .edgesTaken) (s .facesTaken)
 
 unfoldable pub putFace : ℕ → ℕ → ℕ → ℕ → ℕ → ℕ → State → State
 putFace f e c0 c1 c2 c3 s =
-    record {
-      points = s .points;
-      edges = s .edges;
-      intervals = s .intervals;
-      faces = putRow (s .faces) (f * faceWidth) (e ∷ c0 ∷ c1 ∷ c2 ∷ c3 ∷ []);
-      pointsTaken = s .pointsTaken;
-      edgesTaken = s .edgesTaken;
-      facesTaken = s .facesTaken;
-    }
+    stateOf (s .points) (s .edges) (s .intervals) (putRow (s .faces) (f * faceWidth) (e ∷ c0 ∷ c1 ∷ c2 ∷ c3 ∷ []))
+    (s .pointsTaken) (s .edgesTaken) (s .facesTaken)
 
 -- further rows taken
 abbrev pub take : ℕ → ℕ → ℕ → State → State
 take p e f s =
-    record {
-      points = s .points;
-      edges = s .edges;
-      intervals = s .intervals;
-      faces = s .faces;
-      pointsTaken = s .pointsTaken + p;
-      edgesTaken = s .edgesTaken + e;
-      facesTaken = s .facesTaken + f;
-    }
+    stateOf (s .points) (s .edges) (s .intervals) (s .faces) (s .pointsTaken + p) (s .edgesTaken + e) (s .facesTaken + f)
 
 unfoldable pub copied : Mesh → ℕ → ℕ → ℕ → Mesh → State
 copied m np ne nf t =
-    record {
-      points = over (np * pointWidth) (m .points) (t .points);
-      edges = over (ne * edgeWidth) (m .edges) (t .edges);
-      intervals = over ne (m .intervals) (t .intervals);
-      faces = over (nf * faceWidth) (m .faces) (t .faces);
-      pointsTaken = np;
-      edgesTaken = ne;
-      facesTaken = nf;
-    }
+    stateOf (over (np * pointWidth) (m .points) (t .points)) (over (ne * edgeWidth) (m .edges) (t .edges)) (over ne (m .intervals) (t .intervals))
+    (over (nf * faceWidth) (m .faces) (t .faces)) np ne nf

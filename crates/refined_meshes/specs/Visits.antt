@@ -19,7 +19,7 @@ use Rattle.audited_meshes.specs.Walks.{edgesOf, passed, faceWalk}
 use Rattle.refined_meshes.specs.Turns.{turns, filled}
 use Rattle.refined_meshes.specs.State.{State, edgeOf, take, copied}
 use Rattle.refined_meshes.specs.Split.{splitWhole}
-use Rattle.refined_meshes.specs.Ring.{Ring, onLeft, firstHalfOf, secondHalfOf, putJoin, putFirst, putSecond, putNewFace, putFacePoint}
+use Rattle.refined_meshes.specs.Ring.{Ring, firstHalfOf, secondHalfOf, putJoin, putFirst, putSecond, putNewFace, putFacePoint}
 
 -- a perimeter has at most 64 places
 abbrev pub foundOn : List ℕ → ℕ → State → List Float
@@ -37,8 +37,8 @@ ringOf m f es n centre found s =
       joinsFrom = s .edgesTaken;
       facesFrom = s .facesTaken;
       edges = es;
-      firsts = filled n (λ i. firstHalfOf (onLeft m f (getD es i 0)) s (getD es i 0)) (replicate longestPerimeter 0);
-      seconds = filled n (λ i. secondHalfOf (onLeft m f (getD es i 0)) s (getD es i 0)) (replicate longestPerimeter 0);
+      firsts = filled n (λ i. firstHalfOf (m .edges) (s .edges) f (getD es i 0)) (replicate longestPerimeter 0);
+      seconds = filled n (λ i. secondHalfOf (m .edges) (s .edges) f (getD es i 0)) (replicate longestPerimeter 0);
       mids = filled n (λ i. edgeOf s (getD es i 0) .dest) (replicate longestPerimeter 0);
       found = found;
     }

@@ -1,7 +1,7 @@
 -- The laws of a step: from its tests to its end. Assumes nothing.
 use mathlib.Core.Path.{_≡_, refl, sym, _∙_, ap, subst}
 use mathlib.Core.Logic.{_≢_}
-use mathlib.Core.Bool.{Bool, true, false, cond}
+use mathlib.Core.Bool.{Bool, true, false}
 use mathlib.Core.List.{List, _++_}
 use Prim.Native.Nat.{ℕ, _*_}
 use lib.ListN.{length, take, drop}
@@ -13,13 +13,13 @@ use Rattle.tables.specs.Rows.{over}
 use Rattle.tables.specs.declared.Counts.{Counts}
 use Rattle.audited_meshes.specs.Audit.{audit}
 use Rattle.steps.specs.declared.Stepped.the-variants.{Refined, NotClosed, NotEachFaceOnce, NoRoom, NotFinite}
-use Rattle.steps.specs.Step.{Made, whole, notFinite, Outcome, refusal, ended, firstRows, zeroedRows, overRows, refinedCounts, eachFaceOnce, roomFor, stepIf, step}
+use Rattle.steps.specs.Step.{Made, whole, notFinite, Outcome, refusal, ended, refinedCounts, eachFaceOnce, roomFor, testedIf, tested, stepBy, step}
+use Rattle.tables.specs.Counted.{firstRows, zeroedRows, overRows}
 use Rattle.steps.specs.declared.Stepped.{Stepped}
 use Rattle.steps.specs.Rows.{Room}
 use Rattle.steps.proofs.Rows.{room-of-holds, holds-firstRows, room-firstRows, points-fit, edges-fit, faces-fit}
 use Rattle.steps.proofs.Grounds.{eachFaceOnce-is, rooms-of-test, step-is}
 use Rattle.audited_meshes.proofs.Holds.{audit-is-closed}
-use Rattle.step_grounds.specs.Tested.{tested}
 use Rattle.refining.specs.Refining.{Passed}
 
 over-first : {A : Type 0} (n : ℕ) (new xs : List A) → over n (take n new) xs ≡ over n new xs
@@ -69,12 +69,12 @@ rooms-kept c t t₁ lp lw le li lf h =
 module _ (m : Mesh) (c : Counts) (order : List ℕ) (t : Mesh) where
   tested-is :
       {a o r : Bool} → audit m (c .points) (c .edges) (c .faces) ≡ a → eachFaceOnce (c .faces) order ≡ o → roomFor (refinedCounts c) m t ≡ r →
-      tested m c order t ≡ cond a (cond o (cond r (Refined (refinedCounts c)) NoRoom) NotEachFaceOnce) NotClosed
+      tested m c order t ≡ testedIf a o r (refinedCounts c)
   tested-is ha ho hr = rw (ha, ho, hr)
 
   all-passed : audit m (c .points) (c .edges) (c .faces) ≡ true → eachFaceOnce (c .faces) order ≡ true
       → roomFor (refinedCounts c) m t ≡ true → Passed m c order t (refinedCounts c)
-  unfolding stepIf
+  unfolding stepBy
   all-passed ha ho hr =
       let h = audit-is-closed m (c .points) (c .edges) (c .faces) .0 ha in
       let rooms = rooms-of-test (refinedCounts c) m t hr in
@@ -116,13 +116,9 @@ module _ (m : Mesh) (c : Counts) (order : List ℕ) (t : Mesh) where
 
   -- A ground that is not the counts is answered with everything untouched.
   pub refused : (g : Stepped) → g ≡ tested m c order t → ((c' : Counts) → g ≢ Refined c') → refusal g m t ≡ step m c order t
-  unfolding stepIf
-  refused g e n = go _ refl _ refl _ refl
-    where
-      go :
-          (a : Bool) → audit m (c .points) (c .edges) (c .faces) ≡ a → (o : Bool) → eachFaceOnce (c .faces) order ≡ o → (r : Bool) →
-          roomFor (refinedCounts c) m t ≡ r → refusal g m t ≡ step m c order t
-      go false ha o ho r hr = ap (λ x. refusal x m t) (e ∙ tested-is ha ho hr) ∙ sym (step-is m c order t ha ho hr)
-      go true ha false ho r hr = ap (λ x. refusal x m t) (e ∙ tested-is ha ho hr) ∙ sym (step-is m c order t ha ho hr)
-      go true ha true ho false hr = ap (λ x. refusal x m t) (e ∙ tested-is ha ho hr) ∙ sym (step-is m c order t ha ho hr)
-      go true ha true ho true hr = absurd (n (refinedCounts c) (e ∙ tested-is ha ho hr))
+  unfolding step stepBy
+  refused (Refined c') e n = absurd (n c' refl)
+  refused NotClosed e n = ap (λ x. stepBy x m c order t) e
+  refused NotEachFaceOnce e n = ap (λ x. stepBy x m c order t) e
+  refused NoRoom e n = ap (λ x. stepBy x m c order t) e
+  refused NotFinite e n = ap (λ x. stepBy x m c order t) e

@@ -5,7 +5,8 @@ use mathlib.Core.Path.{_≡_}
 use Prim.Native.Nat.{ℕ}
 use Rattle.tables.specs.Mesh.{Mesh}
 use Rattle.tables.specs.declared.Counts.{Counts}
-use Rattle.steps.specs.Step.{firstRows, made, ended, step}
+use Rattle.steps.specs.Step.{made, ended, step}
+use Rattle.tables.specs.Counted.{firstRows}
 use Rattle.steps.specs.Rows.{Room}
 use Rattle.making.specs.Making.{Ready}
 

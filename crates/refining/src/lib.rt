@@ -4,7 +4,8 @@
 // Contract: `step`. Definition: `steps`, specs/Step.antt, `step`.
 ghost use mathlib.Core.Path.{_≡_};
 ghost use Rattle.tables.specs.Mesh.{meshOf};
-ghost use Rattle.steps.specs.Step.{firstRows, zeroedRows, overRows, made, step, Outcome};
+ghost use Rattle.steps.specs.Step.{made, step, Outcome};
+ghost use Rattle.tables.specs.Counted.{firstRows, zeroedRows, overRows};
 ghost use Rattle.steps.specs.OneStep.{Binary64};
 ghost use Rattle.steps.specs.Rows.{Room};
 ghost use Rattle.making.specs.Making.{madeAs};

@@ -13,7 +13,7 @@ use lib.Ieee.{Float, nan, add, binary64}
 use Rattle.perimeters.specs.Places.{nextPlace, prevPlace}
 use Rattle.tables.specs.declared.Counts.{Counts}
 use Rattle.tables.specs.Rows.{putRow}
-use Rattle.walks.specs.Steps.{faceTables}
+use Rattle.tables.specs.Parts.{faceTables}
 use Rattle.refined_meshes.specs.State.{State, putEdge}
 use Rattle.refined_meshes.specs.Ring.{faceRow, putSide, putJoin, putFirst, putSecond}
 use Rattle.splitting.specs.Scratch.{tablesOf}

@@ -10,7 +10,7 @@ ghost use lib.ListN.{length, getD};
 ghost use lib.Ieee.{Float};
 ghost use Rattle.tables.specs.Layout.{edgeWidth};
 ghost use Rattle.tables.specs.declared.Counts.{Counts};
-ghost use Rattle.walks.specs.Steps.{faceTables};
+ghost use Rattle.tables.specs.Parts.{faceTables};
 ghost use Rattle.refined_meshes.specs.Turns.{turns};
 ghost use Rattle.refined_meshes.specs.State.{State, putEdge};
 ghost use Rattle.refined_meshes.specs.Ring.{putSide, putJoin, putFirst, putSecond};

@@ -11,7 +11,7 @@ use lib.ListN.{length, getD}
 use lib.Ieee.{Float}
 use Rattle.perimeters.specs.Places.{prevPlace}
 use Rattle.audited_meshes.specs.Walks.{firstPoint}
-use Rattle.walks.specs.Steps.{faceTables}
+use Rattle.tables.specs.Parts.{faceTables}
 use Rattle.refined_meshes.specs.State.{State, putFace}
 use Rattle.refined_meshes.specs.Ring.{faceRow, putNewFace}
 use Rattle.ring_places.specs.declared.RingRows.{RingRows}

@@ -10,7 +10,7 @@ ghost use lib.Ieee.{Float};
 ghost use Rattle.tables.specs.Layout.{pointWidth, edgeWidth, faceWidth};
 ghost use Rattle.tables.specs.declared.Counts.{Counts};
 ghost use Rattle.audited_meshes.specs.Walks.{firstPoint};
-ghost use Rattle.walks.specs.Steps.{faceTables};
+ghost use Rattle.tables.specs.Parts.{faceTables};
 ghost use Rattle.refined_meshes.specs.Turns.{turns};
 ghost use Rattle.refined_meshes.specs.State.{State};
 ghost use Rattle.refined_meshes.specs.Ring.{faceRow, putNewFace, putFacePoint};

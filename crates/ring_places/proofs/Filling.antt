@@ -8,14 +8,14 @@ use native.Mathlib.Omega.{arith}
 use lib.Dec.{eqb}
 use lib.ListN.{getD, set}
 use Rattle.refined_meshes.specs.Turns.{filled}
-use Rattle.ring_places.specs.Rings.{firstOf, secondOf}
+use Rattle.refined_meshes.specs.Ring.{firstHalfOf, secondHalfOf}
 use Rattle.refined_meshes.proofs.Turns.{filled-none, filled-turn, filled-end}
 
 abbrev firstAt : List ℕ → List ℕ → List ℕ → ℕ → ℕ → ℕ
-firstAt me es pe f i = firstOf me es f (getD pe i 0)
+firstAt me es pe f i = firstHalfOf me es f (getD pe i 0)
 
 abbrev secondAt : List ℕ → List ℕ → List ℕ → ℕ → ℕ → ℕ
-secondAt me es pe f i = secondOf me es f (getD pe i 0)
+secondAt me es pe f i = secondHalfOf me es f (getD pe i 0)
 
 abbrev midAt : List ℕ → List ℕ → ℕ → ℕ
 midAt es pe i = getD es (getD pe i 0 * 8 + 1) 0

@@ -1,13 +1,9 @@
 -- The ring of a face as the code holds it: its rows in a struct, and what stands at its places in arrays.
 --     ring rows es hs gs ms ds      the ring with these rows, the perimeter es, first halves hs, second halves gs, midpoints ms, intervals ds
---     firstOf old new f e           the half of the edge e at its first point seen along the face f, found in the tables of edges
---     secondOf old new f e          the half at its second point: old is the mesh's table of edges, new the scratch table
 --     Small rows                    the rows of a ring are below the ceilings, and its places are 1 to 64
 --     Rows es xs n                  the first n of xs are rows of the table of edges es
-use mathlib.Core.Bool.{cond}
 use mathlib.Core.List.{List}
 use Prim.Native.Nat.{ℕ, _+_, _*_, _≤_, _<_}
-use lib.Dec.{eqb}
 use lib.ListN.{length, getD}
 use lib.Ieee.{Float}
 use Rattle.tables.specs.Layout.{edgeWidth, leftFaceWord, leftAcwWord, rightCwWord}
@@ -29,12 +25,6 @@ ring rows es hs gs ms ds =
       mids = ms;
       found = ds;
     }
-
-abbrev pub firstOf : List ℕ → List ℕ → ℕ → ℕ → ℕ
-firstOf old new f e = cond (eqb (getD old (e * edgeWidth + leftFaceWord) 0) f) e (getD new (e * edgeWidth + rightCwWord) 0)
-
-abbrev pub secondOf : List ℕ → List ℕ → ℕ → ℕ → ℕ
-secondOf old new f e = cond (eqb (getD old (e * edgeWidth + leftFaceWord) 0) f) (getD new (e * edgeWidth + leftAcwWord) 0) e
 
 pub record Small (rows : RingRows) : Type 0 where
   pub some-places : 0 < rows .size

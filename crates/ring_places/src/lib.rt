@@ -12,8 +12,8 @@ ghost use lib.ListN.{length, getD};
 ghost use lib.Ieee.{nan};
 ghost use Rattle.tables.specs.Layout.{edgeWidth, destWord, leftFaceWord, leftAcwWord, rightCwWord, longestPerimeter};
 ghost use Rattle.refined_meshes.specs.Turns.{filled};
-ghost use Rattle.refined_meshes.specs.Ring.{faceRow};
-ghost use Rattle.ring_places.specs.Rings.{ring, firstOf, secondOf, Small, Rows};
+ghost use Rattle.refined_meshes.specs.Ring.{faceRow, firstHalfOf, secondHalfOf};
+ghost use Rattle.ring_places.specs.Rings.{ring, Small, Rows};
 use tables::DEST_WORD;
 use tables::EDGE_WIDTH;
 use tables::LEFT_ACW_WORD;
@@ -98,10 +98,10 @@ pub fn put_places(
     requires { ⌜ Rows (now edges) (now perimeter) n ⌝ }
     ensures { λ _. ⌜
         now (firsts .exit) ≡
-        filled n (λ i. firstOf (now (oldedges .entry)) (now (edges .entry)) f (getD (now (perimeter .entry)) i 0)) (now (firsts .entry)) ⌝ }
+        filled n (λ i. firstHalfOf (now (oldedges .entry)) (now (edges .entry)) f (getD (now (perimeter .entry)) i 0)) (now (firsts .entry)) ⌝ }
     ensures { λ _. ⌜
         now (seconds .exit) ≡
-        filled n (λ i. secondOf (now (oldedges .entry)) (now (edges .entry)) f (getD (now (perimeter .entry)) i 0)) (now (seconds .entry)) ⌝ }
+        filled n (λ i. secondHalfOf (now (oldedges .entry)) (now (edges .entry)) f (getD (now (perimeter .entry)) i 0)) (now (seconds .entry)) ⌝ }
     ensures { λ _. ⌜
         now (mids .exit) ≡ filled n (λ i. getD (now (edges .entry)) (getD (now (perimeter .entry)) i 0 * edgeWidth + destWord) 0) (now (mids .entry)) ⌝ }
 {

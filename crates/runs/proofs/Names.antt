@@ -11,13 +11,14 @@ use Rattle.tables.specs.declared.Counts.{Counts}
 use Rattle.closed_meshes.specs.Mesh.{Place, place0, place1, place2, place3, Dart, edge, first, face}
 use Rattle.closed_meshes.specs.Refinement.{NewPoint, old, mid, facePoint, NewEdge, org, dst, join, refined}
 use Rattle.closed_meshes.specs.Renumbering.{Row}
-use Rattle.closed_meshes.specs.Names.{destinationHalfOf, joiningEdgeOf, newFaceOf, newPointName, newEdgeName, newFaceName}
-use Rattle.closed_meshes.specs.Runs.{Step}
+use Rattle.closed_meshes.specs.Names.{destinationHalfOf, joiningEdgeOf, newFaceOf}
+use Rattle.closed_meshes.specs.Runs.{newPointName, newEdgeName, newFaceName, Step}
 use Rattle.closed_meshes.proofs.Counting.{row-path}
 use Rattle.closed_meshes.proofs.Groupoid.{isomorphism-trans}
 use Rattle.closed_meshes.proofs.Isomorphisms.{to-injective, onto}
 use Rattle.audited_meshes.specs.Rows.{place, cornerWord}
-use Rattle.steps.specs.Step.{refinedCounts, firstRows}
+use Rattle.steps.specs.Step.{refinedCounts}
+use Rattle.tables.specs.Counted.{firstRows}
 use Rattle.steps.specs.OneStep.{Refinement}
 use Rattle.runs.specs.Runs.{lent, NamedMesh, stage, NewNames}
 use Rattle.runs.proofs.Readings.{PointsFirst, reading}

@@ -22,7 +22,8 @@ use Rattle.closed_meshes.proofs.Isomorphisms.{onto}
 use Rattle.audited_meshes.specs.Rows.{HoldsClosed}
 use Rattle.steps.specs.declared.Stepped.{Stepped}
 use Rattle.steps.specs.declared.Stepped.the-variants.{Refined, NotClosed, NotEachFaceOnce, NoRoom, NotFinite}
-use Rattle.steps.specs.Step.{numberOf, refinedCounts, firstRows}
+use Rattle.steps.specs.Step.{numberOf, refinedCounts}
+use Rattle.tables.specs.Counted.{firstRows}
 use Rattle.steps.specs.OneStep.{Refinement, Binary64}
 use Rattle.runs.specs.Runs.{Lent, Handed, outcome, after, run, oneMore, accepted, lent, NamedMesh, stage, NewNames, SameNames, Renamed, Naming, done, further}
 use Rattle.runs.proofs.Names.{point, edge-no, face-no, point-name, edge-name, face-name, step-of-names, named-after, new-names}

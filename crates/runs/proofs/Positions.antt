@@ -11,11 +11,12 @@ use Rattle.tables.specs.Records.{positionAt}
 use Rattle.tables.specs.declared.Counts.{Counts}
 use Rattle.closed_meshes.specs.Refinement.{NewPoint, old, mid, facePoint}
 use Rattle.closed_meshes.specs.Renumbering.{Row}
-use Rattle.closed_meshes.specs.Names.{PointName, EdgeName, FaceName, givenPoint, midpointOf, facePointOf, givenEdge, destinationHalfOf, joiningEdgeOf, givenFace, newFaceOf, givenNames, newPointName}
+use Rattle.closed_meshes.specs.Names.{PointName, EdgeName, FaceName, givenPoint, midpointOf, facePointOf, givenEdge, destinationHalfOf, joiningEdgeOf, givenFace, newFaceOf, givenNames}
+use Rattle.closed_meshes.specs.Runs.{newPointName}
 use Rattle.closed_meshes.proofs.Isomorphisms.{onto}
 use Rattle.position_rules.specs.FacePoint.{facePointOf as facePointIn}
 use Rattle.position_rules.specs.Rules.{edgePointOf, oldPointOf}
-use Rattle.steps.specs.Step.{firstRows}
+use Rattle.tables.specs.Counted.{firstRows}
 use Rattle.steps.specs.OneStep.{Refinement, Binary64}
 use Rattle.runs.specs.Runs.{Lent, Handed, accepted, lent, NamedMesh, SameNames, Naming}
 use Rattle.runs.proofs.Names.{point, point-name}

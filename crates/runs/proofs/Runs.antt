@@ -11,8 +11,8 @@ use Rattle.tables.specs.Records.{positionAt}
 use Rattle.tables.specs.declared.Counts.{Counts}
 use Rattle.closed_meshes.specs.Renumbering.{Row}
 use Rattle.closed_meshes.specs.Names.{givenPoint, givenNames}
-use Rattle.closed_meshes.specs.Shared.{Stage, Shared}
-use Rattle.closed_meshes.specs.Runs.{Run, begin, NamesDiffer}
+use Rattle.closed_meshes.specs.Shared.{Stage, Shared, NamesDiffer}
+use Rattle.closed_meshes.specs.Runs.{Run, begin}
 use Rattle.closed_meshes.proofs.Counting.{row-path}
 use Rattle.closed_meshes.proofs.Groupoid.{isomorphism-trans}
 use Rattle.closed_meshes.proofs.Names.{names-differ}
@@ -20,7 +20,7 @@ use Rattle.closed_meshes.proofs.Runs.{Matching, matching-run}
 use Rattle.closed_meshes.proofs.TwoRuns.{shared-of-matching}
 use Rattle.audited_meshes.specs.Rows.{HoldsClosed}
 use Rattle.audited_meshes.proofs.Holds.{audited-of-closed, audit-is-closed}
-use Rattle.steps.specs.Step.{firstRows}
+use Rattle.tables.specs.Counted.{firstRows}
 use Rattle.steps.specs.OneStep.{Binary64}
 use Rattle.steps.proofs.Rows.{SameRows, same-of-firstRows, room-of-firstRows, room-of-holds, holds-same, position-same}
 use Rattle.runs.specs.Runs.{Lent, Handed, run, accepted, inNumberedOrder, lent, NamedMesh, stage, SameNames, NamedRun, TwoRuns, Demand3}

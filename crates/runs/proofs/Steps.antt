@@ -14,7 +14,8 @@ use Rattle.audited_meshes.specs.Rows.{HoldsClosed}
 use Rattle.audited_meshes.proofs.Holds.{audit-is-closed}
 use Rattle.steps.specs.declared.Stepped.{Stepped}
 use Rattle.steps.specs.declared.Stepped.the-variants.{Refined, NotClosed, NotEachFaceOnce, NoRoom, NotFinite}
-use Rattle.steps.specs.Step.{numberOf, refinedCounts, firstRows, whole, made}
+use Rattle.steps.specs.Step.{numberOf, refinedCounts, whole, made}
+use Rattle.tables.specs.Counted.{firstRows}
 use Rattle.steps.specs.OneStep.{Binary64, Accepted}
 use Rattle.steps.proofs.Grounds.{untouched}
 use Rattle.steps.proofs.OneStep.{one-step}

@@ -34,13 +34,13 @@ use Rattle.tables.specs.declared.Counts.{Counts}
 use Rattle.closed_meshes.specs.Mesh.{Place}
 use Rattle.closed_meshes.specs.Renumbering.{Row}
 use Rattle.closed_meshes.specs.Names.{Names, midpointOf, facePointOf, destinationHalfOf, joiningEdgeOf, newFaceOf, givenNames}
-use Rattle.closed_meshes.specs.Shared.{Stage, Shared}
-use Rattle.closed_meshes.specs.Runs.{NamesDiffer}
+use Rattle.closed_meshes.specs.Shared.{Stage, Shared, NamesDiffer}
 use Rattle.audited_meshes.specs.Audit.{audit}
 use Rattle.audited_meshes.specs.Rows.{HoldsClosed, place}
 use Rattle.steps.specs.declared.Stepped.{Stepped}
 use Rattle.steps.specs.declared.Stepped.the-variants.{Refined, NotClosed, NotEachFaceOnce, NoRoom, NotFinite}
-use Rattle.steps.specs.Step.{numberOf, refinedCounts, firstRows, whole, made, Outcome, step}
+use Rattle.steps.specs.Step.{numberOf, refinedCounts, whole, made, Outcome, step}
+use Rattle.tables.specs.Counted.{firstRows}
 use Rattle.steps.specs.OneStep.{Refinement, Binary64}
 
 -- ---- runs

@@ -4,7 +4,8 @@
 ghost use mathlib.Core.Path.{_≡_};
 ghost use Prim.Native.Nat.{_+_, _*_, _<_};
 ghost use Rattle.tables.specs.Mesh.{meshOf};
-ghost use Rattle.steps.specs.Step.{refinedCounts, rowsFor, withinCeilings};
+ghost use Rattle.steps.specs.Step.{refinedCounts, withinCeilings};
+ghost use Rattle.tables.specs.Counted.{rowsFor, zeroedRows, overRows};
 use tables::Counts;
 use tables::EDGE_CEILING;
 use tables::FACE_CEILING;

@@ -9,19 +9,10 @@ use lib.ListN.{length}
 use lib.Ieee.{Float}
 use Rattle.tables.specs.Layout.{pointWidth, edgeWidth, pointCeiling, edgeCeiling}
 use Rattle.tables.specs.declared.Counts.{Counts}
-use Rattle.refined_meshes.specs.State.{State}
+use Rattle.refined_meshes.specs.State.{State, stateOf}
 
 abbrev pub tablesOf : List ℕ → List ℕ → List Float → List ℕ → Counts → State
-tablesOf ps es is fs c =
-    record {
-      points = ps;
-      edges = es;
-      intervals = is;
-      faces = fs;
-      pointsTaken = c .points;
-      edgesTaken = c .edges;
-      facesTaken = c .faces;
-    }
+tablesOf ps es is fs c = stateOf ps es is fs (c .points) (c .edges) (c .faces)
 
 abbrev pub scratch : List ℕ → List ℕ → List Float → Counts → State
 scratch ps es is c = tablesOf ps es is [] c

@@ -1,10 +1,10 @@
 // The grounds on which a step is refused before anything is written: 30, 31 and 32, in document 01's order.
 // Not here: the step itself (`refining`), ground 33 (`making`).
 // Names: `places`, `rows`, `halves`, `lengths` and `quads` are the scratch tables of positions, points, edges, intervals, faces.
-// Contract: `first_ground`. Definition: `specs/Tested.antt`, from the tests of `steps`, specs/Step.antt.
+// Contract: `first_ground`. Definition: `tested` of `steps`, specs/Step.antt.
 ghost use mathlib.Core.Path.{_≡_};
 ghost use Rattle.tables.specs.Mesh.{meshOf};
-ghost use Rattle.step_grounds.specs.Tested.{tested};
+ghost use Rattle.steps.specs.Step.{tested};
 use audit::audit;
 use orders::each_face_once;
 use scratch_rows::refined_counts;

@@ -10,7 +10,7 @@ use Rattle.tables.specs.Mesh.{Mesh}
 use Rattle.tables.specs.Rows.{over, zeroed}
 use Rattle.tables.specs.declared.Counts.{Counts}
 use Rattle.audited_meshes.specs.Walks.{faceWalk}
-use Rattle.walks.specs.Border.{again}
+use Rattle.audited_meshes.specs.Folds.{again}
 use Rattle.refined_meshes.specs.Turns.{turns, filled}
 use Rattle.refined_meshes.specs.State.{putEdge, putPoint, putStart, putFace, copied}
 use Rattle.refined_meshes.specs.Split.{split, splitWhole}

@@ -15,10 +15,10 @@ use Prim.Native.Nat.{ℕ, _≤_, _<_}
 use native.Mathlib.Omega.{arith}
 use lib.ListN.{length, getD}
 use lib.Ieee.{Float}
-use Rattle.tables.specs.Mesh.{Mesh}
+use Rattle.tables.specs.Mesh.{Mesh, pointRows, edgeRows, faceRows}
 use Rattle.tables.specs.declared.Counts.{Counts}
 use Rattle.audited_meshes.specs.Folds.{distinct}
-use Rattle.audited_meshes.specs.Audit.{pointRows, edgeRows, faceRows, audit}
+use Rattle.audited_meshes.specs.Audit.{audit}
 use Rattle.audited_meshes.proofs.Tests.{and-is, eqb-is, ltb-is, leb-is, not-is, self-is, every-is}
 use Rattle.refined_meshes.specs.State.{State, withPositions}
 use Rattle.refined_meshes.specs.Order.{EachOnce}
@@ -26,7 +26,8 @@ use Rattle.refined_meshes.specs.Visits.{refinedRows}
 use Rattle.steps.specs.declared.Stepped.{Stepped}
 use Rattle.steps.specs.declared.Stepped.the-variants.{Refined, NotClosed, NotEachFaceOnce, NoRoom, NotFinite}
 use Rattle.steps.specs.Positions.{Placing, on, stopped, placedAll}
-use Rattle.steps.specs.Step.{numberOf, refinedCounts, eachFaceOnce, rowsFor, withinCeilings, roomFor, firstRows, overRows, Made, whole, notFinite, madeOf, placedRows, made, refusal, ended, stepIf, step}
+use Rattle.steps.specs.Step.{numberOf, refinedCounts, eachFaceOnce, withinCeilings, roomFor, Made, whole, notFinite, madeOf, placedRows, made, refusal, ended, testedIf, stepBy, step}
+use Rattle.tables.specs.Counted.{rowsFor, firstRows, overRows}
 use Rattle.steps.specs.Rows.{Room}
 use Rattle.steps.specs.OneStep.{Refused, Untouched}
 use Rattle.steps.proofs.Rows.{room-of-rows}
@@ -81,7 +82,7 @@ module _ (m : Mesh) (c : Counts) (order : List ℕ) (t : Mesh) where
   -- The step by the answers of its tests.
   pub step-is :
       {a o r : Bool} → audit m (c .points) (c .edges) (c .faces) ≡ a → eachFaceOnce (c .faces) order ≡ o → roomFor (refinedCounts c) m t ≡ r →
-      step m c order t ≡ stepIf a o r m c order t
+      step m c order t ≡ stepBy (testedIf a o r (refinedCounts c)) m c order t
   unfolding step
   step-is ha ho hr = rw (ha, ho, hr)
 
@@ -89,11 +90,11 @@ module _ (m : Mesh) (c : Counts) (order : List ℕ) (t : Mesh) where
   pub step-made :
       audit m (c .points) (c .edges) (c .faces) ≡ true → eachFaceOnce (c .faces) order ≡ true → roomFor (refinedCounts c) m t ≡ true →
       (w : Made) → begun ≡ w → step m c order t ≡ ended m (refinedCounts c) t w
-  unfolding stepIf begun
+  unfolding stepBy begun
   step-made ha ho hr w e = step-is ha ho hr ∙ ap (ended m (refinedCounts c) t) e
 
   pub taken : (c' : Counts) → step m c order t .answer ≡ Refined c' → Taken m c order t c'
-  unfolding stepIf ended begun
+  unfolding stepBy ended begun
   taken c' e = go _ refl _ refl _ refl
     where
       mending : audit m (c .points) (c .edges) (c .faces) ≡ true → eachFaceOnce (c .faces) order ≡ true → roomFor (refinedCounts c) m t ≡ true → (w : Made) → begun ≡ w → Taken m c order t c'
@@ -142,7 +143,7 @@ module _ (m : Mesh) (c : Counts) (order : List ℕ) (t : Mesh) where
 
 -- A refused step leaves the tables as found, and scratch too but for 33.
 pub untouched : Untouched
-unfolding stepIf ended begun
+unfolding stepBy ended begun
 untouched m c order t g e = go _ refl _ refl _ refl
   where
     mending :

@@ -31,7 +31,7 @@ use Rattle.refined_meshes.proofs.Perimeters.{perimeter-size, perimeter-edge}
 use Rattle.position_rules.specs.FacePoint.{facePointOf}
 use Rattle.position_rules.specs.Claims.{Found}
 use Rattle.position_rules.proofs.Joins.{joining-fits}
-use Rattle.steps.specs.Step.{firstRows}
+use Rattle.tables.specs.Counted.{firstRows}
 use Rattle.steps.specs.OneStep.{Binary64}
 
 -- two places on from the place before, counted round, is the next place

@@ -16,7 +16,8 @@ use Rattle.refined_meshes.specs.Order.{EachOnce}
 use Rattle.refined_meshes.specs.Visits.{refinedRows}
 use Rattle.refined_meshes.proofs.Refines.{visits-refine}
 use Rattle.steps.specs.declared.Stepped.the-variants.{Refined, NotFinite}
-use Rattle.steps.specs.Step.{refinedCounts, firstRows, Made, whole, notFinite, madeOf, placedRows, made, ended, step}
+use Rattle.steps.specs.Step.{refinedCounts, Made, whole, notFinite, madeOf, placedRows, made, ended, step}
+use Rattle.tables.specs.Counted.{firstRows}
 use Rattle.steps.specs.OneStep.{AllFinite, Not-finite-exactly}
 use Rattle.steps.proofs.Rows.{points-fit, edges-fit, faces-fit, Exact, exact-firstRows, room-of-exact, holds-firstRows}
 use Rattle.steps.proofs.NewPositions.{PointRows, placed-all, all-put}

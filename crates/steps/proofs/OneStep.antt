@@ -37,7 +37,8 @@ use Rattle.position_rules.specs.Rules.{edgePointOf, oldPointOf}
 use Rattle.position_rules.specs.Claims.{Found}
 use Rattle.position_rules.proofs.Floats.{half-fit}
 use Rattle.steps.specs.Positions.{on, facePointRow, edgePointRow, placedAll}
-use Rattle.steps.specs.Step.{refinedCounts, firstRows, overRows, whole, step}
+use Rattle.steps.specs.Step.{refinedCounts, whole, step}
+use Rattle.tables.specs.Counted.{firstRows, overRows}
 use Rattle.steps.specs.OneStep.{Refinement, Binary64, OneStep}
 use Rattle.steps.proofs.Rows.{points-fit, edges-fit, faces-fit, Exact, exact-firstRows, room-of-exact, room-of-holds, holds-same, holds-firstRows, SameRows, firstRows-overRows, same-overRows, room-overRows, position-same}
 use Rattle.steps.proofs.NewPositions.{PointRows, AllPlaced, placed-all, length-all}

@@ -17,7 +17,8 @@ use lib.Ieee.{Float, nan}
 use Rattle.positions.specs.declared.Position.{Position}
 use Rattle.positions.specs.Position.{finitePosition, placedIf, placedAt}
 use Rattle.tables.specs.Rows.{putRow}
-use Rattle.tables.specs.Records.{positionAt, placeOf}
+use Rattle.tables.specs.Records.{positionAt}
+use Rattle.tables.specs.Loaded.{placeOf}
 use Rattle.tables.proofs.Laws.{length-putRow, getD-putRow, getD-putRow-other}
 use Rattle.steps.specs.Positions.{Placing, on, stopped, put, putNext, placed}
 

@@ -9,16 +9,15 @@ use native.Mathlib.Omega.{arith}
 use lib.ListN.{length, getD, take, drop, length-take}
 use lib.Seq.{getD-take, length-take-le, take-append-le, take-all}
 use lib.Ieee.{nan}
-use Rattle.tables.specs.Mesh.{Mesh}
+use Rattle.tables.specs.Mesh.{Mesh, pointRows, edgeRows, faceRows}
 use Rattle.tables.specs.Rows.{over}
 use Rattle.tables.specs.Records.{positionAt}
 use Rattle.tables.specs.declared.Counts.{Counts}
 use Rattle.closed_meshes.specs.Mesh.{Mesh as MeshOver}
 use Rattle.closed_meshes.specs.Renumbering.{Row}
-use Rattle.audited_meshes.specs.Audit.{pointRows, edgeRows, faceRows}
 use Rattle.audited_meshes.specs.Rows.{place, Stands, Fit, HoldsClosed}
 use Rattle.audited_meshes.proofs.Rows.{place-below}
-use Rattle.steps.specs.Step.{firstRows, overRows}
+use Rattle.tables.specs.Counted.{firstRows, overRows}
 use Rattle.steps.specs.Rows.{Room}
 
 pub room-of-rows : (c : Counts) (t : Mesh) → c .points ≤ pointRows t → c .edges ≤ edgeRows t → c .faces ≤ faceRows t → Room c t

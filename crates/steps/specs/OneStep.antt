@@ -30,7 +30,8 @@ use Rattle.refined_meshes.specs.Refines.{Refines}
 use Rattle.position_rules.specs.FacePoint.{facePointOf}
 use Rattle.position_rules.specs.Rules.{edgePointOf, oldPointOf}
 use Rattle.steps.specs.declared.Stepped.the-variants.{Refined, NotFinite}
-use Rattle.steps.specs.Step.{numberOf, refinedCounts, eachFaceOnce, roomFor, firstRows, zeroedRows, whole, made, step}
+use Rattle.steps.specs.Step.{numberOf, refinedCounts, eachFaceOnce, roomFor, whole, made, step}
+use Rattle.tables.specs.Counted.{firstRows, zeroedRows}
 
 pub record Refinement
     (m : Mesh) (c : Counts) (t : MeshOver (Row (c .points)) (Row (c .edges)) (Row (c .faces))) (d : Closed t) (order : List ℕ) (m' : Mesh) : Type 0

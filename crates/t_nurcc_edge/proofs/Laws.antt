@@ -5,13 +5,15 @@ use mathlib.Core.List.{List}
 use Prim.Native.Nat.{ℕ, _*_}
 use lib.Ieee.{Float}
 use lib.ListN.{length}
-use Rattle.edge_links.specs.Connect.{connected, joinable}
+use Rattle.edge_links.specs.Connect.{connected}
+use Rattle.edge_links.specs.Joinable.{joinable}
 use Rattle.edge_links.specs.declared.Pair.{Pair}
 use Rattle.t_spline.specs.declared.TnurccEdge.{TnurccEdge}
 use Rattle.tables.specs.Rows.{putRow}
 use Rattle.tables.specs.Records.{edgeAt, edgeWords}
 use Rattle.tables.proofs.Laws.{length-putRow}
-use Rattle.t_nurcc_edge.specs.Connected.{connectedRows, joinableRows}
+use Rattle.t_nurcc_edge.specs.Connected.{connectedRows}
+use Rattle.t_nurcc_edge.specs.Joinable.{joinableRows}
 
 -- The code's steps: a and b are the indices of the rows i and j, e and o the edges loaded, es₁ and es₂ the table after each store.
 module _ (es : List ℕ) (is : List Float) {i j a b : ℕ} {e o : TnurccEdge} (ai : a ≡ i) (bj : b ≡ j)

@@ -26,7 +26,8 @@ use Rattle.t_spline.proofs.Laws.{index-below}
 use Rattle.tables.specs.Rows.{putRow}
 use Rattle.tables.specs.Records.{edgeAt, edgeWords}
 use Rattle.tables.proofs.Laws.{set-putRow, set-putRow-other}
-use Rattle.t_nurcc_edge.specs.Connected.{paired, connectedRows, Linkable}
+use Rattle.t_nurcc_edge.specs.Connected.{paired, connectedRows}
+use Rattle.t_nurcc_edge.specs.Joinable.{Linkable}
 
 abbrev row : TnurccEdge → List ℕ → List ℕ
 row e cs = e .origin ∷ e .dest ∷ e .«face_left» ∷ e .«face_right» ∷ getD cs 0 0 ∷ getD cs 1 0 ∷ getD cs 2 0 ∷ getD cs 3 0 ∷ []

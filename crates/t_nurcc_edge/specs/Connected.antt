@@ -2,15 +2,10 @@
 --     pairOf es is i j           the edges i and j after connecting them
 --     paired es i j p            the table of edges with the pair p stored in the rows i and j, the first before the other
 --     connectedRows es is i j    the table of edges after connecting them
---     joinableRows es is i j     whether they share a face and a point
---     Linkable p                 both edges of the pair have four neighbours
-use mathlib.Core.Path.{_≡_}
-use mathlib.Core.Bool.{Bool}
 use mathlib.Core.List.{List}
 use Prim.Native.Nat.{ℕ, _*_}
 use lib.Ieee.{Float}
-use lib.ListN.{length}
-use Rattle.edge_links.specs.Connect.{connected, joinable}
+use Rattle.edge_links.specs.Connect.{connected}
 use Rattle.edge_links.specs.declared.Pair.{Pair}
 use Rattle.tables.specs.Layout.{edgeWidth}
 use Rattle.tables.specs.Rows.{putRow}
@@ -24,10 +19,3 @@ paired es i j p = putRow (putRow es (i * edgeWidth) (edgeWords (p .first))) (j *
 
 unfoldable pub connectedRows : List ℕ → List Float → ℕ → ℕ → List ℕ
 connectedRows es is i j = paired es i j (pairOf es is i j)
-
-unfoldable pub joinableRows : List ℕ → List Float → ℕ → ℕ → Bool
-joinableRows es is i j = joinable (edgeAt es is i) (edgeAt es is j)
-
-pub record Linkable (p : Pair) : Type 0 where
-  pub first-four : length (p .first .connections) ≡ 4
-  pub other-four : length (p .other .connections) ≡ 4

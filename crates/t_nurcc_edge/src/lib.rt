@@ -1,6 +1,6 @@
 // Connecting two edges in the tables of a mesh.
 // Carries over `connect` of t_nurcc_edge/mod.rs; what looks at no table stands in `edge_links`.
-// Contract: `connect`. Definitions: `specs/Connected.antt`. Laws: `proofs/Laws.antt`, `proofs/Links.antt`.
+// Contract: `connect`. Definitions: `specs/Connected.antt`, `specs/Joinable.antt`. Laws: `proofs/Laws.antt`, `proofs/Links.antt`.
 ghost use mathlib.Core.Path.{_≡_};
 ghost use mathlib.Core.List.{List};
 ghost use mathlib.Core.Logic.{_≢_};
@@ -9,7 +9,8 @@ ghost use lib.ListN.{length};
 ghost use Rattle.edge_links.specs.Connect.{served};
 ghost use Rattle.edge_links.specs.declared.Pair.{Pair};
 ghost use Rattle.tables.specs.Layout.{edgeWidth};
-ghost use Rattle.t_nurcc_edge.specs.Connected.{paired, connectedRows, joinableRows, Linkable};
+ghost use Rattle.t_nurcc_edge.specs.Connected.{paired, connectedRows};
+ghost use Rattle.t_nurcc_edge.specs.Joinable.{joinableRows, Linkable};
 use edge_links::Links;
 use edge_links::Pair;
 use edge_links::link_directions;

@@ -2,7 +2,8 @@
 use mathlib.Core.Path.{_≡_, refl}
 use Prim.Native.Nat.{ℕ, _<_}
 use native.Mathlib.Omega.{arith}
-use Rattle.t_spline.specs.Connection.{indexOf, connectionAt}
+use Rattle.t_spline.specs.Connection.{indexOf}
+use Rattle.t_spline.specs.Ends.{connectionAt}
 use Rattle.t_spline.specs.declared.TnurccConnection.{TnurccConnection}
 use Rattle.t_spline.specs.declared.TnurccConnection.the-variants.{LeftCw, LeftAcw, RightCw, RightAcw}
 

@@ -1,2 +1,3 @@
 pub mod Connection
 pub mod Edge
+pub mod Ends

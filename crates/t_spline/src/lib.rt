@@ -1,9 +1,10 @@
 // The records and enums of a T-NURCC, by value, with the methods of its edges.
 // Carries over t_spline/mod.rs (only its T-NURCC items) and the part of t_nurcc_edge/mod.rs that looks at no other row.
 // Not here: rows in tables (`tables`, `records`), connecting (`edge_links`, in tables `t_nurcc_edge`).
-// Contracts cite `specs/Connection.antt` and `specs/Edge.antt`.
+// Contracts cite `specs/Connection.antt`, `specs/Edge.antt` and `specs/Ends.antt`.
 ghost use mathlib.Core.Path.{_≡_};
-ghost use Rattle.t_spline.specs.Connection.{indexOf, connectionAt};
+ghost use Rattle.t_spline.specs.Connection.{indexOf};
+ghost use Rattle.t_spline.specs.Ends.{connectionAt};
 use positions::Position;
 
 pub mod t_nurcc_edge;

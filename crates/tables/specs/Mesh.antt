@@ -8,12 +8,15 @@
 --     interval m e                             the interval of edge e
 --     faceStart m f                            the start edge of face f
 --     corner m f k                             the corner k of face f, from 0
---     none                                     the mark for no row
+--     none                                     the mark for no row, which `t_spline` has
+--     edgeTable es                             a mesh of which the table of edges alone is looked at
+--     pointRows edgeRows faceRows m            the lent rows of a kind: as many as all its slices hold whole
 -- A word past the end of its table reads as 0, a number past the end as a NaN.
-use mathlib.Core.List.{List}
-use Prim.Native.Nat.{ℕ, _+_, _*_}
-use lib.ListN.{getD}
+use mathlib.Core.List.{List, []}
+use Prim.Native.Nat.{ℕ, _+_, _*_, _/_, min}
+use lib.ListN.{getD, length}
 use lib.Ieee.{Float, nan}
+pub use Rattle.t_spline.specs.Edge.{none}
 use Rattle.tables.specs.Layout.{positionWidth, yNumber, zNumber, pointWidth, startWord, markWord, faceWidth, firstCornerWord}
 use Rattle.tables.specs.Layout.{edgeWidth, destWord, leftFaceWord, rightFaceWord, leftCwWord, leftAcwWord, rightCwWord, rightAcwWord}
 
@@ -27,8 +30,8 @@ pub record Mesh : Type 0 where
 abbrev pub meshOf : List Float → List ℕ → List ℕ → List Float → List ℕ → Mesh
 meshOf xs ps es is fs = record { positions = xs; points = ps; edges = es; intervals = is; faces = fs }
 
-abbrev pub none : ℕ
-none = 4294967295
+abbrev pub edgeTable : List ℕ → Mesh
+edgeTable es = meshOf [] [] es [] []
 
 abbrev pub x : Mesh → ℕ → Float
 x m p = getD (m .positions) (p * positionWidth) nan
@@ -80,3 +83,14 @@ faceStart m f = getD (m .faces) (f * faceWidth) 0
 
 abbrev pub corner : Mesh → ℕ → ℕ → ℕ
 corner m f k = getD (m .faces) (f * faceWidth + (k + firstCornerWord)) 0
+
+-- points: their words and their coordinates
+abbrev pub pointRows : Mesh → ℕ
+pointRows m = min (length (m .positions) / positionWidth) (length (m .points) / pointWidth)
+
+-- edges: their words and one interval each
+abbrev pub edgeRows : Mesh → ℕ
+edgeRows m = min (length (m .edges) / edgeWidth) (length (m .intervals))
+
+abbrev pub faceRows : Mesh → ℕ
+faceRows m = length (m .faces) / faceWidth

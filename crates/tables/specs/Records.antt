@@ -1,25 +1,17 @@
 -- The records that stand in the rows of the tables.
---     placeOf p                    what a place takes in the table of positions
 --     edgeWords e                  what an edge takes in the table of edges; its interval stands in a table of its own
 --     faceWords f                  what a face takes in the table of faces
 --     positionAt ps p              the place of point p
---     pointAt ps ws p              the control point p
 --     edgeAt es is e               the edge e
---     edgeWordsAt es e             all of the edge e but its interval, which is +0
---     pointRows ps ws              how many whole control points both tables hold; edgeRows, faceRows likewise
 use mathlib.Core.List.{List, [], _∷_}
-use Prim.Native.Nat.{ℕ, _+_, _*_, _/_, min}
-use lib.ListN.{getD, length}
-use lib.Ieee.{Float, nan, binary64, ofBits}
+use Prim.Native.Nat.{ℕ, _+_, _*_}
+use lib.ListN.{getD}
+use lib.Ieee.{Float, nan}
 use Rattle.positions.specs.declared.Position.{Position}
-use Rattle.t_spline.specs.declared.TnurccControlPoint.{TnurccControlPoint}
 use Rattle.t_spline.specs.declared.TnurccEdge.{TnurccEdge}
 use Rattle.t_spline.specs.declared.TnurccFace.{TnurccFace}
-use Rattle.tables.specs.Layout.{positionWidth, yNumber, zNumber, pointWidth, startWord, markWord, faceWidth}
+use Rattle.tables.specs.Layout.{positionWidth, yNumber, zNumber}
 use Rattle.tables.specs.Layout.{edgeWidth, destWord, leftFaceWord, rightFaceWord, leftCwWord, leftAcwWord, rightCwWord, rightAcwWord}
-
-abbrev pub placeOf : Position → List Float
-placeOf p = p .x ∷ p .y ∷ p .z ∷ []
 
 abbrev pub edgeWords : TnurccEdge → List ℕ
 edgeWords e =
@@ -38,15 +30,6 @@ positionAt ps p =
       z = getD ps (p * positionWidth + zNumber) nan;
     }
 
-abbrev pub pointAt : List Float → List ℕ → ℕ → TnurccControlPoint
-pointAt ps ws p =
-    record {
-      point = positionAt ps p;
-      valence = getD ws (p * pointWidth) 0;
-      «incoming_edge» = getD ws (p * pointWidth + startWord) 0;
-      extraordinary = getD ws (p * pointWidth + markWord) 0;
-    }
-
 -- the words of the edge e, with the interval d
 abbrev pub edgeOver : List ℕ → Float → ℕ → TnurccEdge
 edgeOver es d e =
@@ -63,15 +46,3 @@ edgeOver es d e =
 
 abbrev pub edgeAt : List ℕ → List Float → ℕ → TnurccEdge
 edgeAt es is e = edgeOver es (getD is e nan) e
-
-abbrev pub edgeWordsAt : List ℕ → ℕ → TnurccEdge
-edgeWordsAt es e = edgeOver es (ofBits binary64 0) e
-
-abbrev pub pointRows : List Float → List ℕ → ℕ
-pointRows ps ws = min (length ps / positionWidth) (length ws / pointWidth)
-
-abbrev pub edgeRows : List ℕ → List Float → ℕ
-edgeRows es is = min (length es / edgeWidth) (length is)
-
-abbrev pub faceRows : List ℕ → ℕ
-faceRows fs = length fs / faceWidth

@@ -4,13 +4,15 @@
 // edge, four corners).
 // Not here: rows loaded and stored as records by value (`records`), what a closed mesh is (`audited_meshes`).
 // The widths of the rows and the places of their words stand here as constants; the first word of a row stands where the row begins.
-// Definitions: `specs/Layout.antt`, `specs/Mesh.antt`, `specs/Rows.antt`, `specs/Records.antt`. Laws for callers: `proofs/Laws.antt`.
+// Definitions: `specs/Layout.antt`, `specs/Mesh.antt`, `specs/Rows.antt`, `specs/Records.antt`, `specs/Loaded.antt`,
+// `specs/Counted.antt`, `specs/Parts.antt`. Laws for callers: `proofs/Laws.antt`.
 ghost use mathlib.Core.Path.{_≡_};
+ghost use mathlib.Core.List.{[]};
 ghost use Prim.Native.Nat.{_≤_, min};
 ghost use lib.ListN.{length};
 ghost use lib.Ieee.{binary64, ofBits};
 ghost use Rattle.tables.specs.Rows.{over, zeroed};
-ghost use Rattle.tables.specs.Records.{pointRows, edgeRows, faceRows};
+ghost use Rattle.tables.specs.Mesh.{meshOf, pointRows, edgeRows, faceRows};
 
 // The numbers of a position, and the places of y and z among them.
 pub const POSITION_WIDTH: usize = 3;
@@ -73,6 +75,13 @@ pub struct Counts {
     pub faces: usize,
 }
 
+// How many points, faces and listed points the lists of a mesh or a text have, or may have.
+pub struct Sizes {
+    pub points: usize,
+    pub faces: usize,
+    pub listed: usize,
+}
+
 // A row number as an index.
 pub fn index(row: u32) -> usize
     ensures { λ r. ⌜ r ≡ row ⌝ }
@@ -82,21 +91,21 @@ pub fn index(row: u32) -> usize
 
 // How many whole control points the two tables hold.
 pub fn point_rows(positions: &[f64], points: &[u32]) -> usize
-    ensures { λ r. ⌜ r ≡ pointRows (now (positions .entry)) (now (points .entry)) ⌝ }
+    ensures { λ r. ⌜ r ≡ pointRows (meshOf (now (positions .entry)) (now (points .entry)) [] [] []) ⌝ }
 {
     least(positions.len() / POSITION_WIDTH, points.len() / POINT_WIDTH)
 }
 
 // How many whole edges the two tables hold.
 pub fn edge_rows(edges: &[u32], intervals: &[f64]) -> usize
-    ensures { λ r. ⌜ r ≡ edgeRows (now (edges .entry)) (now (intervals .entry)) ⌝ }
+    ensures { λ r. ⌜ r ≡ edgeRows (meshOf [] [] (now (edges .entry)) (now (intervals .entry)) []) ⌝ }
 {
     least(edges.len() / EDGE_WIDTH, intervals.len())
 }
 
 // How many whole faces the table holds.
 pub fn face_rows(faces: &[u32]) -> usize
-    ensures { λ r. ⌜ r ≡ faceRows (now (faces .entry)) ⌝ }
+    ensures { λ r. ⌜ r ≡ faceRows (meshOf [] [] [] [] (now (faces .entry))) ⌝ }
 {
     faces.len() / FACE_WIDTH
 }

@@ -1,10 +1,9 @@
-// The limits and the answers of building from a text, as values: whether a text is too long, the limits as the reader takes them,
-// and the answer of building from lists as one of building from a text.
+// The limits and the answers of building from a text, as values: whether a text is too long, and the answer of building from
+// lists as one of building from a text.
 // Not here: what building makes of a text (`text_meshes`), the code that builds (`text_building`).
-// Contracts: `is_too_long`, `sizes_of`, `told`. Definitions: `TextBuilding` of `text_meshes`; `specs/Sizes.antt`.
+// Contracts: `is_too_long`, `told`. Definitions: `TextBuilding` of `text_meshes`.
 ghost use mathlib.Core.Path.{_≡_};
 ghost use Rattle.text_meshes.specs.TextBuilding.{tooLong, told};
-ghost use Rattle.text_answers.specs.Sizes.{sizesOf};
 use building_tests::Bounds;
 use built_meshes::Built;
 use text_meshes::TextBuilt;
@@ -19,18 +18,6 @@ pub fn is_too_long(bounds: Bounds, n: usize) -> bool
     match bounds {
         Bounds::General => false,
         Bounds::Refine => REFINE_BYTES < n,
-    }
-}
-
-// The most points, faces and listed points, as the reader takes them.
-pub fn sizes_of(bounds: Bounds) -> mesh_text::Counts
-    ensures { λ r. ⌜ r ≡ sizesOf bounds ⌝ }
-{
-    let most = bounds.most();
-    mesh_text::Counts {
-        points: most.points,
-        faces: most.faces,
-        listed: most.listed,
     }
 }
 

@@ -16,8 +16,9 @@ use Rattle.tables.specs.Mesh.{Mesh}
 use Rattle.text_numbers.specs.Form.{Found, found, none}
 use Rattle.text_numbers.proofs.Laws.{and-both}
 use Rattle.mesh_text.specs.Text.{text, Mesh as TextMesh}
-use Rattle.mesh_text.specs.Reading.{coordinates, lengths, listedPoints, intervals, counts, Lists, filled, within, Answer, readInto}
-use Rattle.mesh_text.specs.declared.Counts.{Counts}
+use Rattle.mesh_text.specs.Reading.{counts, Lists, filled, within, Answer, readInto}
+use Rattle.mesh_text.specs.Lists.{coordinates, lengths, listedPoints, intervals}
+use Rattle.tables.specs.declared.Sizes.{Sizes}
 use Rattle.mesh_text.specs.declared.Reading.{Reading}
 use Rattle.mesh_text.specs.declared.Reading.the-variants as Reading
 use Rattle.mesh_text.proofs.Read.{ReadText, read-means, length-coordinates, length-lengths, length-intervals}
@@ -30,7 +31,6 @@ use Rattle.building_tests.specs.Lent.{lists, limitsOf}
 use Rattle.building_tests.specs.declared.Bounds.{Bounds}
 use Rattle.building_tests.specs.declared.Bounds.the-variants.{General, Refine}
 use Rattle.text_meshes.specs.TextBuilding.{tooLong, listsOf, told, Outcome, toldOutcome, ofForm, buildTextIf, buildText}
-use Rattle.text_answers.specs.Sizes.{sizesOf}
 use Rattle.text_meshes.specs.declared.TextBuilt.{TextBuilt}
 use Rattle.text_meshes.specs.declared.TextBuilt.the-variants.{NotText, Refused}
 
@@ -40,8 +40,8 @@ few General = omega arith
 few Refine = omega arith
 
 -- counts within the limits are within lists that have room for the general ones
-within-room : (b : Bounds) (c : Counts) (xs ls ps ds : ℕ) → c .points ≤ limitsOf b .points → c .faces ≤ limitsOf b .faces → c .listed ≤ limitsOf b .listed
-    → 12288 ≤ xs → 16384 ≤ ls → 16384 ≤ ps → 16384 ≤ ds → within c (sizesOf b) xs ls ps ds ≡ true
+within-room : (b : Bounds) (c : Sizes) (xs ls ps ds : ℕ) → c .points ≤ limitsOf b .points → c .faces ≤ limitsOf b .faces → c .listed ≤ limitsOf b .listed
+    → 12288 ≤ xs → 16384 ≤ ls → 16384 ≤ ps → 16384 ≤ ds → within c (limitsOf b) xs ls ps ds ≡ true
 unfolding within
 within-room b c xs ls ps ds hp hf hl rx rl rp rd =
     let (kp, kf, kl) = few b in
@@ -58,7 +58,7 @@ within-room b c xs ls ps ds hp hf hl rx rl rp rd =
 
 -- a text over the limits has lists that are over them
 over-counts : (b : Bounds) (s : List ℕ) (t : TextMesh) (n : ℕ) → text s ≡ found t n → (xs ls ps ds : ℕ) → 12288 ≤ xs → 16384 ≤ ls → 16384 ≤ ps → 16384 ≤ ds
-    → within (counts t) (sizesOf b) xs ls ps ds ≡ false → countsFit (limitsOf b) (listsOf t) ≡ false
+    → within (counts t) (limitsOf b) xs ls ps ds ≡ false → countsFit (limitsOf b) (listsOf t) ≡ false
 over-counts b s t n e xs ls ps ds rx rl rp rd w = go (countsFit (limitsOf b) (listsOf t)) refl
   where
     go : (f : Bool) → countsFit (limitsOf b) (listsOf t) ≡ f → f ≡ false
@@ -70,13 +70,13 @@ over-counts b s t n e xs ls ps ds rx rl rp rd w = go (countsFit (limitsOf b) (li
     go false h = refl
 
 -- the lists hold as much as the counts say
-pub record Held (c : Counts) (l : Lists) : Type 0 where
+pub record Held (c : Sizes) (l : Lists) : Type 0 where
   pub coordinates : 3 * c .points ≤ length (l .coordinates)
   pub lengths : 4 * c .faces ≤ length (l .lengths)
   pub listed : c .listed ≤ length (l .listed)
   pub intervals : c .listed ≤ length (l .intervals)
 
-held : (c limits : Counts) (l : Lists) → within c limits (length (l .coordinates)) (length (l .lengths)) (length (l .listed)) (length (l .intervals)) ≡ true → Held c l
+held : (c limits : Sizes) (l : Lists) → within c limits (length (l .coordinates)) (length (l .lengths)) (length (l .listed)) (length (l .intervals)) ≡ true → Held c l
 unfolding within
 held c limits l e =
     let e1 = and-both (leb (c .points) (limits .points)) _ e .1 in
@@ -98,17 +98,17 @@ same-told {a} {r} {m} e h =
     let f : (x : ListsOutcome) → Outcome = toldOutcome in
     (λ i. record { answer = e i; tables = m }) ∙ ap f h
 
-module _ (b : Bounds) (s : List ℕ) (l : Lists) (m : Mesh) {r : Reading} {l′ : Lists} {limits : Counts} (eb : limits ≡ sizesOf b)
+module _ (b : Bounds) (s : List ℕ) (l : Lists) (m : Mesh) {r : Reading} {l′ : Lists} {limits : Sizes} (eb : limits ≡ limitsOf b)
     (e : record { reading = r; lists = l′ } ≡ readInto s limits l) where
-  answered : r ≡ readInto s (sizesOf b) l .reading
-  answered = ap (λ (x : Answer). x .reading) e ∙ ap (λ (v : Counts). readInto s v l .reading) eb
+  answered : r ≡ readInto s (limitsOf b) l .reading
+  answered = ap (λ (x : Answer). x .reading) e ∙ ap (λ (v : Sizes). readInto s v l .reading) eb
 
   no-form : r ≡ Reading.NotText → text s ≡ none
   unfolding readInto
   no-form h = go (text s) refl
     where
       test : (t : TextMesh) (n : ℕ) → text s ≡ found t n → (w : Bool)
-          → within (counts t) (sizesOf b) (length (l .coordinates)) (length (l .lengths)) (length (l .listed)) (length (l .intervals)) ≡ w → found t n ≡ none
+          → within (counts t) (limitsOf b) (length (l .coordinates)) (length (l .lengths)) (length (l .listed)) (length (l .intervals)) ≡ w → found t n ≡ none
       test t n et true ew =
           let e′ = rw (et, ew) at answered in
           cc
@@ -130,7 +130,7 @@ module _ (b : Bounds) (s : List ℕ) (l : Lists) (m : Mesh) {r : Reading} {l′ 
     over-limits h = go (text s) refl
       where
         test : (t : TextMesh) (n : ℕ) → text s ≡ found t n → (w : Bool)
-            → within (counts t) (sizesOf b) (length (l .coordinates)) (length (l .lengths)) (length (l .listed)) (length (l .intervals)) ≡ w
+            → within (counts t) (limitsOf b) (length (l .coordinates)) (length (l .lengths)) (length (l .listed)) (length (l .intervals)) ≡ w
             → record { answer = Refused OverCounts; tables = m } ≡ ofForm b m (text s)
         test t n et true ew =
             let e′ = rw (et, ew) at answered in
@@ -145,15 +145,15 @@ module _ (b : Bounds) (s : List ℕ) (l : Lists) (m : Mesh) {r : Reading} {l′ 
             let z : _≡_ {A = ℕ} 0 1 = cc in
             absurd (omega arith)
 
-  module _ {c : Counts} (ec : r ≡ Reading.Read c) where
-    means : ReadText s (sizesOf b) l c
-    means = read-means s (sizesOf b) l c (sym answered ∙ ec)
+  module _ {c : Sizes} (ec : r ≡ Reading.Read c) where
+    means : ReadText s (limitsOf b) l c
+    means = read-means s (limitsOf b) l c (sym answered ∙ ec)
 
     read-lists : l′ ≡ filled (means .what) l
-    read-lists = ap (λ (v : Answer). v .lists) e ∙ ap (λ (v : Counts). readInto s v l .lists) eb ∙ means .lists
+    read-lists = ap (λ (v : Answer). v .lists) e ∙ ap (λ (v : Sizes). readInto s v l .lists) eb ∙ means .lists
 
     before : Held c l
-    before = held c (sizesOf b) l (means .fits)
+    before = held c (limitsOf b) l (means .fits)
 
     pub fits : Held c l′
     fits =
@@ -173,9 +173,9 @@ module _ (b : Bounds) (s : List ℕ) (l : Lists) (m : Mesh) {r : Reading} {l′ 
         let x = means in
         let t = x .what in
         let h = before in
-        let ep : length (t .points) ≡ c .points = ap (λ (v : Counts). v .points) (x .counted) in
-        let ef : length (t .faces) ≡ c .faces = ap (λ (v : Counts). v .faces) (x .counted) in
-        let en : length (listedPoints t) ≡ c .listed = ap (λ (v : Counts). v .listed) (x .counted) in
+        let ep : length (t .points) ≡ c .points = ap (λ (v : Sizes). v .points) (x .counted) in
+        let ef : length (t .faces) ≡ c .faces = ap (λ (v : Sizes). v .faces) (x .counted) in
+        let en : length (listedPoints t) ≡ c .listed = ap (λ (v : Sizes). v .listed) (x .counted) in
         let lc = length-coordinates s t (x .place) (x .form) in
         let ll = length-lengths s t (x .place) (x .form) in
         let li = length-intervals t in

@@ -23,7 +23,6 @@ use mesh_text::Reading;
 use mesh_text::read_text;
 use tables::POSITION_WIDTH;
 use text_answers::is_too_long;
-use text_answers::sizes_of;
 use text_answers::told;
 use text_meshes::TextBuilt;
 
@@ -96,7 +95,7 @@ fn read_and_build(
         (buildTextIf false bounds (now (text .entry))
         (meshOf (now (positions .entry)) (now (points .entry)) (now (edges .entry)) (now (intervals .entry)) (now (faces .entry)))) ⌝ }
 {
-    match read_text(text, sizes_of(bounds), coordinates, sides, listed, beside) {
+    match read_text(text, bounds.most(), coordinates, sides, listed, beside) {
         Reading::Read(c) => build_first(
             coordinates,
             sides,

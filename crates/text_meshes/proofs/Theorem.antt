@@ -14,9 +14,10 @@ use Rattle.closed_meshes.specs.Renumbering.{sumTo}
 use Rattle.text_numbers.specs.Form.{Found, found, none}
 use Rattle.text_numbers.proofs.Laws.{total}
 use Rattle.mesh_text.specs.Text.{text, Mesh as TextMesh}
-use Rattle.mesh_text.specs.Reading.{lengths, listedPoints}
+use Rattle.mesh_text.specs.Lists.{lengths, listedPoints}
 use Rattle.mesh_text.proofs.Read.{length-coordinates, length-lengths, length-intervals, total-lengths}
-use Rattle.built_meshes.specs.Lists.{Limits, countsFit}
+use Rattle.built_meshes.specs.Lists.{countsFit}
+use Rattle.tables.specs.declared.Sizes.{Sizes}
 use Rattle.built_meshes.specs.Building.{build}
 use Rattle.built_meshes.specs.Grounds.{Holds, Over-counts, many-points, many-faces, many-listed, point-cut, face-cut, unlike, sum-unlike}
 use Rattle.built_meshes.specs.declared.Ground.{Ground}
@@ -29,7 +30,8 @@ use Rattle.building_tests.specs.Lent.{limitsOf}
 use Rattle.building_tests.specs.declared.Bounds.{Bounds}
 use Rattle.building_tests.specs.declared.Bounds.the-variants.{General, Refine}
 use Rattle.text_meshes.specs.TextBuilding.{tooLong, listsOf, told, Outcome, toldOutcome, ofForm, buildTextIf, buildText}
-use Rattle.text_meshes.specs.Claims.{Stands-for, Over-text, many-bytes, Accepts-exactly, Not-text-exactly, Over-exactly, Untouched-early, Within-limits, Accepted-within}
+use Rattle.text_meshes.specs.Claims.{Stands-for, Over-text, many-bytes, Accepts-exactly, Not-text-exactly, Over-exactly}
+use Rattle.text_meshes.specs.Within.{Untouched-early, Within-limits, Accepted-within}
 use Rattle.text_meshes.specs.Claims as Claims
 use Rattle.text_meshes.specs.declared.TextBuilt.the-variants.{Accepted, NotText, Refused}
 
@@ -49,7 +51,7 @@ unfolding total sumTo
 sumTo-total [] = refl
 sumTo-total (x ∷ l) = sumTo-first (length l) (λ k. getD (x ∷ l) k 0) ∙ ap (λ v. x + v) (sumTo-total l)
 
-module _ (c : Limits) (s : List ℕ) (t : TextMesh) (n : ℕ) (e : text s ≡ found t n) where
+module _ (c : Sizes) (s : List ℕ) (t : TextMesh) (n : ℕ) (e : text s ≡ found t n) where
   over-means : Over-counts c (listsOf t)
       → (c .points < length (t .points)) ⊎ ((c .faces < length (t .faces)) ⊎ (c .listed < length (listedPoints t)))
   over-means (many-points h) = let lc = length-coordinates s t n e in inl (omega arith)

@@ -1,2 +1,3 @@
 pub mod TextBuilding
 pub mod Claims
+pub mod Within

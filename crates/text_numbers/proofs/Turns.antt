@@ -6,7 +6,8 @@ use Prim.Native.Nat.{ℕ, zero, suc, _+_, _*_, _≤_, _<_}
 use lib.ListN.{length, getD}
 use borrow.Author.Tests.{lt-ltb, le-ltb}
 use Rattle.text_numbers.specs.Form.{Found, found, none, Form, onward, pure, times, given, stands, literal, many}
-use Rattle.text_numbers.specs.Numbers.{number, digitValue, digit, digits}
+use Rattle.text_numbers.specs.Numbers.{digitValue, digit, digits}
+use Rattle.text_numbers.specs.Answers.{number}
 use Rattle.text_numbers.specs.declared.Number.the-variants as Number
 
 pub given-pure : {A B R : Type 0} (g : B → ℕ → R) (d : R) (f : A → B) (x : Found A) → given g d (onward (λ a. pure (f a)) x) ≡ given (λ a n. g (f a) n) d x

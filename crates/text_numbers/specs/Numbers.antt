@@ -5,16 +5,13 @@
 --     bits s               16 hexadecimal digits, first digit first: the bits of a binary64
 --     decimal s            a decimal number below 4,294,967,296 with no leading zero
 --     float b              the binary64 of a bit pattern
---     number x             the answer to a number
 use mathlib.Core.List.{List, [], _∷_}
 use mathlib.Core.Bool.{cond}
 use Prim.Native.Nat.{ℕ, zero, suc, _+_, _-_, _*_}
 use lib.ListN.{getD, length}
 use lib.Dec.{eqb, ltb}
 use lib.Ieee.{Float, binary64, ofBits}
-use Rattle.text_numbers.specs.Form.{Found, found, none, Form, onward, _>>=_, _>>_, pure, choose, times, given}
-use Rattle.text_numbers.specs.declared.Number.{Number}
-use Rattle.text_numbers.specs.declared.Number.the-variants as Number
+use Rattle.text_numbers.specs.Form.{Found, found, none, Form, onward, _>>=_, _>>_, pure, choose, times}
 
 -- 0 to 9 and a to f
 unfoldable pub digitValue : ℕ → ℕ
@@ -53,6 +50,3 @@ module _ (s : List ℕ) where
 
 abbrev pub float : ℕ → Float
 float b = ofBits binary64 b
-
-abbrev pub number : Found ℕ → Number
-number x = given (λ v n. Number.Is v n) Number.None x

@@ -6,7 +6,8 @@ ghost use mathlib.Core.Path.{_≡_};
 ghost use Prim.Native.Nat.{_≤_, _<_};
 ghost use lib.ListN.{length, getD};
 ghost use Rattle.text_numbers.specs.Form.{stands};
-ghost use Rattle.text_numbers.specs.Numbers.{digitValue, bits, decimalFrom, decimal, float, number};
+ghost use Rattle.text_numbers.specs.Numbers.{digitValue, bits, decimalFrom, decimal, float};
+ghost use Rattle.text_numbers.specs.Answers.{number};
 
 // A number of the text, and the place after it.
 pub enum Number {

@@ -13,21 +13,20 @@ use lib.Ieee.{Float, nan, ofBits, binary64}
 use Rattle.tables.specs.declared.Counts.{Counts}
 use Rattle.tables.specs.Mesh.{Mesh}
 use Rattle.audited_meshes.specs.Walks.{edgesOf, passed, faceWalk}
-use Rattle.walks.specs.Steps.{faceTables}
+use Rattle.tables.specs.Parts.{faceTables}
 use Rattle.walks.specs.Border.{padded, border}
 use Rattle.walks.specs.declared.FaceBorder.{FaceBorder}
 use Rattle.walks.proofs.Laws.{getD-padded}
 use Rattle.refined_meshes.specs.Turns.{turns, filled}
 use Rattle.refined_meshes.specs.State.{State, take}
-use Rattle.refined_meshes.specs.Ring.{Ring, onLeft, firstHalfOf, secondHalfOf, putJoin, putFirst, putSecond, putNewFace, putFacePoint}
+use Rattle.refined_meshes.specs.Ring.{Ring, firstHalfOf, secondHalfOf, putJoin, putFirst, putSecond, putNewFace, putFacePoint}
 use Rattle.refined_meshes.specs.Visits.{foundOn, splitAll, ringOf, putRing, visitAlong, visit}
 use Rattle.splitting.specs.Scratch.{tablesOf, scratch}
 use Rattle.splitting.proofs.Laws.{splitAll-faces}
 use Rattle.ring_places.specs.declared.RingRows.{RingRows}
-use Rattle.ring_places.specs.Rings.{ring, firstOf, secondOf}
-use Rattle.refined_meshes.proofs.Turns.{filled-cong}
+use Rattle.ring_places.specs.Rings.{ring}
 use Rattle.refined_meshes.proofs.Laws.{visitAlong-same}
-use Rattle.visiting.proofs.Laws.{firstHalfOf-is, secondHalfOf-is, border-edges, border-n, visitAlong-bare}
+use Rattle.visiting.proofs.Laws.{border-edges, border-n, visitAlong-bare}
 
 -- the ring that the code holds is the ring of the state
 module _ (oe pe hs gs ms : List ℕ) (ds : List Float) (rows : RingRows) (s : State) where
@@ -35,19 +34,13 @@ module _ (oe pe hs gs ms : List ℕ) (ds : List Float) (rows : RingRows) (s : St
   M = faceTables oe []
 
   ring-read : s .edgesTaken ≡ rows .joins → s .facesTaken ≡ rows .faces
-      → hs ≡ filled (rows .size) (λ i. firstOf oe (s .edges) (rows .face) (getD pe i 0)) (replicate 64 0)
-      → gs ≡ filled (rows .size) (λ i. secondOf oe (s .edges) (rows .face) (getD pe i 0)) (replicate 64 0)
+      → hs ≡ filled (rows .size) (λ i. firstHalfOf oe (s .edges) (rows .face) (getD pe i 0)) (replicate 64 0)
+      → gs ≡ filled (rows .size) (λ i. secondHalfOf oe (s .edges) (rows .face) (getD pe i 0)) (replicate 64 0)
       → ms ≡ filled (rows .size) (λ i. getD (s .edges) (getD pe i 0 * 8 + 1) 0) (replicate 64 0)
       → ring rows pe hs gs ms ds ≡ ringOf M (rows .face) pe (rows .size) (rows .centre) ds s
   unfolding ringOf
   ring-read j k a b c =
-      let firsts =
-      filled-cong (rows .size) (λ i. firstHalfOf (onLeft M (rows .face) (getD pe i 0)) s (getD pe i 0))
-      (λ i. firstOf oe (s .edges) (rows .face) (getD pe i 0)) (replicate 64 0) (λ i l. firstHalfOf-is (onLeft M (rows .face) (getD pe i 0)) s (getD pe i 0)) in
-      let seconds =
-      filled-cong (rows .size) (λ i. secondHalfOf (onLeft M (rows .face) (getD pe i 0)) s (getD pe i 0))
-      (λ i. secondOf oe (s .edges) (rows .face) (getD pe i 0)) (replicate 64 0) (λ i l. secondHalfOf-is (onLeft M (rows .face) (getD pe i 0)) s (getD pe i 0)) in
-      rw (a, b, c, firsts, seconds, j, k)
+      rw (a, b, c, j, k)
 
 module _ (oe ps ps1 es es1 fs fs1 pe hs gs ms : List ℕ) (is is1 ds : List Float) (rows : RingRows) (p : ℕ) where
   abbrev before : Counts
@@ -63,8 +56,8 @@ module _ (oe ps ps1 es es1 fs fs1 pe hs gs ms : List ℕ) (is is1 ds : List Floa
   N = faceTables oe []
 
   pub ring-written :
-      hs ≡ filled (rows .size) (λ i. firstOf oe es (rows .face) (getD pe i 0)) (replicate 64 0)
-      → gs ≡ filled (rows .size) (λ i. secondOf oe es (rows .face) (getD pe i 0)) (replicate 64 0)
+      hs ≡ filled (rows .size) (λ i. firstHalfOf oe es (rows .face) (getD pe i 0)) (replicate 64 0)
+      → gs ≡ filled (rows .size) (λ i. secondHalfOf oe es (rows .face) (getD pe i 0)) (replicate 64 0)
       → ms ≡ filled (rows .size) (λ i. getD es (getD pe i 0 * 8 + 1) 0) (replicate 64 0)
       → _≡_ {A = State} (tablesOf ps es1 is1 fs before)
       (turns (rows .size) (putSecond N R) (turns (rows .size) (putFirst N R) (turns (rows .size) (putJoin R) (tablesOf ps es is fs before))))

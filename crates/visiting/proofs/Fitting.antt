@@ -7,9 +7,8 @@ use mathlib.Core.List.{List}
 use Prim.Native.Nat.{ℕ, _+_, _*_, _≤_}
 use native.Mathlib.Omega.{arith}
 use lib.ListN.{getD}
-use Rattle.tables.specs.Mesh.{Mesh}
+use Rattle.tables.specs.Mesh.{Mesh, pointRows, edgeRows, faceRows}
 use Rattle.audited_meshes.specs.Walks.{faceWalk}
-use Rattle.audited_meshes.specs.Audit.{pointRows, edgeRows, faceRows}
 use Rattle.audited_meshes.specs.Rows.{HoldsClosed}
 use Rattle.refined_meshes.specs.State.{State, copied}
 use Rattle.refined_meshes.specs.Order.{EachOnce}

@@ -1,5 +1,4 @@
 -- The laws of rings and visits that the code goes by. Assumes nothing.
---     firstHalfOf-is, secondHalfOf-is      the halves found in a state are those found in its tables of edges
 --     border-edges, border-n               the border of a face holds its perimeter, padded, and its size
 --     visits-none, visits-more             no visits, and one more
 --     visit-bare, visits-bare              a visit looks at the mesh's edges and faces alone
@@ -16,21 +15,13 @@ use Rattle.tables.specs.Mesh.{Mesh}
 use Rattle.tables.specs.Rows.{over}
 use Rattle.audited_meshes.specs.Walks.{Walk, back, lost, edgesOf, passed, faceWalk}
 use Rattle.walks.specs.Border.{padded, border, borderOf}
-use Rattle.walks.specs.Steps.{faceTables}
+use Rattle.tables.specs.Parts.{faceTables}
 use Rattle.refined_meshes.specs.State.{State, copied}
-use Rattle.refined_meshes.specs.Ring.{firstHalfOf, secondHalfOf, putFirst, putSecond, putNewFace}
+use Rattle.refined_meshes.specs.Ring.{putFirst, putSecond, putNewFace}
 use Rattle.refined_meshes.specs.Visits.{ringOf, putRing, visitAlong, visit, visits, refinedRows}
 use Rattle.splitting.specs.Scratch.{tablesOf}
 use Rattle.refined_meshes.proofs.Turns.{turns-none, turns-turn, turns-cong}
 use Rattle.visiting.specs.Visiting.{bare}
-
-pub firstHalfOf-is : (b : Bool) (s : State) (e : ℕ) → firstHalfOf b s e ≡ cond b e (getD (s .edges) (e * 8 + 6) 0)
-firstHalfOf-is true s e = refl
-firstHalfOf-is false s e = refl
-
-pub secondHalfOf-is : (b : Bool) (s : State) (e : ℕ) → secondHalfOf b s e ≡ cond b (getD (s .edges) (e * 8 + 5) 0) e
-secondHalfOf-is true s e = refl
-secondHalfOf-is false s e = refl
 
 pub border-edges : (m : Mesh) (ne f : ℕ) → border m ne f .edges ≡ padded 64 (edgesOf (faceWalk m ne f))
 unfolding border

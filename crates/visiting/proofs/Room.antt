@@ -14,21 +14,21 @@ use Rattle.tables.specs.Mesh.{Mesh}
 use Rattle.audited_meshes.specs.Walks.{edgesOf, passed, faceWalk}
 use Rattle.walks.specs.Border.{padded, border}
 use Rattle.walks.specs.declared.FaceBorder.{FaceBorder}
-use Rattle.walks.specs.Steps.{faceTables}
+use Rattle.tables.specs.Parts.{faceTables}
 use Rattle.walks.proofs.Laws.{getD-padded}
 use Rattle.refined_meshes.specs.Turns.{filled}
 use Rattle.refined_meshes.specs.State.{State, edgeOf, take, putEdge, putPoint, putStart}
 use Rattle.refined_meshes.specs.Split.{split}
-use Rattle.refined_meshes.specs.Ring.{onLeft, firstHalfOf, secondHalfOf}
+use Rattle.refined_meshes.specs.Ring.{firstHalfOf, secondHalfOf}
 use Rattle.refined_meshes.specs.Visits.{splitAll, ringOf}
 use Rattle.refined_meshes.specs.Fits.{VisitFits, splitSome}
 use Rattle.splitting.specs.Scratch.{tablesOf, scratch, Room}
 use Rattle.splitting.proofs.Laws.{splitWhole-split, splitWhole-kept, splitAll-none, splitAll-suc, faces-splitAll, points-splitAll-faces, edges-splitAll-faces}
-use Rattle.ring_places.specs.Rings.{Rows, firstOf, secondOf}
+use Rattle.ring_places.specs.Rings.{Rows}
 use Rattle.refined_meshes.proofs.Turns.{getD-filled}
 use Rattle.refined_meshes.proofs.Laws.{splitAll-same}
 use Rattle.visiting.specs.Visiting.{Ceilings, RingFits, AlongFits}
-use Rattle.visiting.proofs.Laws.{firstHalfOf-is, secondHalfOf-is, border-edges, border-n}
+use Rattle.visiting.proofs.Laws.{border-edges, border-n}
 
 split-points : (e : ℕ) (s : State) → split e s .pointsTaken ≡ s .pointsTaken + 1
 unfolding split putEdge putPoint putStart
@@ -69,20 +69,20 @@ module _ (m : Mesh) (np ne nf f : ℕ) (s : State) (h : VisitFits m np ne nf f s
   unfolding ringOf
   faces-fit = omega (arith, h .faces-fit, faces-all)
 
-  firsts-fit : (i : ℕ) → i < n → firstOf (m .edges) (all .edges) f (getD es i 0) < 4 * ne
+  firsts-fit : (i : ℕ) → i < n → firstHalfOf (m .edges) (all .edges) f (getD es i 0) < 4 * ne
   unfolding ringOf
   firsts-fit i l =
-      let halves : ℕ → ℕ = λ i. firstHalfOf (onLeft m f (getD es i 0)) all (getD es i 0) in
+      let halves : ℕ → ℕ = λ i. firstHalfOf (m .edges) (all .edges) f (getD es i 0) in
       subst (λ x. x < 4 * ne)
-      (getD-filled n halves (replicate 64 0) 0 (rw length-replicate (h .size-high)) i l ∙ firstHalfOf-is (onLeft m f (getD es i 0)) all (getD es i 0))
+      (getD-filled n halves (replicate 64 0) 0 (rw length-replicate (h .size-high)) i l)
       (h .first-fits i l)
 
-  seconds-fit : (i : ℕ) → i < n → secondOf (m .edges) (all .edges) f (getD es i 0) < 4 * ne
+  seconds-fit : (i : ℕ) → i < n → secondHalfOf (m .edges) (all .edges) f (getD es i 0) < 4 * ne
   unfolding ringOf
   seconds-fit i l =
-      let halves : ℕ → ℕ = λ i. secondHalfOf (onLeft m f (getD es i 0)) all (getD es i 0) in
+      let halves : ℕ → ℕ = λ i. secondHalfOf (m .edges) (all .edges) f (getD es i 0) in
       subst (λ x. x < 4 * ne)
-      (getD-filled n halves (replicate 64 0) 0 (rw length-replicate (h .size-high)) i l ∙ secondHalfOf-is (onLeft m f (getD es i 0)) all (getD es i 0))
+      (getD-filled n halves (replicate 64 0) 0 (rw length-replicate (h .size-high)) i l)
       (h .second-fits i l)
 
   along-of-edges : ne * 8 ≤ length (m .edges) → AlongFits (m .edges) np f es n s

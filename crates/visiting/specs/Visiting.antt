@@ -11,13 +11,14 @@ use lib.ListN.{length, getD}
 use lib.Ieee.{Float}
 use Rattle.tables.specs.Layout.{pointWidth, edgeWidth, faceWidth, longestPerimeter, pointCeiling, edgeCeiling, faceCeiling}
 use Rattle.tables.specs.Mesh.{Mesh}
-use Rattle.walks.specs.Steps.{faceTables}
+use Rattle.tables.specs.Parts.{faceTables}
 use Rattle.refined_meshes.specs.State.{State, take}
 use Rattle.refined_meshes.specs.Visits.{splitAll, visits}
 use Rattle.refined_meshes.specs.Fits.{VisitFits}
 use Rattle.splitting.specs.Scratch.{InRows, Room}
 use Rattle.ring_places.specs.declared.RingRows.{RingRows}
-use Rattle.ring_places.specs.Rings.{firstOf, secondOf, Small, Rows}
+use Rattle.ring_places.specs.Rings.{Small, Rows}
+use Rattle.refined_meshes.specs.Ring.{firstHalfOf, secondHalfOf}
 
 abbrev pub bare : Mesh → Mesh
 bare m = faceTables (m .edges) (m .faces)
@@ -42,8 +43,8 @@ pub record RingFits (oe pe : List ℕ) (rows : RingRows) (ps es : List ℕ) (is 
   pub faces : (rows .faces + (rows .size - 1)) * faceWidth ≤ length fs
   pub mesh-rows : Rows oe pe (rows .size)
   pub edge-rows : Rows es pe (rows .size)
-  pub firsts : (i : ℕ) → i < rows .size → firstOf oe es (rows .face) (getD pe i 0) * edgeWidth + edgeWidth ≤ length es
-  pub seconds : (i : ℕ) → i < rows .size → secondOf oe es (rows .face) (getD pe i 0) * edgeWidth + edgeWidth ≤ length es
+  pub firsts : (i : ℕ) → i < rows .size → firstHalfOf oe es (rows .face) (getD pe i 0) * edgeWidth + edgeWidth ≤ length es
+  pub seconds : (i : ℕ) → i < rows .size → secondHalfOf oe es (rows .face) (getD pe i 0) * edgeWidth + edgeWidth ≤ length es
 
 pub record AlongFits (oe : List ℕ) (np f : ℕ) (pe : List ℕ) (n : ℕ) (s : State) : Type 0 where
   pub some-places : 0 < n
@@ -59,10 +60,8 @@ pub record AlongFits (oe : List ℕ) (np f : ℕ) (pe : List ℕ) (n : ℕ) (s :
   pub face-below : f < faceCeiling
   pub faces : (s .facesTaken + (n - 1)) * faceWidth ≤ length (s .faces)
   pub few-faces : s .facesTaken + n ≤ 65537
-  pub firsts :
-      (i : ℕ) → i < n → firstOf oe (splitAll np pe n (take 1 0 0 s) .edges) f (getD pe i 0) * edgeWidth + edgeWidth ≤ length (s .edges)
-  pub seconds :
-      (i : ℕ) → i < n → secondOf oe (splitAll np pe n (take 1 0 0 s) .edges) f (getD pe i 0) * edgeWidth + edgeWidth ≤ length (s .edges)
+  pub firsts : (i : ℕ) → i < n → firstHalfOf oe (splitAll np pe n (take 1 0 0 s) .edges) f (getD pe i 0) * edgeWidth + edgeWidth ≤ length (s .edges)
+  pub seconds : (i : ℕ) → i < n → secondHalfOf oe (splitAll np pe n (take 1 0 0 s) .edges) f (getD pe i 0) * edgeWidth + edgeWidth ≤ length (s .edges)
 
 pub record Fits (m : Mesh) (np ne nf : ℕ) (order : List ℕ) (s : State) : Type 0 where
   pub ceilings : Ceilings np ne nf

@@ -10,7 +10,7 @@ ghost use lib.ListN.{length};
 ghost use lib.Ieee.{Float};
 ghost use Rattle.tables.specs.Layout.{edgeWidth, faceWidth};
 ghost use Rattle.tables.specs.declared.Counts.{Counts};
-ghost use Rattle.walks.specs.Steps.{faceTables};
+ghost use Rattle.tables.specs.Parts.{faceTables};
 ghost use Rattle.refined_meshes.specs.Turns.{turns};
 ghost use Rattle.refined_meshes.specs.State.{State, copied};
 ghost use Rattle.refined_meshes.specs.Ring.{putJoin, putFirst, putSecond};

@@ -14,7 +14,8 @@ use Rattle.audited_meshes.specs.Walks.{back, lost, borders, acwOfFace, firstPoi
 use Rattle.walks.specs.declared.Step.the-variants.{To, Lost}
 use Rattle.walks.specs.declared.FaceBorder.{FaceBorder}
 use Rattle.walks.specs.Steps.{toIf}
-use Rattle.walks.specs.Border.{padded, again, borderOf, border}
+use Rattle.walks.specs.Border.{padded, borderOf, border}
+use Rattle.audited_meshes.specs.Folds.{again}
 use Rattle.walks.proofs.Steps.{to-is, lost-is}
 use Rattle.walks.proofs.Walking.{Walking, walking-start, walking-more, walking-lost, walking-last, walking-out}
 use Rattle.walks.proofs.Laws.{padded-set}

@@ -9,8 +9,8 @@ use lib.ListN.{length}
 use borrow.Author.Tests.{eq-eqb, ne-eqb}
 use Rattle.tables.specs.Mesh.{Mesh, start, faceStart}
 use Rattle.audited_meshes.specs.Folds.{one, occurrences}
-use Rattle.audited_meshes.specs.Walks.{back, borders, touches, acwOfFace, acwOfPoint, faceWalk, pointWalk}
-use Rattle.audited_meshes.specs.Audited.{Passes, last, more, Borders, Touches, FaceWalked, PointWalked}
+use Rattle.audited_meshes.specs.Walks.{back, borders, touches, acwOfFace, acwOfPoint, faceWalk, pointWalk, Touches}
+use Rattle.audited_meshes.specs.Audited.{Passes, last, more, Borders, FaceWalked, PointWalked}
 use Rattle.audited_meshes.proofs.Tests.{self-is}
 use Rattle.audited_meshes.proofs.Folds.{sumTo-cong, length-sumTo}
 use Rattle.audited_meshes.proofs.Walks.{passes-on, walk-of-passes, passes-of-walk}

@@ -11,13 +11,14 @@ use Prim.Native.Nat.{ℕ, _+_, _*_, _<_}
 use borrow.Author.Tests.{lt-ltb, eq-eqb, ne-eqb}
 use lib.Dec.{eqb}
 use lib.ListN.{getD}
-use Rattle.t_spline.specs.Edge.{connectionOf, acwAtEnd, acwOnSide, pointAtEnd}
+use Rattle.t_spline.specs.Edge.{connectionOf}
+use Rattle.t_spline.specs.Ends.{acwAtEnd, acwOnSide, pointAtEnd}
 use Rattle.t_spline.specs.declared.TnurccEdge.{TnurccEdge}
 use Rattle.t_spline.specs.declared.TnurccConnection.{TnurccConnection}
 use Rattle.t_spline.specs.declared.TnurccVertexEnd.{TnurccVertexEnd}
 use Rattle.t_spline.specs.declared.TnurccVertexEnd.the-variants.{Origin, Dest}
 use Rattle.t_spline.specs.declared.TnurccFaceSide.the-variants.{Left, Right}
-use Rattle.tables.specs.Records.{edgeWordsAt}
+use Rattle.tables.specs.Loaded.{edgeWordsAt}
 use Rattle.walks.specs.Steps.{faceStep, pointStep}
 use Rattle.walks.specs.declared.Step.the-variants.{To, Lost}
 

@@ -13,7 +13,8 @@ use lib.ListN.{length, getD, set, replicate, length-append, List·getD-append, l
 use lib.Seq.{set-append-seam, getD-at}
 use Rattle.tables.specs.Mesh.{Mesh}
 use Rattle.audited_meshes.specs.Walks.{back, firstPoint, faceWalk}
-use Rattle.walks.specs.Border.{padded, again, borderOf, border}
+use Rattle.walks.specs.Border.{padded, borderOf, border}
+use Rattle.audited_meshes.specs.Folds.{again}
 
 less-one : (k n : ℕ) → n < k → k - n ≡ suc (k - suc n)
 less-one k n l = omega arith

@@ -1,24 +1,20 @@
 -- The border of a face.
 --     padded k xs          the list xs with 0 up to the length k
---     again k ps           the points ps followed by the first k again: of three points, the fourth is the first once more
 --     borderOf m f w       what a walk about face f gives: its edges, and the points at which it comes to them, the first
 --                          four again; the rest is 0, and all of it where the walk is lost
 --     border m ne f        the border of face f, by its walk along the edges below ne
 use mathlib.Core.Bool.{true, false}
 use mathlib.Core.List.{List, [], _∷_, _++_, map}
-use Prim.Native.Nat.{ℕ, zero, suc, _-_}
-use lib.ListN.{length, getD, replicate}
+use Prim.Native.Nat.{ℕ, _-_}
+use lib.ListN.{length, replicate}
 use Rattle.tables.specs.Layout.{longestPerimeter, longestBorder}
 use Rattle.tables.specs.Mesh.{Mesh}
+use Rattle.audited_meshes.specs.Folds.{again}
 use Rattle.audited_meshes.specs.Walks.{Walk, back, lost, firstPoint, faceWalk}
 use Rattle.walks.specs.declared.FaceBorder.{FaceBorder}
 
 unfoldable pub padded : ℕ → List ℕ → List ℕ
 padded k xs = xs ++ replicate (k - length xs) 0
-
-unfoldable pub again : ℕ → List ℕ → List ℕ
-again zero ps = ps
-again (suc k) ps = again k ps ++ getD (again k ps) k 0 ∷ []
 
 abbrev pub borderOf : Mesh → ℕ → Walk → FaceBorder
 borderOf m f (back es) =

@@ -1,6 +1,4 @@
 -- One step of a walk, and what a walk answers.
---     faceTables es fs         a mesh of which the tables of edges and faces alone are looked at
---     pointTables ps es        a mesh of which the tables of points and edges alone are looked at
 --     otherEnd m p e           the other end of edge e, which touches point p
 --     toIf b p e               a step to edge e that shows point p, if the test b holds
 --     faceStep es ne f e       one step about face f from edge e, if e is below ne and borders f
@@ -8,23 +6,17 @@
 --     passedBy w               the number of edges that a walk passed
 --     radialOver w xs          the words xs with the edges that a walk passed in the first of them
 use mathlib.Core.Bool.{Bool, true, false, _&&_, cond}
-use mathlib.Core.List.{List, []}
+use mathlib.Core.List.{List}
 use Prim.Native.Nat.{ℕ}
 use lib.Dec.{ltb, eqb}
 use lib.ListN.{length}
-use Rattle.tables.specs.Mesh.{Mesh, origin, dest}
+use Rattle.tables.specs.Mesh.{Mesh, edgeTable, origin, dest}
 use Rattle.tables.specs.Rows.{over}
 use Rattle.audited_meshes.specs.Walks.{Walk, back, lost, edgesOf, passed, borders, touches, acwOfFace, acwOfPoint, firstPoint}
 use Rattle.walks.specs.declared.Step.{Step}
 use Rattle.walks.specs.declared.Step.the-variants.{To, Lost}
 use Rattle.walks.specs.declared.Passed.{Passed}
 use Rattle.walks.specs.declared.Passed
-
-abbrev pub faceTables : List ℕ → List ℕ → Mesh
-faceTables es fs = record { positions = []; points = []; edges = es; intervals = []; faces = fs }
-
-abbrev pub pointTables : List ℕ → List ℕ → Mesh
-pointTables ps es = record { positions = []; points = ps; edges = es; intervals = []; faces = [] }
 
 abbrev pub otherEnd : Mesh → ℕ → ℕ → ℕ
 otherEnd m p e = cond (eqb (origin m e) p) (dest m e) (origin m e)
@@ -35,12 +27,12 @@ toIf false p e = Lost
 
 abbrev pub faceStep : List ℕ → ℕ → ℕ → ℕ → Step
 faceStep es ne f e =
-    let m : Mesh = faceTables es [] in
+    let m : Mesh = edgeTable es in
     toIf (ltb e ne && borders m f e) (firstPoint m f e) (acwOfFace m f e)
 
 abbrev pub pointStep : List ℕ → ℕ → ℕ → ℕ → Step
 pointStep es ne p e =
-    let m : Mesh = pointTables [] es in
+    let m : Mesh = edgeTable es in
     toIf (ltb e ne && touches m p e) (otherEnd m p e) (acwOfPoint m p e)
 
 abbrev pub passedBy : Walk → Passed

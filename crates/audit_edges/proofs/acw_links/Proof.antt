@@ -6,7 +6,7 @@ use mathlib.Core.Path.{sym, _∙_, ap}
 use borrow.Author.Needs.{needs}
 use Rattle.audit_edges.proofs.EdgeTests.{acw-links-is}
 use Rattle.audit_tests.specs.Parts.{linksBack}
-use Rattle.walks.specs.Steps.{faceTables}
+use Rattle.tables.specs.Parts.{faceTables}
 use Rattle.audited_meshes.specs.Walks.{touches}
 use Rattle.audit_edges.proofs.acw_links.Statement.{statement}
 use Rattle.audit_edges.proofs.acw_links.Tie as tie

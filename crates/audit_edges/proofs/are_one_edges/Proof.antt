@@ -8,9 +8,9 @@ use borrow.Author.Needs.{needs}
 use Rattle.audited_meshes.specs.Folds.{every}
 use Rattle.audit_tests.proofs.Laws.{every-none, every-more, every-stop, every-all}
 use Rattle.audited_meshes.specs.Quick.{oneEdge}
-use Rattle.walks.specs.Steps.{pointTables}
 use Rattle.audit_edges.proofs.are_one_edges.Statement.{statement}
 use Rattle.audit_edges.proofs.are_one_edges.Tie as tie
+use Rattle.tables.specs.Parts.{pointTables}
 
 abbrev Inv-loop : tie.InvT-loop
 Inv-loop points edges np ne e₀ e = (e ≤ ne) × (every e (λ k. oneEdge (pointTables points edges) ne k) ≡ true)

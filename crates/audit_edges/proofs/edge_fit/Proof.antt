@@ -4,30 +4,29 @@ use mathlib.Core.Path.{sym, _∙_}
 use borrow.Author.Tests.{not-true, not-false}
 use borrow.Author.Needs.{needs}
 use Rattle.audit_edges.proofs.EdgeTests.{edge-range, edge-interval, edge-ends, edge-sides, edge-links, edge-in-range, edge-range-rows, linked-rows}
-use Rattle.audit_tests.specs.Parts.{edgeRows}
-use Rattle.walks.specs.Steps.{faceTables}
 use Rattle.audit_edges.proofs.edge_fit.Statement.{statement}
 use Rattle.audit_edges.proofs.edge_fit.Tie as tie
+use Rattle.tables.specs.Parts.{edgeTables, faceTables}
 
 returns : tie.Need-returns
 returns c =
     let a = c .before .before .before .before .args in
-    sym (edge-range (edgeRows (a .edges .now) (a .intervals .now)) (a .np) (a .ne) (a .nf) (a .e) (edge-range-rows _ _ _ _ _ _ ∙ sym (c .before .edge-in-range .ensures) ∙ not-true _ (c .if1 .taken)))
+    sym (edge-range (edgeTables (a .edges .now) (a .intervals .now)) (a .np) (a .ne) (a .nf) (a .e) (edge-range-rows _ _ _ _ _ _ ∙ sym (c .before .edge-in-range .ensures) ∙ not-true _ (c .if1 .taken)))
 
 returns-2 : tie.Need-returns-2
 returns-2 c =
     let a = c .before .before .before .before .before .before .before .args in
-    sym (edge-interval (edgeRows (a .edges .now) (a .intervals .now)) (a .np) (a .ne) (a .nf) (a .e) (sym (c .before .interval-fits .ensures) ∙ not-true _ (c .if2 .taken)))
+    sym (edge-interval (edgeTables (a .edges .now) (a .intervals .now)) (a .np) (a .ne) (a .nf) (a .e) (sym (c .before .interval-fits .ensures) ∙ not-true _ (c .if2 .taken)))
 
 returns-3 : tie.Need-returns-3
 returns-3 c =
     let a = c .before .before .before .before .before .before .before .before .before .before .args in
-    sym (edge-ends (edgeRows (a .edges .now) (a .intervals .now)) (a .np) (a .ne) (a .nf) (a .e) (c .if3 .taken))
+    sym (edge-ends (edgeTables (a .edges .now) (a .intervals .now)) (a .np) (a .ne) (a .nf) (a .e) (c .if3 .taken))
 
 returns-4 : tie.Need-returns-4
 returns-4 c =
     let a = c .before .before .before .before .before .before .before .before .before .before .before .before .before .args in
-    sym (edge-sides (edgeRows (a .edges .now) (a .intervals .now)) (a .np) (a .ne) (a .nf) (a .e) (c .if4 .taken))
+    sym (edge-sides (edgeTables (a .edges .now) (a .intervals .now)) (a .np) (a .ne) (a .nf) (a .e) (c .if4 .taken))
 
 is-linked-requires : tie.Need-is-linked-requires
 is-linked-requires c κs =
@@ -39,7 +38,7 @@ returns-5 : tie.Need-returns-5
 returns-5 c =
     let a = c .before .before .before .before .before .before .before .before .before .before .before .before .before .before .args in
     c .is-linked .ensures ∙ sym (linked-rows _ _ _)
-    ∙ sym (edge-links (edgeRows (a .edges .now) (a .intervals .now)) (a .np) (a .ne) (a .nf) (a .e)
+    ∙ sym (edge-links (edgeTables (a .edges .now) (a .intervals .now)) (a .np) (a .ne) (a .nf) (a .e)
     (edge-range-rows _ _ _ _ _ _ ∙ sym (c .before .before .before .before .before .before .before .before .before .before .before .edge-in-range .ensures) ∙ not-false _ (c .before .before .before .before .before .before .before .before .before .before .if1 .left)) (sym (c .before .before .before .before .before .before .before .before .interval-fits .ensures) ∙ not-false _ (c .before .before .before .before .before .before .before .if2 .left)) (c .before .before .before .before .if3 .left) (c .before .if4 .left))
 
 pub edge-fit-spec : {M : Type 1} → statement M

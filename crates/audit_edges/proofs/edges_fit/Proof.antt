@@ -8,12 +8,12 @@ use borrow.Author.Needs.{needs}
 use Rattle.audited_meshes.specs.Folds.{every}
 use Rattle.audit_tests.proofs.Laws.{every-none, every-more, every-stop, every-all}
 use Rattle.audited_meshes.specs.Quick.{edgeFit}
-use Rattle.audit_tests.specs.Parts.{edgeRows}
 use Rattle.audit_edges.proofs.edges_fit.Statement.{statement}
 use Rattle.audit_edges.proofs.edges_fit.Tie as tie
+use Rattle.tables.specs.Parts.{edgeTables}
 
 abbrev Inv-loop : tie.InvT-loop
-Inv-loop edges intervals np ne nf e₀ e = (e ≤ ne) × (every e (λ k. edgeFit (edgeRows edges intervals) np ne nf k) ≡ true)
+Inv-loop edges intervals np ne nf e₀ e = (e ≤ ne) × (every e (λ k. edgeFit (edgeTables edges intervals) np ne nf k) ≡ true)
 
 abbrev μ-loop : tie.MeasureT-loop
 μ-loop edges intervals np ne nf e₀ e = ne - e

@@ -4,10 +4,10 @@ use mathlib.Core.Path.{sym, _∙_}
 use native.Mathlib.Omega.{arith}
 use borrow.Author.Tests.{not-true, not-false}
 use borrow.Author.Needs.{needs}
-use Rattle.walks.specs.Steps.{pointTables}
 use Rattle.audit_edges.proofs.Alone.{Lonely, lonely-start, lonely-more, lonely-stop, lonely-end, free-below}
 use Rattle.audit_edges.proofs.is_alone.Statement.{statement}
 use Rattle.audit_edges.proofs.is_alone.Tie as tie
+use Rattle.tables.specs.Parts.{pointTables}
 
 abbrev Inv-loop : tie.InvT-loop
 Inv-loop points edges ne e p q k i₀ n₀ i n = Lonely (pointTables points edges) ne e p q k n i

@@ -6,7 +6,7 @@ use borrow.Author.Tests.{not-true, not-false}
 use borrow.Author.Needs.{needs}
 use Rattle.audit_edges.proofs.EdgeTests.{linked-1, linked-2, linked-3, linked-4}
 use Rattle.audit_tests.specs.Parts.{linksBack}
-use Rattle.walks.specs.Steps.{faceTables}
+use Rattle.tables.specs.Parts.{faceTables}
 use Rattle.audited_meshes.specs.Audit.{acwLinks}
 use Rattle.tables.specs.Mesh.{origin, dest, leftFace, rightFace}
 use Rattle.audit_edges.proofs.is_linked.Statement.{statement}

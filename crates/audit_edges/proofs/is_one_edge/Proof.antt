@@ -2,9 +2,9 @@
 use mathlib.Core.Path.{_∙_}
 use borrow.Author.Needs.{needs}
 use Rattle.audit_edges.proofs.Alone.{from-origin, from-dest}
-use Rattle.walks.specs.Steps.{pointTables}
 use Rattle.audit_edges.proofs.is_one_edge.Statement.{statement}
 use Rattle.audit_edges.proofs.is_one_edge.Tie as tie
+use Rattle.tables.specs.Parts.{pointTables}
 
 returns : tie.Need-returns
 returns c =

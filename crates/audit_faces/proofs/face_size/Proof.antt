@@ -3,9 +3,9 @@ use mathlib.Core.Bool.{true, false}
 use mathlib.Core.Path.{sym, _∙_}
 use borrow.Author.Needs.{needs}
 use Rattle.audit_faces.proofs.FaceTests.{size-within, size-short, size-is}
-use Rattle.walks.specs.Steps.{faceTables}
 use Rattle.audit_faces.proofs.face_size.Statement.{statement}
 use Rattle.audit_faces.proofs.face_size.Tie as tie
+use Rattle.tables.specs.Parts.{faceTables}
 
 returns : tie.Need-returns
 returns c =

@@ -3,10 +3,10 @@
 use Prim.Native.Nat.{_≤_, _-_}
 use native.Mathlib.Omega.{arith}
 use borrow.Author.Needs.{needs}
-use Rattle.walks.specs.Steps.{faceTables}
 use Rattle.audit_faces.proofs.FaceTests.{Added, added-start, added-zero, added-past, added-more, added-all, size-small}
 use Rattle.audit_faces.proofs.face_walks_fit.Statement.{statement}
 use Rattle.audit_faces.proofs.face_walks_fit.Tie as tie
+use Rattle.tables.specs.Parts.{faceTables}
 
 abbrev Inv-loop : tie.InvT-loop
 Inv-loop edges faces ne nf total sum₀ f₀ sum f = (f ≤ nf) × Added (faceTables edges faces) ne total f sum

@@ -9,9 +9,9 @@ use borrow.Author.Needs.{needs}
 use Rattle.audited_meshes.specs.Folds.{every}
 use Rattle.audit_tests.proofs.Laws.{every-none, every-more, every-stop, every-all}
 use Rattle.audited_meshes.specs.Quick.{faceFit}
-use Rattle.walks.specs.Steps.{faceTables}
 use Rattle.audit_faces.proofs.faces_fit.Statement.{statement}
 use Rattle.audit_faces.proofs.faces_fit.Tie as tie
+use Rattle.tables.specs.Parts.{faceTables}
 
 abbrev Inv-loop : tie.InvT-loop
 Inv-loop faces np ne nf f₀ f = (f ≤ nf) × (every f (λ k. faceFit (faceTables [] faces) np ne k) ≡ true)

@@ -1,11 +1,11 @@
 -- zero_rows meets its contract.
-use Rattle.building_rows.specs.Zeroing.{zeroedTo}
+use Rattle.tables.specs.Counted.{zeroedRows}
 use borrow.Author.Needs.{needs}
 use Rattle.building_rows.proofs.zero_rows.Statement.{statement}
 use Rattle.building_rows.proofs.zero_rows.Tie as tie
 
 returns : tie.Need-returns
-unfolding zeroedTo
+unfolding zeroedRows
 returns c = rw (c .before .before .before .before .before .before .before .before .before .before .before .before .before .before .before .before .before .before .zero-numbers .ensures, c .before .before .before .before .before .before .before .before .before .before .before .before .before .before .zero-words .ensures, c .before .before .before .before .before .before .before .before .before .before .zero-words2 .ensures, c .before .before .before .before .before .before .zero-numbers2 .ensures, c .before .before .zero-words3 .ensures)
 
 pub zero-rows-spec : {M : Type 1} → statement M

@@ -1,7 +1,7 @@
 -- enter meets its contract: the edge found is filled, or a new one is made.
 use mathlib.Core.Path.{_∙_, sym}
 use native.Mathlib.Omega.{arith}
-use Rattle.edge_search.specs.Chains.{edgeTable}
+use Rattle.tables.specs.Mesh.{edgeTable}
 use Rattle.edge_search.proofs.Chains.{edgeBetween-below, entered-found, entered-new, standing-filled}
 use borrow.Author.Needs.{needs}
 use Rattle.edge_search.proofs.enter.Statement.{statement}

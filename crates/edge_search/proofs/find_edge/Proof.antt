@@ -1,6 +1,6 @@
 -- find_edge meets its contract: the search along either chain finds the same edge.
 use mathlib.Core.Path.{_∙_}
-use Rattle.edge_search.specs.Chains.{edgeTable}
+use Rattle.tables.specs.Mesh.{edgeTable}
 use Rattle.edge_search.proofs.Chains.{edgeBetween-swap}
 use borrow.Author.Needs.{needs}
 use Rattle.edge_search.proofs.find_edge.Statement.{statement}

@@ -1,7 +1,7 @@
 -- make_in_rows meets its contract: the first rows are worked on as parts of their own and put back.
 use Rattle.making.proofs.FirstRows.{first-rows-back, zeroed-rows-back}
 use Rattle.making.specs.Making.{madeAs}
-use Rattle.steps.specs.Step.{firstRows}
+use Rattle.tables.specs.Counted.{firstRows}
 use Rattle.tables.specs.Mesh.{Mesh, meshOf}
 use lib.Seq.{length-take-le}
 use native.Mathlib.Omega.{arith}

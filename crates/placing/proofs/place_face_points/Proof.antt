@@ -6,7 +6,8 @@ use native.Mathlib.Omega.{arith}
 use borrow.Author.Needs.{needs}
 use lib.Ieee.{Float}
 use lib.ListN.{length, getD}
-use Rattle.position_rules.specs.FacePoint.{faceMesh, facePointOf}
+use Rattle.position_rules.specs.FacePoint.{facePointOf}
+use Rattle.tables.specs.Parts.{withoutPoints}
 use Rattle.placing.proofs.Laws.{placed-more, placed-ends}
 use Rattle.steps.specs.Positions.{on, placed}
 use Rattle.tables.proofs.Laws.{length-putRow}
@@ -17,7 +18,7 @@ use Rattle.placing.proofs.place_face_points.Tie as tie
 abbrev Inv-loop : tie.InvT-loop
 Inv-loop positions edges intervals faces ne nf quads places₀ f₀ places f =
     (f ≤ nf) × (length places ≡ length places₀)
-    × (placed f (λ k. getD quads (k * 5 + 1) 0) (λ k ps. facePointOf (faceMesh positions edges intervals faces) ne k) (on places₀) ≡ on places)
+    × (placed f (λ k. getD quads (k * 5 + 1) 0) (λ k ps. facePointOf (withoutPoints positions edges intervals faces) ne k) (on places₀) ≡ on places)
 
 abbrev μ-loop : tie.MeasureT-loop
 μ-loop positions edges intervals faces ne nf quads places₀ f₀ places f = nf - f
@@ -32,7 +33,7 @@ returns : tie.Need-returns Inv-loop μ-loop
 returns c =
     let a = c .before .before .before .before .before .before .before .before .before .before .before .args in
     let row : ℕ → ℕ = λ k. getD (a .quads .now) (k * 5 + 1) 0 in
-    let rule : ℕ → List Float → Position = λ k ps. facePointOf (faceMesh (a .positions .now) (a .edges .now) (a .intervals .now) (a .faces .now)) (a .ne) k in
+    let rule : ℕ → List Float → Position = λ k ps. facePointOf (withoutPoints (a .positions .now) (a .edges .now) (a .intervals .now) (a .faces .now)) (a .ne) k in
     let start = on (a .places .now) in
     placed-ends row rule start (a .nf) (c .before .before .before .before .loop .f) (c .before .before .before .before .loop .places) (omega arith) (c .before .before .before .before .loop .inv .2) (sym (c .before .before .face-point .ensures) ∙ c .enum-told .given .1)
 
@@ -55,7 +56,7 @@ loop-again : tie.Need-loop-again Inv-loop μ-loop
 loop-again c =
     let a = c .before .before .before .before .before .before .before .before .before .before .before .before .before .before .before .before .before .before .args in
     let row : ℕ → ℕ = λ k. getD (a .quads .now) (k * 5 + 1) 0 in
-    let rule : ℕ → List Float → Position = λ k ps. facePointOf (faceMesh (a .positions .now) (a .edges .now) (a .intervals .now) (a .faces .now)) (a .ne) k in
+    let rule : ℕ → List Float → Position = λ k ps. facePointOf (withoutPoints (a .positions .now) (a .edges .now) (a .intervals .now) (a .faces .now)) (a .ne) k in
     let start = on (a .places .now) in
     let put = placed-more row rule start (c .before .before .before .before .before .before .before .before .before .before .before .loop .f) (c .before .before .before .before .before .before .before .before .before .before .before .loop .places) (c .before .before .before .before .before .before .before .before .before .before .before .loop .inv .2) (sym (c .before .before .before .before .before .before .before .before .before .face-point .ensures) ∙ c .before .before .before .before .before .before .before .x .given .1) in
     (omega arith, rw (c .before .before .store-position .ensures, length-putRow) (c .before .before .before .before .before .before .before .before .before .before .before .loop .inv .1), rw (c .before .before .store-position .ensures, c .before .before .before .index .ensures) put)
@@ -64,7 +65,7 @@ returns-2 : tie.Need-returns-2 Inv-loop μ-loop
 returns-2 c =
     let a = c .before .before .before .before .before .before .before .before .args in
     let row : ℕ → ℕ = λ k. getD (a .quads .now) (k * 5 + 1) 0 in
-    let rule : ℕ → List Float → Position = λ k ps. facePointOf (faceMesh (a .positions .now) (a .edges .now) (a .intervals .now) (a .faces .now)) (a .ne) k in
+    let rule : ℕ → List Float → Position = λ k ps. facePointOf (withoutPoints (a .positions .now) (a .edges .now) (a .intervals .now) (a .faces .now)) (a .ne) k in
     let start = on (a .places .now) in
     let all : a .nf ≡ c .before .loop .f = omega arith in
     ap (λ (k : ℕ). placed k row rule start) all ∙ c .before .loop .inv .2

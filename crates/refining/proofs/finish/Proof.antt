@@ -1,7 +1,7 @@
 -- finish meets its contract: the mesh is written only where it is made whole, and scratch is zeroed either way.
 use Rattle.refining.proofs.Laws.{rooms-kept, ended-whole, ended-not-finite}
 use Rattle.making.specs.Making.{madeAs}
-use Rattle.steps.specs.Step.{firstRows}
+use Rattle.tables.specs.Counted.{firstRows}
 use Rattle.tables.specs.Mesh.{Mesh, meshOf}
 use mathlib.Core.Path.{sym, _∙_, ap}
 use borrow.Author.Needs.{needs}

@@ -1,6 +1,6 @@
 -- make_from_rows meets its contract: the first rows of the tables are handed on.
 use lib.Seq.{length-take-le}
-use Rattle.steps.specs.Step.{firstRows}
+use Rattle.tables.specs.Counted.{firstRows}
 use mathlib.Core.Path.{sym}
 use borrow.Author.Needs.{needs}
 use Rattle.refining.proofs.make_from_rows.Statement.{statement}

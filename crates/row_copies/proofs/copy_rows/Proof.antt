@@ -1,9 +1,9 @@
 -- copy_rows meets its contract, table by table.
 use native.Mathlib.Omega.{arith}
 use borrow.Author.Needs.{needs}
-use Rattle.steps.specs.Step.{overRows}
 use Rattle.row_copies.proofs.copy_rows.Statement.{statement}
 use Rattle.row_copies.proofs.copy_rows.Tie as tie
+use Rattle.tables.specs.Counted.{overRows}
 
 copy-words-requires-2 : tie.Need-copy-words-requires-2
 copy-words-requires-2 c κs = omega (arith, c .before .before .before .before .before .before .before .before .before .before .before .before .before .before .before .before .before .before .before .before .before .before)

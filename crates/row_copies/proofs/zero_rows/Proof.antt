@@ -1,9 +1,9 @@
 -- zero_rows meets its contract, table by table.
 use native.Mathlib.Omega.{arith}
 use borrow.Author.Needs.{needs}
-use Rattle.steps.specs.Step.{zeroedRows}
 use Rattle.row_copies.proofs.zero_rows.Statement.{statement}
 use Rattle.row_copies.proofs.zero_rows.Tie as tie
+use Rattle.tables.specs.Counted.{zeroedRows}
 
 mul-zero-words-3 : tie.Need-mul-zero-words-3
 mul-zero-words-3 c = omega (arith, c .before .before .before .before .before .before .before .before .before .before .before .before .before .before .before .before .before .before .before .before .before .before .before .before .before .before)

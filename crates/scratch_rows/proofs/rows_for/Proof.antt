@@ -1,7 +1,7 @@
 -- rows_for meets its contract: each test decides one of the definition's.
 use borrow.Author.Tests.{le-leb, lt-leb}
 use borrow.Author.Needs.{needs}
-use Rattle.steps.specs.Step.{rowsFor}
+use Rattle.tables.specs.Counted.{rowsFor}
 use Rattle.scratch_rows.proofs.rows_for.Statement.{statement}
 use Rattle.scratch_rows.proofs.rows_for.Tie as tie
 

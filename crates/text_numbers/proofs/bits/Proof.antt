@@ -6,7 +6,8 @@ use mathlib.Core.Path.{_≡_}
 use Prim.Native.Nat.{_≤_, _<_, _-_, _^_}
 use lib.ListN.{length}
 use Rattle.text_numbers.specs.Form.{times}
-use Rattle.text_numbers.specs.Numbers.{bits, digit, number}
+use Rattle.text_numbers.specs.Numbers.{bits, digit}
+use Rattle.text_numbers.specs.Answers.{number}
 use Rattle.text_numbers.proofs.bits.Proof.Turn.{numberOf, bits-start, bits-turn, bits-none, bits-end, bits-inside, next-fits, next-below}
 use Rattle.text_numbers.proofs.bits.Statement.{statement}
 use Rattle.text_numbers.proofs.bits.Tie as tie

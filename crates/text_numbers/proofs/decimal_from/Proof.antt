@@ -6,7 +6,8 @@ use native.Mathlib.Omega.{arith}
 use mathlib.Core.Path.{_≡_}
 use Prim.Native.Nat.{_≤_, _-_}
 use lib.ListN.{length}
-use Rattle.text_numbers.specs.Numbers.{decimalFrom, number}
+use Rattle.text_numbers.specs.Numbers.{decimalFrom}
+use Rattle.text_numbers.specs.Answers.{number}
 use Rattle.text_numbers.proofs.decimal_from.Proof.Turn.{rest, rest-start, rest-turn, rest-stop, rest-large, rest-inside}
 use Rattle.text_numbers.proofs.decimal_from.Statement.{statement}
 use Rattle.text_numbers.proofs.decimal_from.Tie as tie

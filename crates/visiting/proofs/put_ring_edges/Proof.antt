@@ -2,7 +2,7 @@
 use Rattle.ring_places.specs.Rings.{ring}
 use Rattle.refined_meshes.specs.Ring.{putFirst, putSecond}
 use Rattle.refined_meshes.specs.Turns.{turns}
-use Rattle.walks.specs.Steps.{faceTables}
+use Rattle.tables.specs.Parts.{faceTables}
 use native.Mathlib.Omega.{arith}
 use mathlib.Core.List.{[]}
 use mathlib.Core.Path.{_∙_, ap}

@@ -2,7 +2,7 @@
 use Rattle.visiting.proofs.Laws.{refinedRows-bare}
 use Rattle.visiting.specs.Visiting.{Fits}
 use Rattle.tables.specs.Mesh.{meshOf}
-use Rattle.walks.specs.Steps.{faceTables}
+use Rattle.tables.specs.Parts.{faceTables}
 use Rattle.refined_meshes.specs.State.{State, copied}
 use mathlib.Core.Path.{sym, _∙_, subst}
 use Rattle.visiting.proofs.refined_rows.Statement.{statement}

@@ -1,7 +1,7 @@
 -- visits meets its contract. The invariant: the first i faces of the order are visited; the measure is what is left of them.
 use Rattle.visiting.proofs.Turning.{Turning, turning-start, turning-fits, turning-turn, turning-end}
 use Rattle.splitting.specs.Scratch.{tablesOf}
-use Rattle.walks.specs.Steps.{faceTables}
+use Rattle.tables.specs.Parts.{faceTables}
 use native.Mathlib.Omega.{arith}
 use Prim.Native.Nat.{_-_}
 use borrow.Author.Needs.{needs}

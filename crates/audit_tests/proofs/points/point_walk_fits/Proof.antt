@@ -3,7 +3,7 @@ use Prim.Native.Nat.{ℕ}
 use mathlib.Core.Path.{sym, _∙_, ap}
 use borrow.Author.Needs.{needs}
 use Rattle.audit_tests.proofs.PointTests.{back-after, lost-after}
-use Rattle.walks.specs.Steps.{pointTables}
+use Rattle.tables.specs.Parts.{pointTables}
 use Rattle.audited_meshes.specs.Quick.{pointBack}
 use Rattle.audited_meshes.specs.Walks.{pointWalk}
 use Rattle.audit_tests.proofs.points.point_walk_fits.Statement.{statement}

@@ -7,13 +7,13 @@ use borrow.Author.Tests.{not-true, not-false}
 use borrow.Author.Needs.{needs}
 use Rattle.audited_meshes.specs.Folds.{every}
 use Rattle.audited_meshes.specs.Quick.{pointFit}
-use Rattle.audit_tests.specs.Parts.{pointRows}
+use Rattle.tables.specs.Parts.{positionTables}
 use Rattle.audit_tests.proofs.Laws.{every-none, every-more, every-stop, every-all}
 use Rattle.audit_tests.proofs.points.points_fit.Statement.{statement}
 use Rattle.audit_tests.proofs.points.points_fit.Tie as tie
 
 abbrev Inv-loop : tie.InvT-loop
-Inv-loop positions points ne np p₀ p = (p ≤ np) × (every p (λ k. pointFit (pointRows positions points) ne k) ≡ true)
+Inv-loop positions points ne np p₀ p = (p ≤ np) × (every p (λ k. pointFit (positionTables positions points) ne k) ≡ true)
 
 abbrev μ-loop : tie.MeasureT-loop
 μ-loop positions points ne np p₀ p = np - p

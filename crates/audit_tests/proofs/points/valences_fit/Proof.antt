@@ -7,7 +7,7 @@ use native.Mathlib.Omega.{arith}
 use borrow.Author.Needs.{needs}
 use Rattle.closed_meshes.specs.Renumbering.{sumTo}
 use Rattle.tables.specs.Mesh.{valence}
-use Rattle.walks.specs.Steps.{pointTables}
+use Rattle.tables.specs.Parts.{pointTables}
 use Rattle.audit_tests.proofs.Laws.{sumTo-none, sumTo-more, sumTo-stop, sumTo-all}
 use Rattle.audit_tests.proofs.points.valences_fit.Statement.{statement}
 use Rattle.audit_tests.proofs.points.valences_fit.Tie as tie

@@ -1,7 +1,7 @@
 -- no_missed_edge meets its contract. The invariant: no walk about a point before p misses an edge; the measure is what is left of the points.
 use borrow.Author.Needs.{needs}
 use borrow.Author.Tests.{not-true, not-false}
-use Rattle.walks.specs.Steps.{pointTables}
+use Rattle.tables.specs.Parts.{pointTables}
 use Rattle.tables.specs.Mesh.{valence}
 use Rattle.audited_meshes.specs.Walks.{passed, pointWalk}
 use Rattle.built_meshes.specs.Whole.{noMissedEdge}

@@ -1,6 +1,6 @@
 -- walk_passes_all meets its contract.
 use mathlib.Core.Path.{_∙_, sym}
-use Rattle.walks.specs.Steps.{pointTables}
+use Rattle.tables.specs.Parts.{pointTables}
 use Rattle.building_whole.proofs.Laws.{passes-back, passes-lost}
 use borrow.Author.Needs.{needs}
 use Rattle.building_whole.proofs.whole.walk_passes_all.Statement.{statement}

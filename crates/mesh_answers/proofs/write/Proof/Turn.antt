@@ -7,7 +7,7 @@ use native.Mathlib.Numerals.{add-one}
 use native.Mathlib.Omega.{arith}
 use lib.ListN.{length, getD, set, drop, drop-of-length-le}
 use lib.Seq.{sets, drop-cons}
-use Rattle.mesh_answers.specs.Lines.{Written}
+use Rattle.mesh_answers.specs.Writing.{Written}
 
 pub start : (out : List ℕ) (at : ℕ) (t : List ℕ) → sets out (at + 0) (drop 0 t) ≡ sets out at t
 start out at t = rw add-zero

@@ -13,13 +13,14 @@ use borrow.Author.Tests.{leb-true}
 use Rattle.text_numbers.specs.Form.{Found, found, none}
 use Rattle.mesh_lines.specs.Grammar.{Listed, flat, sidePoints}
 use Rattle.mesh_text.specs.Text.{Mesh, text}
-use Rattle.mesh_text.specs.Reading.{coordinates, lengths, listedPoints, intervals, counts, Lists, within, readInto}
+use Rattle.mesh_text.specs.Reading.{counts, Lists, within, readInto}
+use Rattle.mesh_text.specs.Lists.{coordinates, lengths, listedPoints, intervals}
 use Rattle.mesh_lines.specs.Parts.{lengthWord, stored}
 use Rattle.mesh_text.specs.Parts.{lengthWords, totalOf, AtTotal}
 use Rattle.text_numbers.proofs.Laws.{and-both}
 use Rattle.mesh_text.specs.declared.Total.{Total}
 use Rattle.mesh_text.specs.declared.Total.the-variants as Total
-use Rattle.mesh_text.specs.declared.Counts.{Counts}
+use Rattle.tables.specs.declared.Sizes.{Sizes}
 use Rattle.mesh_text.specs.declared.Reading.the-variants as Reading
 
 total-of : (x : Found Mesh) {p f c : ℕ} → totalOf x ≡ Total.Of p f c → (m : Mesh) × (n : ℕ) × (x ≡ found m n) × (counts m ≡ record { points = p; faces = f; listed = c })
@@ -54,7 +55,7 @@ face-words (f ∷ fs) h =
     let r = face-words fs (omega arith) in
     λ i. w i ++ r i
 
-listed-fits : (c limits : Counts) (xs ls ps ds : ℕ) → within c limits xs ls ps ds ≡ true → c .listed ≤ 4294967295
+listed-fits : (c limits : Sizes) (xs ls ps ds : ℕ) → within c limits xs ls ps ds ≡ true → c .listed ≤ 4294967295
 unfolding within
 listed-fits c limits xs ls ps ds e =
     let e1 = and-both (leb (c .points) (limits .points)) _ e .1 in
@@ -62,7 +63,7 @@ listed-fits c limits xs ls ps ds e =
     let e3 = and-both (leb (c .listed) (limits .listed)) _ e2 .1 in
     leb-true (c .listed) 4294967295 (and-both (leb (c .listed) 4294967295) _ e3 .0)
 
-module _ (s : List ℕ) (limits : Counts) (l : Lists) {r : Total} (er : r ≡ totalOf (text s)) where
+module _ (s : List ℕ) (limits : Sizes) (l : Lists) {r : Total} (er : r ≡ totalOf (text s)) where
   pub not-text : r ≡ Total.None → record { reading = Reading.NotText; lists = l } ≡ readInto s limits l
   unfolding readInto
   not-text en = rw (total-none (text s) (sym er ∙ en))
@@ -86,7 +87,7 @@ module _ (s : List ℕ) (limits : Counts) (l : Lists) {r : Total} (er : r ≡ to
         let (m, n, et, ec) = total-of (text s) (sym er ∙ ep) in
         let eo : q ≡ Total.Of p f c = eq ∙ sym er ∙ ep in
         let h = listed-fits _ limits _ _ _ _ ew in
-        let em : length (listedPoints m) ≡ c = ap (λ (v : Counts). v .listed) ec in
+        let em : length (listedPoints m) ≡ c = ap (λ (v : Sizes). v .listed) ec in
         let w : lengthWords m ≡ lengths m = face-words (m .faces) (omega arith) in
         let ex″ = rw (eo, et) at ex in
         let el″ = (rw (eo, et) at el) ∙ ap (sets (l .lengths) 0) w in

@@ -11,7 +11,7 @@ use Rattle.text_numbers.specs.Form.{bytes, found, Form, many, stands}
 use Rattle.mesh_lines.specs.Grammar.{Listed, point, face, flat, sidePoints, sideIntervals}
 use Rattle.mesh_text.specs.Text.{ends, mesh, text}
 use Rattle.text_numbers.specs.Numbers.{float}
-use Rattle.mesh_text.specs.Reading.{coordinates, listedPoints, intervals}
+use Rattle.mesh_text.specs.Lists.{coordinates, listedPoints, intervals}
 use Rattle.mesh_lines.specs.Parts.{lengthWord, run, linesOf, stored, AtRun, AtLines}
 use Rattle.mesh_text.specs.Parts.{lengthWords, totalOf}
 use Rattle.mesh_lines.specs.declared.Run.{Run}

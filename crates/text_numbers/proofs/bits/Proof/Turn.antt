@@ -7,7 +7,8 @@ use native.Mathlib.Numerals.{add-one}
 use native.Mathlib.Omega.{arith}
 use lib.ListN.{length, getD}
 use Rattle.text_numbers.specs.Form.{Found, given, times}
-use Rattle.text_numbers.specs.Numbers.{bits, digit, digitValue, value, number}
+use Rattle.text_numbers.specs.Numbers.{bits, digit, digitValue, value}
+use Rattle.text_numbers.specs.Answers.{number}
 use Rattle.text_numbers.specs.declared.Number.{Number}
 use Rattle.text_numbers.specs.declared.Number.the-variants as Number
 use Rattle.text_numbers.proofs.Laws.{digit-inside}

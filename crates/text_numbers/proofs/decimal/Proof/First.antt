@@ -5,7 +5,8 @@ use mathlib.Core.Path.{_≡_, sym, ap, _∙_}
 use Prim.Native.Nat.{ℕ, _≤_, _<_, _+_}
 use lib.ListN.{length, getD}
 use borrow.Author.Tests.{eq-eqb, ne-eqb}
-use Rattle.text_numbers.specs.Numbers.{decimal, decimalFrom, digitValue, number}
+use Rattle.text_numbers.specs.Numbers.{decimal, decimalFrom, digitValue}
+use Rattle.text_numbers.specs.Answers.{number}
 use Rattle.text_numbers.specs.declared.Number.{Number}
 use Rattle.text_numbers.specs.declared.Number.the-variants as Number
 use Rattle.text_numbers.proofs.Laws.{digit-inside}

@@ -10,7 +10,8 @@ use lib.ListN.{length, getD}
 use lib.Dec.{ltb}
 use borrow.Author.Tests.{lt-ltb, le-ltb, ltb-true, ltb-false}
 use Rattle.text_numbers.specs.Form.{Found, found, none, Form, onward, _>>=_, pure, choose}
-use Rattle.text_numbers.specs.Numbers.{digits, decimalFrom, digitValue, number}
+use Rattle.text_numbers.specs.Numbers.{digits, decimalFrom, digitValue}
+use Rattle.text_numbers.specs.Answers.{number}
 use Rattle.text_numbers.specs.declared.Number.{Number}
 use Rattle.text_numbers.specs.declared.Number.the-variants as Number
 use Rattle.text_numbers.proofs.Laws.{digit-inside}

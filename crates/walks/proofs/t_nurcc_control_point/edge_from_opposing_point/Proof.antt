@@ -9,7 +9,8 @@ use lib.Dec.{ltb}
 use Rattle.walks.proofs.Steps.{step-below}
 use Rattle.tables.specs.Mesh.{Mesh, start}
 use Rattle.audited_meshes.specs.Walks.{acwOfPoint, touches}
-use Rattle.walks.specs.Steps.{pointTables, pointStep}
+use Rattle.walks.specs.Steps.{pointStep}
+use Rattle.tables.specs.Parts.{pointTables}
 use Rattle.walks.specs.Neighbour.{edgeTo}
 use Rattle.walks.proofs.Seeking.{Sought, sought-start, sought-at, sought-more, sought-last, sought-lost, sought-out}
 use Rattle.walks.proofs.t_nurcc_control_point.edge_from_opposing_point.Statement.{statement}

@@ -6,7 +6,7 @@ use native.Mathlib.Omega.{arith}
 use lib.ListN.{length}
 use borrow.Author.Needs.{needs}
 use Rattle.audited_meshes.specs.Walks.{acwOfPoint, pointWalk}
-use Rattle.walks.specs.Steps.{pointTables}
+use Rattle.tables.specs.Parts.{pointTables}
 use Rattle.walks.proofs.Radial.{Radial, radial-lost, radial-start, radial-edge, radial-place, radial-more, radial-end}
 use Rattle.walks.proofs.t_nurcc_control_point.radial_edges.Statement.{statement}
 use Rattle.walks.proofs.t_nurcc_control_point.radial_edges.Tie as tie

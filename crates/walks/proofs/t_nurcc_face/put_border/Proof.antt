@@ -3,7 +3,8 @@
 use mathlib.Core.Path.{sym, _∙_, ap}
 use Prim.Native.Nat.{_-_}
 use borrow.Author.Needs.{needs}
-use Rattle.walks.specs.Steps.{faceTables, faceStep}
+use Rattle.walks.specs.Steps.{faceStep}
+use Rattle.tables.specs.Parts.{faceTables}
 use Rattle.walks.specs.Border.{padded}
 use Rattle.walks.proofs.Border.{Bordering, border-start, border-more, border-last, border-lost, border-out, cleared}
 use Rattle.walks.proofs.t_nurcc_face.put_border.Statement.{statement}

@@ -6,7 +6,8 @@ use borrow.Author.Needs.{needs}
 use lib.Dec.{ltb}
 use Rattle.tables.specs.Mesh.{Mesh, faceStart}
 use Rattle.audited_meshes.specs.Walks.{acwOfFace, borders, faceWalk}
-use Rattle.walks.specs.Steps.{faceTables, faceStep}
+use Rattle.walks.specs.Steps.{faceStep}
+use Rattle.tables.specs.Parts.{faceTables}
 use Rattle.walks.proofs.Counting.{Counted, counted-start, counted-more, counted-last, counted-lost, counted-out}
 use Rattle.walks.proofs.t_nurcc_iter.face_walk.Statement.{statement}
 use Rattle.walks.proofs.t_nurcc_iter.face_walk.Tie as tie

@@ -6,7 +6,8 @@ use borrow.Author.Needs.{needs}
 use lib.Dec.{ltb}
 use Rattle.tables.specs.Mesh.{Mesh, start}
 use Rattle.audited_meshes.specs.Walks.{acwOfPoint, touches, pointWalk}
-use Rattle.walks.specs.Steps.{pointTables, pointStep}
+use Rattle.walks.specs.Steps.{pointStep}
+use Rattle.tables.specs.Parts.{pointTables}
 use Rattle.walks.proofs.Counting.{Counted, counted-start, counted-more, counted-last, counted-lost, counted-out}
 use Rattle.walks.proofs.t_nurcc_iter.point_walk.Statement.{statement}
 use Rattle.walks.proofs.t_nurcc_iter.point_walk.Tie as tie

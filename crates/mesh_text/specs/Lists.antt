@@ -1,0 +1,24 @@
+-- The lists that a text stands for.
+--     coordinates m        three numbers for each point
+--     lengths m            of each side, how many points it lists
+--     listedPoints m       the listed points of all sides, in their order
+--     intervals m          the interval beside each
+use mathlib.Core.List.{List, map}
+use Prim.Native.Nat.{ℕ}
+use lib.ListN.{length}
+use lib.Ieee.{Float}
+use Rattle.text_numbers.specs.Numbers.{float}
+use Rattle.mesh_lines.specs.Grammar.{flat, sidePoints, sideIntervals}
+use Rattle.mesh_text.specs.Text.{Mesh}
+
+abbrev pub coordinates : Mesh → List Float
+coordinates m = flat (map float) (m .points)
+
+abbrev pub lengths : Mesh → List ℕ
+lengths m = flat (map length) (m .faces)
+
+abbrev pub listedPoints : Mesh → List ℕ
+listedPoints m = flat (flat sidePoints) (m .faces)
+
+abbrev pub intervals : Mesh → List Float
+intervals m = flat (flat sideIntervals) (m .faces)
