@@ -271,6 +271,13 @@ module _ (c : Sizes) (l : Lists) (m : Mesh) (counted' : Counted c l) (numbered :
               valence-is = λ p b. blank p b;
               start-is = λ p b h. absurd (omega (arith, blank p b));
               interval-fit = λ e b. absurd (omega arith);
+              made =
+                  record {
+                    place = λ e. 0;
+                    maker = λ e b. absurd (omega arith);
+                    in-order = λ e o h b. absurd (omega arith);
+                    highest = λ p e pb b. absurd (omega arith);
+                  };
               linked = λ f i d. no-chain f i d;
             };
         counts = refl;

@@ -11,8 +11,8 @@ use Prim.Native.Nat.{ℕ, zero, suc, _+_, _*_, _<_, _≤_}
 use native.Mathlib.Omega.{arith}
 use native.Mathlib.Decide.{ℕ-discrete}
 use lib.Dec.{eqb}
-use lib.Ieee.{Float}
-use lib.ListN.{length}
+use lib.Ieee.{Float, nan}
+use lib.ListN.{length, getD}
 use borrow.Author.Tests.{eqb-true, eqb-false, eq-eqb, ne-eqb}
 use Rattle.perimeters.specs.Places.{nextPlace}
 use Rattle.perimeters.proofs.Laws.{next-below, next-differs}
@@ -29,9 +29,9 @@ use Rattle.audited_meshes.specs.Walks.{touches, Touches}
 use Rattle.audited_meshes.specs.Audit.{intervalFit}
 use Rattle.audited_meshes.proofs.Folds.{below-suc, sumTo-cong}
 use Rattle.audited_meshes.proofs.Tests.{Is, and-is, or-is, eqb-is}
-use Rattle.built_meshes.specs.Lists.{Lists, pointsOf, size}
+use Rattle.built_meshes.specs.Lists.{Lists, pointsOf, size, offset}
 use Rattle.built_meshes.specs.Edges.{joins, orLast, edgeBetween, edgeOf, touched, newEdge, filled, Entered, at, refused, enteredAt, enteredIf, entered}
-use Rattle.built_meshes.specs.Places.{pointOf, nextOf}
+use Rattle.built_meshes.specs.Places.{pointOf, nextOf, Earlier}
 use Rattle.built_meshes.specs.Beyond.{Within}
 use Rattle.built_meshes.specs.declared.Ground.{Ground}
 use Rattle.built_meshes.specs.declared.Ground.the-variants.{EdgeTripleFace, SameWay}
@@ -40,6 +40,7 @@ use Rattle.built_meshes.specs.declared.Found.the-variants as Founds
 use Rattle.built_meshes.proofs.Connecting.{firstOf, secondOf, acwOf, cwOf}
 use Rattle.built_meshes.proofs.Rows.{row, withRight, row-newEdge, row-newEdge-other, valence-newEdge-first, valence-newEdge-second, valence-newEdge-other, start-newEdge-first, start-newEdge-second, start-newEdge-other, row-filled, row-filled-other}
 use Rattle.built_meshes.proofs.Beyond.{behind-trans, behind-set, behind-putRow, behind-touched}
+use Rattle.built_meshes.proofs.Made.{Maker, Made, Meets, Alike, made-on, made-new, earlier-not, earlier-differs}
 use Rattle.built_meshes.proofs.Invariant.{Sits, Good, Invariant, Adds, Or-this, sits-added, sits-new, invariant-added}
 
 -- ---- the search
@@ -99,8 +100,10 @@ module _ (l : Lists) (D : ℕ → ℕ → Type 0) (p q : ℕ) where
     -- places entered run both ways between the points
     both-ways :
         (f i g j : ℕ) → D f i → pointOf l f i ≡ p → nextOf l f i ≡ q → D g j → pointOf l g j ≡ q → nextOf l g j ≡ p → Why EdgeTripleFace
-    -- a place entered runs this way
-    this-way : (f i : ℕ) → D f i → pointOf l f i ≡ p → nextOf l f i ≡ q → Why SameWay
+    -- a place entered runs this way, and none runs back
+    this-way :
+        (f i : ℕ) → D f i → pointOf l f i ≡ p → nextOf l f i ≡ q → ((g j : ℕ) → D g j → pointOf l g j ≡ q → nextOf l g j ≡ p → ⊥) →
+        Why SameWay
 
 module _ (l : Lists) (D C : ℕ → ℕ → Type 0) (m : Mesh) (ne : ℕ) (f₀ i₀ : ℕ) where
   -- the place is in, at an edge
@@ -119,7 +122,8 @@ module _ (l : Lists) (D C : ℕ → ℕ → Type 0) (m : Mesh) (ne : ℕ) (f₀ 
     stops : {g : Ground} → Why l D (pointOf l f₀ i₀) (nextOf l f₀ i₀) g → Came (refused g)
 
   module _ (v : Invariant l D C m ne) (g₀ : Good l f₀ i₀) (value : Float) (fit : intervalFit value ≡ true)
-      (points-room : pointsOf l * 3 ≤ length (m .points)) (edges-room : suc ne * 8 ≤ length (m .edges)) (intervals-room : ne < length (m .intervals)) (listed-room : ne < length (l .listed)) where
+      (points-room : pointsOf l * 3 ≤ length (m .points)) (edges-room : suc ne * 8 ≤ length (m .edges)) (intervals-room : ne < length (m .intervals)) (listed-room : ne < length (l .listed))
+      (past : (f i : ℕ) → D f i → Earlier f i f₀ i₀) (value-is : value ≡ getD (l .intervals) (offset l f₀ + i₀) nan) where
     abbrev p : ℕ
     p = pointOf l f₀ i₀
 
@@ -136,6 +140,11 @@ module _ (l : Lists) (D C : ℕ → ℕ → Type 0) (m : Mesh) (ne : ℕ) (f₀ 
     differ h =
         next-differs (size l f₀) i₀ (omega (arith, g₀ .sound .at-least-3)) (g₀ .is-below)
         (sym (g₀ .sound .distinct i₀ (nextPlace (size l f₀) i₀) (g₀ .is-below) (next-below (size l f₀) i₀ (g₀ .is-below)) h))
+
+    -- what is before a place entered was entered before it
+    before-old : (g j f i : ℕ) → Or-this D f₀ i₀ g j → D f i → Earlier g j f i → D g j
+    before-old g j f i (inl d) d' h = d
+    before-old g j f i (inr z) d' h = absurd (earlier-not g j f i h (rw (z .0, z .1) (past f i d')))
 
     -- ---- the edge is there: its other side
 
@@ -225,6 +234,15 @@ module _ (l : Lists) (D C : ℕ → ℕ → Type 0) (m : Mesh) (ne : ℕ) (f₀ 
           let same : (s ≡ Right) × (x ≡ e) = v .one-side s x Right e k b (first ∙ sym to) (second ∙ sym from) in
           ap₂ (λ s x. faceFromSide (row m x) s) (same .0) (same .1) ∙ free
 
+      made-filled : Made l (Or-this D f₀ i₀) (filled m e f₀) ne
+      unfolding filled
+      made-filled =
+          made-on l D (Or-this D f₀ i₀) (λ f i d. inl d) before-old m (filled m e f₀) ne (v .made)
+          (λ x k.
+          let same = left-alone x in
+          record { origin = same .origin-same; dest = same .dest-same; left = same .left-same; interval = same .interval-same })
+          (λ x. refl)
+
       goes-filled : Goes (filled m e f₀) ne e
       unfolding filled counted
       goes-filled =
@@ -244,6 +262,7 @@ module _ (l : Lists) (D C : ℕ → ℕ → Type 0) (m : Mesh) (ne : ℕ) (f₀ 
                       (λ y j. ap₂ (λ (i k : ℕ). one (eqb i x || eqb k x)) (sym (left-alone y .origin-same)) (sym (left-alone y .dest-same)));
                   start-is = λ x k h. (v .start-is x k h .0, touches-alone x (start m x) (v .start-is x k h .1));
                   interval-fit = λ x k. rw (left-alone x .interval-same) (v .interval-fit x k);
+                  made = made-filled;
                 });
             sits = sits-new l D C m ne v (filled m e f₀) ne f₀ i₀ Right e adds-filled g₀;
             sits-still = sits-added l D C m ne v (filled m e f₀) ne f₀ i₀ Right e adds-filled g₀;
@@ -420,6 +439,77 @@ module _ (l : Lists) (D C : ℕ → ℕ → Type 0) (m : Mesh) (ne : ℕ) (f₀ 
               subst At-new (sym (start-newEdge-other m ne f₀ p q value differ p-fits q-fits x i j))
               (old (valence-newEdge-other m ne f₀ p q value differ p-fits q-fits x i j))
 
+      -- no place entered joins the points
+      apart : (g j : ℕ) → D g j → ¬ Meets l g j p q
+      apart g j d (inl h) =
+          let t = v .entered g j d in
+          nowhere (t .0) (t .1 .below) (joined-by (t .1 .on-side) (t .0) (t .1 .first-is ∙ h .0) (t .1 .second-is ∙ h .1))
+      apart g j d (inr h) =
+          let t = v .entered g j d in
+          nowhere (t .0) (t .1 .below) (joined-back (t .1 .on-side) (t .0) (t .1 .first-is ∙ h .0) (t .1 .second-is ∙ h .1))
+        where
+          joined-back : (s : TnurccFaceSide) (x : ℕ) → firstOf s (row m x) ≡ q → secondOf s (row m x) ≡ p → Joins m p q x
+          joined-back Left x h k = inr (h, k)
+          joined-back Right x h k = inl (k, h)
+
+      maker-new : Maker l (Or-this D f₀ i₀) (row new ne) i₀
+      maker-new =
+          subst (λ r. Maker l (Or-this D f₀ i₀) r i₀) (sym here-new)
+          (record {
+            done = inr (refl, refl);
+            begins = refl;
+            ends = refl;
+            interval-is = value-is;
+            none-earlier = none;
+          })
+        where
+          none : (g j : ℕ) → Or-this D f₀ i₀ g j → Earlier g j f₀ i₀ → ¬ Meets l g j p q
+          none g j (inl d) h = apart g j d
+          none g j (inr z) h = absurd (earlier-differs g j f₀ i₀ h z)
+
+      highest-new : (x y : ℕ) → x < pointsOf l → y < suc ne → Touches new x y → y ≤ start new x
+      highest-new x y xb yb t = go (ℕ-discrete x p) (ℕ-discrete x q)
+        where
+          old : x ≢ p → x ≢ q → Touches new x y → y < ne
+          old i j t =
+              below-suc y ne yb (λ lt. lt)
+              (λ same. absurd (untouched (subst (λ y. Touches new x y) same t)))
+            where
+              untouched : Touches new x ne → ⊥
+              untouched (inl h) = i (sym h ∙ ap (λ (r : TnurccEdge). r .origin) here-new)
+              untouched (inr h) = j (sym h ∙ ap (λ (r : TnurccEdge). r .dest) here-new)
+
+          go : Dec (x ≡ p) → Dec (x ≡ q) → y ≤ start new x
+          go (yes i) d =
+              let s : start new x ≡ ne = ap (λ x. start new x) i ∙ start-newEdge-first m ne f₀ p q value differ p-fits q-fits in
+              omega arith
+          go (no i) (yes j) =
+              let s : start new x ≡ ne = ap (λ x. start new x) j ∙ start-newEdge-second m ne f₀ p q value differ p-fits q-fits in
+              omega arith
+          go (no i) (no j) =
+              let s : start new x ≡ start m x = start-newEdge-other m ne f₀ p q value differ p-fits q-fits x i j in
+              let b = old i j t in
+              rw s (v .made .highest x y xb b (touched-before b t))
+            where
+              touched-before : y < ne → Touches new x y → Touches m x y
+              touched-before b (inl h) = inl (sym (ap (λ (r : TnurccEdge). r .origin) (there y b)) ∙ h)
+              touched-before b (inr h) = inr (sym (ap (λ (r : TnurccEdge). r .dest) (there y b)) ∙ h)
+
+      alike-old : (x : ℕ) → x < ne → Alike (row m x) (row new x)
+      alike-old x k =
+          let same = there x k in
+          record {
+            origin = ap (λ (r : TnurccEdge). r .origin) same;
+            dest = ap (λ (r : TnurccEdge). r .dest) same;
+            left = ap (λ (r : TnurccEdge). r .«face_left») same;
+            interval = ap (λ (r : TnurccEdge). r .«knot_interval») same;
+          }
+
+      made-one-more : Made l (Or-this D f₀ i₀) new (suc ne)
+      made-one-more =
+          made-new l D (Or-this D f₀ i₀) (λ f i d. inl d) before-old m new ne (v .made) alike-old i₀ maker-new
+          (λ f j d. subst (λ z. Earlier f j z i₀) (sym (ap (λ (r : TnurccEdge). r .«face_left») here-new)) (past f j d)) highest-new
+
       goes-new : Goes new (suc ne) ne
       unfolding newEdge counted sumTo One-side
       goes-new =
@@ -435,6 +525,7 @@ module _ (l : Lists) (D C : ℕ → ℕ → Type 0) (m : Mesh) (ne : ℕ) (f₀ 
                   valence-is = valence-new;
                   start-is = start-new;
                   interval-fit = each (λ r. intervalFit (r .«knot_interval») ≡ true) (v .interval-fit) fit;
+                  made = made-one-more;
                 });
             sits = sits-new l D C m ne v new (suc ne) f₀ i₀ Left ne adds-new g₀;
             sits-still = sits-added l D C m ne v new (suc ne) f₀ i₀ Left ne adds-new g₀;
@@ -475,9 +566,15 @@ module _ (l : Lists) (D C : ℕ → ℕ → Type 0) (m : Mesh) (ne : ℕ) (f₀ 
     triple e b (inl h) a = both-sides Left Right e b (h .0) (h .1) (h .1) (h .0) (v .left-face e b) a
     triple e b (inr h) a = both-sides Right Left e b (h .1) (h .0) (h .0) (h .1) a (v .left-face e b)
 
-    same-way : (e : ℕ) → e < ne → Joins m p q e → row m e .origin ≡ p → Why l D p q SameWay
-    same-way e b (inl h) o = let x = v .placed Left e b (v .left-face e b) in this-way _ (x .0) (x .1) (x .2 ∙ h .0) (x .3 ∙ h .1)
-    same-way e b (inr h) o = absurd (differ (sym o ∙ h .0))
+    same-way : (e : ℕ) → e < ne → Joins m p q e → row m e .«face_right» ≡ none → row m e .origin ≡ p → Why l D p q SameWay
+    same-way e b (inl h) free o =
+        let x = v .placed Left e b (v .left-face e b) in
+        this-way _ (x .0) (x .1) (x .2 ∙ h .0) (x .3 ∙ h .1)
+        (λ g j d begins ends.
+        let t = v .entered g j d in
+        let same = v .one-side (t .1 .on-side) (t .0) Right e (t .1 .below) b (t .1 .first-is ∙ begins ∙ sym (h .1)) (t .1 .second-is ∙ ends ∙ sym (h .0)) in
+        v .good g j d .a-face (sym (t .1 .face-is) ∙ ap₂ (λ s x. faceFromSide (row m x) s) (same .0) (same .1) ∙ free))
+    same-way e b (inr h) free o = absurd (differ (sym o ∙ h .0))
 
     turns-back : (e : ℕ) → Joins m p q e → row m e .origin ≢ p → (row m e .origin ≡ q) × (row m e .dest ≡ p)
     turns-back e (inl h) n = absurd (n (h .0))
@@ -489,7 +586,7 @@ module _ (l : Lists) (D C : ℕ → ℕ → Type 0) (m : Mesh) (ne : ℕ) (f₀ 
       where
         at-edge : (e : ℕ) → e < ne → Joins m p q e → (a b : Bool) → eqb (rightFace m e) none ≡ a → eqb (origin m e) p ≡ b → Came (enteredAt m ne f₀ e a b)
         at-edge e k j false b h h' = stops (triple e k j (eqb-false (rightFace m e) none h))
-        at-edge e k j true true h h' = stops (same-way e k j (eqb-true (origin m e) p h'))
+        at-edge e k j true true h h' = stops (same-way e k j (eqb-true (rightFace m e) none h) (eqb-true (origin m e) p h'))
         at-edge e k j true false h h' =
             let turn = turns-back e j (eqb-false (origin m e) p h') in
             goes (goes-filled e k (eqb-true (rightFace m e) none h) (turn .0) (turn .1))

@@ -1,14 +1,16 @@
 -- The tables when all is built pass the audit. Assumes nothing.
 --     valence-marked, start-marked, mark-marked     the words of a point after the marks
+--     position-finished, mark-finished              positions are the coordinates, marks are 0 at valence 4
 --     faces-finished                                all places are in still
 --     audited-finished                              the audit's clauses
 use mathlib.Core.Path.{_≡_, refl, sym, _∙_, ap, subst}
 use mathlib.Core.Bool.{Bool, true, false, cond}
-use mathlib.Core.Logic.{_⊎_, inl, inr, _≢_}
+use mathlib.Core.Logic.{_⊎_, inl, inr, ⊎-elim, _≢_}
 use mathlib.Core.List.{List}
-use Prim.Native.Nat.{ℕ, zero, suc, _+_, _*_, _<_, _≤_}
+use Prim.Native.Nat.{ℕ, zero, suc, _+_, _*_, _%_, _<_, _≤_}
 use native.Mathlib.Omega.{arith}
 use lib.Dec.{eqb}
+use borrow.Author.Tests.{eqb-true, eqb-false}
 use lib.Ieee.{nan}
 use lib.Ieee.Scale.{finite}
 use lib.ListN.{length, getD, set, take, drop, length-set, List·getD-append}
@@ -71,12 +73,13 @@ mark-marked (suc k) p ws b fits =
     (getD-set-same (marked k ws) (k * 3 + 2) (markOf (getD (marked k ws) (k * 3) 0)) 0 (rw (length-marked k ws) (omega arith))
     ∙ ap markOf (valence-marked k k ws)))
 
-markOf-fit : (v : ℕ) → (markOf v ≡ 0) ⊎ (markOf v ≡ 1)
-markOf-fit v = go (eqb v 4)
+-- the mark is 0 exactly at valence 4, else 1
+markOf-is : (n : ℕ) → ((n ≡ 4) × (markOf n ≡ 0)) ⊎ ((n ≢ 4) × (markOf n ≡ 1))
+markOf-is n = go (eqb n 4) refl
   where
-    go : (b : Bool) → (_≡_ {A = ℕ} (cond b 0 1) 0) ⊎ (_≡_ {A = ℕ} (cond b 0 1) 1)
-    go true = inl refl
-    go false = inr refl
+    go : (b : Bool) → eqb n 4 ≡ b → ((n ≡ 4) × (_≡_ {A = ℕ} (cond b 0 1) 0)) ⊎ ((n ≢ 4) × (_≡_ {A = ℕ} (cond b 0 1) 1))
+    go true h = inl (eqb-true n 4 h, refl)
+    go false h = inr (eqb-false n 4 h, refl)
 
 behind-marked : (k : ℕ) (ws : List ℕ) (n : ℕ) → k ≤ n → Behind (n * 3) ws (marked k ws)
 unfolding marked
@@ -95,6 +98,17 @@ getD-over n i new xs d h fits =
 -- ---- all places are in still
 
 module _ (l : Lists) (m : Mesh) where
+  -- positions are the coordinates
+  pub position-finished : length (l .coordinates) % 3 ≡ 0 → (k : ℕ) → k < length (l .coordinates) → getD (finished l m .positions) k nan ≡ getD (l .coordinates) k nan
+  unfolding finished
+  position-finished whole k b = getD-over (pointsOf l * 3) k (l .coordinates) (m .positions) nan (omega arith) (omega arith)
+
+  pub mark-finished :
+      (p : ℕ) → p < pointsOf l → pointsOf l * 3 ≤ length (m .points) →
+      ((valence (finished l m) p ≡ 4) × (mark (finished l m) p ≡ 0)) ⊎ ((valence (finished l m) p ≢ 4) × (mark (finished l m) p ≡ 1))
+  unfolding finished
+  mark-finished p b fits = rw (mark-marked (pointsOf l) p (m .points) b fits, valence-marked (pointsOf l) p (m .points)) (markOf-is (getD (m .points) (p * 3) 0))
+
   valence-finished : (p : ℕ) → valence (finished l m) p ≡ valence m p
   unfolding finished
   valence-finished p = valence-marked (pointsOf l) p (m .points)
@@ -174,17 +188,13 @@ module _ (c : Sizes) (l : Lists) (m₀ : Mesh) (counted' : Counted c l) (numbere
   faces-fit = rw (within-finished .faces .0) (roomy .faces-enough)
 
   coordinate-finite : (p j : ℕ) → p < pointsOf l → j < 3 → finite (getD (after .positions) (p * 3 + j) nan) ≡ true
-  unfolding finished
   coordinate-finite p j b h =
-      rw (getD-over (pointsOf l * 3) (p * 3 + j) (l .coordinates) (s .mesh .positions) nan (omega arith) (omega arith))
-      (numbered .coordinates-finite (p * 3 + j) (omega arith))
+      rw (position-finished l (s .mesh) (counted' .points-whole) (p * 3 + j) (omega arith)) (numbered .coordinates-finite (p * 3 + j) (omega arith))
 
   mark-fits : (p : ℕ) → p < pointsOf l → (mark after p ≡ 0) ⊎ (mark after p ≡ 1)
-  unfolding finished
   mark-fits p b =
-      subst (λ k. (k ≡ 0) ⊎ (k ≡ 1))
-      (sym (mark-marked (pointsOf l) p (s .mesh .points) b (rw (within .points .0) (omega (arith, roomy .points-enough)))))
-      (markOf-fit (getD (s .mesh .points) (p * 3) 0))
+      ⊎-elim (λ h. inl (h .1)) (λ h. inr (h .1))
+      (mark-finished l (s .mesh) p b (rw (within .points .0) (omega (arith, roomy .points-enough))))
 
   few' : (f : ℕ) → f < facesOf l → f ≢ none
   few' f b h = omega (arith, counted' .faces-few)

@@ -27,6 +27,7 @@ use Rattle.built_meshes.specs.Lists.{Lists, pointsOf, size}
 use Rattle.built_meshes.specs.Places.{pointOf, nextOf}
 use Rattle.built_meshes.proofs.Connecting.{firstOf, secondOf, acwOf, cwOf, Keeps, first-kept, second-kept, face-kept}
 use Rattle.built_meshes.proofs.Rows.{row}
+use Rattle.built_meshes.proofs.Made.{Made, made-on}
 
 pub record FaceSound (l : Lists) (f : ℕ) : Type 0 where
   pub at-least-3 : 3 ≤ size l f
@@ -40,6 +41,10 @@ pub record Sits (l : Lists) (m : Mesh) (ne f i e : ℕ) : Type 0 where
   pub face-is : faceFromSide (row m e) on-side ≡ f
   pub first-is : firstOf on-side (row m e) ≡ pointOf l f i
   pub second-is : secondOf on-side (row m e) ≡ nextOf l f i
+
+-- no two of the places run the same way
+abbrev pub One-way : Lists → (ℕ → ℕ → Type 0) → Type 0
+One-way l D = (f i g j : ℕ) → D f i → D g j → pointOf l f i ≡ pointOf l g j → nextOf l f i ≡ nextOf l g j → (f ≡ g) × (i ≡ j)
 
 -- a place of a sound face
 pub record Good (l : Lists) (f i : ℕ) : Type 0 where
@@ -55,7 +60,7 @@ pub record Invariant (l : Lists) (D C : ℕ → ℕ → Type 0) (m : Mesh) (ne :
       (s : TnurccFaceSide) (e : ℕ) → e < ne → faceFromSide (row m e) s ≢ none →
       (i : ℕ) × D (faceFromSide (row m e) s) i × (pointOf l (faceFromSide (row m e) s) i ≡ firstOf s (row m e))
       × (nextOf l (faceFromSide (row m e) s) i ≡ secondOf s (row m e))
-  pub one-way : (f i g j : ℕ) → D f i → D g j → pointOf l f i ≡ pointOf l g j → nextOf l f i ≡ nextOf l g j → (f ≡ g) × (i ≡ j)
+  pub one-way : One-way l D
   pub left-face : (e : ℕ) → e < ne → row m e .«face_left» ≢ none
   pub origin-in : (e : ℕ) → e < ne → row m e .origin < pointsOf l
   pub dest-in : (e : ℕ) → e < ne → row m e .dest < pointsOf l
@@ -66,6 +71,7 @@ pub record Invariant (l : Lists) (D C : ℕ → ℕ → Type 0) (m : Mesh) (ne :
   pub valence-is : (p : ℕ) → p < pointsOf l → valence m p ≡ sumTo ne (λ e. one (touches m p e))
   pub start-is : (p : ℕ) → p < pointsOf l → 0 < valence m p → (start m p < ne) × Touches m p (start m p)
   pub interval-fit : (e : ℕ) → e < ne → intervalFit (row m e .«knot_interval») ≡ true
+  pub made : Made l D m ne
   pub linked :
       (f i : ℕ) → C f i → (s : TnurccFaceSide) (e : ℕ) (t : TnurccFaceSide) (o : ℕ) → e < ne → o < ne →
       faceFromSide (row m e) s ≡ f → faceFromSide (row m o) t ≡ f → firstOf s (row m e) ≡ pointOf l f i → firstOf t (row m o) ≡ nextOf l f i →
@@ -176,6 +182,9 @@ module _ (l : Lists) (D C : ℕ → ℕ → Type 0) (m : Mesh) (ne : ℕ) (v : I
                 subst (λ x. Touches m' p x) (sym (start-same p)) (Touches-kept p (start m p) (at .0) (at .1)),
               );
           interval-fit = λ e b. rw (keeps e b .interval) (v .interval-fit e b);
+          made =
+              made-on l D D (λ f i d. d) (λ g j f i d d' h. d) m m' ne (v .made)
+              (λ e b. record { origin = keeps e b .origin; dest = keeps e b .dest; left = keeps e b .left; interval = keeps e b .interval }) start-same;
           linked = λ f i c s e t o b b' face face' first first'.
               linked' f i c s e t o b b' (sym (face-kept s (keeps e b)) ∙ face) (sym (face-kept t (keeps o b')) ∙ face')
               (sym (first-kept s (keeps e b)) ∙ first) (sym (first-kept t (keeps o b')) ∙ first');
@@ -333,6 +342,7 @@ module _ (l : Lists) (D C : ℕ → ℕ → Type 0) (m : Mesh) (ne : ℕ) (v : I
         pub valence-is : (p : ℕ) → p < pointsOf l → valence m' p ≡ sumTo ne' (λ e. one (touches m' p e))
         pub start-is : (p : ℕ) → p < pointsOf l → 0 < valence m' p → (start m' p < ne') × Touches m' p (start m' p)
         pub interval-fit : (e : ℕ) → e < ne' → intervalFit (row m' e .«knot_interval») ≡ true
+        pub made : Made l (Or-this D f₀ i₀) m' ne'
 
       pub invariant-added : Rest → Invariant l (Or-this D f₀ i₀) C m' ne'
       unfolding Placed
@@ -351,6 +361,7 @@ module _ (l : Lists) (D C : ℕ → ℕ → Type 0) (m : Mesh) (ne : ℕ) (v : I
             valence-is = r .valence-is;
             start-is = r .start-is;
             interval-fit = r .interval-fit;
+            made = r .made;
             linked = linked-added;
           }
 
@@ -374,5 +385,8 @@ invariant-as l D C D' C' m ne to from chain v =
       valence-is = v .valence-is;
       start-is = v .start-is;
       interval-fit = v .interval-fit;
+      made =
+          made-on l D D' to (λ g j f i d d' h. from g j d) m m ne (v .made)
+          (λ e b. record { origin = refl; dest = refl; left = refl; interval = refl }) (λ p. refl);
       linked = λ f i c. v .linked f i (chain f i c);
     }

@@ -25,13 +25,13 @@ use Rattle.audited_meshes.proofs.Folds.{below-suc, sumTo-cong}
 use Rattle.built_meshes.specs.Lists.{Lists, pointsOf, facesOf, size, offset}
 use Rattle.built_meshes.specs.Edges.{Entered, at, entered, joined}
 use Rattle.built_meshes.specs.Perimeters.{State, Ring, Step, on, stopped, chained, turned, turn, places, faceOf, withFace, closedUp, perimeter}
-use Rattle.built_meshes.specs.Places.{pointOf, nextOf}
+use Rattle.built_meshes.specs.Places.{pointOf, nextOf, Earlier}
 use Rattle.built_meshes.specs.Beyond.{Within}
 use Rattle.built_meshes.specs.declared.Ground.{Ground}
 use Rattle.built_meshes.proofs.Connecting.{Keeps}
 use Rattle.built_meshes.proofs.Rows.{row, row-joined-rest, faceStart-withFace, faceStart-withFace-other, corner-withFace, corner-withFace-other}
 use Rattle.built_meshes.proofs.Beyond.{behind-putRow, behind-connected, within-refl, within-trans}
-use Rattle.built_meshes.proofs.Invariant.{FaceSound, Sits, Good, Invariant, Or-this, sits-kept, invariant-kept, invariant-as}
+use Rattle.built_meshes.proofs.Invariant.{FaceSound, Sits, One-way, Good, Invariant, Or-this, sits-kept, invariant-kept, invariant-as}
 use Rattle.built_meshes.proofs.Joining.{keeps-refl, invariant-joined, sits-joined, right-joined}
 use Rattle.built_meshes.proofs.Entering.{Why, Goes, Came, goes, stops, came, counted}
 
@@ -132,7 +132,7 @@ module _ (l : Lists) (s : State) (k : ℕ) (kf : k < facesOf l) (sound : FaceSou
   -- the face goes on, or it stopped at a place
   pub data Round (i : ℕ) : Step Ring → Type 0 where
     round : {r : Ring} → Around i r → Round i (on r)
-    halts : {g : Ground} {m : Mesh} (j : ℕ) → j < size l k → Why l (Done l k j) (pointOf l k j) (nextOf l k j) g → Within l (s .mesh) m → Round i (stopped g m)
+    halts : {g : Ground} {m : Mesh} (j : ℕ) → j < size l k → Why l (Done l k j) (pointOf l k j) (nextOf l k j) g → One-way l (Done l k j) → Within l (s .mesh) m → Round i (stopped g m)
 
   good : (i : ℕ) → i < size l k → Good l k i
   good i h = record { sound = sound; is-below = h; a-face = a-face }
@@ -148,7 +148,11 @@ module _ (l : Lists) (s : State) (k : ℕ) (kf : k < facesOf l) (sound : FaceSou
     entering =
         came l (Done l k i) (Chained l k i) (r .mesh) (r .edges) k i (a .invariant) (good i below) (getD (l .intervals) (offset l k + i) nan)
         (ready .intervals-fit (offset l k + i) (omega (arith, place-listed l k i kf below, ready .all-listed)))
-        (ready' .points-room) (omega (arith, room, ready' .edges-room)) (omega (arith, room, ready' .intervals-room)) room
+        (ready' .points-room) (omega (arith, room, ready' .edges-room)) (omega (arith, room, ready' .intervals-room)) room earlier refl
+      where
+        earlier : (f j : ℕ) → Done l k i f j → Earlier f j k i
+        earlier f j (inl h) = inl (h .0)
+        earlier f j (inr h) = inr h
 
     -- as many edges as places, at most
     few-edges : {m' : Mesh} {ne' e : ℕ} → Goes l (Done l k i) (Chained l k i) (r .mesh) (r .edges) k i m' ne' e → ne' ≤ length (l .listed)
@@ -256,14 +260,14 @@ module _ (l : Lists) (s : State) (k : ℕ) (kf : k < facesOf l) (sound : FaceSou
       go : (i : ℕ) → Around i r → i < size l k → (x : Entered) → Came l (Done l k i) (Chained l k i) (r .mesh) (r .edges) k i x → Round (suc i) (turned r i x)
       go zero a below x (goes t) = round (turn-first r a below t)
       go (suc i) a below x (goes t) = round (turn-next i r a below t)
-      go i a below x (stops w) = halts i below w (a .within)
+      go i a below x (stops w) = halts i below w (a .invariant .one-way) (a .within)
 
   places-came : (c i : ℕ) (x : Step Ring) → i + c ≡ size l k → Round i x → Round (size l k) (places c l k (offset l k) (size l k) i x)
   unfolding places
   places-came zero i x h r = subst (λ n. Round n x) (let same : i ≡ size l k = omega arith in same) r
   places-came (suc c) i x h (round {r = r} a) =
       places-came c (suc i) (turn l k (offset l k) (size l k) i r) (omega arith) (turn-came i r a (omega arith))
-  places-came (suc c) i x h (halts j b w o) = halts j b w o
+  places-came (suc c) i x h (halts j b w u o) = halts j b w u o
 
   -- the face is in, or it stopped at a place
   pub data Perimeter-came : Step State → Type 0 where
@@ -271,7 +275,7 @@ module _ (l : Lists) (s : State) (k : ℕ) (kf : k < facesOf l) (sound : FaceSou
         {t : State} → Faces l (suc k) t → Within l (s .mesh) (t .mesh) → s .edges ≤ t .edges →
         ((x : ℕ) → t .edges ≤ x → row (t .mesh) x ≡ row (s .mesh) x) → Perimeter-came (on t)
     halted :
-        {g : Ground} {m : Mesh} (j : ℕ) → j < size l k → Why l (Done l k j) (pointOf l k j) (nextOf l k j) g → Within l (s .mesh) m →
+        {g : Ground} {m : Mesh} (j : ℕ) → j < size l k → Why l (Done l k j) (pointOf l k j) (nextOf l k j) g → One-way l (Done l k j) → Within l (s .mesh) m →
         Perimeter-came (stopped g m)
 
   module _ (all : Faces l k s) (r : Ring) (a : Around (size l k) r) (j : ℕ) (last : suc j ≡ size l k) where
@@ -414,4 +418,4 @@ module _ (l : Lists) (s : State) (k : ℕ) (kf : k < facesOf l) (sound : FaceSou
       go : (x : Step Ring) → Round (size l k) x → Perimeter-came (closedUp k x)
       go x (round {r = r} a) =
           whole (faces-closed all r a (last .0) (last .1)) (within-closed all r a (last .0) (last .1)) (a .grows) (later-closed all r a (last .0) (last .1))
-      go x (halts j b w o) = halted j b w o
+      go x (halts j b w u o) = halted j b w u o

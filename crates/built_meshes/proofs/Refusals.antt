@@ -1,6 +1,5 @@
--- The grounds 20, 21 and 22, and that no ground holds of what passes all tests. Assumes nothing.
---     whole-verdict-is        what the verdict on the whole says
---     nothing-holds           no ground of the faces, the edges or the whole holds where the verdict is fit
+-- The grounds 20, 21 and 22. Assumes nothing.
+--     whole-verdict-is        what the verdict on the whole says: the first of these grounds is met, or none of all is
 use mathlib.Core.Path.{_≡_, refl, sym, _∙_, ap, ap₂, subst}
 use mathlib.Core.Bool.{Bool, true, false, not, cond, true≢false}
 use mathlib.Core.Logic.{_⊎_, inl, inr, _≢_}
@@ -26,11 +25,11 @@ use Rattle.audited_meshes.proofs.Audited.{touches-is, pointWalk-is}
 use Rattle.built_meshes.specs.Lists.{Lists, pointsOf, facesOf, size}
 use Rattle.tables.specs.declared.Sizes.{Sizes}
 use Rattle.built_meshes.specs.Perimeters.{State, on}
-use Rattle.built_meshes.specs.Places.{IsPlace, Runs, Differ}
+use Rattle.built_meshes.specs.Places.{IsPlace, Runs}
 use Rattle.built_meshes.specs.Answers.{numberOf}
 use Rattle.built_meshes.specs.Whole.{noMissingFace, everyEdged, noMissedEdge, wholeVerdict}
 use Rattle.built_meshes.specs.Building.{allFaces}
-use Rattle.built_meshes.specs.Grounds.{Holds, Between, Face-size, Out-of-range, Point-twice, Non-rectangular, Triple-face, Same-way, Missing-face, No-edge, Missed-edge}
+use Rattle.built_meshes.specs.Grounds.{Missing-face, No-edge, Missed-edge, Where, whole, Met, missing-face, no-edge, missed-edge, First-met}
 use Rattle.built_meshes.specs.declared.Ground.{Ground}
 use Rattle.built_meshes.specs.declared.Ground.the-variants.{MissingFace, NoEdge, MissedEdge}
 use Rattle.built_meshes.specs.declared.Verdict.{Verdict}
@@ -39,18 +38,10 @@ use Rattle.built_meshes.proofs.Connecting.{firstOf, secondOf}
 use Rattle.built_meshes.proofs.Rows.{row}
 use Rattle.built_meshes.proofs.Invariant.{Invariant}
 use Rattle.built_meshes.proofs.Perimeter.{Done, Chained, Faces}
-use Rattle.built_meshes.proofs.Faces.{every-false, Fit-faces}
-use Rattle.built_meshes.proofs.Whole.{a-side, point-walk}
-
--- a sum that is less has a number that is less
-sumTo-less : (n : ℕ) (a b : ℕ → ℕ) → sumTo n a < sumTo n b → (k : ℕ) × (k < n) × (a k < b k)
-unfolding sumTo
-sumTo-less zero a b h = absurd (omega arith)
-sumTo-less (suc n) a b h = go (decLt (a n) (b n)) (sumTo-less n a b)
-  where
-    go : Dec (a n < b n) → (sumTo n a < sumTo n b → (k : ℕ) × (k < n) × (a k < b k)) → (k : ℕ) × (k < suc n) × (a k < b k)
-    go (yes z) ih = (n, omega arith, z)
-    go (no z) ih = let w = ih (omega arith) in (w .0, omega (arith, w .1), w .2)
+use Rattle.built_meshes.proofs.Before.{Triple, Same, no-same, no-triple, Clear-lists, first-whole, nothing-met}
+use Rattle.built_meshes.proofs.Faces.{every-false, Fit-faces, fit-tests, done-down}
+use Rattle.built_meshes.proofs.Whole.{a-side}
+use Rattle.built_meshes.proofs.Turning.{no-missed, missed-met}
 
 -- a sum is no less than each of its numbers
 sumTo-above : (n k : ℕ) (a : ℕ → ℕ) → k < n → a k ≤ sumTo n a
@@ -58,12 +49,6 @@ unfolding sumTo
 sumTo-above zero k a h = absurd (omega arith)
 sumTo-above (suc n) k a h =
     below-suc k n h (λ lt. omega (arith, sumTo-above n k a lt)) (λ same. subst (λ k. a k ≤ sumTo n a + a n) (sym same) (omega arith))
-
--- the walk about point p misses edge e in the state t
-record Hit (p e : ℕ) (t : State) : Type 0 where
-  is-edge : e < t .edges
-  hits : Touches (t .mesh) p e
-  misses : occurrences e (edgesOf (pointWalk (t .mesh) (t .edges) (valence (t .mesh) p) p)) ≡ 0
 
 module _ (c : Sizes) (l : Lists) (m₀ : Mesh) (s : State) (all : Faces l (facesOf l) s) where
   abbrev m : Mesh
@@ -146,38 +131,6 @@ module _ (c : Sizes) (l : Lists) (m₀ : Mesh) (s : State) (all : Faces l (faces
 
   -- ---- 22
 
-  walk-below : (p : ℕ) (w : Walk) → pointWalk m ne (valence m p) p ≡ w → (i : ℕ) → 0 < occurrences i (edgesOf w) → i < ne
-  unfolding occurrences
-  walk-below p (back es) h i z =
-      passes-on (acwOfPoint m p) (λ e. (e < ne) × Touches m p e) (start m p) (start m p) es (pointWalk-is m ne p (valence m p) es .0 h .0) i z .0
-  walk-below p lost h i z = absurd (omega arith)
-
-  missed-holds : allFaces l m₀ ≡ on s → noMissedEdge m (pointsOf l) ne ≡ false → Missed-edge l m₀
-  unfolding noMissedEdge
-  missed-holds stands h =
-      let w = every-false (pointsOf l) (λ p. not (ltb (passed (pointWalk m ne (valence m p) p)) (valence m p))) h in
-      let p = w .0 in
-      let es = edgesOf (pointWalk m ne (valence m p) p) in
-      let fewer : length es < valence m p = ltb-true _ _ (not-false (ltb (passed (pointWalk m ne (valence m p) p)) (valence m p)) (w .2)) in
-      let sum : length es ≡ sumTo ne (λ e. occurrences e es) = length-sumTo ne es (walk-below p (pointWalk m ne (valence m p) p) refl) in
-      let all' : valence m p ≡ sumTo ne (λ e. one (touches m p e)) = v .valence-is p (w .1) in
-      let u = sumTo-less ne (λ e. occurrences e es) (λ e. one (touches m p e)) (omega arith) in
-      let hit = one-above (touches m p (u .0)) (occurrences (u .0) es) (u .2) in
-      record {
-        state = s;
-        stands = stands;
-        point = p;
-        is-point = w .1;
-        edge = u .0;
-        is-edge = u .1;
-        touches = touches-is m p (u .0) .0 (hit .0);
-        misses = hit .1;
-      }
-    where
-      one-above : (b : Bool) (n : ℕ) → n < one b → (b ≡ true) × (n ≡ 0)
-      one-above true n h = (refl, omega arith)
-      one-above false n h = absurd (omega arith)
-
   walked-is : noMissedEdge m (pointsOf l) ne ≡ true → (p : ℕ) → p < pointsOf l → valence m p ≤ passed (pointWalk m ne (valence m p) p)
   unfolding noMissedEdge
   walked-is h p b =
@@ -191,108 +144,76 @@ module _ (c : Sizes) (l : Lists) (m₀ : Mesh) (s : State) (all : Faces l (faces
     pub edged : (p : ℕ) → p < pointsOf l → valence m p ≢ 0
     pub walked : (p : ℕ) → p < pointsOf l → valence m p ≤ passed (pointWalk m ne (valence m p) p)
 
-  pub data Whole-verdict : Verdict → Type 0 where
-    whole-fit : Whole-fit → Whole-verdict Fit
-    whole-unfit : {g : Ground} → Holds c l m₀ g → 20 ≤ numberOf g → Whole-verdict (Unfit g)
-
-  pub whole-verdict-is : allFaces l m₀ ≡ on s → Whole-verdict (wholeVerdict m (pointsOf l) ne)
-  unfolding wholeVerdict
-  whole-verdict-is stands = faces (noMissingFace m ne) refl
+  missing-none : ((e : ℕ) → e < ne → row m e .«face_right» ≢ none) → ¬ Missing-face l
+  missing-none right h =
+      let t = v .entered (h .f) (h .i) (place-done _ _ (h .runs .is-place)) in
+      go (t .0) (t .1 .on-side) (t .1 .below) (t .1 .first-is ∙ h .runs .begins) (t .1 .second-is ∙ h .runs .ends)
     where
-      walks : noMissingFace m ne ≡ true → everyEdged m (pointsOf l) ≡ true → (b : Bool) → noMissedEdge m (pointsOf l) ne ≡ b → Whole-verdict (cond (not b) (Unfit MissedEdge) Fit)
-      walks f e true h = whole-fit (record { right = right-faces f; edged = edged-is e; walked = walked-is h })
-      walks f e false h = whole-unfit {g = MissedEdge} (missed-holds stands h) (omega arith)
+      runs-back : (u : TnurccFaceSide) (e : ℕ) → e < ne → firstOf u (row m e) ≡ h .q → secondOf u (row m e) ≡ h .p → ⊥
+      runs-back u e b first second =
+          let x = side-runs u e b (a-side l m ne v right u e b) in
+          h .none-back (x .0) (x .1) (record { is-place = x .2 .is-place; begins = x .2 .begins ∙ first; ends = x .2 .ends ∙ second })
 
-      edges : noMissingFace m ne ≡ true → (b : Bool) → everyEdged m (pointsOf l) ≡ b →
-          Whole-verdict (cond (not b) (Unfit NoEdge) (cond (not (noMissedEdge m (pointsOf l) ne)) (Unfit MissedEdge) Fit))
-      edges f true h = walks f h (noMissedEdge m (pointsOf l) ne) refl
-      edges f false h = whole-unfit {g = NoEdge} (no-edge-holds h) (omega arith)
+      go : (e : ℕ) (u : TnurccFaceSide) → e < ne → firstOf u (row m e) ≡ h .p → secondOf u (row m e) ≡ h .q → ⊥
+      go e Left b first second = runs-back Right e b second first
+      go e Right b first second = runs-back Left e b second first
 
-      faces : (b : Bool) → noMissingFace m ne ≡ b →
-          Whole-verdict (cond (not b) (Unfit MissingFace) (cond (not (everyEdged m (pointsOf l))) (Unfit NoEdge) (cond (not (noMissedEdge m (pointsOf l) ne)) (Unfit MissedEdge) Fit)))
-      faces true h = edges h (everyEdged m (pointsOf l)) refl
-      faces false h = whole-unfit {g = MissingFace} (missing-holds h) (omega arith)
+  no-edge-none : ((e : ℕ) → e < ne → row m e .«face_right» ≢ none) → ((p : ℕ) → p < pointsOf l → valence m p ≢ 0) → ¬ No-edge l
+  no-edge-none right edged h =
+      let some = edged (h .point) (h .is-point) in
+      let t = v .start-is (h .point) (h .is-point) (omega arith) in
+      go (start m (h .point)) (t .0) (t .1)
+    where
+      begins-here : (u : TnurccFaceSide) (e : ℕ) → e < ne → firstOf u (row m e) ≡ h .point → ⊥
+      begins-here u e b first =
+          let x = side-runs u e b (a-side l m ne v right u e b) in
+          h .none-begins (x .0) (x .1) (x .2 .is-place) (x .2 .begins ∙ first)
 
-  -- ---- where all tests pass, no ground holds
+      go : (e : ℕ) → e < ne → Touches m (h .point) e → ⊥
+      go e b (inl z) = begins-here Left e b z
+      go e b (inr z) = begins-here Right e b z
 
-  module _ (fit : Fit-faces c l m₀ (facesOf l)) (w : Whole-fit) where
-    pub no-face-size : ¬ Face-size l
-    no-face-size h = go (h .small-or-large)
+  pub data Whole-verdict : Verdict → Type 0 where
+    whole-fit : Whole-fit → ((w : Where) (g : Ground) → ¬ Met c l m₀ w g) → Whole-verdict Fit
+    whole-unfit : {g : Ground} → First-met c l m₀ whole g → 20 ≤ numberOf g → Whole-verdict (Unfit g)
+
+  module _ (clear : Clear-lists c l m₀) (fit : Fit-faces c l m₀ (facesOf l)) where
+    entered-fit : (f i : ℕ) → IsPlace l f i → (¬ Triple l f i) × (¬ Same l f i)
+    entered-fit f i is = (
+      no-triple l (Done l (facesOf l) 0) (done-down c l m₀ (facesOf l) 0) (v .one-way) f i (inl is),
+      no-same l (Done l (facesOf l) 0) (done-down c l m₀ (facesOf l) 0) (v .one-way) f i (inl is),
+    )
+
+    first : (n : ℕ) → (20 < n → ¬ Missing-face l) → (21 < n → ¬ No-edge l) → (22 < n → ¬ Missed-edge l) →
+        (g : Ground) → numberOf g ≡ n → Met c l m₀ whole g → First-met c l m₀ whole g
+    first = first-whole c l m₀ clear (fit-tests c l m₀ (facesOf l) fit) entered-fit
+
+    pub whole-verdict-is : Whole-verdict (wholeVerdict m (pointsOf l) ne)
+    unfolding wholeVerdict
+    whole-verdict-is = faces (noMissingFace m ne) refl
       where
-        go : (size l (h .face) < 3) ⊎ (64 < size l (h .face)) → ⊥
-        go (inl z) = omega (arith, fit .sound (h .face) (h .is-face) .at-least-3)
-        go (inr z) = omega (arith, fit .sound (h .face) (h .is-face) .at-most-64)
+        walks : noMissingFace m ne ≡ true → everyEdged m (pointsOf l) ≡ true → (b : Bool) → noMissedEdge m (pointsOf l) ne ≡ b → Whole-verdict (cond (not b) (Unfit MissedEdge) Fit)
+        walks f e true h =
+            whole-fit (record { right = right-faces f; edged = edged-is e; walked = walked-is h })
+            (nothing-met c l m₀ clear (fit-tests c l m₀ (facesOf l) fit) entered-fit (missing-none (right-faces f)) (no-edge-none (right-faces f) (edged-is e))
+            (no-missed l m ne v (right-faces f) (edged-is e) (walked-is h)))
+        walks f e false h =
+            whole-unfit {g = MissedEdge}
+            (first 22 (λ z. missing-none (right-faces f)) (λ z. no-edge-none (right-faces f) (edged-is e)) (λ z. absurd (omega arith)) MissedEdge refl
+            (missed-edge (missed-met l m ne v (right-faces f) (edged-is e) h))) (omega arith)
 
-    pub no-out-of-range : ¬ Out-of-range l
-    no-out-of-range h = omega (arith, fit .sound (h .face) (h .is-place .0) .in-range (h .place) (h .is-place .1), h .beyond)
+        edges : noMissingFace m ne ≡ true → (b : Bool) → everyEdged m (pointsOf l) ≡ b →
+            Whole-verdict (cond (not b) (Unfit NoEdge) (cond (not (noMissedEdge m (pointsOf l) ne)) (Unfit MissedEdge) Fit))
+        edges f true h = walks f h (noMissedEdge m (pointsOf l) ne) refl
+        edges f false h =
+            whole-unfit {g = NoEdge}
+            (first 21 (λ z. missing-none (right-faces f)) (λ z. absurd (omega arith)) (λ z. absurd (omega arith)) NoEdge refl (no-edge (no-edge-holds h)))
+            (omega arith)
 
-    pub no-point-twice : ¬ Point-twice l
-    no-point-twice h =
-        let below = h .is-place .1 in
-        let z : h .place ≡ h .earlier = fit .sound (h .face) (h .is-place .0) .distinct (h .place) (h .earlier) below (omega (arith, h .is-earlier)) (h .same) in
-        omega (arith, h .is-earlier)
-
-    pub no-unlike-sums : ¬ Non-rectangular l
-    no-unlike-sums h = true≢false (sym (fit .rectangular (h .face) (h .is-face)) ∙ h .not-small)
-
-    one-way : (f i g j p q : ℕ) → Runs l f i p q → Runs l g j p q → Differ f i g j → ⊥
-    one-way f i g j p q r t d =
-        d (v .one-way f i g j (place-done f i (r .is-place)) (place-done g j (t .is-place)) (r .begins ∙ sym (t .begins)) (r .ends ∙ sym (t .ends)))
-
-    pub no-triple : ¬ Triple-face l
-    no-triple t = go (t .first-joins) (t .second-joins) (t .third-joins)
-      where
-        go : Between l (t .f) (t .i) (t .p) (t .q) → Between l (t .g) (t .j) (t .p) (t .q) → Between l (t .h) (t .k) (t .p) (t .q) → ⊥
-        go (inl a) (inl b) c = one-way _ _ _ _ _ _ a b (t .first-second)
-        go (inr a) (inr b) c = one-way _ _ _ _ _ _ a b (t .first-second)
-        go (inl a) (inr b) (inl c) = one-way _ _ _ _ _ _ a c (t .first-third)
-        go (inl a) (inr b) (inr c) = one-way _ _ _ _ _ _ b c (t .second-third)
-        go (inr a) (inl b) (inl c) = one-way _ _ _ _ _ _ b c (t .second-third)
-        go (inr a) (inl b) (inr c) = one-way _ _ _ _ _ _ a c (t .first-third)
-
-    pub no-same-way : ¬ Same-way l
-    no-same-way t = one-way _ _ _ _ _ _ (t .first-runs) (t .second-runs) (t .two)
-
-    pub no-missing : ¬ Missing-face l
-    no-missing h =
-        let t = v .entered (h .f) (h .i) (place-done _ _ (h .runs .is-place)) in
-        go (t .0) (t .1 .on-side) (t .1 .below) (t .1 .first-is ∙ h .runs .begins) (t .1 .second-is ∙ h .runs .ends)
-      where
-        runs-back : (u : TnurccFaceSide) (e : ℕ) → e < ne → firstOf u (row m e) ≡ h .q → secondOf u (row m e) ≡ h .p → ⊥
-        runs-back u e b first second =
-            let x = side-runs u e b (a-side l m ne v (w .right) u e b) in
-            h .none-back (x .0) (x .1) (record { is-place = x .2 .is-place; begins = x .2 .begins ∙ first; ends = x .2 .ends ∙ second })
-
-        go : (e : ℕ) (u : TnurccFaceSide) → e < ne → firstOf u (row m e) ≡ h .p → secondOf u (row m e) ≡ h .q → ⊥
-        go e Left b first second = runs-back Right e b second first
-        go e Right b first second = runs-back Left e b second first
-
-    pub no-no-edge : ¬ No-edge l
-    no-no-edge h =
-        let some = w .edged (h .point) (h .is-point) in
-        let t = v .start-is (h .point) (h .is-point) (omega arith) in
-        go (start m (h .point)) (t .0) (t .1)
-      where
-        begins-here : (u : TnurccFaceSide) (e : ℕ) → e < ne → firstOf u (row m e) ≡ h .point → ⊥
-        begins-here u e b first =
-            let x = side-runs u e b (a-side l m ne v (w .right) u e b) in
-            h .none-begins (x .0) (x .1) (x .2 .is-place) (x .2 .begins ∙ first)
-
-        go : (e : ℕ) → e < ne → Touches m (h .point) e → ⊥
-        go e b (inl z) = begins-here Left e b z
-        go e b (inr z) = begins-here Right e b z
-
-    pub no-missed : allFaces l m₀ ≡ on s → ¬ Missed-edge l m₀
-    no-missed stands h = go (subst (λ t. Hit (h .point) (h .edge) t) same (record { is-edge = h .is-edge; hits = h .touches; misses = h .misses }))
-      where
-        same : h .state ≡ s
-        same = let z : on (h .state) ≡ on s = sym (h .stands) ∙ stands in cc
-
-        go : Hit (h .point) (h .edge) s → ⊥
-        go z =
-            let x : PointWalked m ne (h .point) = point-walk l m ne v (w .right) (h .point) (h .is-point) (w .edged (h .point) (h .is-point)) (w .walked (h .point) (h .is-point)) in
-            let came : pointWalk m ne (valence m (h .point)) (h .point) ≡ back (x .edges) =
-            pointWalk-is m ne (h .point) (valence m (h .point)) (x .edges) .1 (x .passes, omega (arith, x .is-valence)) in
-            let once : occurrences (h .edge) (x .edges) ≡ 1 = x .each-once (h .edge) (z .is-edge) (z .hits) in
-            let none' : occurrences (h .edge) (x .edges) ≡ 0 = sym (ap (λ w. occurrences (h .edge) (edgesOf w)) came) ∙ z .misses in
-            omega arith
+        faces : (b : Bool) → noMissingFace m ne ≡ b →
+            Whole-verdict (cond (not b) (Unfit MissingFace) (cond (not (everyEdged m (pointsOf l))) (Unfit NoEdge) (cond (not (noMissedEdge m (pointsOf l) ne)) (Unfit MissedEdge) Fit)))
+        faces true h = edges h (everyEdged m (pointsOf l)) refl
+        faces false h =
+            whole-unfit {g = MissingFace}
+            (first 20 (λ z. absurd (omega arith)) (λ z. absurd (omega arith)) (λ z. absurd (omega arith)) MissingFace refl (missing-face (missing-holds h)))
+            (omega arith)

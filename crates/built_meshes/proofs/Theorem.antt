@@ -1,6 +1,7 @@
 -- The claims of building. Assumes nothing.
---     build-came             what comes of building: a ground that holds, or an audited mesh of which no ground holds
---     refusals-hold, accepts-exactly, accepted-audited, untouched-beyond     the claims of `specs/Claims.antt`
+--     build-came             what comes of building: the ground that is met first, or an audited mesh of which none is met
+--     first-ground, refusals-hold, accepts-exactly, accepted-audited, untouched-beyond     the claims of `specs/Claims.antt`
+--     accepted-builds        the claim of `specs/Builds.antt`
 --     zeroed-after           zeroing what stands after the faces leaves the same as zeroing the lent tables
 use mathlib.Core.Path.{_≡_, refl, sym, _∙_, ap, subst}
 use mathlib.Core.Bool.{Bool, true, false, not}
@@ -23,8 +24,9 @@ use Rattle.built_meshes.specs.Answers.{numberOf}
 use Rattle.built_meshes.specs.Whole.{wholeVerdict, finished}
 use Rattle.built_meshes.specs.Building.{Outcome, refusal, wholeIf, answered, allFaces, buildIf, build}
 use Rattle.built_meshes.specs.Beyond.{Within}
-use Rattle.built_meshes.specs.Grounds.{Holds}
-use Rattle.built_meshes.specs.Claims.{Refused-by, Refusals-hold, Accepts-exactly, Audited-counts, Accepted-audited, Untouched-beyond}
+use Rattle.built_meshes.specs.Builds.{Builds, Accepted-builds}
+use Rattle.built_meshes.specs.Grounds.{Over-counts, Where, lists, whole, Met, over-counts, unfit-number, few-rows, face-size, out-of-range, point-twice, non-rectangular, triple-face, same-way, missing-face, no-edge, missed-edge, First-met, Holds}
+use Rattle.built_meshes.specs.Claims.{First-ground, Refused-by, Refusals-hold, Accepts-exactly, Audited-counts, Accepted-audited, Untouched-beyond}
 use Rattle.built_meshes.specs.declared.Ground.{Ground}
 use Rattle.built_meshes.specs.declared.Ground.the-variants.{OverCounts, UnfitNumber, FewRows, FaceSize, OutOfRange, PointTwice, NonRectangularFace, EdgeTripleFace, SameWay, MissingFace, NoEdge, MissedEdge}
 use Rattle.built_meshes.specs.declared.Verdict.{Verdict}
@@ -33,10 +35,12 @@ use Rattle.built_meshes.proofs.Rows.{row}
 use Rattle.built_meshes.proofs.Beyond.{within-refl, within-trans, zeroedRows-within}
 use Rattle.built_meshes.proofs.Entering.{counted}
 use Rattle.built_meshes.proofs.Perimeter.{Faces}
+use Rattle.built_meshes.proofs.Before.{Clear-lists, first-lists, first-once}
 use Rattle.built_meshes.proofs.Faces.{Fit-faces, Faces-came, stand, stop, faces-came}
 use Rattle.built_meshes.proofs.Begin.{row-zeroed, Counted, counts-is, counts-fail, counted-fits, Numbered, numbers-is, numbers-fail, numbered-fits, Roomy, rows-is, rows-fail, roomy-fits, listed-all, within-zeroed, ready, faces-none}
 use Rattle.built_meshes.proofs.Finished.{within-finished, audited-finished}
-use Rattle.built_meshes.proofs.Refusals.{Whole-fit, Whole-verdict, whole-fit, whole-unfit, whole-verdict-is, no-face-size, no-out-of-range, no-point-twice, no-unlike-sums, no-triple, no-same-way, no-missing, no-no-edge, no-missed}
+use Rattle.built_meshes.proofs.Builds.{builds-finished}
+use Rattle.built_meshes.proofs.Refusals.{Whole-fit, Whole-verdict, whole-fit, whole-unfit, whole-verdict-is}
 
 -- two sides of each edge, where none lacks its right face
 counted-all : (m : Mesh) (ne : ℕ) → ((e : ℕ) → e < ne → row m e .«face_right» ≢ none) → counted m ne ≡ 2 * ne
@@ -48,27 +52,18 @@ counted-all m ne right =
 
 module _ (c : Sizes) (l : Lists) (m : Mesh) (few : c .faces ≤ none) where
   data Came-out : Outcome → Type 0 where
-    refuses-early : {g : Ground} → Holds c l m g → numberOf g < 10 → Came-out (refusal g m)
-    refuses : {g : Ground} → Holds c l m g → 10 ≤ numberOf g → Within l m (zeroedRows (rowsOf l) m) → Came-out (refusal g (zeroedRows (rowsOf l) m))
-    accepts : {k : Counts} {t : Mesh} → Audited-counts l t k → Within l m t → ((g : Ground) → ¬ Holds c l m g) → Came-out (record { answer = Accepted k; tables = t })
+    refuses-early : {g : Ground} (w : Where) → First-met c l m w g → numberOf g < 10 → Came-out (refusal g m)
+    refuses : {g : Ground} (w : Where) → First-met c l m w g → 10 ≤ numberOf g → Within l m (zeroedRows (rowsOf l) m) → Came-out (refusal g (zeroedRows (rowsOf l) m))
+    accepts :
+        {k : Counts} {t : Mesh} → Audited-counts l t k → Builds l t (k .edges) → Within l m t → ((w : Where) (g : Ground) → ¬ Met c l m w g) →
+        Came-out (record { answer = Accepted k; tables = t })
 
   module _ (counted' : Counted c l) (numbered : Numbered l) (roomy : Roomy l m) where
-    module _ (s : State) (stands : allFaces l m ≡ on s) (all : Faces l (facesOf l) s) (fit : Fit-faces c l m (facesOf l)) (within : Within l m (s .mesh))
-        (later : (x : ℕ) → s .edges ≤ x → row (s .mesh) x ≡ row (zeroedRows (rowsOf l) m) x) (w : Whole-fit c l m s all) where
-      nothing-holds : (g : Ground) → ¬ Holds c l m g
-      nothing-holds OverCounts h = counted-fits c l counted' h
-      nothing-holds UnfitNumber h = numbered-fits l numbered h
-      nothing-holds FewRows h = roomy-fits l m roomy h
-      nothing-holds FaceSize h = no-face-size c l m s all fit w h
-      nothing-holds OutOfRange h = no-out-of-range c l m s all fit w h
-      nothing-holds PointTwice h = no-point-twice c l m s all fit w h
-      nothing-holds NonRectangularFace h = no-unlike-sums c l m s all fit w h
-      nothing-holds EdgeTripleFace h = no-triple c l m s all fit w h
-      nothing-holds SameWay h = no-same-way c l m s all fit w h
-      nothing-holds MissingFace h = no-missing c l m s all fit w h
-      nothing-holds NoEdge h = no-no-edge c l m s all fit w h
-      nothing-holds MissedEdge h = no-missed c l m s all fit w stands h
+    clear : Clear-lists c l m
+    clear = record { counts = counted-fits c l counted'; numbers = numbered-fits l numbered; rows = roomy-fits l m roomy }
 
+    module _ (s : State) (all : Faces l (facesOf l) s) (fit : Fit-faces c l m (facesOf l)) (within : Within l m (s .mesh))
+        (later : (x : ℕ) → s .edges ≤ x → row (s .mesh) x ≡ row (zeroedRows (rowsOf l) m) x) (w : Whole-fit c l m s all) where
       audited-counts : Audited-counts l (finished l (s .mesh)) (record { points = pointsOf l; edges = s .edges; faces = facesOf l })
       unfolding finished
       audited-counts =
@@ -82,29 +77,32 @@ module _ (c : Sizes) (l : Lists) (m : Mesh) (few : c .faces ≤ none) where
             zero-beyond = λ e h b. later e h ∙ row-zeroed c l m counted' numbered roomy few e b;
           }
 
+      builds-after : Builds l (finished l (s .mesh)) (s .edges)
+      builds-after = builds-finished c l m counted' roomy s all within (w .right) (w .edged) (λ f b. fit .sound f b .at-least-3)
+
       within-after : Within l m (finished l (s .mesh))
       within-after = within-finished c l m counted' numbered roomy few s all fit within (w .right) (w .edged) (w .walked)
 
     answered-came : Came-out (answered l m (allFaces l m))
     unfolding answered wholeIf allFaces
     answered-came =
-        go (allFaces l m) refl
-        (faces-came c l m (record { mesh = zeroedRows (rowsOf l) m; edges = 0 }) (ready c l m counted' numbered roomy few) (faces-none c l m counted' numbered roomy few))
+        go (allFaces l m)
+        (faces-came c l m clear (record { mesh = zeroedRows (rowsOf l) m; edges = 0 }) (ready c l m counted' numbered roomy few) (faces-none c l m counted' numbered roomy few))
       where
         zeros : Within l m (zeroedRows (rowsOf l) m)
         zeros = within-zeroed c l m counted' numbered roomy few
 
-        whole : (s : State) → allFaces l m ≡ on s → (all : Faces l (facesOf l) s) → Fit-faces c l m (facesOf l) → Within l m (s .mesh) →
+        whole-came : (s : State) (all : Faces l (facesOf l) s) → Fit-faces c l m (facesOf l) → Within l m (s .mesh) →
             ((x : ℕ) → s .edges ≤ x → row (s .mesh) x ≡ row (zeroedRows (rowsOf l) m) x) →
             (x : Verdict) → Whole-verdict c l m s all x → Came-out (wholeIf l m s x)
-        whole s stands all fit within later x (whole-fit w) =
-            accepts (audited-counts s stands all fit within later w) (within-after s stands all fit within later w) (nothing-holds s stands all fit within later w)
-        whole s stands all fit within later x (whole-unfit {g = g} h n) = refuses {g = g} h (omega arith) zeros
+        whole-came s all fit within later x (whole-fit w n) =
+            accepts (audited-counts s all fit within later w) (builds-after s all fit within later w) (within-after s all fit within later w) n
+        whole-came s all fit within later x (whole-unfit {g = g} h n) = refuses {g = g} whole h (omega arith) zeros
 
-        go : (x : Step State) → allFaces l m ≡ x → Faces-came c l m (record { mesh = zeroedRows (rowsOf l) m; edges = 0 }) x → Came-out (answered l m x)
-        go x e (stand {t = s} all fit within later) =
-            whole s e all fit (within-trans l (within-zeroed c l m counted' numbered roomy few) within) later (wholeVerdict (s .mesh) (pointsOf l) (s .edges)) (whole-verdict-is c l m s all e)
-        go x e (stop {g = g} h n o) = refuses {g = g} h n zeros
+        go : (x : Step State) → Faces-came c l m (record { mesh = zeroedRows (rowsOf l) m; edges = 0 }) x → Came-out (answered l m x)
+        go x (stand {t = s} all fit within later) =
+            whole-came s all fit (within-trans l zeros within) later (wholeVerdict (s .mesh) (pointsOf l) (s .edges)) (whole-verdict-is c l m s all clear fit)
+        go x (stop {g = g} w h n o) = refuses {g = g} w h n zeros
 
   build-came : Came-out (build c l m)
   unfolding build buildIf
@@ -112,56 +110,112 @@ module _ (c : Sizes) (l : Lists) (m : Mesh) (few : c .faces ≤ none) where
     where
       rows : Counted c l → Numbered l → (b : Bool) → rowsFor (rowsOf l) m ≡ b → Came-out (buildIf true true b l m)
       rows h k true e = answered-came h k (rows-is l m e)
-      rows h k false e = refuses-early {g = FewRows} (rows-fail l m e) (omega arith)
+      rows h k false e =
+          refuses-early {g = FewRows} lists
+          (first-lists c l m 4 (λ z. counted-fits c l h) (λ z. numbered-fits l k) (omega arith) FewRows refl (few-rows (rows-fail l m e))) (omega arith)
 
       numbers : Counted c l → (b : Bool) → numbersFit l ≡ b → Came-out (buildIf true b (rowsFor (rowsOf l) m) l m)
       numbers h true e = rows h (numbers-is l e) (rowsFor (rowsOf l) m) refl
-      numbers h false e = refuses-early {g = UnfitNumber} (numbers-fail l e) (omega arith)
+      numbers h false e =
+          refuses-early {g = UnfitNumber} lists
+          (first-lists c l m 3 (λ z. counted-fits c l h) (λ z. absurd (omega arith)) (omega arith) UnfitNumber refl (unfit-number (numbers-fail l e))) (omega arith)
 
       counts : (b : Bool) → countsFit c l ≡ b → Came-out (buildIf b (numbersFit l) (rowsFor (rowsOf l) m) l m)
       counts true e = numbers (counts-is c l e) (numbersFit l) refl
-      counts false e = refuses-early {g = OverCounts} (counts-fail c l e) (omega arith)
+      counts false e =
+          refuses-early {g = OverCounts} lists
+          (first-lists c l m 2 (λ z. absurd (omega arith)) (λ z. absurd (omega arith)) (omega arith) OverCounts refl (over-counts (counts-fail c l e))) (omega arith)
+
+pub first-ground : First-ground
+first-ground c l m few g = (to (build c l m) (build-came c l m few), λ w. from (build c l m) (build-came c l m few) (w .0) (w .1))
+  where
+    to : (o : Outcome) → Came-out c l m few o → o .answer ≡ Refused g → (w : Where) × First-met c l m w g
+    to o (refuses-early {g = g'} w h n) a = let same : g' ≡ g = cc in (w, subst (λ g. First-met c l m w g) same h)
+    to o (refuses {g = g'} w h n z) a = let same : g' ≡ g = cc in (w, subst (λ g. First-met c l m w g) same h)
+    to o (accepts h b w n) a = let z : _≡_ {A = ℕ} 0 1 = cc in absurd (omega arith)
+
+    from : (o : Outcome) → Came-out c l m few o → (w : Where) → First-met c l m w g → o .answer ≡ Refused g
+    from o (refuses-early {g = g'} w' h n) w f = ap Refused (first-once c l m w' g' w g h f)
+    from o (refuses {g = g'} w' h n z) w f = ap Refused (first-once c l m w' g' w g h f)
+    from o (accepts h b z n) w f = absurd (n w g (f .met))
 
 pub refusals-hold : Refusals-hold
 refusals-hold c l m few g answer = go (build c l m) refl (build-came c l m few) answer
   where
+    first : (w : Where) × First-met c l m w g
+    first = first-ground c l m few g .0 answer
+
+    holds' : Holds c l m g
+    holds' = (first .0, first .1 .met)
+
     go : (o : Outcome) → build c l m ≡ o → Came-out c l m few o → o .answer ≡ Refused g → Refused-by c l m g
-    go o e (refuses-early {g = g'} h n) a =
+    go o e (refuses-early {g = g'} w h n) a =
         let same : g' ≡ g = cc in
-        subst (λ g. Refused-by c l m g) same (record { holds = h; untouched = λ z. ap (λ (o : Outcome). o .tables) e; zeroed = λ z. absurd (omega arith) })
-    go o e (refuses {g = g'} h n w) a =
+        let less : numberOf g < 10 = subst (λ g. numberOf g < 10) same n in
+        record { holds = holds'; untouched = λ z. ap (λ (o : Outcome). o .tables) e; zeroed = λ z. absurd (omega arith) }
+    go o e (refuses {g = g'} w h n x) a =
         let same : g' ≡ g = cc in
-        subst (λ g. Refused-by c l m g) same (record { holds = h; untouched = λ z. absurd (omega arith); zeroed = λ z. ap (λ (o : Outcome). o .tables) e })
-    go o e (accepts h w n) a = let z : _≡_ {A = ℕ} 0 1 = cc in absurd (omega arith)
+        let more : 10 ≤ numberOf g = subst (λ g. 10 ≤ numberOf g) same n in
+        record { holds = holds'; untouched = λ z. absurd (omega arith); zeroed = λ z. ap (λ (o : Outcome). o .tables) e }
+    go o e (accepts h b w n) a = let z : _≡_ {A = ℕ} 0 1 = cc in absurd (omega arith)
 
 pub accepts-exactly : Accepts-exactly
-accepts-exactly c l m few = (λ a. to (build c l m) (build-came c l m few) (a .0) (a .1), λ h. from (build c l m) (build-came c l m few) h)
+accepts-exactly c l m few = (λ a g h. to (build c l m) (build-came c l m few) (a .0) (a .1) (h .0) g (h .1), λ h. from (build c l m) (build-came c l m few) h)
   where
-    to : (o : Outcome) → Came-out c l m few o → (k : Counts) → o .answer ≡ Accepted k → (g : Ground) → ¬ Holds c l m g
-    to o (refuses-early h n) k a = let z : _≡_ {A = ℕ} 0 1 = cc in absurd (omega arith)
-    to o (refuses h n w) k a = let z : _≡_ {A = ℕ} 0 1 = cc in absurd (omega arith)
-    to o (accepts h w n) k a = n
+    to : (o : Outcome) → Came-out c l m few o → (k : Counts) → o .answer ≡ Accepted k → (w : Where) (g : Ground) → ¬ Met c l m w g
+    to o (refuses-early w h n) k a = let z : _≡_ {A = ℕ} 0 1 = cc in absurd (omega arith)
+    to o (refuses w h n z) k a = let y : _≡_ {A = ℕ} 0 1 = cc in absurd (omega arith)
+    to o (accepts h b w n) k a = n
 
     from : (o : Outcome) → Came-out c l m few o → ((g : Ground) → ¬ Holds c l m g) → (k : Counts) × (o .answer ≡ Accepted k)
-    from o (refuses-early {g = g} h n) none' = absurd (none' g h)
-    from o (refuses {g = g} h n w) none' = absurd (none' g h)
-    from o (accepts {k = k} h w n) none' = (k, refl)
+    from o (refuses-early {g = g} w h n) none' = absurd (none' g (w, h .met))
+    from o (refuses {g = g} w h n z) none' = absurd (none' g (w, h .met))
+    from o (accepts {k = k} h b w n) none' = (k, refl)
+
+-- the condition of ground 2
+pub over-of : (c : Sizes) (l : Lists) (m : Mesh) → Holds c l m OverCounts → Over-counts c l
+over-of c l m (w, h) = go w OverCounts h refl
+  where
+    differs : {A : Type 0} (g : Ground) → numberOf g ≡ 2 → 3 ≤ numberOf g → A
+    differs g h k = absurd (omega arith)
+
+    go : (w : Where) (g : Ground) → Met c l m w g → numberOf g ≡ 2 → Over-counts c l
+    go w g (over-counts h) e = h
+    go w g (unfit-number h) e = differs UnfitNumber e (omega arith)
+    go w g (few-rows h) e = differs FewRows e (omega arith)
+    go w g (face-size f is h) e = differs FaceSize e (omega arith)
+    go w g (out-of-range f i is h) e = differs OutOfRange e (omega arith)
+    go w g (point-twice f i j is h k) e = differs PointTwice e (omega arith)
+    go w g (non-rectangular f is h) e = differs NonRectangularFace e (omega arith)
+    go w g (triple-face f i g' j h k p q r a b x y z) e = differs EdgeTripleFace e (omega arith)
+    go w g (same-way f i g' j p q r t x) e = differs SameWay e (omega arith)
+    go w g (missing-face h) e = differs MissingFace e (omega arith)
+    go w g (no-edge h) e = differs NoEdge e (omega arith)
+    go w g (missed-edge h) e = differs MissedEdge e (omega arith)
 
 pub accepted-audited : Accepted-audited
 accepted-audited c l m few k answer = go (build c l m) (build-came c l m few) answer
   where
     go : (o : Outcome) → Came-out c l m few o → o .answer ≡ Accepted k → Audited-counts l (o .tables) k
-    go o (refuses-early h n) a = let z : _≡_ {A = ℕ} 0 1 = cc in absurd (omega arith)
-    go o (refuses h n w) a = let z : _≡_ {A = ℕ} 0 1 = cc in absurd (omega arith)
-    go o (accepts {k = k'} {t = t} h w n) a = let same : k' ≡ k = cc in subst (λ k. Audited-counts l t k) same h
+    go o (refuses-early w h n) a = let z : _≡_ {A = ℕ} 0 1 = cc in absurd (omega arith)
+    go o (refuses x h n w) a = let z : _≡_ {A = ℕ} 0 1 = cc in absurd (omega arith)
+    go o (accepts {k = k'} {t = t} h b w n) a = let same : k' ≡ k = cc in subst (λ k. Audited-counts l t k) same h
+
+pub accepted-builds : Accepted-builds
+accepted-builds c l m few k answer = go (build c l m) (build-came c l m few) answer
+  where
+    go : (o : Outcome) → Came-out c l m few o → o .answer ≡ Accepted k → Builds l (o .tables) (k .edges)
+    go o (refuses-early w h n) a = let z : _≡_ {A = ℕ} 0 1 = cc in absurd (omega arith)
+    go o (refuses x h n w) a = let z : _≡_ {A = ℕ} 0 1 = cc in absurd (omega arith)
+    go o (accepts {k = k'} {t = t} h b w n) a = let same : k' ≡ k = cc in subst (λ (k : Counts). Builds l t (k .edges)) same b
 
 pub untouched-beyond : Untouched-beyond
 untouched-beyond c l m few = go (build c l m) (build-came c l m few)
   where
     go : (o : Outcome) → Came-out c l m few o → Within l m (o .tables)
-    go o (refuses-early h n) = within-refl l m
-    go o (refuses h n w) = w
-    go o (accepts h w n) = w
+    go o (refuses-early w h n) = within-refl l m
+    go o (refuses x h n w) = w
+    go o (accepts h b w n) = w
 
 -- ---- for the code, which zeroes the tables as they stand when a ground stops it
 
@@ -178,9 +232,10 @@ zeroed-after c l m few counts numbers rows =
     zeroedRows-within l m (tablesOf (allFaces l m))
     (within-trans l (within-zeroed c l m (counts-is c l counts) (numbers-is l numbers) (rows-is l m rows) few)
     (go (allFaces l m)
-    (faces-came c l m (record { mesh = zeroedRows (rowsOf l) m; edges = 0 }) (ready c l m (counts-is c l counts) (numbers-is l numbers) (rows-is l m rows) few)
+    (faces-came c l m (clear c l m few (counts-is c l counts) (numbers-is l numbers) (rows-is l m rows)) (record { mesh = zeroedRows (rowsOf l) m; edges = 0 })
+    (ready c l m (counts-is c l counts) (numbers-is l numbers) (rows-is l m rows) few)
     (faces-none c l m (counts-is c l counts) (numbers-is l numbers) (rows-is l m rows) few))))
   where
     go : (x : Step State) → Faces-came c l m (record { mesh = zeroedRows (rowsOf l) m; edges = 0 }) x → Within l (zeroedRows (rowsOf l) m) (tablesOf x)
     go x (stand all fit within later) = within
-    go x (stop h n within) = within
+    go x (stop w h n within) = within

@@ -1,4 +1,5 @@
 -- What is claimed of building, within limits under which every face number differs from the none mark.
+--     First-ground          building refuses by a ground exactly if it is the first that is met, in document 01's order
 --     Refusals-hold         a refusal by a ground: the ground holds, and the tables are untouched (2, 3, 4) or zeroed
 --     Accepts-exactly       building accepts exactly if no ground holds
 --     Accepted-audited      what it accepts passes the audit, with all points and faces and half as many edges as points listed;
@@ -22,9 +23,14 @@ use Rattle.tables.specs.declared.Sizes.{Sizes}
 use Rattle.built_meshes.specs.Answers.{numberOf}
 use Rattle.built_meshes.specs.Building.{build}
 use Rattle.built_meshes.specs.Beyond.{Within}
-use Rattle.built_meshes.specs.Grounds.{Holds}
+use Rattle.built_meshes.specs.Grounds.{Where, First-met, Holds}
 use Rattle.built_meshes.specs.declared.Ground.{Ground}
 use Rattle.built_meshes.specs.declared.Built.the-variants.{Accepted, Refused}
+
+abbrev pub First-ground : Type 0
+First-ground =
+    (c : Sizes) (l : Lists) (m : Mesh) → c .faces ≤ none → (g : Ground) →
+    (build c l m .answer ≡ Refused g) ↔ ((w : Where) × First-met c l m w g)
 
 pub record Refused-by (c : Sizes) (l : Lists) (m : Mesh) (g : Ground) : Type 0 where
   pub holds : Holds c l m g

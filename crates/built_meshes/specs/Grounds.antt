@@ -1,27 +1,32 @@
--- When each ground holds of the lists l within the limits c and of the lent tables m: document 01's table "Refused if". A place is an
--- edge of a face as the lists give it, so 14, 15 and 20 speak of the lists alone.
---     Over-counts .. Missed-edge     the condition of each ground
---     Holds c l m g                  the ground g holds
+-- When each ground is met, of the lists l within the limits c and of the lent tables m: document 01's table "Refused if", by the place of
+-- the check. A place is an edge of a face as the lists give it, so 14, 15, 20, 21 and 22 speak of the lists alone.
+--     Over-counts .. Missed-edge     the conditions of the grounds of the lists and of the whole
+--     Turns, Chain                   about a point: the place that runs back the one before; a chain of such places
+--     Where                          where a check stands: the lists, a face, an edge of a face, the whole
+--     Met c l m w g                  the ground g is met at the check w
+--     Before w g w' g'               document 01's order: faces in number order, 10 to 13 per face, then its edges in turn
+--     First-met c l m w g            it is met, and none is met before it
+--     Holds c l m g                  the ground g is met somewhere
 use mathlib.Core.Path.{_≡_}
 use mathlib.Core.Bool.{false}
 use mathlib.Core.Logic.{_⊎_, _≢_}
-use Prim.Native.Nat.{ℕ, _%_, _<_, _≤_}
+use mathlib.Core.List.{List, [], _∷_}
+use Prim.Native.Nat.{ℕ, suc, _%_, _<_, _≤_}
 use lib.ListN.{length, getD}
 use lib.Ieee.{nan}
 use lib.Ieee.Scale.{finite}
+use Rattle.perimeters.specs.Places.{prevPlace}
 use Rattle.positions.specs.Position.{small}
 use Rattle.tables.specs.Layout.{positionWidth, longestPerimeter}
-use Rattle.tables.specs.Mesh.{Mesh, valence, pointRows, edgeRows, faceRows}
+use Rattle.tables.specs.Mesh.{Mesh, pointRows, edgeRows, faceRows}
 use Rattle.closed_meshes.specs.Renumbering.{sumTo}
-use Rattle.audited_meshes.specs.Folds.{occurrences}
-use Rattle.audited_meshes.specs.Walks.{edgesOf, pointWalk, Touches}
+use Rattle.audited_meshes.specs.Walks.{Touches}
 use Rattle.audited_meshes.specs.Audit.{intervalFit}
 use Rattle.built_meshes.specs.Lists.{Lists, pointsOf, facesOf, size, offset}
 use Rattle.tables.specs.declared.Sizes.{Sizes}
 use Rattle.built_meshes.specs.Faces.{apart}
-use Rattle.built_meshes.specs.Perimeters.{State, on}
-use Rattle.built_meshes.specs.Places.{pointOf, IsPlace, Runs, Differ}
-use Rattle.built_meshes.specs.Building.{allFaces}
+use Rattle.built_meshes.specs.Places.{pointOf, IsPlace, Runs, Between, Differ, Earlier}
+use Rattle.built_meshes.specs.Answers.{numberOf}
 use Rattle.built_meshes.specs.declared.Ground.{Ground}
 use Rattle.built_meshes.specs.declared.Ground.the-variants.{OverCounts, UnfitNumber, FewRows, FaceSize, OutOfRange, PointTwice, NonRectangularFace, EdgeTripleFace, SameWay, MissingFace, NoEdge, MissedEdge}
 
@@ -46,67 +51,6 @@ pub data Few-rows (l : Lists) (m : Mesh) : Type 0 where
   few-faces : faceRows m < facesOf l → Few-rows l m
   few-edges : edgeRows m < length (l .listed) → Few-rows l m
 
--- 10: n below 3 or over 64
-pub record Face-size (l : Lists) : Type 0 where
-  pub face : ℕ
-  pub is-face : face < facesOf l
-  pub small-or-large : (size l face < 3) ⊎ (longestPerimeter < size l face)
-
--- 11: point number out of range
-pub record Out-of-range (l : Lists) : Type 0 where
-  pub face : ℕ
-  pub place : ℕ
-  pub is-place : IsPlace l face place
-  pub beyond : pointsOf l ≤ pointOf l face place
-
--- 12: a point twice
-pub record Point-twice (l : Lists) : Type 0 where
-  pub face : ℕ
-  pub place : ℕ
-  pub earlier : ℕ
-  pub is-place : IsPlace l face place
-  pub is-earlier : earlier < place
-  pub same : pointOf l face place ≡ pointOf l face earlier
-
--- 13: side sums s0-s2+s1-s3 not small
-pub record Non-rectangular (l : Lists) : Type 0 where
-  pub face : ℕ
-  pub is-face : face < facesOf l
-  pub not-small : small (apart l face (offset l face)) ≡ false
-
--- a place joins the points p and q
-abbrev pub Between : Lists → ℕ → ℕ → ℕ → ℕ → Type 0
-Between l f i p q = Runs l f i p q ⊎ Runs l f i q p
-
--- 14: an edge has two faces already: three places join the same two points
-pub record Triple-face (l : Lists) : Type 0 where
-  pub p : ℕ
-  pub q : ℕ
-  pub f : ℕ
-  pub i : ℕ
-  pub g : ℕ
-  pub j : ℕ
-  pub h : ℕ
-  pub k : ℕ
-  pub first-joins : Between l f i p q
-  pub second-joins : Between l g j p q
-  pub third-joins : Between l h k p q
-  pub first-second : Differ f i g j
-  pub first-third : Differ f i h k
-  pub second-third : Differ g j h k
-
--- 15: the second face runs the same way
-pub record Same-way (l : Lists) : Type 0 where
-  pub p : ℕ
-  pub q : ℕ
-  pub f : ℕ
-  pub i : ℕ
-  pub g : ℕ
-  pub j : ℕ
-  pub first-runs : Runs l f i p q
-  pub second-runs : Runs l g j p q
-  pub two : Differ f i g j
-
 -- 20: an edge with one face: no place runs back
 pub record Missing-face (l : Lists) : Type 0 where
   pub p : ℕ
@@ -122,27 +66,71 @@ pub record No-edge (l : Lists) : Type 0 where
   pub is-point : point < pointsOf l
   pub none-begins : (f i : ℕ) → IsPlace l f i → pointOf l f i ≢ point
 
--- 22: a point walk misses an edge, in the tables in which all faces stand
-pub record Missed-edge (l : Lists) (m : Mesh) : Type 0 where
-  pub state : State
-  pub stands : allFaces l m ≡ on state
-  pub point : ℕ
-  pub is-point : point < pointsOf l
-  pub edge : ℕ
-  pub is-edge : edge < state .edges
-  pub touches : Touches (state .mesh) point edge
-  pub misses : occurrences edge (edgesOf (pointWalk (state .mesh) (state .edges) (valence (state .mesh) point) point)) ≡ 0
+-- place j of face g begins where place i of face f begins, and runs back the place before it
+abbrev pub Turns : Lists → ℕ → ℕ → ℕ → ℕ → Type 0
+Turns l f i g j = Runs l g j (pointOf l f i) (pointOf l f (prevPlace (size l f) i))
+
+pub data Chain (l : Lists) (f i : ℕ) : ℕ → ℕ → Type 0 where
+  here : Chain l f i f i
+  further : {g j h k : ℕ} → Chain l f i g j → Turns l g j h k → Chain l f i h k
+
+-- 22: a point walk misses an edge: two places begin at the point, and no chain joins them
+pub record Missed-edge (l : Lists) : Type 0 where
+  pub f : ℕ
+  pub i : ℕ
+  pub g : ℕ
+  pub j : ℕ
+  pub first-place : IsPlace l f i
+  pub second-place : IsPlace l g j
+  pub same-point : pointOf l g j ≡ pointOf l f i
+  pub apart : ¬ Chain l f i g j
+
+pub data Where : Type 0 where
+  lists : Where
+  face : ℕ → Where
+  edge : ℕ → ℕ → Where
+  whole : Where
+
+pub data Met (c : Sizes) (l : Lists) (m : Mesh) : Where → Ground → Type 0 where
+  over-counts : Over-counts c l → Met c l m lists OverCounts
+  unfit-number : Unfit-number l → Met c l m lists UnfitNumber
+  few-rows : Few-rows l m → Met c l m lists FewRows
+  -- 10: n below 3 or over 64
+  face-size : (f : ℕ) → f < facesOf l → (size l f < 3) ⊎ (longestPerimeter < size l f) → Met c l m (face f) FaceSize
+  -- 11: point number out of range
+  out-of-range : (f i : ℕ) → IsPlace l f i → pointsOf l ≤ pointOf l f i → Met c l m (face f) OutOfRange
+  -- 12: a point twice
+  point-twice : (f i j : ℕ) → IsPlace l f i → j < i → pointOf l f i ≡ pointOf l f j → Met c l m (face f) PointTwice
+  -- 13: side sums s0-s2+s1-s3 not small
+  non-rectangular : (f : ℕ) → f < facesOf l → small (apart l f (offset l f)) ≡ false → Met c l m (face f) NonRectangularFace
+  -- 14: has two faces already: two earlier places join its points
+  triple-face :
+      (f i g j h k p q : ℕ) → Runs l f i p q → Between l g j p q → Between l h k p q → Earlier g j f i → Earlier h k f i → Differ g j h k →
+      Met c l m (edge f i) EdgeTripleFace
+  -- 15: second face runs the same way: so does an earlier place
+  same-way : (f i g j p q : ℕ) → Runs l f i p q → Runs l g j p q → Earlier g j f i → Met c l m (edge f i) SameWay
+  missing-face : Missing-face l → Met c l m whole MissingFace
+  no-edge : No-edge l → Met c l m whole NoEdge
+  missed-edge : Missed-edge l → Met c l m whole MissedEdge
+
+-- lists of numbers, the first ones first
+abbrev pub Less : List ℕ → List ℕ → Type 0
+Less [] ns = ⊥
+Less (k ∷ ks) [] = ⊥
+Less (k ∷ ks) (n ∷ ns) = (k < n) ⊎ ((k ≡ n) × Less ks ns)
+
+abbrev pub turnOf : Where → Ground → List ℕ
+turnOf lists g = 0 ∷ numberOf g ∷ []
+turnOf (face f) g = 1 ∷ f ∷ 0 ∷ numberOf g ∷ []
+turnOf (edge f i) g = 1 ∷ f ∷ suc i ∷ numberOf g ∷ []
+turnOf whole g = 2 ∷ numberOf g ∷ []
+
+abbrev pub Before : Where → Ground → Where → Ground → Type 0
+Before w g w' g' = Less (turnOf w g) (turnOf w' g')
+
+pub record First-met (c : Sizes) (l : Lists) (m : Mesh) (w : Where) (g : Ground) : Type 0 where
+  pub met : Met c l m w g
+  pub none-before : (w' : Where) (g' : Ground) → Before w' g' w g → ¬ Met c l m w' g'
 
 abbrev pub Holds : Sizes → Lists → Mesh → Ground → Type 0
-Holds c l m OverCounts = Over-counts c l
-Holds c l m UnfitNumber = Unfit-number l
-Holds c l m FewRows = Few-rows l m
-Holds c l m FaceSize = Face-size l
-Holds c l m OutOfRange = Out-of-range l
-Holds c l m PointTwice = Point-twice l
-Holds c l m NonRectangularFace = Non-rectangular l
-Holds c l m EdgeTripleFace = Triple-face l
-Holds c l m SameWay = Same-way l
-Holds c l m MissingFace = Missing-face l
-Holds c l m NoEdge = No-edge l
-Holds c l m MissedEdge = Missed-edge l m
+Holds c l m g = (w : Where) × Met c l m w g

@@ -4,9 +4,11 @@ pub mod Faces
 pub mod Edges
 pub mod Perimeters
 pub mod Whole
-pub mod Building
 pub mod Places
+pub mod Building
 pub mod Beyond
+pub mod Builds
 pub mod Grounds
 pub mod Claims
+pub mod LentContent
 pub mod Pieces

@@ -3,8 +3,11 @@
 --     nextOf l f i            the point at which it ends
 --     IsPlace l f i           face f has a place i
 --     Runs l f i p q          place i of face f runs from p to q
+--     Between l f i p q       it joins p and q, in either direction
 --     Differ f i g j          the places are two
+--     Earlier f i g j         the first place comes before the second one: faces in number order, then places
 use mathlib.Core.Path.{_≡_}
+use mathlib.Core.Logic.{_⊎_}
 use Prim.Native.Nat.{ℕ, _<_}
 use Rattle.perimeters.specs.Places.{nextPlace}
 use Rattle.built_meshes.specs.Lists.{Lists, facesOf, size, offset}
@@ -26,3 +29,9 @@ pub record Runs (l : Lists) (f i p q : ℕ) : Type 0 where
 
 abbrev pub Differ : ℕ → ℕ → ℕ → ℕ → Type 0
 Differ f i g j = ¬ ((f ≡ g) × (i ≡ j))
+
+abbrev pub Between : Lists → ℕ → ℕ → ℕ → ℕ → Type 0
+Between l f i p q = Runs l f i p q ⊎ Runs l f i q p
+
+abbrev pub Earlier : ℕ → ℕ → ℕ → ℕ → Type 0
+Earlier f i g j = (f < g) ⊎ ((f ≡ g) × (i < j))

@@ -9,7 +9,7 @@
 --     oneMore g k              k, and one more if the step that answers g is accepted
 --     accepted l hs            how many steps of a list are accepted
 --     numbered n               the order 0, 1, .., n - 1
---     inNumberedOrder l ts     the steps of a run that visits in numbered order, handed the scratch tables ts
+--     NumberedOrder l hs       every step of hs that is accepted is handed the numbered order; a refused one may be handed any
 --     NamedMesh first l        the closed mesh in the tables, and a name for each of its rows; the first mesh has the counts first
 --     stage n                  the same, as closed_meshes has it
 --     NewNames k n n'          the names n' after an accepted step, number k among the accepted ones, by the names n before it
@@ -23,6 +23,7 @@
 --     NamedRun c m hs          the names that a run makes, begun with row numbers
 --     TwoRuns c a b hsA hsB    what is claimed of two runs
 --     Demand3                  the claim
+--     AnyOrders                the same of two lists of any steps
 use mathlib.Core.Path.{_≡_}
 use mathlib.Core.Bool.{true}
 use mathlib.Core.List.{List, [], _∷_, _++_}
@@ -85,11 +86,11 @@ unfoldable pub numbered : ℕ → List ℕ
 numbered zero = []
 numbered (suc n) = numbered n ++ (n ∷ [])
 
-unfoldable pub inNumberedOrder : Lent → List Mesh → List Handed
-unfolding numbered
-inNumberedOrder l [] = []
-inNumberedOrder l (t ∷ ts) =
-    let h : Handed = record { order = numbered (l .counts .faces); scratch = t } in h ∷ inNumberedOrder (after l h) ts
+pub data NumberedOrder : Lent → List Handed → Type 0 where
+  noStep : {l : Lent} → NumberedOrder l []
+  oneStep :
+      {l : Lent} {h : Handed} {hs : List Handed} → ((c : Counts) → outcome l h .answer ≡ Refined c → h .order ≡ numbered (l .counts .faces)) →
+      NumberedOrder (after l h) hs → NumberedOrder l (h ∷ hs)
 
 -- ---- names
 
@@ -222,9 +223,15 @@ pub record TwoRuns (c : Counts) (a b : Mesh) (hsA hsB : List Handed) : Type 0 wh
       n .ended .names .point p ≡ n' .ended .names .point p' →
       positionAt (run (lent a c) hsA .tables .positions) (p .0) ≡ positionAt (run (lent b c) hsB .tables .positions) (p' .0)
 
--- One accepted mesh, of binary64 numbers, stands in tables of any lengths, those of A and those of B. A visits in numbered order
--- and is handed the scratch tables ts, one for each step; B is handed any orders and any scratch tables.
+-- One accepted mesh, of binary64 numbers, stands in tables of any lengths, those of A and those of B. The accepted steps of A are in
+-- numbered order, its refused ones in any; B is handed any orders. Both are handed any scratch tables.
 abbrev pub Demand3 : Type 0
 Demand3 =
     (c : Counts) (a b : Mesh) → audit a (c .points) (c .edges) (c .faces) ≡ true → Binary64 c a → firstRows c a ≡ firstRows c b →
-    (ts : List Mesh) (hs : List Handed) → TwoRuns c a b (inNumberedOrder (lent a c) ts) hs
+    (hsA hsB : List Handed) → NumberedOrder (lent a c) hsA → TwoRuns c a b hsA hsB
+
+-- More holds: A too may be handed any orders.
+abbrev pub AnyOrders : Type 0
+AnyOrders =
+    (c : Counts) (a b : Mesh) → audit a (c .points) (c .edges) (c .faces) ≡ true → Binary64 c a → firstRows c a ≡ firstRows c b →
+    (hsA hsB : List Handed) → TwoRuns c a b hsA hsB

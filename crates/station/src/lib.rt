@@ -11,6 +11,7 @@ ghost use Rattle.building_tests.specs.declared.Bounds.the-variants.{General};
 ghost use Rattle.text_meshes.specs.TextBuilding.{buildText};
 ghost use Rattle.tables.specs.Mesh.{meshOf};
 ghost use Rattle.steps.specs.Step.{step};
+ghost use Rattle.steps.specs.OneStep.{Binary64};
 ghost use Rattle.station.specs.Station.{Building, built, textBuilt, audited, Step, stepped};
 ghost use Rattle.station_answers.specs.Answers.{countsIn};
 use audit::audit;
@@ -121,7 +122,7 @@ pub extern "C" fn lavyngo_audit(
 
 // Refines the mesh in the tables once, visiting the faces in the order handed in. `places`, `rows`, `halves`, `lengths` and
 // `quads` are the scratch tables of positions, points, edges, intervals and faces. The counts are those before the step, and
-// become those after it if it is accepted.
+// become those after it if it is accepted. `numbers` is the premise `Binary64` of `Demand3` (`runs`).
 #[no_mangle]
 pub extern "C" fn lavyngo_step(
     positions: &mut [f64],
@@ -137,13 +138,16 @@ pub extern "C" fn lavyngo_step(
     lengths: &mut [f64],
     quads: &mut [u32],
 ) -> u32
-    ensures { λ r. ⌜
+    ensures outcome { λ r. ⌜
         _≡_ {A = Step}
         (record { answer = r; counts = now (counts .exit); tables = meshOf (now (positions .exit)) (now (points .exit)) (now (edges .exit)) (now (intervals .exit)) (now (faces .exit)); scratch = meshOf (now (places .exit)) (now (rows .exit)) (now (halves .exit)) (now (lengths .exit)) (now (quads .exit)) })
         (stepped (now (counts .entry))
         (step (meshOf (now (positions .entry)) (now (points .entry)) (now (edges .entry)) (now (intervals .entry)) (now (faces .entry)))
         (countsIn (now (counts .entry))) (now (order .entry))
         (meshOf (now (places .entry)) (now (rows .entry)) (now (halves .entry)) (now (lengths .entry)) (now (quads .entry))))) ⌝ }
+    ensures numbers { λ _. ⌜
+        Binary64 (countsIn (now (counts .entry)))
+        (meshOf (now (positions .entry)) (now (points .entry)) (now (edges .entry)) (now (intervals .entry)) (now (faces .entry))) ⌝ }
 {
     let c = load_counts(counts);
     let answer = step(

@@ -51,7 +51,7 @@ module _
         let b = all-put m c audited few s (refinedCounts c .points) rows (t .positions) room w in
         (withPositions (b .0) s, ap (madeOf s) (b .1))
 
-    finite-made : (n : Mesh) → made m c order t ≡ whole n → AllFinite m c
+    pub finite-made : (n : Mesh) → made m c order t ≡ whole n → AllFinite m c
     finite-made n e =
         let b = made-is m c order t n e in
         placed-all m c audited few s (refinedCounts c .points) rows (t .positions) room (b .positions) (b .put) .finite

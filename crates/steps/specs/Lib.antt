@@ -2,3 +2,4 @@ pub mod Positions
 pub mod Step
 pub mod Rows
 pub mod OneStep
+pub mod FirstGround

@@ -19,13 +19,13 @@ use Rattle.mesh_text.proofs.Read.{length-coordinates, length-lengths, length-in
 use Rattle.built_meshes.specs.Lists.{countsFit}
 use Rattle.tables.specs.declared.Sizes.{Sizes}
 use Rattle.built_meshes.specs.Building.{build}
-use Rattle.built_meshes.specs.Grounds.{Holds, Over-counts, many-points, many-faces, many-listed, point-cut, face-cut, unlike, sum-unlike}
+use Rattle.built_meshes.specs.Grounds.{Holds, lists, over-counts, Over-counts, many-points, many-faces, many-listed, point-cut, face-cut, unlike, sum-unlike}
 use Rattle.built_meshes.specs.declared.Ground.{Ground}
 use Rattle.built_meshes.specs.declared.Ground.the-variants.{OverCounts}
 use Rattle.built_meshes.specs.declared.Built.{Built}
 use Rattle.built_meshes.specs.declared.Built.the-variants as Built
 use Rattle.built_meshes.proofs.Begin.{Counted, counts-is, counts-fail, counted-fits}
-use Rattle.built_meshes.proofs.Theorem.{refusals-hold, accepts-exactly as lists-accept-exactly, accepted-audited, untouched-beyond}
+use Rattle.built_meshes.proofs.Theorem.{over-of, refusals-hold, accepts-exactly as lists-accept-exactly, accepted-audited, untouched-beyond}
 use Rattle.building_tests.specs.Lent.{limitsOf}
 use Rattle.building_tests.specs.declared.Bounds.{Bounds}
 use Rattle.building_tests.specs.declared.Bounds.the-variants.{General, Refine}
@@ -147,7 +147,7 @@ over-exactly b s m = (to (buildText b s m) (came b s m), from)
     to o (bytes h) a = many-bytes h
     to o (formless h e) a = let z : _≡_ {A = ℕ} 0 1 = cc in absurd (omega arith)
     to o (formed {t = t} h) a =
-        which t h (over-means (limitsOf b) s t (h .place) (h .form) (refusals-hold (limitsOf b) (listsOf t) m (few-faces b) OverCounts (told-refused (build (limitsOf b) (listsOf t) m .answer) a) .holds))
+        which t h (over-means (limitsOf b) s t (h .place) (h .form) (over-of (limitsOf b) (listsOf t) m (refusals-hold (limitsOf b) (listsOf t) m (few-faces b) OverCounts (told-refused (build (limitsOf b) (listsOf t) m .answer) a) .holds)))
 
     refuses : (t : TextMesh) → Stands-for b s t → Over-counts (limitsOf b) (listsOf t) → buildText b s m .answer ≡ Refused OverCounts
     refuses t h k = ap (λ (o : Outcome). o .answer) (of-lists b s m h) ∙ ap told (go (countsFit (limitsOf b) (listsOf t)) refl)
@@ -179,7 +179,7 @@ accepted-within b s m k answer = go (buildText b s m) (came b s m) answer
         → Counted (limitsOf b) (listsOf t)
     few t a true e = counts-is (limitsOf b) (listsOf t) e
     few t a false e =
-        absurd (lists-accept-exactly (limitsOf b) (listsOf t) m (few-faces b) .0 (k, a) OverCounts (counts-fail (limitsOf b) (listsOf t) e))
+        absurd (lists-accept-exactly (limitsOf b) (listsOf t) m (few-faces b) .0 (k, a) OverCounts (lists, over-counts (counts-fail (limitsOf b) (listsOf t) e)))
 
     go : (o : Outcome) → Came b s m o → o .answer ≡ Accepted k → Within-limits b m (o .tables) k
     go o (bytes h) a = let z : _≡_ {A = ℕ} 0 1 = cc in absurd (omega arith)

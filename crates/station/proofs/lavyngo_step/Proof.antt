@@ -1,6 +1,8 @@
--- lavyngo_step meets its contract: what the step left, and its answer as it is told.
+-- lavyngo_step meets its contract: what the step left, and its answer as it is told; the numbers that it is handed are the step's.
 use borrow.Author.Needs.{needs}
-use Rattle.tables.specs.Mesh.{meshOf}
+use mathlib.Core.Path.{subst}
+use Rattle.tables.specs.Mesh.{Mesh, meshOf}
+use Rattle.steps.specs.OneStep.{Binary64}
 use Rattle.station.proofs.Laws.{step-told}
 use Rattle.station.proofs.lavyngo_step.Statement.{statement}
 use Rattle.station.proofs.lavyngo_step.Tie as tie
@@ -8,9 +10,13 @@ use Rattle.station.proofs.lavyngo_step.Tie as tie
 returns : tie.Need-returns
 returns c =
     let a = c .before .before .before .before .before .before .before .before .before .before .before .before .before .before .before .before .before .before .before .before .before .before .before .before .before .before .before .before .before .before .before .before .before .before .before .before .before .before .before .before .before .before .before .before .before .before .args in
-    step-told (a .counts .now) (meshOf (a .positions .now) (a .points .now) (a .edges .now) (a .intervals .now) (a .faces .now))
-    (meshOf (a .places .now) (a .rows .now) (a .halves .now) (a .lengths .now) (a .quads .now)) (a .order .now) (c .before .before .before .before .before .before .before .before .before .before .before .before .before .before .before .before .before .before .before .before .before .before .before .before .before .before .before .before .before .before .before .before .before .load-counts .ensures)
-    (c .before .before .before .before .before .before .before .before .before .before .before .before .before .before .before .before .before .before .before .before .before .before .step .ensures .0) (c .tell-stepped .ensures .0) (c .tell-stepped .ensures .1)
+    let m : Mesh = meshOf (a .positions .now) (a .points .now) (a .edges .now) (a .intervals .now) (a .faces .now) in
+    let t : Mesh = meshOf (a .places .now) (a .rows .now) (a .halves .now) (a .lengths .now) (a .quads .now) in
+    let counts = c .before .before .before .before .before .before .before .before .before .before .before .before .before .before .before .before .before .before .before .before .before .before .before .before .before .before .before .before .before .before .before .before .before .load-counts .ensures in
+    let left = c .before .before .before .before .before .before .before .before .before .before .before .before .before .before .before .before .before .before .before .before .before .before .step .ensures in (
+      step-told (a .counts .now) m t (a .order .now) counts (left .0) (c .tell-stepped .ensures .0) (c .tell-stepped .ensures .1),
+      subst (λ k. Binary64 k m) counts (left .1),
+    )
 
 pub lavyngo-step-spec : {M : Type 1} → statement M
 lavyngo-step-spec =
