@@ -99,7 +99,7 @@ module _ (c : Sizes) (l : Lists) (m₀ : Mesh) where
       point-twice f (w .0) (u .0) (b, w .1) (u .1)
       (eqb-true (pointOf l f (w .0)) (pointOf l f (u .0)) (not-false (eqb (pointOf l f (w .0)) (pointOf l f (u .0))) (u .2)))
 
-  verdict-is : (f : ℕ) → f < facesOf l → Face-verdict f (faceVerdict l (pointsOf l) f (offset l f))
+  pub verdict-is : (f : ℕ) → f < facesOf l → Face-verdict f (faceVerdict l (pointsOf l) f (offset l f))
   unfolding faceVerdict
   verdict-is f b = sizes (sizeFit (size l f)) refl
     where
@@ -241,13 +241,13 @@ module _ (c : Sizes) (l : Lists) (m₀ : Mesh) where
 
   module _ (clear : Clear-lists c l m₀) (s₀ : State) (ready : Ready l (s₀ .mesh)) where
     -- the state s, come from s₀, with the faces below f in
-    record So-far (f : ℕ) (s : State) : Type 0 where
-      faces : Faces l f s
-      fit-faces : Fit-faces f
-      within : Within l (s₀ .mesh) (s .mesh)
-      later : (x : ℕ) → s .edges ≤ x → row (s .mesh) x ≡ row (s₀ .mesh) x
+    pub record So-far (f : ℕ) (s : State) : Type 0 where
+      pub faces : Faces l f s
+      pub fit-faces : Fit-faces f
+      pub within : Within l (s₀ .mesh) (s .mesh)
+      pub later : (x : ℕ) → s .edges ≤ x → row (s .mesh) x ≡ row (s₀ .mesh) x
 
-    data Along (f : ℕ) : Step State → Type 0 where
+    pub data Along (f : ℕ) : Step State → Type 0 where
       along : {s : State} → So-far f s → Along f (on s)
       stopped-at : {g : Ground} {m : Mesh} (w : Where) → First-met c l m₀ w g → 10 ≤ numberOf g → Within l (s₀ .mesh) m → Along f (stopped g m)
 
@@ -267,7 +267,7 @@ module _ (c : Sizes) (l : Lists) (m₀ : Mesh) where
         (no-triple l (Done l f 0) (done-down f 0) one-way x i (inl (h, is .1)), no-same l (Done l f 0) (done-down f 0) one-way x i (inl (h, is .1))))
         g refl met
 
-    face-came : (f : ℕ) (s : State) → f < facesOf l → So-far f s → Along (suc f) (facePassed l f (offset l f) s)
+    pub face-came : (f : ℕ) (s : State) → f < facesOf l → So-far f s → Along (suc f) (facePassed l f (offset l f) s)
     unfolding facePassed faceIf
     face-came f s b a = go (faceVerdict l (pointsOf l) f (offset l f)) (verdict-is f b)
       where
@@ -295,19 +295,19 @@ module _ (c : Sizes) (l : Lists) (m₀ : Mesh) where
         (from-came k (suc f) (facePassed l f (offset l f) s) (omega arith) (face-came f s (omega arith) a))
     from-came (suc k) f x h (stopped-at {g = g} p w n o) = stopped-at {g = g} p w n o
 
+    pub so-far-none : Faces l 0 s₀ → So-far 0 s₀
+    so-far-none all =
+        record {
+          faces = all;
+          fit-faces = record { sound = λ f h. absurd (omega arith); rectangular = λ f h. absurd (omega arith) };
+          within = within-refl l (s₀ .mesh);
+          later = λ x h. refl;
+        }
+
     pub faces-came : Faces l 0 s₀ → Faces-came s₀ (facesFrom (facesOf l) l 0 0 (on s₀))
     unfolding offset sumTo
-    faces-came all = go (facesFrom (facesOf l) l 0 0 (on s₀)) (from-came (facesOf l) 0 (on s₀) (omega arith) (along start'))
+    faces-came all = go (facesFrom (facesOf l) l 0 0 (on s₀)) (from-came (facesOf l) 0 (on s₀) (omega arith) (along (so-far-none all)))
       where
-        start' : So-far 0 s₀
-        start' =
-            record {
-              faces = all;
-              fit-faces = record { sound = λ f h. absurd (omega arith); rectangular = λ f h. absurd (omega arith) };
-              within = within-refl l (s₀ .mesh);
-              later = λ x h. refl;
-            }
-
         go : (x : Step State) → Along (facesOf l) x → Faces-came s₀ x
         go x (along a) = stand (a .faces) (a .fit-faces) (a .within) (a .later)
         go x (stopped-at {g = g} p w n o) = stop {g = g} p w n o

@@ -13,6 +13,7 @@ use native.Mathlib.Decide.{ℕ-discrete, decLt}
 use lib.Dec.{eqb}
 use lib.Ieee.{nan, ofBits, binary64}
 use lib.ListN.{length, getD}
+use Rattle.tables.specs.Counted.{zeroedRows}
 use Rattle.perimeters.specs.Places.{nextPlace, prevPlace}
 use Rattle.tables.specs.declared.Sizes.{Sizes}
 use Rattle.t_spline.specs.declared.TnurccEdge.{TnurccEdge}
@@ -22,9 +23,9 @@ use Rattle.tables.specs.declared.Counts.{Counts}
 use Rattle.audited_meshes.specs.Folds.{one}
 use Rattle.audited_meshes.specs.Walks.{touches, Touches}
 use Rattle.audited_meshes.proofs.Folds.{below-suc, sumTo-cong}
-use Rattle.built_meshes.specs.Lists.{Lists, pointsOf, facesOf, size, offset}
+use Rattle.built_meshes.specs.Lists.{Lists, pointsOf, facesOf, size, offset, rowsOf}
 use Rattle.built_meshes.specs.Places.{pointOf, nextOf, Runs, Between, Earlier}
-use Rattle.built_meshes.specs.Building.{zeroedRows, build}
+use Rattle.built_meshes.specs.Building.{build}
 use Rattle.built_meshes.specs.Builds.{Edge-of, Builds}
 use Rattle.built_meshes.specs.Answers.{numberOf}
 use Rattle.built_meshes.specs.Grounds.{Few-rows, few-points, few-faces, few-edges, Where, Met, over-counts, unfit-number, few-rows, face-size, out-of-range, point-twice, non-rectangular, triple-face, same-way, missing-face, no-edge, missed-edge, First-met, edge}

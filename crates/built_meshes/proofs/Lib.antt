@@ -16,5 +16,6 @@ pub mod Builds
 pub mod Refusals
 pub mod Theorem
 pub mod LentContent
+pub mod Connects
 pub mod Cases
 pub mod Pyramid

@@ -115,7 +115,7 @@ pub record Faces (l : Lists) (k : ℕ) (s : State) : Type 0 where
   pub corners : (f c : ℕ) → f < k → c < 4 → corner (s .mesh) f c ≡ none
 
 module _ (l : Lists) (s : State) (k : ℕ) (kf : k < facesOf l) (sound : FaceSound l k) (ready : Ready l (s .mesh)) where
-  a-face : k ≢ none
+  pub a-face : k ≢ none
   a-face h = omega (arith, ready .faces-few)
 
   pub record Around (i : ℕ) (r : Ring) : Type 0 where
@@ -144,7 +144,7 @@ module _ (l : Lists) (s : State) (k : ℕ) (kf : k < facesOf l) (sound : FaceSou
     ready' : Ready l (r .mesh)
     ready' = ready-same l (a .within) ready
 
-    entering : Came l (Done l k i) (Chained l k i) (r .mesh) (r .edges) k i (entered (r .mesh) (r .edges) k (pointOf l k i) (nextOf l k i) (getD (l .intervals) (offset l k + i) nan))
+    pub entering : Came l (Done l k i) (Chained l k i) (r .mesh) (r .edges) k i (entered (r .mesh) (r .edges) k (pointOf l k i) (nextOf l k i) (getD (l .intervals) (offset l k + i) nan))
     entering =
         came l (Done l k i) (Chained l k i) (r .mesh) (r .edges) k i (a .invariant) (good i below) (getD (l .intervals) (offset l k + i) nan)
         (ready .intervals-fit (offset l k + i) (omega (arith, place-listed l k i kf below, ready .all-listed)))
@@ -253,7 +253,7 @@ module _ (l : Lists) (s : State) (k : ℕ) (kf : k < facesOf l) (sound : FaceSou
       chain f j (inl h) = inl (inl h)
       chain f j (inr h) = below-suc j i (omega (arith, h .1)) (λ lt. inl (inr (h .0, omega arith))) (λ same. inr (h .0, same))
 
-  turn-came : (i : ℕ) (r : Ring) → Around i r → (below : i < size l k) → Round (suc i) (turn l k (offset l k) (size l k) i r)
+  pub turn-came : (i : ℕ) (r : Ring) → Around i r → (below : i < size l k) → Round (suc i) (turn l k (offset l k) (size l k) i r)
   unfolding turn turned
   turn-came i r a below = go i a below (entered (r .mesh) (r .edges) k (pointOf l k i) (nextOf l k i) (getD (l .intervals) (offset l k + i) nan)) (entering i below r a)
     where
@@ -262,7 +262,7 @@ module _ (l : Lists) (s : State) (k : ℕ) (kf : k < facesOf l) (sound : FaceSou
       go (suc i) a below x (goes t) = round (turn-next i r a below t)
       go i a below x (stops w) = halts i below w (a .invariant .one-way) (a .within)
 
-  places-came : (c i : ℕ) (x : Step Ring) → i + c ≡ size l k → Round i x → Round (size l k) (places c l k (offset l k) (size l k) i x)
+  pub places-came : (c i : ℕ) (x : Step Ring) → i + c ≡ size l k → Round i x → Round (size l k) (places c l k (offset l k) (size l k) i x)
   unfolding places
   places-came zero i x h r = subst (λ n. Round n x) (let same : i ≡ size l k = omega arith in same) r
   places-came (suc c) i x h (round {r = r} a) =
@@ -288,7 +288,7 @@ module _ (l : Lists) (s : State) (k : ℕ) (kf : k < facesOf l) (sound : FaceSou
     room-r : r .edges * 8 ≤ length (r .mesh .edges)
     room-r = omega (arith, few-r, ready-r .edges-room)
 
-    wraps : nextPlace (size l k) j ≡ 0
+    pub wraps : nextPlace (size l k) j ≡ 0
     wraps = next-last (size l k) j last
 
     sits-last : Sits l (r .mesh) (r .edges) k j (r .before)
@@ -387,33 +387,38 @@ module _ (l : Lists) (s : State) (k : ℕ) (kf : k < facesOf l) (sound : FaceSou
     later-closed x h =
         row-joined-rest (r .mesh) (r .first) (r .before) x (λ z. omega (arith, sits-first .below)) (λ z. omega (arith, sits-last .below)) ∙ a .later x h
 
+  -- no place is in yet
+  abbrev pub begin : Ring
+  begin = record { mesh = s .mesh; edges = s .edges; first = 0; before = 0 }
+
+  pub around-begun : Faces l k s → Around 0 begin
+  around-begun all =
+      record {
+        invariant = all .invariant;
+        counts = omega (arith, all .counts);
+        within = within-refl l (s .mesh);
+        grows = omega arith;
+        later = λ x h. refl;
+        faces-still = refl;
+        first-sits = λ h. absurd (omega arith);
+        before-sits = λ j h. absurd (omega arith);
+        sits-still = λ f j x h t. t;
+      }
+
+  pub last-place : (j : ℕ) × (suc j ≡ size l k)
+  last-place = go (size l k) (sound .at-least-3)
+    where
+      go : (n : ℕ) → 3 ≤ n → (j : ℕ) × (suc j ≡ n)
+      go zero h = absurd (omega arith)
+      go (suc j) h = (j, refl)
+
   pub perimeter-came : Faces l k s → Perimeter-came (perimeter l k (offset l k) s)
   unfolding perimeter closedUp
-  perimeter-came all = go (places (size l k) l k (offset l k) (size l k) 0 (on begin)) (places-came (size l k) 0 (on begin) (omega arith) (round around))
+  perimeter-came all =
+      go (places (size l k) l k (offset l k) (size l k) 0 (on begin)) (places-came (size l k) 0 (on begin) (omega arith) (round (around-begun all)))
     where
-      begin : Ring
-      begin = record { mesh = s .mesh; edges = s .edges; first = 0; before = 0 }
-
-      around : Around 0 begin
-      around =
-          record {
-            invariant = all .invariant;
-            counts = omega (arith, all .counts);
-            within = within-refl l (s .mesh);
-            grows = omega arith;
-            later = λ x h. refl;
-            faces-still = refl;
-            first-sits = λ h. absurd (omega arith);
-            before-sits = λ j h. absurd (omega arith);
-            sits-still = λ f j x h t. t;
-          }
-
       last : (j : ℕ) × (suc j ≡ size l k)
-      last = go (size l k) (sound .at-least-3)
-        where
-          go : (n : ℕ) → 3 ≤ n → (j : ℕ) × (suc j ≡ n)
-          go zero h = absurd (omega arith)
-          go (suc j) h = (j, refl)
+      last = last-place
 
       go : (x : Step Ring) → Round (size l k) x → Perimeter-came (closedUp k x)
       go x (round {r = r} a) =

@@ -59,7 +59,7 @@ module _ (c : Sizes) (l : Lists) (m : Mesh) (few : c .faces ≤ none) where
         Came-out (record { answer = Accepted k; tables = t })
 
   module _ (counted' : Counted c l) (numbered : Numbered l) (roomy : Roomy l m) where
-    clear : Clear-lists c l m
+    pub clear : Clear-lists c l m
     clear = record { counts = counted-fits c l counted'; numbers = numbered-fits l numbered; rows = roomy-fits l m roomy }
 
     module _ (s : State) (all : Faces l (facesOf l) s) (fit : Fit-faces c l m (facesOf l)) (within : Within l m (s .mesh))
