@@ -233,5 +233,5 @@ Demand3 =
 -- More holds: A too may be handed any orders.
 abbrev pub AnyOrders : Type 0
 AnyOrders =
-    (c : Counts) (a b : Mesh) → audit a (c .points) (c .edges) (c .faces) ≡ true → Binary64 c a → firstRows c a ≡ firstRows c b →
-    (hsA hsB : List Handed) → TwoRuns c a b hsA hsB
+    (c : Counts) (m n : Mesh) → audit m (c .points) (c .edges) (c .faces) ≡ true → Binary64 c m → firstRows c m ≡ firstRows c n →
+    (hs hs' : List Handed) → TwoRuns c m n hs hs'
