@@ -11,7 +11,8 @@ use Rattle.perimeters.proofs.Laws.{next-below, prev-below, next-prev}
 use Rattle.perimeters.specs.Places.{nextPlace, prevPlace}
 use Rattle.tables.specs.declared.Sizes.{Sizes}
 use Rattle.audited_meshes.specs.Walks.{Touches}
-use Rattle.t_spline.specs.Edge.{none, faceFromSide}
+use Rattle.t_spline.specs.Edge.{none}
+use Rattle.t_spline.specs.Ends.{faceFromSide}
 use Rattle.t_spline.specs.declared.TnurccFaceSide.{TnurccFaceSide}
 use Rattle.t_spline.specs.declared.TnurccFaceSide.the-variants.{Left, Right}
 use Rattle.tables.specs.Mesh.{Mesh, valence, mark, origin, dest, leftFace, rightFace}
@@ -65,7 +66,7 @@ module _ (l : Lists) (m : Mesh) (ne : ℕ) (v : Invariant l (Done l (facesOf l) 
       let a = v .entered f (nextPlace n i) (inl on) in
       let acw : acwOf s (row m e) ≡ a .0 =
       v .linked f i (inl is) s e (a .1 .on-side) (a .0) b (a .1 .below) refl (a .1 .face-is) (sym begins) (a .1 .first-is) .0 in
-      let h = (prev-below n i (is .1), next-prev n i (is .1)) in
+      let h : (prevPlace n i < n) × (nextPlace n (prevPlace n i) ≡ i) = (prev-below n i (is .1), next-prev n i (is .1)) in
       let back : IsPlace l f (prevPlace n i) = (is .0, h .0) in
       let o = v .entered f (prevPlace n i) (inl back) in
       let first : firstOf s (row m e) ≡ nextOf l f (prevPlace n i) = sym begins ∙ ap (λ i. pointOf l f i) (sym (h .1)) in

@@ -20,7 +20,7 @@ use Rattle.built_meshes.specs.declared.Built.the-variants.{Accepted, Ref
 -- ---- pieces
 
 -- tables with just the rows that the lists need, all words 7
-abbrev justEnough : Lists → Mesh
+abbrev pub justEnough : Lists → Mesh
 justEnough l =
     record {
       positions = replicate (pointsOf l * 3) two;
@@ -30,26 +30,26 @@ justEnough l =
       faces = replicate (facesOf l * 5) 7;
     }
 
-record Piece : Type 0 where
-  limits : Sizes
-  lists : Lists
-  tables : Mesh
-  answer : List ℕ
+pub record Piece : Type 0 where
+  pub limits : Sizes
+  pub lists : Lists
+  pub tables : Mesh
+  pub answer : List ℕ
 
-abbrev piece : Lists → List ℕ → Piece
+abbrev pub piece : Lists → List ℕ → Piece
 piece l ns = record { limits = general; lists = l; tables = justEnough l; answer = ns }
 
-abbrev sameNumbers : List ℕ → List ℕ → Bool
+abbrev pub sameNumbers : List ℕ → List ℕ → Bool
 sameNumbers [] [] = true
 sameNumbers [] (n ∷ ns) = false
 sameNumbers (k ∷ ks) [] = false
 sameNumbers (k ∷ ks) (n ∷ ns) = eqb k n && sameNumbers ks ns
 
-asExpected : Piece → Bool
+unfoldable pub asExpected : Piece → Bool
 unfolding build
 asExpected x = sameNumbers (numbersOf (build (x .limits) (x .lists) (x .tables) .answer)) (x .answer)
 
-abbrev allOf : List Piece → Bool
+abbrev pub allOf : List Piece → Bool
 unfolding asExpected
 allOf [] = true
 allOf (x ∷ xs) = asExpected x && allOf xs

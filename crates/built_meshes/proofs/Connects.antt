@@ -14,13 +14,15 @@ use Rattle.perimeters.proofs.Laws.{next-more}
 use Rattle.tables.specs.Counted.{zeroedRows}
 use Rattle.perimeters.specs.Places.{nextPlace}
 use Rattle.tables.specs.declared.Sizes.{Sizes}
-use Rattle.t_spline.specs.Edge.{none, faceFromSide, sameFace}
+use Rattle.t_spline.specs.Edge.{none, sameFace}
+use Rattle.t_spline.specs.Ends.{faceFromSide}
 use Rattle.t_spline.specs.declared.TnurccEdge.{TnurccEdge}
 use Rattle.t_spline.specs.declared.TnurccFaceSide.{TnurccFaceSide}
 use Rattle.t_spline.specs.declared.TnurccFaceSide.the-variants.{Left, Right}
-use Rattle.edge_links.specs.Connect.{vertexState, shareFace, joinable}
+use Rattle.edge_links.specs.Connect.{vertexState}
+use Rattle.edge_links.specs.Joinable.{shareFace, joinable}
 use Rattle.tables.specs.Mesh.{Mesh}
-use Rattle.t_nurcc_edge.specs.Connected.{joinableRows}
+use Rattle.t_nurcc_edge.specs.Joinable.{joinableRows}
 use Rattle.closed_meshes.specs.Renumbering.{sumTo}
 use Rattle.built_meshes.specs.Lists.{Lists, pointsOf, facesOf, size, offset, rowsOf}
 use Rattle.built_meshes.specs.Faces.{faceVerdict}

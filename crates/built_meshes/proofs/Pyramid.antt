@@ -10,7 +10,8 @@ use Rattle.edge_links.specs.Connect.{linksOf}
 use Rattle.tables.specs.Mesh.{none}
 use Rattle.built_meshes.specs.Lists.{Lists, general}
 use Rattle.built_meshes.specs.Building.{build}
-use Rattle.built_meshes.specs.Pieces.{unit, two, nought, backToBack, justEnough, Piece, piece, asExpected, allOf}
+use Rattle.built_meshes.specs.Pieces.{unit, two, nought, backToBack}
+use Rattle.built_meshes.proofs.Cases.{justEnough, Piece, piece, asExpected, allOf}
 use Rattle.built_meshes.specs.declared.Built.the-variants.{Accepted}
 
 -- n numbers, no two alike

@@ -16,7 +16,8 @@ use lib.ListN.{length}
 use borrow.Author.Tests.{eqb-true, eqb-false, eq-eqb, ne-eqb, ltb-true, not-false}
 use Rattle.perimeters.proofs.Laws.{prev-below, next-prev}
 use Rattle.perimeters.specs.Places.{nextPlace, prevPlace}
-use Rattle.t_spline.specs.Edge.{none, faceFromSide}
+use Rattle.t_spline.specs.Edge.{none}
+use Rattle.t_spline.specs.Ends.{faceFromSide}
 use Rattle.t_spline.specs.declared.TnurccFaceSide.{TnurccFaceSide}
 use Rattle.t_spline.specs.declared.TnurccFaceSide.the-variants.{Left, Right}
 use Rattle.tables.specs.Mesh.{Mesh, valence, start, origin, dest}
@@ -264,7 +265,7 @@ module _ (l : Lists) (m : Mesh) (ne : ℕ) (v : Invariant l (Done l (facesOf l) 
     turn-place f i e is t h =
         let n = size l f in
         let y = prevPlace n i in
-        let w = (prev-below n i (is .1), next-prev n i (is .1)) in
+        let w : (prevPlace n i < n) × (nextPlace n (prevPlace n i) ≡ i) = (prev-below n i (is .1), next-prev n i (is .1)) in
         let o = v .entered f y (inl (is .0, w .0)) in
         let begin : firstOf (t .on-side) (row m e) ≡ nextOf l f y = t .first-is ∙ ap (λ i. pointOf l f i) (sym (w .1)) in
         let links = v .linked f y (inl (is .0, w .0)) (o .1 .on-side) (o .0) (t .on-side) e (o .1 .below) (t .below) (o .1 .face-is) (t .face-is) (o .1 .first-is) begin in

@@ -12,7 +12,7 @@ use Rattle.tables.specs.Counted.{rowsFor, zeroedRows}
 use Rattle.perimeters.specs.Places.{nextPlace}
 use Rattle.tables.specs.declared.Sizes.{Sizes}
 use Rattle.tables.specs.Mesh.{Mesh, none}
-use Rattle.t_nurcc_edge.specs.Connected.{joinableRows}
+use Rattle.t_nurcc_edge.specs.Joinable.{joinableRows}
 use Rattle.built_meshes.specs.Lists.{Lists, pointsOf, facesOf, size, countsFit, numbersFit, rowsOf}
 use Rattle.built_meshes.specs.Faces.{listedAt, faceVerdict}
 use Rattle.built_meshes.specs.Edges.{Entered, at, refused, entered}

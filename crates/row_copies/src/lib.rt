@@ -6,7 +6,7 @@ ghost use Prim.Native.Nat.{_*_, _≤_};
 ghost use lib.ListN.{length};
 ghost use Rattle.tables.specs.Layout.{positionWidth, pointWidth, edgeWidth, faceWidth};
 ghost use Rattle.tables.specs.Mesh.{Mesh, meshOf};
-ghost use Rattle.steps.specs.Step.{zeroedRows, overRows};
+ghost use Rattle.tables.specs.Counted.{zeroedRows, overRows};
 use tables::Counts;
 use tables::EDGE_WIDTH;
 use tables::FACE_WIDTH;

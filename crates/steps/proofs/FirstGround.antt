@@ -21,7 +21,8 @@ use Rattle.audited_meshes.proofs.Holds.{audit-is-closed}
 use Rattle.refined_meshes.specs.Order.{EachOnce}
 use Rattle.steps.specs.declared.Stepped.{Stepped}
 use Rattle.steps.specs.declared.Stepped.the-variants.{Refined, NotClosed, NotEachFaceOnce, NoRoom, NotFinite}
-use Rattle.steps.specs.Step.{refinedCounts, eachFaceOnce, rowsFor, withinCeilings, roomFor, firstRows, Made, whole, notFinite, ended, stepIf, step}
+use Rattle.steps.specs.Step.{refinedCounts, eachFaceOnce, withinCeilings, roomFor, Made, whole, notFinite, ended, stepIf, step}
+use Rattle.tables.specs.Counted.{rowsFor, firstRows}
 use Rattle.steps.specs.OneStep.{AllFinite}
 use Rattle.steps.specs.FirstGround.{Short, No-room, Due, First-ground}
 use Rattle.steps.proofs.Rows.{exact-firstRows, holds-firstRows}

@@ -13,7 +13,8 @@ use Rattle.audited_meshes.specs.Audited.{Audited}
 use Rattle.refined_meshes.specs.Order.{EachOnce}
 use Rattle.steps.specs.declared.Stepped.{Stepped}
 use Rattle.steps.specs.declared.Stepped.the-variants.{Refined, NotClosed, NotEachFaceOnce, NoRoom, NotFinite}
-use Rattle.steps.specs.Step.{refinedCounts, firstRows, step}
+use Rattle.steps.specs.Step.{refinedCounts, step}
+use Rattle.tables.specs.Counted.{firstRows}
 use Rattle.steps.specs.OneStep.{AllFinite}
 
 abbrev pub Short : Counts → Mesh → Type 0
