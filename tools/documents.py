@@ -18,7 +18,7 @@ STATED = """
     audited_meshes/Audit audited_meshes/Claims built_meshes/Building built_meshes/Builds built_meshes/Claims built_meshes/Connects
     built_meshes/LentContent building_tests/Lent
     closed_meshes/Refinement closed_meshes/Renumbering filed_pieces/Pieces refine_outputs/Claims refine_outputs/Output
-    refined_meshes/Refines runs/Runs station/Station steps/FirstGround steps/OneStep steps/Step text_meshes/Claims text_meshes/TextBuilding
+    refined_meshes/Refines runs/Runs station/Station steps/FirstGround steps/LentScratch steps/OneStep steps/Step text_meshes/Claims text_meshes/TextBuilding
 """.split()
 
 # What each crate's definitions are about, in the order of the table.

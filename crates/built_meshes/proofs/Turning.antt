@@ -279,7 +279,7 @@ module _ (l : Lists) (m : Mesh) (ne : ℕ) (v : Invariant l (Done l (facesOf l) 
             ends = x .ends ∙ second-flip (o .1 .on-side) (o .0) ∙ o .1 .first-is;
           },
           subst (λ a. Sits l m ne (faceFromSide (row m (o .0)) s) (x .place) a) (sym (step-on (t .on-side) e (t .below) (t .first-is ∙ h) ∙ links .1))
-          (sits-side l m ne v right s (o .0) (o .1 .below)),
+              (sits-side l m ne v right s (o .0) (o .1 .below)),
         )
 
     turn-sits : (f i e : ℕ) → IsPlace l f i → Sits l m ne f i e → pointOf l f i ≡ p → (g j : ℕ) → Turns l f i g j → Sits l m ne g j (acwOfPoint m p e)

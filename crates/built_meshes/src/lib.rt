@@ -1,12 +1,15 @@
 // What building makes of lists of coordinates, side lengths, listed points and intervals (document 01, "Building"), as a
-// definition, with its theorems: what it accepts passes the audit, and it accepts exactly what no ground holds of.
+// definition, with its theorems: it refuses by the ground that is met first, and what it accepts passes the audit and is what
+// document 01 makes of the lists.
 // Carries over `try_new` of t_nurcc/mod.rs. Not here: the code that builds.
 // Definitions, in the order of reading: `specs/Lists.antt` (what is handed in, grounds 2 and 3), `specs/Faces.antt` (grounds 10 to
 // 13), `specs/Edges.antt` (one edge, grounds 14 and 15), `specs/Perimeters.antt` (one face), `specs/Whole.antt` (grounds 20 to
 // 22), `specs/Building.antt` (the whole), `specs/Answers.antt` (document 01's numbers).
-// Claims: `specs/Claims.antt`, over `specs/Grounds.antt` (when each ground holds, of the places of `specs/Places.antt`) and
-// `specs/Beyond.antt` (the rows that are never touched); proved in `proofs/Theorem.antt`. Computed pieces:
-// `specs/Pieces.antt`, `proofs/Cases.antt`; document 01's own stand in `filed_pieces`.
+// Claims: `specs/Claims.antt`, over `specs/Grounds.antt` (when each ground is met, of the places of `specs/Places.antt`, and their
+// order) and `specs/Beyond.antt` (the rows that are never touched), and `specs/Builds.antt` (what an accepted build leaves), proved
+// in `proofs/Theorem.antt`; `specs/LentContent.antt` (what lent tables held shows nowhere) and `specs/Connects.antt` (every `connect`
+// finds a state), proved in the files of `proofs/` with their names. Computed pieces: `specs/Pieces.antt`, `proofs/Cases.antt`,
+// `proofs/Pyramid.antt`; document 01's own stand in `filed_pieces`.
 use tables::Counts;
 
 // Why building refuses. Document 01's number stands beside each.

@@ -1,9 +1,10 @@
 -- Visits in an order that names each face once make the refinement. Assumes nothing.
 --     refines-of-arrived        what stands after the last turn is the refinement
 --     visits-refine             the claim
+--     visited-points, visited-edges, visited-faces     what the tables held before shows in no row that the visits make
 use mathlib.Core.Path.{_≡_, refl, sym, _∙_, ap}
 use mathlib.Core.Bool.{Bool, true, false}
-use mathlib.Core.List.{List}
+use mathlib.Core.List.{List, []}
 use mathlib.Core.Logic.{_⊎_, inl, inr}
 use mathlib.Core.Option.{Option·map}
 use Prim.Native.Nat.{ℕ, _+_, _-_, _*_, _≤_, _<_}
@@ -20,9 +21,9 @@ use Rattle.closed_meshes.proofs.Counts.{count-points, count-edges, count-darts}
 use Rattle.closed_meshes.proofs.Groupoid.{identity}
 use Rattle.closed_meshes.proofs.Isomorphisms.{onto}
 use Rattle.closed_meshes.proofs.NewDarts.{start-half, edge-start-half, face-start-half}
-use Rattle.tables.specs.Mesh.{Mesh, valence, start, mark, origin, dest, leftFace, rightFace, leftCw, leftAcw, rightCw, rightAcw, interval, faceStart, corner}
-use Rattle.audited_meshes.specs.Rows.{place as placeNo, cornerWord, Stands}
-use Rattle.refined_meshes.specs.State.{State, withPositions, copied}
+use Rattle.tables.specs.Mesh.{Mesh, valence, start, mark, origin, dest, leftFace, rightFace, leftCw, leftAcw, rightCw, rightAcw, interval, faceStart, corner, pointRows, edgeRows, faceRows}
+use Rattle.audited_meshes.specs.Rows.{place as placeNo, cornerWord, Stands, HoldsClosed}
+use Rattle.refined_meshes.specs.State.{State, withPositions, edgeOf, copied}
 use Rattle.refined_meshes.specs.Order.{EachOnce, turnIn}
 use Rattle.refined_meshes.specs.Visits.{refinedRows, visits}
 use Rattle.refined_meshes.specs.Refines.{Refines, StartOfOld, VisitsRefine}
@@ -30,7 +31,7 @@ use Rattle.refined_meshes.specs.Refines as Claims
 use Rattle.refined_meshes.proofs.Places.{dartAt, place, face-dartAt, dartAt-prev, dartAt-zero}
 use Rattle.refined_meshes.proofs.Leads.{when, when-below, when-injective, leads, lead}
 use Rattle.refined_meshes.proofs.Numbering.{turnOf, pointNo, edgeNo, faceNo, pointNo-injective, edgeNo-injective, faceNo-injective, pointNo-fits, edgeNo-fits, faceNo-fits, faceNo-first}
-use Rattle.refined_meshes.proofs.Words.{Side, ends, side, pointOf, faceOf}
+use Rattle.refined_meshes.proofs.Words.{Side, PointWords, ends, side, pointOf, faceOf, edgeFrom}
 use Rattle.refined_meshes.proofs.Target.{found, joint, endsAt, firstSide, secondSide, outSide, inSide, midAt, centreAt, faceAt, rowOf}
 use Rattle.refined_meshes.proofs.Content.{Done, Latest, Unchanged}
 use Rattle.refined_meshes.proofs.Splits.{Past}
@@ -209,6 +210,77 @@ module _
                 r;
           }
 
+-- ---- the rows after all visits, whatever stood in the tables before
+
+-- A point's words are three.
+point-words : (a b : PointWords) → a .valence ≡ b .valence → a .start ≡ b .start → a .mark ≡ b .mark → a ≡ b
+point-words a b x y z =
+    let e : _≡_ {A = PointWords} (record { valence = a .valence; start = a .start; mark = a .mark }) (record { valence = b .valence; start = b .start; mark = b .mark })
+    = rw (x, y, z) in
+    e
+
+module _
+    (m : Mesh) {np ne nf : ℕ} {t : MeshOver (Row np) (Row ne) (Row nf)} (stands : Stands m t) (c : Closed t) (order : Bijection (Row nf) (Row nf))
+    (s s' : State) (h : Arriving m stands c order nf s) (h' : Arriving m stands c order nf s')
+  where
+    -- the start edge of an old point is the one of the old mesh in both, or the latest destination half in both
+    old-start-alike : (p : Row np) → pointOf s' (p .0) .start ≡ pointOf s (p .0) .start
+    old-start-alike p = go (h .content .old-point p .start-found) (h' .content .old-point p .start-found)
+      where
+        past : (e : Row ne) → Past c order nf 0 e
+        past = all-past m stands c order s h
+
+        go : Unchanged m c order (Past c order nf 0) s p ⊎ Latest m c order (Past c order nf 0) s p →
+            Unchanged m c order (Past c order nf 0) s' p ⊎ Latest m c order (Past c order nf 0) s' p → pointOf s' (p .0) .start ≡ pointOf s (p .0) .start
+        go (inl u) (inl u') = u' .start-kept ∙ sym (u .start-kept)
+        go (inl u) (inr l') = absurd (u .none-split (l' .last) (l' .ends-here) (past (l' .last)))
+        go (inr l) (inl u') = absurd (u' .none-split (l .last) (l .ends-here) (past (l .last)))
+        go (inr l) (inr l') =
+            omega (
+              arith,
+              l .start-is,
+              l' .start-is,
+              l .latest (l' .last) (l' .ends-here) (past (l' .last)),
+              l' .latest (l .last) (l .ends-here) (past (l .last)),
+            )
+
+    pub points-alike : (r : Row (np + ne + nf)) → pointOf s' (r .0) ≡ pointOf s (r .0)
+    unfolding points
+    points-alike = onto (points m stands c order s h) (λ r. pointOf s' (r .0) ≡ pointOf s (r .0)) by-kinds
+      where
+        by-kinds : (x : NewPoint (Row np) (Row ne) (Row nf)) → pointOf s' (pointNo c order x) ≡ pointOf s (pointNo c order x)
+        by-kinds (old p) =
+            unfold pointNo in
+            point-words (pointOf s' (p .0)) (pointOf s (p .0)) (h' .content .old-point p .valence-kept ∙ sym (h .content .old-point p .valence-kept))
+            (old-start-alike p) (h' .content .old-point p .mark-kept ∙ sym (h .content .old-point p .mark-kept))
+        by-kinds (mid e) =
+            h' .content .middle e (all-past m stands c order s' h' e) ∙ sym (h .content .middle e (all-past m stands c order s h e))
+        by-kinds (facePoint f) = h' .content .centre f (when-below c order f) ∙ sym (h .content .centre f (when-below c order f))
+
+    pub ends-alike : (r : Row (4 * ne)) → ends s' (r .0) ≡ ends s (r .0)
+    unfolding edges
+    ends-alike =
+        onto (edges m stands c order s h) (λ r. ends s' (r .0) ≡ ends s (r .0)) λ x.
+        ends-final m stands c order s' h' x ∙ sym (ends-final m stands c order s h x)
+
+    pub left-alike : (r : Row (4 * ne)) → side s' (lft (r .0)) ≡ side s (lft (r .0))
+    unfolding edges sideOf
+    left-alike =
+        onto (edges m stands c order s h) (λ r. side s' (lft (r .0)) ≡ side s (lft (r .0))) λ x.
+        left-words m stands c order s' h' [] x ∙ sym (left-words m stands c order s h [] x)
+
+    pub right-alike : (r : Row (4 * ne)) → side s' (rgt (r .0)) ≡ side s (rgt (r .0))
+    unfolding edges sideOf
+    right-alike =
+        onto (edges m stands c order s h) (λ r. side s' (rgt (r .0)) ≡ side s (rgt (r .0))) λ x.
+        right-words m stands c order s' h' [] x ∙ sym (right-words m stands c order s h [] x)
+
+    pub faces-alike : (r : Row (2 * ne)) → faceOf s' (r .0) ≡ faceOf s (r .0)
+    unfolding faces
+    faces-alike =
+        onto (faces m stands c order s h) (λ r. faceOf s' (r .0) ≡ faceOf s (r .0)) λ d.
+        all-done m stands c order s' h' d .new-face ∙ sym (all-done m stands c order s h d .new-face)
+
 -- ---- the theorem
 
 module _
@@ -321,3 +393,36 @@ visits-refine m np ne nf h order once u pr er fr ps =
     let r : Rooms m np ne nf u = rooms-of m h order once u pr er fr in
     refines-of-arrived m (h .stands) (h .closed) order once (visits m np ne nf order (copied m np ne nf u))
     (arriving r (h .stands) (h .closed) order once nf (omega arith)) ps
+
+-- What the tables held before shows in no row that the visits make.
+module _
+    (m : Mesh) (np ne nf : ℕ) (h : HoldsClosed m np ne nf) (order : List ℕ) (once : EachOnce nf order) (u u' : Mesh)
+    (pr : np + ne + nf ≤ pointRows u) (er : 4 * ne ≤ edgeRows u) (fr : 2 * ne ≤ faceRows u)
+    (pr' : np + ne + nf ≤ pointRows u') (er' : 4 * ne ≤ edgeRows u') (fr' : 2 * ne ≤ faceRows u')
+  where
+    abbrev s : State
+    s = visits m np ne nf order (copied m np ne nf u)
+
+    abbrev s' : State
+    s' = visits m np ne nf order (copied m np ne nf u')
+
+    came : Arriving m (h .stands) (h .closed) (orderOf order once) nf s
+    came = arriving (rooms-of m h order once u pr er fr) (h .stands) (h .closed) order once nf (omega arith)
+
+    came' : Arriving m (h .stands) (h .closed) (orderOf order once) nf s'
+    came' = arriving (rooms-of m h order once u' pr' er' fr') (h .stands) (h .closed) order once nf (omega arith)
+
+    pub visited-points : (p : ℕ) → p < np + ne + nf → pointOf s' p ≡ pointOf s p
+    visited-points p b = points-alike m (h .stands) (h .closed) (orderOf order once) s s' came came' (p, b)
+
+    pub visited-edges : (e : ℕ) → e < 4 * ne → edgeOf s' e ≡ edgeOf s e
+    unfolding ends side
+    visited-edges e b =
+        let x = ends-alike m (h .stands) (h .closed) (orderOf order once) s s' came came' (e, b) in
+        let y = left-alike m (h .stands) (h .closed) (orderOf order once) s s' came came' (e, b) in
+        let z = right-alike m (h .stands) (h .closed) (orderOf order once) s s' came came' (e, b) in
+        ap (λ n. edgeFrom n (side s' (lft e)) (side s' (rgt e))) x ∙ ap (λ l. edgeFrom (ends s e) l (side s' (rgt e))) y
+        ∙ ap (λ r. edgeFrom (ends s e) (side s (lft e)) r) z
+
+    pub visited-faces : (f : ℕ) → f < 2 * ne → faceOf s' f ≡ faceOf s f
+    visited-faces f b = faces-alike m (h .stands) (h .closed) (orderOf order once) s s' came came' (f, b)

@@ -141,7 +141,7 @@ module _ (m : Mesh) (c : Counts) (order : List ℕ) (t : Mesh) where
             once,
             room-enough (refinedCounts c) m t hr,
             finite-made (firstRows c m) c (holds-firstRows (audit-is-closed m _ _ _ .0 ha)) few order once (firstRows (refinedCounts c) t)
-            (exact-firstRows (refinedCounts c) t (rooms .0 .1)) n hw,
+                (exact-firstRows (refinedCounts c) t (rooms .0 .1)) n hw,
             refl,
           )
       mending ha ho hr notFinite hw =

@@ -1,20 +1,30 @@
 -- Visits leave every table as long as it was. Assumes nothing.
+--     exact-made              what is made in tables of just the rows of the mesh after a step has just these rows
 use mathlib.Core.Path.{_≡_, refl, _∙_}
 use mathlib.Core.Bool.{Bool, true, false}
 use mathlib.Core.List.{List, [], _∷_}
-use Prim.Native.Nat.{ℕ, zero, suc, _+_, _*_}
+use Prim.Native.Nat.{ℕ, zero, suc, _+_, _*_, _≤_}
+use native.Mathlib.Omega.{arith}
 use lib.Dec.{ltb}
+use lib.Ieee.{Float}
 use lib.ListN.{length, getD, length-set}
 use Rattle.t_spline.specs.declared.TnurccEdge.{TnurccEdge}
-use Rattle.tables.specs.Mesh.{Mesh}
+use Rattle.tables.specs.Mesh.{Mesh, none}
 use Rattle.tables.specs.Records.{edgeWords}
-use Rattle.tables.proofs.Laws.{length-putRow}
+use Rattle.tables.specs.declared.Counts.{Counts}
+use Rattle.tables.proofs.Laws.{length-putRow, length-over}
+use Rattle.audited_meshes.specs.Audited.{Audited}
 use Rattle.audited_meshes.specs.Walks.{passed, faceWalk}
 use Rattle.refined_meshes.specs.Turns.{turns}
-use Rattle.refined_meshes.specs.State.{State, edgeOf, putEdge, putPoint, putStart, putFace, take, copied}
+use Rattle.refined_meshes.specs.State.{State, withPositions, edgeOf, putEdge, putPoint, putStart, putFace, take, copied}
 use Rattle.refined_meshes.specs.Split.{split, splitIf, splitWhole, originHalf, destinationHalf}
 use Rattle.refined_meshes.specs.Ring.{Ring, putJoin, putFirst, putSecond, putNewFace, putFacePoint}
 use Rattle.refined_meshes.specs.Visits.{splitAll, putRing, visitAlong, visit, visits, refinedRows}
+use Rattle.steps.specs.Positions.{on, placedAll}
+use Rattle.steps.specs.Step.{refinedCounts}
+use Rattle.steps.specs.Rows.{Room}
+use Rattle.steps.proofs.Rows.{Exact}
+use Rattle.steps.proofs.NewPositions.{PointRows, length-all}
 
 -- The tables of s' are as long as those of s.
 pub record AsLong (s s' : State) : Type 0 where
@@ -126,3 +136,25 @@ module _ (m : Mesh) (np ne nf : ℕ) (order : List ℕ) (t : Mesh) where
   pub long-refinedRows : AsLong (copied m np ne nf t) (refinedRows m np ne nf order t)
   unfolding refinedRows visits
   long-refinedRows = long-turns _ (λ i s. long-visit m np ne (getD order i 0) s) nf (copied m np ne nf t)
+
+module _
+    (m : Mesh) (c : Counts) (held : Room c m) (audited : Audited m (c .points) (c .edges) (c .faces)) (few : c .faces ≤ none) (fewer : c .faces ≤ 2 * c .edges)
+    (order : List ℕ) (t : Mesh) (room : Exact (refinedCounts c) t)
+    (rows : PointRows c (refinedRows m (c .points) (c .edges) (c .faces) order t) (refinedCounts c .points)) (qs : List Float)
+    (put : placedAll m c (refinedRows m (c .points) (c .edges) (c .faces) order t) (t .positions) ≡ on qs)
+  where
+    pub exact-made : Exact (refinedCounts c) (withPositions qs (refinedRows m (c .points) (c .edges) (c .faces) order t))
+    unfolding copied
+    exact-made =
+        let l = long-refinedRows m (c .points) (c .edges) (c .faces) order t in
+        record {
+          positions =
+              length-all m c audited few (refinedRows m (c .points) (c .edges) (c .faces) order t) (refinedCounts c .points) rows (t .positions)
+              (omega (arith, room .positions)) qs put
+              ∙ room .positions;
+          points = l .points ∙ length-over _ (m .points) (t .points) (held .points) (omega (arith, room .points)) ∙ room .points;
+          edges = l .edges ∙ length-over _ (m .edges) (t .edges) (held .edges) (omega (arith, room .edges)) ∙ room .edges;
+          intervals =
+              l .intervals ∙ length-over _ (m .intervals) (t .intervals) (held .intervals) (omega (arith, room .intervals)) ∙ room .intervals;
+          faces = l .faces ∙ length-over _ (m .faces) (t .faces) (held .faces) (omega (arith, room .faces)) ∙ room .faces;
+        }

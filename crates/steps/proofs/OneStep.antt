@@ -15,7 +15,6 @@ use Rattle.positions.specs.Position.{finitePosition}
 use Rattle.tables.specs.Mesh.{Mesh, none, x, y, z, mark, interval}
 use Rattle.tables.specs.Records.{positionAt}
 use Rattle.tables.specs.declared.Counts.{Counts}
-use Rattle.tables.proofs.Laws.{length-over}
 use Rattle.closed_meshes.specs.Mesh.{Dart, edge, flip, face}
 use Rattle.closed_meshes.specs.Refinement.{NewPoint, old, mid, facePoint, NewEdge, org, dst, join, refined}
 use Rattle.closed_meshes.specs.Renumbering.{Row}
@@ -26,7 +25,7 @@ use Rattle.audited_meshes.specs.Audit.{intervalFit}
 use Rattle.audited_meshes.specs.Audited.{Audited}
 use Rattle.audited_meshes.specs.Rows.{Fit, HoldsClosed}
 use Rattle.audited_meshes.proofs.Holds.{audited-of-closed}
-use Rattle.refined_meshes.specs.State.{State, withPositions, copied}
+use Rattle.refined_meshes.specs.State.{State, withPositions}
 use Rattle.refined_meshes.specs.Split.{half}
 use Rattle.refined_meshes.specs.Order.{turnIn}
 use Rattle.refined_meshes.specs.Visits.{refinedRows}
@@ -41,8 +40,8 @@ use Rattle.steps.specs.Step.{refinedCounts, whole, step}
 use Rattle.tables.specs.Counted.{firstRows, overRows}
 use Rattle.steps.specs.OneStep.{Refinement, Binary64, OneStep}
 use Rattle.steps.proofs.Rows.{points-fit, edges-fit, faces-fit, Exact, exact-firstRows, room-of-exact, room-of-holds, holds-same, holds-firstRows, SameRows, firstRows-overRows, same-overRows, room-overRows, position-same}
-use Rattle.steps.proofs.NewPositions.{PointRows, AllPlaced, placed-all, length-all}
-use Rattle.steps.proofs.Lengths.{long-refinedRows}
+use Rattle.steps.proofs.NewPositions.{PointRows, AllPlaced, placed-all}
+use Rattle.steps.proofs.Lengths.{exact-made}
 use Rattle.steps.proofs.Joining.{joining-fit, binary64-firstRows}
 use Rattle.steps.proofs.SameRefinement.{faces-fewer, refines-same}
 use Rattle.steps.proofs.Grounds.{taken, made-is}
@@ -190,22 +189,7 @@ module _ (m : Mesh) (c : Counts) (h : HoldsClosed m (c .points) (c .edges) (c .f
         mark-of (facePoint f) = inl (visited .centre-mark f)
 
         lengths : Exact (refinedCounts c) (withPositions qs s)
-        unfolding copied
-        lengths =
-            let l = long-refinedRows m (c .points) (c .edges) (c .faces) order t in
-            let r = room-of-holds h in
-            record {
-              positions =
-                  length-all m c audited few s (refinedCounts c .points) point-rows (t .positions) (omega (arith, room .positions)) qs put
-                  ∙ room .positions;
-              points =
-                  l .points ∙ length-over _ (m .points) (t .points) (r .points) (omega (arith, room .points)) ∙ room .points;
-              edges = l .edges ∙ length-over _ (m .edges) (t .edges) (r .edges) (omega (arith, room .edges)) ∙ room .edges;
-              intervals =
-                  l .intervals ∙ length-over _ (m .intervals) (t .intervals) (r .intervals) (omega (arith, room .intervals))
-                  ∙ room .intervals;
-              faces = l .faces ∙ length-over _ (m .faces) (t .faces) (r .faces) (omega (arith, room .faces, faces-fewer visited)) ∙ room .faces;
-            }
+        lengths = exact-made m c (room-of-holds h) audited few (faces-fewer visited) order t room point-rows qs put
 
         pub fit : Fit (withPositions qs s) (refinedCounts c .points) (refinedCounts c .edges) (refinedCounts c .faces)
         unfolding row

@@ -3,3 +3,4 @@ pub mod Step
 pub mod Rows
 pub mod OneStep
 pub mod FirstGround
+pub mod LentScratch

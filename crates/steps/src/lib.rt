@@ -2,7 +2,8 @@
 // what a step makes of a mesh. Not here: the code of the step, and lists of steps (`runs`).
 // Definitions: `specs/Step.antt` (the step), over `specs/Positions.antt` (the positions of the new mesh); `specs/Rows.antt` (room for
 // rows). Claims: `specs/OneStep.antt`, proved in `proofs/OneStep.antt` (accepted steps), `proofs/Grounds.antt` (what refused ones
-// leave) and `proofs/NotFinite.antt` (ground 33).
+// leave) and `proofs/NotFinite.antt` (ground 33); `specs/FirstGround.antt` (when each answer is given) and
+// `specs/LentScratch.antt` (what scratch held shows nowhere), proved in the files of `proofs/` with their names.
 use tables::Counts;
 
 // The answer of a step: how many points, edges and faces the mesh has after it, or the ground. Document 01's number stands
