@@ -9,15 +9,20 @@ import sys
 
 # What a parameter of Rattle is in C; a slice is a pointer and its number of elements.
 SLICES = {"f64": "double", "u32": "uint32_t", "u8": "uint8_t"}
+NUMBERS = {"f64": "double"}
 RESULTS = {"u32": "uint32_t"}
 
 
 def in_c(name, kind):
     """The C parameters of one parameter of Rattle."""
+    if kind in NUMBERS:
+        return ["%s %s" % (NUMBERS[kind], name)]
     const = "" if kind.startswith("&mut ") else "const "
     inner = kind.removeprefix("&mut ").removeprefix("&")
     if inner == "[usize; 3]":
         return ["%ssize_t %s[3]" % (const, name)]
+    if inner == "[usize; 1]":
+        return ["%ssize_t *%s" % (const, name)]
     element = re.fullmatch(r"\[(\w+)\]", inner)
     return ["%s%s *%s" % (const, SLICES[element[1]], name), "size_t %s_length" % name]
 

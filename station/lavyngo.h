@@ -1,5 +1,5 @@
 /* Lavyngo for stations: closed meshes of points, edges and faces in tables that the caller lends, built from lists or from
-   a text, audited, and refined. The functions are those of libstation.a (`rt staticlib station`), for x86-64 Linux.
+   a text, audited, refined, and asked for an edge at a depth. The functions are those of libstation.a (`rt staticlib station`), for x86-64 Linux.
 
    Link with: cc program.c target/staticlib/libstation.a
 
@@ -59,7 +59,10 @@ enum lavyngo_answer {
     LAVYNGO_NOT_EACH_FACE_ONCE = 31,  /* the order is not each face once */
     LAVYNGO_NO_ROOM = 32,             /* tables or scratch have fewer rows than the mesh after the step, or it is too large */
     /* the step; tables untouched, scratch zeroed */
-    LAVYNGO_NOT_FINITE = 33           /* a number of the mesh after the step would not be finite */
+    LAVYNGO_NOT_FINITE = 33,          /* a number of the mesh after the step would not be finite */
+    /* the depth finder, which touches nothing; 42 comes before 30, 41 after it */
+    LAVYNGO_NOWHERE = 41,             /* no edge crosses the depth */
+    LAVYNGO_NOT_FINITE_DEPTH = 42     /* the depth is not finite */
 };
 
 /* Elements of a row, and the place of each in its row. */
@@ -125,6 +128,15 @@ uint32_t lavyngo_step(
     double *places, size_t places_length, uint32_t *rows, size_t rows_length,
     uint32_t *halves, size_t halves_length, double *lengths, size_t lengths_length,
     uint32_t *quads, size_t quads_length);
+
+/* Finds an edge of the mesh that crosses a depth, which is a z coordinate: one end is at or above the depth, the other at or
+   below. Both ends at the depth will do; -0 is 0. Takes tables of any content and counts of any size.
+     edge         one word: the number of an edge that crosses, written where the answer is 0
+   Answers 0, 42, 30, 41, the first that holds of these grounds in this order. Writes nothing but the edge. */
+uint32_t lavyngo_find_depth(
+    const double *positions, size_t positions_length, const uint32_t *points, size_t points_length,
+    const uint32_t *edges, size_t edges_length, const double *intervals, size_t intervals_length,
+    const uint32_t *faces, size_t faces_length, const size_t counts[3], double depth, size_t *edge);
 
 #ifdef __cplusplus
 }

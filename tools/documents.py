@@ -12,12 +12,12 @@ from pathlib import Path
 
 ROOT = Path(__file__).resolve().parent.parent
 
-# The files that state the claims, and those that the contracts of `build`, `build_text`, `audit`, `step`, `refine` and of the
-# functions for C cite.
+# The files that state the claims, and those that the contracts of `build`, `build_text`, `audit`, `step`, `refine`, `find_depth` and
+# of the functions for C cite.
 STATED = """
     audited_meshes/Audit audited_meshes/Claims built_meshes/Building built_meshes/Builds built_meshes/Claims built_meshes/Connects
     built_meshes/LentContent building_tests/Lent
-    closed_meshes/Refinement closed_meshes/Renumbering filed_pieces/Pieces refine_outputs/Claims refine_outputs/Output
+    closed_meshes/Refinement closed_meshes/Renumbering crossings/Claims filed_pieces/Pieces refine_outputs/Claims refine_outputs/Output
     refined_meshes/Refines runs/Runs station/Station steps/FirstGround steps/LentScratch steps/OneStep steps/Step text_meshes/Claims text_meshes/TextBuilding
 """.split()
 
@@ -43,6 +43,7 @@ ABOUT = {
     "runs": "demand 3",
     "mesh_answers": "the lines of an answer",
     "refine_outputs": "what the program `refine` writes",
+    "crossings": "depths that edges cross, the depth finder",
     "station_answers": "how an answer is told to a C caller",
     "station": "what the C functions answer and leave",
     "filed_pieces": "document 01's starred pieces",
@@ -75,7 +76,7 @@ def table(found):
 
 def missing():
     """What documents name and is not there."""
-    for document in [ROOT / "README.md", ROOT / "NOTICE", *sorted((ROOT / "docs").glob("*.md"))]:
+    for document in [ROOT / "README.md", ROOT / "NOTICE", *sorted((ROOT / "docs").glob("**/*.md"))]:
         for path in re.findall(r"crates/[a-z_]+(?:/[A-Za-z_]+)*(?:\.[a-z]+)?", document.read_text()):
             if not (ROOT / path).exists():
                 yield f"{document.name} names {path}"

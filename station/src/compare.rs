@@ -7,7 +7,7 @@ use crate::lists::Lists;
 use crate::names::{self, Names, Register};
 use crate::random::Random;
 use crate::rust::Mesh;
-use crate::{numbers, shapes, spoil};
+use crate::{depths, numbers, shapes, spoil};
 use std::collections::BTreeMap;
 
 /// What is handed in, and what is done with it.
@@ -45,6 +45,8 @@ pub struct Tally {
     pub runs_under_names: u64,
     pub records_under_names: u64,
     pub largest_face: usize,
+    /// How often the depth finder gave each answer.
+    pub depths: depths::Answers,
 }
 
 /// A change of what the library leaves, to see that it is found.
@@ -188,6 +190,11 @@ fn refused(case: &Case, tally: &mut Tally) -> Result<(), String> {
     }
 }
 
+/// The depth finder on a mesh of the case.
+fn find_depths(case: &Case, mesh: &Tables, counts: Counts, tally: &mut Tally) -> Result<(), String> {
+    depths::check(&mut Random::new(case.seed ^ 0xdeb7), mesh, counts.array(), 4, &mut tally.depths)
+}
+
 /// One step by the library and by the Rust. True if it was accepted; the mesh is then the refined one.
 fn step(
     case: &Case, mesh: &mut Tables, counts: &mut Counts, order: Option<&[u32]>, rust: &mut Mesh, tally: &mut Tally,
@@ -224,6 +231,7 @@ fn step(
     }
     demand(tables.same_beyond(after, &before), || String::from("the step touches rows beyond the mesh"))?;
     tally.records += after.records();
+    find_depths(case, &theirs, after, tally)?;
     *mesh = theirs;
     *counts = after;
     Ok(true)
@@ -346,6 +354,7 @@ pub fn check(case: &Case, tally: &mut Tally, tamper: Option<Tamper>) -> Result<(
         demand(library::audit(&mesh, counts.array()) == 0, || String::from("the scrambled mesh fails the audit"))?;
         rust = Mesh::of_tables(&mesh, counts);
     }
+    find_depths(case, &mesh, counts, tally)?;
     if counts.refined().faces > CEILINGS.faces {
         return Ok(());
     }

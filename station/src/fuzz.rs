@@ -7,7 +7,7 @@ use crate::library::{self, Counts, Tables};
 use crate::lists::Lists;
 use crate::random::Random;
 use crate::rust::Mesh;
-use crate::{numbers, shapes, spoil};
+use crate::{depths, numbers, shapes, spoil};
 use std::collections::BTreeMap;
 
 #[derive(Default)]
@@ -21,6 +21,7 @@ pub struct Fuzzed {
     pub reading: BTreeMap<u32, u64>,
     pub answers: BTreeMap<u32, u64>,
     pub audits: [u64; 2],
+    pub depths: depths::Answers,
 }
 
 /// Any binary64, near ones more often than far ones.
@@ -122,15 +123,17 @@ fn demand(holds: bool, what: impl FnOnce() -> String) -> Result<(), String> {
     if holds { Ok(()) } else { Err(what()) }
 }
 
-/// The audit and a step of tables of any content, held against document 01 and, where the mesh is closed, the Rust.
+/// The audit, the depth finder and a step of tables of any content, held against documents 01 and 02 and, where the mesh is
+/// closed, the Rust.
 fn through(
-    tables: Tables, words: [usize; 3], order: &[u32], scratch: Tables, fuzzed: &mut Fuzzed,
+    random: &mut Random, tables: Tables, words: [usize; 3], order: &[u32], scratch: Tables, fuzzed: &mut Fuzzed,
 ) -> Result<(), String> {
     let counts = Counts::of(words);
     let closed = grounds::is_closed(&tables, counts);
     let answer = library::audit(&tables, words);
     demand(answer == if closed { 0 } else { 30 }, || format!("the audit answers {answer}, closed is {closed}"))?;
     fuzzed.audits[usize::from(closed)] += 1;
+    depths::check(random, &tables, words, 3, &mut fuzzed.depths)?;
 
     let expected = grounds::step(&tables, counts, order, &scratch);
     let (before, before_scratch) = (tables.clone(), scratch.clone());
@@ -191,7 +194,7 @@ fn damaged(random: &mut Random, fuzzed: &mut Fuzzed) -> Result<(), String> {
         }
         _ => {}
     }
-    through(tables, words, &order, scratch, fuzzed)
+    through(random, tables, words, &order, scratch, fuzzed)
 }
 
 /// A text of any bytes, or one of a mesh with damage, through building. The oracle's reader says what is of the form.
@@ -250,7 +253,7 @@ fn case(random: &mut Random, fuzzed: &mut Fuzzed) -> Result<(), String> {
     let order_length = random.below(6);
     let order = words_below(random, order_length);
     let (scratch, _) = any_tables(random);
-    through(tables, words, &order, scratch, fuzzed)?;
+    through(random, tables, words, &order, scratch, fuzzed)?;
     damaged(random, fuzzed)?;
     fuzzed.tables += 2;
     Ok(())

@@ -23,6 +23,11 @@ unsafe extern "C" {
         edges: *const u32, edges_length: usize, intervals: *const f64, intervals_length: usize,
         faces: *const u32, faces_length: usize, counts: *const [usize; 3],
     ) -> u32;
+    fn lavyngo_find_depth(
+        positions: *const f64, positions_length: usize, points: *const u32, points_length: usize,
+        edges: *const u32, edges_length: usize, intervals: *const f64, intervals_length: usize,
+        faces: *const u32, faces_length: usize, counts: *const [usize; 3], depth: f64, edge: *mut usize,
+    ) -> u32;
     fn lavyngo_step(
         positions: *mut f64, positions_length: usize, points: *mut u32, points_length: usize,
         edges: *mut u32, edges_length: usize, intervals: *mut f64, intervals_length: usize,
@@ -228,6 +233,18 @@ pub fn step(tables: &mut Tables, counts: &mut [usize; 3], order: &[u32], scratch
             s.positions.as_mut_ptr(), s.positions.len(), s.points.as_mut_ptr(), s.points.len(),
             s.edges.as_mut_ptr(), s.edges.len(), s.intervals.as_mut_ptr(), s.intervals.len(),
             s.faces.as_mut_ptr(), s.faces.len(),
+        )
+    }
+}
+
+/// An edge that crosses a depth. The answer is document 02's number, 0 for an edge, which is then written.
+pub fn find_depth(tables: &Tables, counts: [usize; 3], depth: f64, edge: &mut usize) -> u32 {
+    let t = tables;
+    // SAFETY: as above.
+    unsafe {
+        lavyngo_find_depth(
+            t.positions.as_ptr(), t.positions.len(), t.points.as_ptr(), t.points.len(), t.edges.as_ptr(), t.edges.len(),
+            t.intervals.as_ptr(), t.intervals.len(), t.faces.as_ptr(), t.faces.len(), &counts, depth, edge,
         )
     }
 }

@@ -10,6 +10,7 @@
 
 mod bench;
 mod compare;
+mod depths;
 mod fuzz;
 mod grounds;
 mod library;
@@ -84,6 +85,7 @@ fn compare(meshes: u64, seed: u64) -> ExitCode {
                 "{} second runs in other orders, {} records compared under the names",
                 t.runs_under_names, t.records_under_names
             );
+            println!("the depth finder answered: {}", listed(&t.depths));
             println!("none differed");
             ExitCode::SUCCESS
         }
@@ -131,7 +133,8 @@ fn fuzz(cases: u64, seed: u64) -> ExitCode {
             println!("building from texts answered: {}", listed(&f.reading));
             println!("{} audits: {} closed, {} not", f.audits[0] + f.audits[1], f.audits[1], f.audits[0]);
             println!("{} steps answered: {}", f.steps, listed(&f.answers));
-            println!("every answer is document 01's, every row as its ground promises");
+            println!("the depth finder answered: {}", listed(&f.depths));
+            println!("every answer is document 01's or 02's, every row as its ground promises");
             ExitCode::SUCCESS
         }
         Err((number, what)) => {

@@ -6,7 +6,7 @@ use crate::lists::Lists;
 use crate::shapes;
 use std::process::{Command, Stdio};
 
-const CALLS: [&str; 4] = ["build", "build_text", "audit", "step"];
+const CALLS: [&str; 5] = ["build", "build_text", "audit", "step", "find_depth"];
 
 /// The cube, so that the stack does not depend on what is worked on.
 fn cube() -> Lists {
@@ -35,6 +35,7 @@ pub fn call(name: &str, bytes: usize) {
         "build_text" => library::build_text(text.as_bytes(), &mut tables, &mut counts),
         "audit" => library::audit(&refined, counts),
         "step" => library::step(&mut refined, &mut counts, &[0, 1, 2, 3, 4, 5], &mut scratch),
+        "find_depth" => library::find_depth(&refined, counts, 2.0, &mut 0),
         _ => unreachable!("no such function"),
     };
     let thread = std::thread::Builder::new().stack_size(bytes).spawn(work);

@@ -1,8 +1,9 @@
 -- The laws of what the C functions answer. Assumes nothing.
-use mathlib.Core.Path.{_≡_, sym}
+use mathlib.Core.Path.{_≡_, sym, subst}
 use mathlib.Core.Bool.{true, false}
 use mathlib.Core.List.{List}
 use Prim.Native.Nat.{ℕ}
+use lib.Ieee.{Float}
 use Rattle.tables.specs.Mesh.{Mesh}
 use Rattle.tables.specs.declared.Counts.{Counts}
 use Rattle.audited_meshes.specs.Audit.{audit}
@@ -13,8 +14,10 @@ use Rattle.text_meshes.specs.TextBuilding.{Outcome as TextOutcome, numbersOf as
 use Rattle.text_meshes.specs.declared.TextBuilt.{TextBuilt}
 use Rattle.steps.specs.Step.{Outcome as StepOutcome, numbersOf as stepNumbers, step}
 use Rattle.steps.specs.declared.Stepped.{Stepped}
-use Rattle.station_answers.specs.Answers.{countsIn, answerOf, countsAfter}
-use Rattle.station.specs.Station.{Building, built, textBuilt, audited, Step, stepped}
+use Rattle.crossings.specs.Crossings as crossings
+use Rattle.crossings.specs.declared.Crossing.{Crossing}
+use Rattle.station_answers.specs.Answers.{countsIn, answerOf, countsAfter, edgeAfter}
+use Rattle.station.specs.Station.{Building, built, textBuilt, audited, Step, stepped, Finding}
 
 -- the outcome of building from lists, told with the number n and the counts ys
 pub built-told : (xs : List ℕ) {a : Built} {m : Mesh} {o : Outcome} {ys : List ℕ} {n : ℕ}
@@ -42,3 +45,9 @@ pub step-told : (xs : List ℕ) {k : Counts} (m : Mesh) {m' : Mesh} (t : Mesh) {
     → n ≡ answerOf (stepNumbers a) → ys ≡ countsAfter xs (stepNumbers a)
     → _≡_ {A = Step} (record { answer = n; counts = ys; tables = m'; scratch = t' }) (stepped xs (step m (countsIn xs) order t))
 step-told xs m t order p e n q = rw (sym p, sym e, n, q)
+
+-- the answer a of the depth finder, from the counts k as the code loaded them
+pub crossing-told : (m : Mesh) {k c : Counts} (d : Float) {xs ys : List ℕ} (a : Crossing) {n : ℕ} → k ≡ c → crossings.Finds m k d a
+    → n ≡ crossings.numberOf a → ys ≡ edgeAfter xs a → Finding m c d xs n ys
+crossing-told m d a e f n y =
+    record { found = a; finds = subst (λ (c : Counts). crossings.Finds m c d a) e f; answer = n; edge = y }

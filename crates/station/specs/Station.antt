@@ -5,9 +5,12 @@
 --     audited m c             0 if the tables m are a closed mesh with the counts c, else 30
 --     Step                    the answer of a step, the array of counts, the tables and the scratch tables afterwards
 --     stepped xs o            the outcome o of a step
+--     Finding m c d xs n ys   the depth finder may answer n to the depth d on the mesh m with the counts c, and leave ys of the edge xs
 use mathlib.Core.Bool.{cond}
 use mathlib.Core.List.{List}
+use mathlib.Core.Path.{_≡_}
 use Prim.Native.Nat.{ℕ}
+use lib.Ieee.{Float}
 use Rattle.tables.specs.Mesh.{Mesh}
 use Rattle.tables.specs.declared.Counts.{Counts}
 use Rattle.audited_meshes.specs.Audit.{audit}
@@ -15,7 +18,9 @@ use Rattle.built_meshes.specs.Answers.{numbersOf}
 use Rattle.built_meshes.specs.Building as building
 use Rattle.text_meshes.specs.TextBuilding as text
 use Rattle.steps.specs.Step as steps
-use Rattle.station_answers.specs.Answers.{answerOf, countsAfter}
+use Rattle.crossings.specs.Crossings as crossings
+use Rattle.crossings.specs.declared.Crossing.{Crossing}
+use Rattle.station_answers.specs.Answers.{answerOf, countsAfter, edgeAfter}
 
 pub record Building : Type 0 where
   pub answer : ℕ
@@ -48,3 +53,9 @@ stepped xs o =
       tables = o .tables;
       scratch = o .scratch;
     }
+
+pub record Finding (m : Mesh) (c : Counts) (d : Float) (xs : List ℕ) (n : ℕ) (ys : List ℕ) : Type 0 where
+  pub found : Crossing
+  pub finds : crossings.Finds m c d found
+  pub answer : n ≡ crossings.numberOf found
+  pub edge : ys ≡ edgeAfter xs found

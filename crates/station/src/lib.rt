@@ -1,8 +1,10 @@
-// The library for stations: building, the audit and the step as C functions on pointers and lengths (station/lavyngo.h declares
-// them). Every answer is document 01's number: 0 for what is accepted, else that of the ground. Counts stand in an array of three
-// that the caller lends: points, edges, faces.
-// Not here: what the functions do (`building`, `text_building`, `audit`, `refining`), how an answer is told (`station_answers`).
-// Contracts: `lavyngo_build`, `lavyngo_build_text`, `lavyngo_audit`, `lavyngo_step`. Definitions: `specs/Station.antt`. Laws: `proofs/Laws.antt`.
+// The library for stations: building, the audit, the step and the depth finder as C functions on pointers and lengths
+// (station/lavyngo.h declares them). Every answer is document 01's number or document 02's: 0 for what is accepted, else that of the
+// ground. Counts stand in an array of three that the caller lends: points, edges, faces.
+// Not here: what the functions do (`building`, `text_building`, `audit`, `refining`, `depth_finder`), how an answer is told
+// (`station_answers`).
+// Contracts: `lavyngo_build`, `lavyngo_build_text`, `lavyngo_audit`, `lavyngo_step`, `lavyngo_find_depth`. Definitions:
+// `specs/Station.antt`. Laws: `proofs/Laws.antt`.
 ghost use mathlib.Core.Path.{_≡_};
 ghost use Rattle.built_meshes.specs.Building.{build};
 ghost use Rattle.built_meshes.specs.Lists.{general};
@@ -12,14 +14,16 @@ ghost use Rattle.text_meshes.specs.TextBuilding.{buildText};
 ghost use Rattle.tables.specs.Mesh.{meshOf};
 ghost use Rattle.steps.specs.Step.{step};
 ghost use Rattle.steps.specs.OneStep.{Binary64};
-ghost use Rattle.station.specs.Station.{Building, built, textBuilt, audited, Step, stepped};
+ghost use Rattle.station.specs.Station.{Building, built, textBuilt, audited, Step, stepped, Finding};
 ghost use Rattle.station_answers.specs.Answers.{countsIn};
 use audit::audit;
 use building::build;
 use building_tests::Bounds;
+use depth_finder::find_depth;
 use refining::step;
 use station_answers::load_counts;
 use station_answers::tell_built;
+use station_answers::tell_crossing;
 use station_answers::tell_stepped;
 use station_answers::tell_text_built;
 use text_building::build_text;
@@ -165,4 +169,33 @@ pub extern "C" fn lavyngo_step(
         quads,
     );
     tell_stepped(counts, answer)
+}
+
+// Finds an edge of the mesh that crosses a depth, which is a z coordinate. The edge is written if one does.
+#[no_mangle]
+pub extern "C" fn lavyngo_find_depth(
+    positions: &[f64],
+    points: &[u32],
+    edges: &[u32],
+    intervals: &[f64],
+    faces: &[u32],
+    counts: &[usize; 3],
+    depth: f64,
+    edge: &mut [usize; 1],
+) -> u32
+    ensures { λ r. ⌜
+        Finding
+        (meshOf (now (positions .entry)) (now (points .entry)) (now (edges .entry)) (now (intervals .entry)) (now (faces .entry)))
+        (countsIn (now (counts .entry))) depth (now (edge .entry)) r (now (edge .exit)) ⌝ }
+{
+    let answer = find_depth(
+        positions,
+        points,
+        edges,
+        intervals,
+        faces,
+        load_counts(counts),
+        depth,
+    );
+    tell_crossing(edge, answer)
 }

@@ -1,17 +1,19 @@
 // What the C functions tell of an answer: document 01's number, 0 for what is accepted, and the counts in an array of three that the
 // caller lends: points, edges, faces.
 // Not here: the C functions (`station`), the numbers of the grounds (`answer_numbers`).
-// Contracts: `tell_built`, `tell_text_built`, `tell_stepped`. Definitions: `specs/Answers.antt`. Laws: `proofs/Laws.antt`.
+// Contracts: `tell_built`, `tell_text_built`, `tell_stepped`, `tell_crossing`. Definitions: `specs/Answers.antt`. Laws: `proofs/Laws.antt`.
 ghost use mathlib.Core.Path.{_≡_};
 ghost use mathlib.Core.List.{[], _∷_};
 ghost use Rattle.tables.specs.Rows.{putRow};
 ghost use Rattle.built_meshes.specs.Answers.{numbersOf};
 ghost use Rattle.text_meshes.specs.TextBuilding.{numbersOf as textNumbers};
 ghost use Rattle.steps.specs.Step.{numbersOf as stepNumbers};
-ghost use Rattle.station_answers.specs.Answers.{countsIn, answerOf, countsAfter};
+ghost use Rattle.crossings.specs.Crossings.{numberOf as crossingNumber};
+ghost use Rattle.station_answers.specs.Answers.{countsIn, answerOf, countsAfter, edgeAfter};
 use answer_numbers::ground_number;
 use answer_numbers::step_number;
 use built_meshes::Built;
+use crossings::Crossing;
 use steps::Stepped;
 use tables::Counts;
 use text_meshes::TextBuilt;
@@ -85,4 +87,20 @@ pub fn tell_stepped(counts: &mut [usize; 3], answer: Stepped) -> u32
 {
     store_refined(counts, answer);
     step_number(answer)
+}
+
+// Tells the answer of the depth finder. The edge is written if one crosses.
+pub fn tell_crossing(edge: &mut [usize; 1], answer: Crossing) -> u32
+    ensures { λ r. ⌜ r ≡ crossingNumber answer ⌝ }
+    ensures { λ _. ⌜ now (edge .exit) ≡ edgeAfter (now (edge .entry)) answer ⌝ }
+{
+    match answer {
+        Crossing::At(e) => {
+            edge[0] = e;
+            0
+        }
+        Crossing::NotFiniteDepth => 42,
+        Crossing::NotClosed => 30,
+        Crossing::Nowhere => 41,
+    }
 }

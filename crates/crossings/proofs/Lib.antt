@@ -1,0 +1,2 @@
+pub mod Theorem
+mod Cases

@@ -1,0 +1,49 @@
+-- Depths that edges cross. Depth is the z coordinate; numbers are compared, so that -0 is 0.
+--     between a b d            the number d is at or above a and at or below b
+--     spans a b d              of the numbers a and b one is at or above d, the other at or below; both at d will do
+--     crosses m d e            edge e of the mesh m crosses the depth d: its ends span it
+--     numberOf r               the number that is answered: 0 for an edge, else that of the ground
+--     Ready m c d              neither 42 nor 30 holds: the depth is finite, and the tables are a closed mesh
+--     Crossed m ne d r         r is an edge of ne that crosses, or the word that none does; which of several edges is free
+--     Finds m c d r            r is an answer to the depth d on the mesh m with the counts c
+use mathlib.Core.Path.{_≡_}
+use mathlib.Core.Bool.{Bool, true, false, _&&_, _||_}
+use Prim.Native.Nat.{ℕ, _<_}
+use lib.Ieee.{Float, le}
+use lib.Ieee.Scale.{finite}
+use Rattle.tables.specs.Mesh.{Mesh, z, origin, dest}
+use Rattle.tables.specs.declared.Counts.{Counts}
+use Rattle.audited_meshes.specs.Audit.{audit}
+use Rattle.crossings.specs.declared.Crossing.{Crossing}
+use Rattle.crossings.specs.declared.Crossing.the-variants.{At, NotFiniteDepth, NotClosed, Nowhere}
+
+abbrev pub between : Float → Float → Float → Bool
+between a b d = le a d && le d b
+
+abbrev pub spans : Float → Float → Float → Bool
+spans a b d = between a b d || between b a d
+
+abbrev pub crosses : Mesh → Float → ℕ → Bool
+crosses m d e = spans (z m (origin m e)) (z m (dest m e)) d
+
+abbrev pub numberOf : Crossing → ℕ
+numberOf (At e) = 0
+numberOf NotFiniteDepth = 42
+numberOf NotClosed = 30
+numberOf Nowhere = 41
+
+abbrev pub Ready : Mesh → Counts → Float → Type 0
+Ready m c d = (finite d ≡ true) × (audit m (c .points) (c .edges) (c .faces) ≡ true)
+
+abbrev pub Crossed : Mesh → ℕ → Float → Crossing → Type 0
+Crossed m ne d (At e) = (e < ne) × (crosses m d e ≡ true)
+Crossed m ne d Nowhere = (e : ℕ) → e < ne → crosses m d e ≡ false
+Crossed m ne d NotFiniteDepth = ⊥
+Crossed m ne d NotClosed = ⊥
+
+-- 42 first, then 30, then what a search among the edges may answer
+abbrev pub Finds : Mesh → Counts → Float → Crossing → Type 0
+Finds m c d NotFiniteDepth = finite d ≡ false
+Finds m c d NotClosed = (finite d ≡ true) × (audit m (c .points) (c .edges) (c .faces) ≡ false)
+Finds m c d Nowhere = Ready m c d × Crossed m (c .edges) d Nowhere
+Finds m c d (At e) = Ready m c d × Crossed m (c .edges) d (At e)

@@ -1,0 +1,15 @@
+// Depths that edges of a mesh cross (document 02, §2), as definitions, and what is claimed of the finder's answers.
+// Not here: the code that finds (`depth_finder`).
+// Definitions: `specs/Crossings.antt`. Claims: `specs/Claims.antt`, proved in `proofs/Theorem.antt`; computed meshes:
+// `proofs/Cases.antt`.
+
+// The answer of the depth finder: an edge that crosses the depth, or the ground. Its number stands beside each ground.
+pub enum Crossing {
+    At(usize),
+    // 42: the depth is not finite
+    NotFiniteDepth,
+    // 30: the audit fails
+    NotClosed,
+    // 41: no edge crosses
+    Nowhere,
+}
