@@ -1,4 +1,5 @@
-// Times the audit on a torus of 256 by 256 squares: 65,536 points, 131,072 edges, 65,536 faces, the most that a step may leave.
+// Times the audit and the depth finder on a torus of 256 by 256 squares: 65,536 points, 131,072 edges, 65,536 faces, the most that a
+// step may leave.
 #include "lavyngo.h"
 #include <stdbool.h>
 #include <stdio.h>
@@ -26,10 +27,32 @@ static bool is_closed(void) {
     return lavyngo_audit(positions, 3 * P, points, 3 * P, edges, 8 * E, intervals, E, faces, 5 * F, counts) == 0;
 }
 
+// No edge crosses a depth above all points, so that the finder looks at every edge.
+static bool is_nowhere(void) {
+    size_t edge;
+    return lavyngo_find_depth(positions, 3 * P, points, 3 * P, edges, 8 * E, intervals, E, faces, 5 * F, counts, 1e9, &edge)
+           == LAVYNGO_NOWHERE;
+}
+
 static double milliseconds(void) {
     struct timespec t;
     clock_gettime(CLOCK_MONOTONIC, &t);
     return t.tv_sec * 1e3 + t.tv_nsec / 1e6;
+}
+
+// Makes so many calls, which must all be true, and prints their times.
+static bool timed(const char *name, bool (*call)(void), int runs) {
+    double least = 1e9, sum = 0;
+    bool all = true;
+    for (int i = 0; i < runs; i++) {
+        double t = milliseconds();
+        all &= call();
+        t = milliseconds() - t;
+        sum += t;
+        if (t < least) least = t;
+    }
+    printf("%s: %d runs: least %.2f ms, mean %.2f ms\n", name, runs, least, sum / runs);
+    return all;
 }
 
 int main(int argc, char **argv) {
@@ -44,17 +67,10 @@ int main(int argc, char **argv) {
             faces[5 * p] = across(x, y);
             faces[5 * p + 1] = p, faces[5 * p + 2] = at(x + 1, y), faces[5 * p + 3] = at(x + 1, y + 1), faces[5 * p + 4] = at(x, y + 1);
         }
-    double least = 1e9, sum = 0;
-    bool closed = true;
-    for (int i = 0; i < runs; i++) {
-        double t = milliseconds();
-        closed &= is_closed();
-        t = milliseconds() - t;
-        sum += t;
-        if (t < least) least = t;
-    }
+    bool closed = timed("the audit", is_closed, runs);
+    bool nowhere = timed("the depth finder, no edge crossing", is_nowhere, runs);
     edges[8 * (E - 1) + 4] ^= 1;
     bool spoilt = is_closed();
-    printf("closed %d, spoilt %d, %d runs: least %.2f ms, mean %.2f ms\n", closed, spoilt, runs, least, sum / runs);
-    return closed && !spoilt ? 0 : 1;
+    printf("closed %d, nowhere %d, spoilt %d\n", closed, nowhere, spoilt);
+    return closed && nowhere && !spoilt ? 0 : 1;
 }

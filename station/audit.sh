@@ -1,5 +1,5 @@
 #!/bin/sh
-# Times the audit on the largest mesh that a step may leave, through the header: station/audit.sh [RUNS]
+# Times the audit and the depth finder on the largest mesh that a step may leave, through the header: station/audit.sh [RUNS]
 # Needed: the Rattle kit, cc.
 set -eu
 here=$(cd "$(dirname "$0")" && pwd)

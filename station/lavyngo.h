@@ -129,10 +129,12 @@ uint32_t lavyngo_step(
     uint32_t *halves, size_t halves_length, double *lengths, size_t lengths_length,
     uint32_t *quads, size_t quads_length);
 
-/* Finds an edge of the mesh that crosses a depth, which is a z coordinate: one end is at or above the depth, the other at or
-   below. Both ends at the depth will do; -0 is 0. Takes tables of any content and counts of any size.
-     edge         one word: the number of an edge that crosses, written where the answer is 0
-   Answers 0, 42, 30, 41, the first that holds of these grounds in this order. Writes nothing but the edge. */
+/* Finds the lowest-numbered edge of the mesh that crosses a depth, which is a z coordinate: one end is at or above the depth, the
+   other at or below. Both ends at the depth will do; -0 is 0. Takes tables of any content and counts of any size.
+     edge         one word: the number of the first edge that crosses, written where the answer is 0
+   Answers 0, 42, 30, 41, the first that holds of these grounds in this order. In a mesh whose points are all joined through
+   edges every finite depth from its lowest to its highest point has a crossing edge, so that 41 cannot occur there. Writes nothing
+   but the edge. */
 uint32_t lavyngo_find_depth(
     const double *positions, size_t positions_length, const uint32_t *points, size_t points_length,
     const uint32_t *edges, size_t edges_length, const double *intervals, size_t intervals_length,

@@ -20,16 +20,15 @@ fn crosses(tables: &Tables, e: usize, depth: f64) -> bool {
     low <= depth && depth <= high
 }
 
-/// The number that is answered, and the edges that may be.
-fn expected(tables: &Tables, counts: Counts, closed: bool, depth: f64) -> (u32, Vec<usize>) {
+/// The lowest-numbered edge that crosses, or the number of the ground.
+fn expected(tables: &Tables, counts: Counts, closed: bool, depth: f64) -> Result<usize, u32> {
     if !depth.is_finite() {
-        return (42, Vec::new());
+        return Err(42);
     }
     if !closed {
-        return (30, Vec::new());
+        return Err(30);
     }
-    let edges: Vec<usize> = (0..counts.edges).filter(|&e| crosses(tables, e, depth)).collect();
-    (if edges.is_empty() { 41 } else { 0 }, edges)
+    (0..counts.edges).find(|&e| crosses(tables, e, depth)).ok_or(41)
 }
 
 /// A depth: at a point, next to one, between two, beyond all, a zero, a subnormal, or no number at all.
@@ -66,13 +65,12 @@ pub fn check(
     let closed = grounds::is_closed(tables, counts);
     for _ in 0..depths {
         let depth = depth(random, tables);
-        let (number, edges) = expected(tables, counts, closed, depth);
         let untold = usize::MAX - 7;
+        let expected = expected(tables, counts, closed, depth).map_or_else(|ground| (ground, untold), |edge| (0, edge));
         let mut edge = untold;
         let answer = library::find_depth(tables, words, depth, &mut edge);
-        let told = if number == 0 { edges.contains(&edge) } else { edge == untold };
-        if answer != number || !told {
-            return Err(format!("the finder answers {answer} and edge {edge} to depth {depth:e}, expected is {number} of {edges:?}"));
+        if (answer, edge) != expected {
+            return Err(format!("to depth {depth:e} the finder answers {answer} and edge {edge}, expected is {expected:?}"));
         }
         *answers.entry(answer).or_default() += 1;
     }

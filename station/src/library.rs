@@ -237,7 +237,7 @@ pub fn step(tables: &mut Tables, counts: &mut [usize; 3], order: &[u32], scratch
     }
 }
 
-/// An edge that crosses a depth. The answer is document 02's number, 0 for an edge, which is then written.
+/// The first edge that crosses a depth. The answer is document 02's number, 0 for an edge, which is then written.
 pub fn find_depth(tables: &Tables, counts: [usize; 3], depth: f64, edge: &mut usize) -> u32 {
     let t = tables;
     // SAFETY: as above.

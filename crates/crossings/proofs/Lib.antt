@@ -1,2 +1,5 @@
+pub mod First
+mod Order
+mod Joined
 pub mod Theorem
 mod Cases

@@ -4,11 +4,12 @@
 --     crosses m d e            edge e of the mesh m crosses the depth d: its ends span it
 --     numberOf r               the number that is answered: 0 for an edge, else that of the ground
 --     Ready m c d              neither 42 nor 30 holds: the depth is finite, and the tables are a closed mesh
---     Crossed m ne d r         r is an edge of ne that crosses, or the word that none does; which of several edges is free
---     Finds m c d r            r is an answer to the depth d on the mesh m with the counts c
+--     Finds m c d r            r answers the depth d on the mesh m with the counts c; which of several edges it names is free
+--     firstFrom test k e       the first of the k numbers from e on that pass the test
+--     find m c d               the answer of the finder: as `Finds` says, with the lowest-numbered of the edges that cross
 use mathlib.Core.Path.{_≡_}
-use mathlib.Core.Bool.{Bool, true, false, _&&_, _||_}
-use Prim.Native.Nat.{ℕ, _<_}
+use mathlib.Core.Bool.{Bool, true, false, cond, _&&_, _||_}
+use Prim.Native.Nat.{ℕ, zero, suc, _<_}
 use lib.Ieee.{Float, le}
 use lib.Ieee.Scale.{finite}
 use Rattle.tables.specs.Mesh.{Mesh, z, origin, dest}
@@ -35,15 +36,19 @@ numberOf Nowhere = 41
 abbrev pub Ready : Mesh → Counts → Float → Type 0
 Ready m c d = (finite d ≡ true) × (audit m (c .points) (c .edges) (c .faces) ≡ true)
 
-abbrev pub Crossed : Mesh → ℕ → Float → Crossing → Type 0
-Crossed m ne d (At e) = (e < ne) × (crosses m d e ≡ true)
-Crossed m ne d Nowhere = (e : ℕ) → e < ne → crosses m d e ≡ false
-Crossed m ne d NotFiniteDepth = ⊥
-Crossed m ne d NotClosed = ⊥
-
--- 42 first, then 30, then what a search among the edges may answer
+-- 42 first, then 30, then 41 or an edge
 abbrev pub Finds : Mesh → Counts → Float → Crossing → Type 0
 Finds m c d NotFiniteDepth = finite d ≡ false
 Finds m c d NotClosed = (finite d ≡ true) × (audit m (c .points) (c .edges) (c .faces) ≡ false)
-Finds m c d Nowhere = Ready m c d × Crossed m (c .edges) d Nowhere
-Finds m c d (At e) = Ready m c d × Crossed m (c .edges) d (At e)
+Finds m c d Nowhere = Ready m c d × ((e : ℕ) → e < c .edges → crosses m d e ≡ false)
+Finds m c d (At e) = Ready m c d × (e < c .edges) × (crosses m d e ≡ true)
+
+unfoldable pub firstFrom : (ℕ → Bool) → ℕ → ℕ → Crossing
+firstFrom test zero e = Nowhere
+firstFrom test (suc k) e = cond (test e) (At e) (firstFrom test k (suc e))
+
+abbrev pub find : Mesh → Counts → Float → Crossing
+find m c d =
+    cond (finite d)
+    (cond (audit m (c .points) (c .edges) (c .faces)) (firstFrom (λ e. crosses m d e) (c .edges) 0) NotClosed)
+    NotFiniteDepth

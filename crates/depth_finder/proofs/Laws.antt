@@ -3,17 +3,12 @@ use mathlib.Core.Path.{_≡_}
 use mathlib.Core.Bool.{true}
 use Prim.Native.Nat.{ℕ, _*_, _≤_, _<_}
 use lib.ListN.{length}
-use lib.Ieee.{Float}
-use lib.Ieee.Scale.{finite}
 use native.Mathlib.Omega.{arith}
 use Rattle.tables.specs.Mesh.{Mesh}
 use Rattle.tables.specs.declared.Counts.{Counts}
 use Rattle.audited_meshes.specs.Audit.{audit}
 use Rattle.audited_meshes.proofs.Audited.{audit-is-audited}
-use Rattle.crossings.specs.declared.Crossing.{Crossing}
-use Rattle.crossings.specs.declared.Crossing.the-variants.{At, NotFiniteDepth, NotClosed, Nowhere}
-use Rattle.crossings.specs.Crossings.{Crossed, Finds}
-use Rattle.depth_finder.specs.Ends.{endTables, EndsStand}
+use Rattle.depth_finder.specs.Ends.{EndsStand}
 
 module _ (m : Mesh) (c : Counts) (passes : audit m (c .points) (c .edges) (c .faces) ≡ true) where
   -- the rows of the edges stand in their table
@@ -29,11 +24,3 @@ module _ (m : Mesh) (c : Counts) (passes : audit m (c .points) (c .edges) (c .fa
         origin-stands = omega (arith, a .points-fit, r .origin-in-range);
         dest-stands = omega (arith, a .points-fit, r .dest-in-range);
       }
-
-  -- what a search may answer, the finder may answer once neither 42 nor 30 holds
-  pub finds-of-crossed : (d : Float) (r : Crossing) → finite d ≡ true → Crossed (endTables (m .positions) (m .edges)) (c .edges) d r
-      → Finds m c d r
-  finds-of-crossed d (At e) f h = ((f, passes), h)
-  finds-of-crossed d Nowhere f h = ((f, passes), h)
-  finds-of-crossed d NotFiniteDepth f h = absurd h
-  finds-of-crossed d NotClosed f h = absurd h

@@ -1,12 +1,12 @@
-// The depth finder: an edge of a mesh that crosses a depth, in tables of any content (document 02, §2). It takes the time of the
-// audit and of one pass over the edges.
+// The depth finder: the lowest-numbered edge of a mesh that crosses a depth, in tables of any content (document 02, §2 and §9). It
+// takes the time of the audit and of one pass over the edges.
 // Not here: what crosses and what is answered (`crossings`), the audit (`audit`).
 // Contract: `find_depth`. Definitions: `specs/Ends.antt`, and `Crossings` of `crossings`. Laws: `proofs/Laws.antt`.
 ghost use mathlib.Core.Path.{_≡_};
 ghost use Prim.Native.Nat.{ℕ, _+_, _*_, _≤_, _<_};
 ghost use lib.ListN.{length};
 ghost use Rattle.tables.specs.Mesh.{meshOf};
-ghost use Rattle.crossings.specs.Crossings.{between, spans, crosses, Crossed, Finds};
+ghost use Rattle.crossings.specs.Crossings.{between, spans, crosses, firstFrom, find};
 ghost use Rattle.depth_finder.specs.Ends.{endTables, EndsStand};
 use audit::audit;
 use crossings::Crossing;
@@ -49,11 +49,11 @@ fn crosses_depth(positions: &[f64], edges: &[u32], e: usize, depth: f64) -> bool
     spans_depth(origin.z, dest.z, depth)
 }
 
-// An edge of ne that crosses a depth, or the word that none does.
+// The first of ne edges that crosses a depth, or the word that none does.
 fn search(positions: &[f64], edges: &[u32], ne: usize, depth: f64) -> Crossing
     requires { ⌜ ne * 8 ≤ length (now edges) ⌝ }
     requires { ⌜ ((e : ℕ) → e < ne → EndsStand (now positions) (now edges) e) ⌝ }
-    ensures { λ r. ⌜ Crossed (endTables (now (positions .entry)) (now (edges .entry))) ne depth r ⌝ }
+    ensures { λ r. ⌜ r ≡ firstFrom (λ e. crosses (endTables (now (positions .entry)) (now (edges .entry))) depth e) ne 0 ⌝ }
 {
     let mut e = 0;
     while e < ne {
@@ -65,7 +65,7 @@ fn search(positions: &[f64], edges: &[u32], ne: usize, depth: f64) -> Crossing
     Crossing::Nowhere
 }
 
-// An edge of the mesh that crosses a depth, or the ground on which there is none.
+// The lowest-numbered edge of the mesh that crosses a depth, or the ground on which there is none.
 pub fn find_depth(
     positions: &[f64],
     points: &[u32],
@@ -76,9 +76,10 @@ pub fn find_depth(
     depth: f64,
 ) -> Crossing
     ensures { λ r. ⌜
-        Finds
+        r
+        ≡ find
         (meshOf (now (positions .entry)) (now (points .entry)) (now (edges .entry)) (now (intervals .entry)) (now (faces .entry)))
-        counts depth r ⌝ }
+        counts depth ⌝ }
 {
     if !is_finite(depth) {
         return Crossing::NotFiniteDepth;

@@ -1,5 +1,5 @@
 -- The laws of what the C functions answer. Assumes nothing.
-use mathlib.Core.Path.{_≡_, sym, subst}
+use mathlib.Core.Path.{_≡_, sym}
 use mathlib.Core.Bool.{true, false}
 use mathlib.Core.List.{List}
 use Prim.Native.Nat.{ℕ}
@@ -17,7 +17,7 @@ use Rattle.steps.specs.declared.Stepped.{Stepped}
 use Rattle.crossings.specs.Crossings as crossings
 use Rattle.crossings.specs.declared.Crossing.{Crossing}
 use Rattle.station_answers.specs.Answers.{countsIn, answerOf, countsAfter, edgeAfter}
-use Rattle.station.specs.Station.{Building, built, textBuilt, audited, Step, stepped, Finding}
+use Rattle.station.specs.Station.{Building, built, textBuilt, audited, Step, stepped, Finding, found}
 
 -- the outcome of building from lists, told with the number n and the counts ys
 pub built-told : (xs : List ℕ) {a : Built} {m : Mesh} {o : Outcome} {ys : List ℕ} {n : ℕ}
@@ -46,8 +46,8 @@ pub step-told : (xs : List ℕ) {k : Counts} (m : Mesh) {m' : Mesh} (t : Mesh) {
     → _≡_ {A = Step} (record { answer = n; counts = ys; tables = m'; scratch = t' }) (stepped xs (step m (countsIn xs) order t))
 step-told xs m t order p e n q = rw (sym p, sym e, n, q)
 
--- the answer a of the depth finder, from the counts k as the code loaded them
-pub crossing-told : (m : Mesh) {k c : Counts} (d : Float) {xs ys : List ℕ} (a : Crossing) {n : ℕ} → k ≡ c → crossings.Finds m k d a
-    → n ≡ crossings.numberOf a → ys ≡ edgeAfter xs a → Finding m c d xs n ys
-crossing-told m d a e f n y =
-    record { found = a; finds = subst (λ (c : Counts). crossings.Finds m c d a) e f; answer = n; edge = y }
+-- the answer of the depth finder, from the counts k as the code loaded them
+pub crossing-told : (xs : List ℕ) (m : Mesh) {k : Counts} (c : Counts) (d : Float) {ys : List ℕ} {a : Crossing} {n : ℕ} → k ≡ c
+    → a ≡ crossings.find m k d → n ≡ crossings.numberOf a → ys ≡ edgeAfter xs a
+    → _≡_ {A = Finding} (record { answer = n; edge = ys }) (found xs (crossings.find m c d))
+crossing-told xs m c d p e n q = rw (sym p, sym e, n, q)

@@ -5,12 +5,11 @@
 --     audited m c             0 if the tables m are a closed mesh with the counts c, else 30
 --     Step                    the answer of a step, the array of counts, the tables and the scratch tables afterwards
 --     stepped xs o            the outcome o of a step
---     Finding m c d xs n ys   the depth finder may answer n to the depth d on the mesh m with the counts c, and leave ys of the edge xs
+--     Finding                 the answer of the depth finder, and the array of one edge afterwards
+--     found xs r              the answer r of the depth finder, if the array of one edge was xs
 use mathlib.Core.Bool.{cond}
 use mathlib.Core.List.{List}
-use mathlib.Core.Path.{_≡_}
 use Prim.Native.Nat.{ℕ}
-use lib.Ieee.{Float}
 use Rattle.tables.specs.Mesh.{Mesh}
 use Rattle.tables.specs.declared.Counts.{Counts}
 use Rattle.audited_meshes.specs.Audit.{audit}
@@ -54,8 +53,9 @@ stepped xs o =
       scratch = o .scratch;
     }
 
-pub record Finding (m : Mesh) (c : Counts) (d : Float) (xs : List ℕ) (n : ℕ) (ys : List ℕ) : Type 0 where
-  pub found : Crossing
-  pub finds : crossings.Finds m c d found
-  pub answer : n ≡ crossings.numberOf found
-  pub edge : ys ≡ edgeAfter xs found
+pub record Finding : Type 0 where
+  pub answer : ℕ
+  pub edge : List ℕ
+
+abbrev pub found : List ℕ → Crossing → Finding
+found xs r = record { answer = crossings.numberOf r; edge = edgeAfter xs r }

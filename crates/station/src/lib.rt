@@ -14,7 +14,8 @@ ghost use Rattle.text_meshes.specs.TextBuilding.{buildText};
 ghost use Rattle.tables.specs.Mesh.{meshOf};
 ghost use Rattle.steps.specs.Step.{step};
 ghost use Rattle.steps.specs.OneStep.{Binary64};
-ghost use Rattle.station.specs.Station.{Building, built, textBuilt, audited, Step, stepped, Finding};
+ghost use Rattle.station.specs.Station.{Building, built, textBuilt, audited, Step, stepped, Finding, found};
+ghost use Rattle.crossings.specs.Crossings.{find};
 ghost use Rattle.station_answers.specs.Answers.{countsIn};
 use audit::audit;
 use building::build;
@@ -171,7 +172,7 @@ pub extern "C" fn lavyngo_step(
     tell_stepped(counts, answer)
 }
 
-// Finds an edge of the mesh that crosses a depth, which is a z coordinate. The edge is written if one does.
+// Finds the lowest-numbered edge of the mesh that crosses a depth, which is a z coordinate. The edge is written if there is one.
 #[no_mangle]
 pub extern "C" fn lavyngo_find_depth(
     positions: &[f64],
@@ -184,9 +185,10 @@ pub extern "C" fn lavyngo_find_depth(
     edge: &mut [usize; 1],
 ) -> u32
     ensures { λ r. ⌜
-        Finding
-        (meshOf (now (positions .entry)) (now (points .entry)) (now (edges .entry)) (now (intervals .entry)) (now (faces .entry)))
-        (countsIn (now (counts .entry))) depth (now (edge .entry)) r (now (edge .exit)) ⌝ }
+        _≡_ {A = Finding} (record { answer = r; edge = now (edge .exit) })
+        (found (now (edge .entry))
+        (find (meshOf (now (positions .entry)) (now (points .entry)) (now (edges .entry)) (now (intervals .entry)) (now (faces .entry)))
+        (countsIn (now (counts .entry))) depth)) ⌝ }
 {
     let answer = find_depth(
         positions,

@@ -1,5 +1,6 @@
 -- lavyngo_find_depth meets its contract: the answer of the depth finder, as it is told.
 use Rattle.tables.specs.Mesh.{meshOf}
+use Rattle.station_answers.specs.Answers.{countsIn}
 use Rattle.station.proofs.Laws.{crossing-told}
 use borrow.Author.Needs.{needs}
 use Rattle.station.proofs.lavyngo_find_depth.Statement.{statement}
@@ -8,8 +9,8 @@ use Rattle.station.proofs.lavyngo_find_depth.Tie as tie
 returns : tie.Need-returns
 returns c =
     let a = c .before .before .before .before .before .before .before .before .before .args in
-    crossing-told (meshOf (a .positions .now) (a .points .now) (a .edges .now) (a .intervals .now) (a .faces .now)) (a .depth)
-    (c .before .before .find-depth .result) (c .before .before .before .load-counts .ensures) (c .before .before .find-depth .ensures) (c .tell-crossing .ensures .0) (c .tell-crossing .ensures .1)
+    crossing-told (a .edge .now) (meshOf (a .positions .now) (a .points .now) (a .edges .now) (a .intervals .now) (a .faces .now))
+    (countsIn (a .counts .now)) (a .depth) (c .before .before .before .load-counts .ensures) (c .before .before .find-depth .ensures) (c .tell-crossing .ensures .0) (c .tell-crossing .ensures .1)
 
 pub lavyngo-find-depth-spec : {M : Type 1} → statement M
 lavyngo-find-depth-spec =
