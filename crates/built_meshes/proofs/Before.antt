@@ -6,10 +6,10 @@
 --     nothing-met             where all passes, nothing is met
 --     first-once              two grounds that are met first are one
 use mathlib.Core.Path.{_≡_, refl, sym, _∙_, ap, subst}
-use mathlib.Core.Bool.{true, false, cond, true≢false}
-use mathlib.Core.Logic.{_⊎_, inl, inr, _≢_}
+use mathlib.Core.Bool.{true, cond, true≢false}
+use mathlib.Core.Logic.{_⊎_, inl, inr}
 use mathlib.Core.List.{List, [], _∷_}
-use Prim.Native.Nat.{ℕ, zero, suc, _<_, _≤_}
+use Prim.Native.Nat.{ℕ, suc, _<_, _≤_}
 use native.Mathlib.Omega.{arith}
 use native.Mathlib.Decide.{decLt}
 use lib.Dec.{eqb}
@@ -18,7 +18,7 @@ use Rattle.positions.specs.Position.{small}
 use Rattle.tables.specs.Mesh.{Mesh}
 use Rattle.built_meshes.specs.Lists.{Lists, pointsOf, facesOf, size, offset}
 use Rattle.built_meshes.specs.Faces.{apart}
-use Rattle.built_meshes.specs.Places.{pointOf, nextOf, IsPlace, Runs, Between, Differ, Earlier}
+use Rattle.built_meshes.specs.Places.{pointOf, IsPlace, Runs, Between, Differ, Earlier}
 use Rattle.built_meshes.specs.Answers.{numberOf}
 use Rattle.built_meshes.specs.Grounds.{Over-counts, Unfit-number, Few-rows, Missing-face, No-edge, Missed-edge, Where, lists, face, edge, whole, Met, over-counts, unfit-number, few-rows, face-size, out-of-range, point-twice, non-rectangular, triple-face, same-way, missing-face, no-edge, missed-edge, Less, turnOf, First-met}
 use Rattle.built_meshes.specs.declared.Ground.{Ground}

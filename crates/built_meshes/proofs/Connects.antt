@@ -1,10 +1,10 @@
 -- Every `connect` of building finds a state: neighbouring edges of a perimeter share its face and the point between them. Assumes nothing.
 --     joinable-sits           the edges of a place and of the next one can be connected
 --     always-connects         the claim of `specs/Connects.antt`
-use mathlib.Core.Path.{_≡_, refl, sym, _∙_, ap, subst}
+use mathlib.Core.Path.{_≡_, refl, sym, _∙_, subst}
 use mathlib.Core.Bool.{Bool, true, false, _&&_, cond, false≢true}
 use mathlib.Core.Logic.{_⊎_, inl, inr, _≢_}
-use Prim.Native.Nat.{ℕ, zero, suc, _+_, _<_, _≤_}
+use Prim.Native.Nat.{ℕ, zero, suc, _+_, _<_}
 use native.Mathlib.Omega.{arith}
 use lib.Dec.{eqb, ltb}
 use lib.Ieee.{nan}
@@ -26,13 +26,13 @@ use Rattle.t_nurcc_edge.specs.Joinable.{joinableRows}
 use Rattle.closed_meshes.specs.Renumbering.{sumTo}
 use Rattle.built_meshes.specs.Lists.{Lists, pointsOf, facesOf, size, offset, rowsOf}
 use Rattle.built_meshes.specs.Faces.{faceVerdict}
-use Rattle.built_meshes.specs.Edges.{Entered, at, refused, entered}
-use Rattle.built_meshes.specs.Perimeters.{State, Ring, Step, on, stopped, turn, places}
+use Rattle.built_meshes.specs.Edges.{Entered, entered}
+use Rattle.built_meshes.specs.Perimeters.{State, Ring, Step, on, turn, places}
 use Rattle.built_meshes.specs.Places.{pointOf, nextOf}
 use Rattle.built_meshes.specs.Building.{facePassed}
 use Rattle.built_meshes.specs.Connects.{turnConnects, placesConnect, closeConnects, begun, faceConnects, facesConnect, Always-connects}
 use Rattle.built_meshes.specs.declared.Verdict.{Verdict}
-use Rattle.built_meshes.specs.declared.Verdict.the-variants.{Fit, Unfit}
+use Rattle.built_meshes.specs.declared.Verdict.the-variants.{Fit}
 use Rattle.built_meshes.proofs.Connecting.{firstOf, secondOf}
 use Rattle.built_meshes.proofs.Rows.{row}
 use Rattle.built_meshes.proofs.Invariant.{FaceSound, Sits}

@@ -17,7 +17,7 @@ use Rattle.tables.specs.Counted.{zeroedRows}
 use Rattle.perimeters.specs.Places.{nextPlace, prevPlace}
 use Rattle.tables.specs.declared.Sizes.{Sizes}
 use Rattle.t_spline.specs.declared.TnurccEdge.{TnurccEdge}
-use Rattle.tables.specs.Mesh.{Mesh, none, valence, start, mark, origin, dest, leftFace, rightFace, leftCw, leftAcw, rightCw, rightAcw, interval, faceStart, corner}
+use Rattle.tables.specs.Mesh.{Mesh, none, valence, start, mark, origin, dest, leftFace, rightFace, leftCw, leftAcw, rightCw, rightAcw, interval}
 use Rattle.tables.specs.Rows.{zeroed}
 use Rattle.tables.specs.declared.Counts.{Counts}
 use Rattle.audited_meshes.specs.Folds.{one}
@@ -28,7 +28,7 @@ use Rattle.built_meshes.specs.Places.{pointOf, nextOf, Runs, Between, Ea
 use Rattle.built_meshes.specs.Building.{build}
 use Rattle.built_meshes.specs.Builds.{Edge-of, Builds}
 use Rattle.built_meshes.specs.Answers.{numberOf}
-use Rattle.built_meshes.specs.Grounds.{Few-rows, few-points, few-faces, few-edges, Where, Met, over-counts, unfit-number, few-rows, face-size, out-of-range, point-twice, non-rectangular, triple-face, same-way, missing-face, no-edge, missed-edge, First-met, edge}
+use Rattle.built_meshes.specs.Grounds.{Few-rows, few-points, few-faces, few-edges, Where, Met, over-counts, unfit-number, few-rows, face-size, out-of-range, point-twice, non-rectangular, triple-face, same-way, missing-face, no-edge, missed-edge, edge}
 use Rattle.built_meshes.specs.LentContent.{Same-numbers, Same-counted, Shows-nothing, Lent-content}
 use Rattle.built_meshes.specs.declared.Ground.{Ground}
 use Rattle.built_meshes.specs.declared.Ground.the-variants.{OverCounts, UnfitNumber, FewRows, FaceSize, OutOfRange, PointTwice, NonRectangularFace, EdgeTripleFace, SameWay, MissingFace, NoEdge, MissedEdge}

@@ -4,7 +4,7 @@
 --     Made l D m ne           so it is of all edges, in order; a point's start edge is the highest-numbered that touches it
 --     made-on                 still, where edges keep their ends, left faces and intervals
 --     made-new                and with one edge more, made at a place behind all others
-use mathlib.Core.Path.{_≡_, refl, sym, _∙_, subst}
+use mathlib.Core.Path.{_≡_, sym, _∙_, subst}
 use mathlib.Core.Bool.{cond}
 use mathlib.Core.Logic.{_⊎_, inl, inr}
 use Prim.Native.Nat.{ℕ, suc, _+_, _<_, _≤_}

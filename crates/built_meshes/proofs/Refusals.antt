@@ -1,34 +1,29 @@
 -- The grounds 20, 21 and 22. Assumes nothing.
 --     whole-verdict-is        what the verdict on the whole says: the first of these grounds is met, or none of all is
 use mathlib.Core.Path.{_≡_, refl, sym, _∙_, ap, ap₂, subst}
-use mathlib.Core.Bool.{Bool, true, false, not, cond, true≢false}
-use mathlib.Core.Logic.{_⊎_, inl, inr, _≢_}
+use mathlib.Core.Bool.{Bool, true, false, not, cond}
+use mathlib.Core.Logic.{inl, inr, _≢_}
 use Prim.Native.Nat.{ℕ, zero, suc, _+_, _<_, _≤_}
 use native.Mathlib.Omega.{arith}
-use native.Mathlib.Decide.{decLt}
-use lib.Dec.{eqb, ltb}
-use lib.ListN.{length}
-use borrow.Author.Tests.{eqb-true, ltb-true, not-false}
+use lib.Dec.{eqb}
+use borrow.Author.Tests.{eqb-true, not-false}
 use Rattle.t_spline.specs.Edge.{none}
 use Rattle.t_spline.specs.Ends.{faceFromSide}
 use Rattle.t_spline.specs.declared.TnurccFaceSide.{TnurccFaceSide}
 use Rattle.t_spline.specs.declared.TnurccFaceSide.the-variants.{Left, Right}
 use Rattle.tables.specs.Mesh.{Mesh, valence, start, origin, dest, rightFace}
 use Rattle.closed_meshes.specs.Renumbering.{sumTo}
-use Rattle.audited_meshes.specs.Folds.{one, occurrences}
-use Rattle.audited_meshes.specs.Walks.{Walk, back, lost, passed, edgesOf, touches, acwOfPoint, pointWalk, Touches}
-use Rattle.audited_meshes.specs.Audited.{PointWalked}
-use Rattle.audited_meshes.proofs.Folds.{below-suc, length-sumTo}
+use Rattle.audited_meshes.specs.Folds.{one}
+use Rattle.audited_meshes.specs.Walks.{passed, touches, pointWalk, Touches}
+use Rattle.audited_meshes.proofs.Folds.{below-suc}
 use Rattle.audited_meshes.proofs.Tests.{not-is, eqb-is, ltb-is, every-is}
-use Rattle.audited_meshes.proofs.Walks.{passes-on}
-use Rattle.audited_meshes.proofs.Audited.{touches-is, pointWalk-is}
-use Rattle.built_meshes.specs.Lists.{Lists, pointsOf, facesOf, size}
+use Rattle.audited_meshes.proofs.Audited.{touches-is}
+use Rattle.built_meshes.specs.Lists.{Lists, pointsOf, facesOf}
 use Rattle.tables.specs.declared.Sizes.{Sizes}
-use Rattle.built_meshes.specs.Perimeters.{State, on}
+use Rattle.built_meshes.specs.Perimeters.{State}
 use Rattle.built_meshes.specs.Places.{IsPlace, Runs}
 use Rattle.built_meshes.specs.Answers.{numberOf}
 use Rattle.built_meshes.specs.Whole.{noMissingFace, everyEdged, noMissedEdge, wholeVerdict}
-use Rattle.built_meshes.specs.Building.{allFaces}
 use Rattle.built_meshes.specs.Grounds.{Missing-face, No-edge, Missed-edge, Where, whole, Met, missing-face, no-edge, missed-edge, First-met}
 use Rattle.built_meshes.specs.declared.Ground.{Ground}
 use Rattle.built_meshes.specs.declared.Ground.the-variants.{MissingFace, NoEdge, MissedEdge}

@@ -5,7 +5,7 @@
 --     turn-place, turn-sits   the step about a point, and the place that runs back the one before
 --     missed-met, no-missed   both ways
 use mathlib.Core.Path.{_≡_, refl, sym, _∙_, ap, subst}
-use mathlib.Core.Bool.{Bool, true, false, not, _&&_, _||_}
+use mathlib.Core.Bool.{Bool, true, false, not, _&&_}
 use mathlib.Core.Logic.{_⊎_, inl, inr, ⊎-elim, _≢_}
 use mathlib.Core.List.{List, [], _∷_}
 use Prim.Native.Nat.{ℕ, zero, suc, _+_, _<_, _≤_}
@@ -13,24 +13,24 @@ use native.Mathlib.Omega.{arith}
 use native.Mathlib.Decide.{ℕ-discrete, decLt}
 use lib.Dec.{eqb, ltb}
 use lib.ListN.{length}
-use borrow.Author.Tests.{eqb-true, eqb-false, eq-eqb, ne-eqb, ltb-true, not-false}
+use borrow.Author.Tests.{eqb-false, eq-eqb, ne-eqb, ltb-true, not-false}
 use Rattle.perimeters.proofs.Laws.{prev-below, next-prev}
 use Rattle.perimeters.specs.Places.{nextPlace, prevPlace}
 use Rattle.t_spline.specs.Edge.{none}
 use Rattle.t_spline.specs.Ends.{faceFromSide}
 use Rattle.t_spline.specs.declared.TnurccFaceSide.{TnurccFaceSide}
 use Rattle.t_spline.specs.declared.TnurccFaceSide.the-variants.{Left, Right}
-use Rattle.tables.specs.Mesh.{Mesh, valence, start, origin, dest}
+use Rattle.tables.specs.Mesh.{Mesh, valence, start, origin}
 use Rattle.closed_meshes.specs.Renumbering.{sumTo}
 use Rattle.audited_meshes.specs.Folds.{one, occurrences}
-use Rattle.audited_meshes.specs.Walks.{Walk, back, lost, pass, walk, passed, edgesOf, touches, acwOfPoint, pointWalk, Touches}
+use Rattle.audited_meshes.specs.Walks.{Walk, back, lost, pass, walk, passed, touches, acwOfPoint, pointWalk, Touches}
 use Rattle.audited_meshes.specs.Audited.{Passes, last, more, PointWalked}
-use Rattle.audited_meshes.proofs.Folds.{below-suc, sumTo-cong, sumTo-tight, length-sumTo}
+use Rattle.audited_meshes.proofs.Folds.{sumTo-cong, sumTo-tight, length-sumTo}
 use Rattle.audited_meshes.proofs.Tests.{Is, and-is, ltb-is}
 use Rattle.audited_meshes.proofs.Walks.{occurrences-here, occurrences-there, in-longer, passes-head, passes-on}
 use Rattle.audited_meshes.proofs.Audited.{touches-is, pointWalk-is}
 use Rattle.built_meshes.specs.Lists.{Lists, pointsOf, facesOf, size}
-use Rattle.built_meshes.specs.Places.{pointOf, nextOf, IsPlace, Runs}
+use Rattle.built_meshes.specs.Places.{pointOf, nextOf, IsPlace}
 use Rattle.built_meshes.specs.Whole.{noMissedEdge}
 use Rattle.built_meshes.specs.Grounds.{Turns, Chain, here, further, Missed-edge}
 use Rattle.built_meshes.proofs.Connecting.{firstOf, secondOf, acwOf, cwOf}
@@ -38,7 +38,7 @@ use Rattle.built_meshes.proofs.Rows.{row}
 use Rattle.built_meshes.proofs.Invariant.{Sits, Invariant, sits-unique}
 use Rattle.built_meshes.proofs.Perimeter.{Done, Chained}
 use Rattle.built_meshes.proofs.Faces.{every-false}
-use Rattle.built_meshes.proofs.Whole.{a-side, place-of, prev-side, sits-side, point-walk}
+use Rattle.built_meshes.proofs.Whole.{place-of, prev-side, sits-side, point-walk}
 
 -- a sum that is less has a number that is less
 sumTo-less : (n : ℕ) (a b : ℕ → ℕ) → sumTo n a < sumTo n b → (k : ℕ) × (k < n) × (a k < b k)

@@ -13,7 +13,6 @@ use lib.ListN.{length, getD}
 use borrow.Author.Tests.{leb-false}
 use Rattle.tables.specs.Mesh.{Mesh, none, pointRows, edgeRows, faceRows}
 use Rattle.tables.specs.declared.Counts.{Counts}
-use Rattle.audited_meshes.specs.Folds.{distinct}
 use Rattle.audited_meshes.specs.Audit.{audit}
 use Rattle.audited_meshes.proofs.Tests.{Is, and-is, eqb-is, ltb-is, leb-is, every-is}
 use Rattle.audited_meshes.proofs.Audited.{distinct-is, audit-is-audited}
@@ -23,7 +22,6 @@ use Rattle.steps.specs.declared.Stepped.{Stepped}
 use Rattle.steps.specs.declared.Stepped.the-variants.{Refined, NotClosed, NotEachFaceOnce, NoRoom, NotFinite}
 use Rattle.steps.specs.Step.{refinedCounts, eachFaceOnce, withinCeilings, roomFor, Made, whole, notFinite, ended, stepIf, step}
 use Rattle.tables.specs.Counted.{rowsFor, firstRows}
-use Rattle.steps.specs.OneStep.{AllFinite}
 use Rattle.steps.specs.FirstGround.{Short, No-room, Due, First-ground}
 use Rattle.steps.proofs.Rows.{exact-firstRows, holds-firstRows}
 use Rattle.steps.proofs.Grounds.{eachFaceOnce-is, rooms-of-test, begun, step-is, step-made}

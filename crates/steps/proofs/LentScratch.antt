@@ -4,11 +4,10 @@
 --     lent-scratch            the claim of `specs/LentScratch.antt`
 use mathlib.Core.Path.{_≡_, refl, sym, _∙_, ap, subst}
 use mathlib.Core.List.{List}
-use mathlib.Core.Logic.{_⊎_, inl, inr, ⊎-elim}
+use mathlib.Core.Logic.{inl, inr}
 use Prim.Native.Nat.{ℕ, zero, suc, _+_, _*_, _≤_, _<_}
 use native.Mathlib.Omega.{arith}
-use lib.Ieee.{Float, nan}
-use lib.ListN.{length, getD}
+use lib.Ieee.{Float}
 use Rattle.closed_meshes.specs.Refinement.{NewPoint, old, mid, facePoint}
 use Rattle.closed_meshes.specs.Renumbering.{Row}
 use Rattle.closed_meshes.proofs.Isomorphisms.{onto}
@@ -17,10 +16,8 @@ use Rattle.tables.specs.Records.{positionAt, edgeAt}
 use Rattle.tables.specs.declared.Counts.{Counts}
 use Rattle.t_spline.specs.declared.TnurccEdge.{TnurccEdge}
 use Rattle.audited_meshes.specs.Audited.{Audited}
-use Rattle.audited_meshes.specs.Audit.{audit}
 use Rattle.audited_meshes.specs.Rows.{HoldsClosed}
 use Rattle.audited_meshes.proofs.Holds.{audited-of-closed, audit-is-closed}
-use Rattle.audited_meshes.proofs.Audited.{audit-is-audited}
 use Rattle.refined_meshes.specs.State.{State, withPositions}
 use Rattle.refined_meshes.specs.Order.{EachOnce}
 use Rattle.refined_meshes.specs.Visits.{refinedRows}
@@ -30,13 +27,13 @@ use Rattle.refined_meshes.proofs.Refines.{visits-refine, visited-points, visite
 use Rattle.steps.specs.declared.Stepped.{Stepped}
 use Rattle.steps.specs.declared.Stepped.the-variants.{Refined, NotClosed, NotEachFaceOnce, NoRoom, NotFinite}
 use Rattle.steps.specs.Positions.{on, facePointRow, edgePointRow, placedAll}
-use Rattle.steps.specs.Step.{refinedCounts, whole, made, step}
+use Rattle.steps.specs.Step.{refinedCounts, step}
 use Rattle.tables.specs.Counted.{firstRows, overRows}
 use Rattle.steps.specs.FirstGround.{Short, No-room, Due}
-use Rattle.steps.specs.LentScratch.{Same-numbers, Same-mesh, Shows-nothing, Lent-scratch}
+use Rattle.steps.specs.LentScratch.{Same-numbers, Same-mesh, Lent-scratch}
 use Rattle.steps.proofs.Rows.{SameRows, same-overRows, room-of-holds, points-fit, edges-fit, faces-fit, Exact, exact-firstRows, room-of-exact, holds-firstRows, position-same}
 use Rattle.steps.proofs.Grounds.{taken, made-is}
-use Rattle.steps.proofs.NewPositions.{AllPlaced, PointRows, placed-all}
+use Rattle.steps.proofs.NewPositions.{AllPlaced, placed-all}
 use Rattle.steps.proofs.Lengths.{exact-made}
 use Rattle.steps.proofs.SameRefinement.{faces-fewer}
 use Rattle.steps.proofs.OneStep.{point-rows}

@@ -10,7 +10,6 @@ use Prim.Native.Nat.{ℕ, _<_}
 use Rattle.tables.specs.Mesh.{Mesh, valence, start, mark, faceStart, corner, pointRows, edgeRows, faceRows}
 use Rattle.tables.specs.Records.{positionAt, edgeAt}
 use Rattle.tables.specs.declared.Counts.{Counts}
-use Rattle.steps.specs.declared.Stepped.{Stepped}
 use Rattle.steps.specs.declared.Stepped.the-variants.{Refined}
 use Rattle.steps.specs.Step.{step}
 
