@@ -1,12 +1,12 @@
 -- finish meets its contract: the mesh is written only where it is made whole, and scratch is zeroed either way.
-use Rattle.refining.proofs.Laws.{rooms-kept, ended-whole, ended-not-finite}
+use Rattle.finishing.proofs.Laws.{rooms-kept, ended-whole, ended-not-finite}
 use Rattle.making.specs.Making.{madeAs}
 use Rattle.tables.specs.Counted.{firstRows}
 use Rattle.tables.specs.Mesh.{Mesh, meshOf}
 use mathlib.Core.Path.{sym, _∙_, ap}
 use borrow.Author.Needs.{needs}
-use Rattle.refining.proofs.finish.Statement.{statement}
-use Rattle.refining.proofs.finish.Tie as tie
+use Rattle.finishing.proofs.finish.Statement.{statement}
+use Rattle.finishing.proofs.finish.Tie as tie
 
 commit-requires : tie.Need-commit-requires
 commit-requires c κs =

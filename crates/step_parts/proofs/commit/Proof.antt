@@ -1,8 +1,8 @@
 -- commit meets its contract: the rows are copied, then made zero.
 
 use borrow.Author.Needs.{needs}
-use Rattle.refining.proofs.commit.Statement.{statement}
-use Rattle.refining.proofs.commit.Tie as tie
+use Rattle.step_parts.proofs.commit.Statement.{statement}
+use Rattle.step_parts.proofs.commit.Tie as tie
 
 zero-rows-requires : tie.Need-zero-rows-requires
 zero-rows-requires c κs =

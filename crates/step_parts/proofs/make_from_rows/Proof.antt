@@ -3,8 +3,8 @@ use lib.Seq.{length-take-le}
 use Rattle.tables.specs.Counted.{firstRows}
 use mathlib.Core.Path.{sym}
 use borrow.Author.Needs.{needs}
-use Rattle.refining.proofs.make_from_rows.Statement.{statement}
-use Rattle.refining.proofs.make_from_rows.Tie as tie
+use Rattle.step_parts.proofs.make_from_rows.Statement.{statement}
+use Rattle.step_parts.proofs.make_from_rows.Tie as tie
 
 slice-aggregate-make-in-rows : tie.Need-slice-aggregate-make-in-rows
 slice-aggregate-make-in-rows c =

@@ -1,0 +1,74 @@
+// The end of a step that has passed its tests: the refined mesh made and committed, or ground 33.
+// Names: `places`, `rows`, `halves`, `lengths` and `quads` are the scratch tables of positions, points, edges, intervals, faces.
+// Not here: the parts (`step_parts`), the tests (`step_grounds`), the whole step (`refining`).
+// Contract: `finish`. Definition: `steps`, specs/Step.antt, `step`. Laws: `proofs/Laws.antt`.
+ghost use mathlib.Core.Path.{_≡_};
+ghost use Rattle.tables.specs.Mesh.{meshOf};
+ghost use Rattle.steps.specs.Step.{step, Outcome};
+ghost use Rattle.step_parts.specs.Passed.{Passed};
+use row_copies::zero_rows;
+use step_parts::commit;
+use step_parts::make_from_rows;
+use steps::Stepped;
+use tables::Counts;
+
+// Makes the step to the counts c: the refined mesh is made in scratch and, if all is finite, copied to the tables; scratch is
+// zeroed either way.
+pub fn finish(
+    positions: &mut [f64],
+    points: &mut [u32],
+    edges: &mut [u32],
+    intervals: &mut [f64],
+    faces: &mut [u32],
+    counts: Counts,
+    order: &[u32],
+    c: Counts,
+    places: &mut [f64],
+    rows: &mut [u32],
+    halves: &mut [u32],
+    lengths: &mut [f64],
+    quads: &mut [u32],
+) -> Stepped
+    requires { ⌜
+        Passed (meshOf (now positions) (now points) (now edges) (now intervals) (now faces)) counts (now order)
+        (meshOf (now places) (now rows) (now halves) (now lengths) (now quads)) c ⌝ }
+    ensures { λ r. ⌜
+        _≡_ {A = Outcome}
+        (record { answer = r; tables = meshOf (now (positions .exit)) (now (points .exit)) (now (edges .exit)) (now (intervals .exit)) (now (faces .exit)); scratch = meshOf (now (places .exit)) (now (rows .exit)) (now (halves .exit)) (now (lengths .exit)) (now (quads .exit)) })
+        (step (meshOf (now (positions .entry)) (now (points .entry)) (now (edges .entry)) (now (intervals .entry)) (now (faces .entry)))
+        counts (now (order .entry))
+        (meshOf (now (places .entry)) (now (rows .entry)) (now (halves .entry)) (now (lengths .entry)) (now (quads .entry)))) ⌝ }
+{
+    if make_from_rows(
+        positions,
+        points,
+        edges,
+        intervals,
+        faces,
+        counts,
+        order,
+        c,
+        places,
+        rows,
+        halves,
+        lengths,
+        quads,
+    ) {
+        commit(
+            c,
+            places,
+            rows,
+            halves,
+            lengths,
+            quads,
+            positions,
+            points,
+            edges,
+            intervals,
+            faces,
+        );
+        return Stepped::Refined(c);
+    }
+    zero_rows(c, places, rows, halves, lengths, quads);
+    Stepped::NotFinite
+}
