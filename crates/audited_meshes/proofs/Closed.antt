@@ -21,7 +21,9 @@ use Rattle.audited_meshes.proofs.Walks.{passes-head, passes-on}
 use Rattle.audited_meshes.proofs.Positions.{position, position-below, getD-position, getD-map-below, passes-step, passes-moves}
 use Rattle.audited_meshes.proofs.Cycles.{cycles-of-walks}
 use Rattle.audited_meshes.proofs.Rows.{rows, rows-stand}
-use Rattle.audited_meshes.proofs.Darts.{number, num, Seen, acwOfFace-dart, cwOfFace-dart, acwOfPoint-dart, firstPoint-dart, borders-dart, touches-first, dart-of-borders, dart-of-touches, settled-on-face, settled-at-point}
+use Rattle.audited_meshes.proofs.Darts.{number, num, Seen, acwOfFace-dart, cwOfFace-dart, acwOfPoint-dart}
+use Rattle.audited_meshes.proofs.Darts.{firstPoint-dart, borders-dart, touches-first, dart-of-borders}
+use Rattle.audited_meshes.proofs.Darts.{dart-of-touches, settled-on-face, settled-at-point}
 
 module _ (m : Mesh) {np ne nf : ℕ} (a : Audited m np ne nf) where
   abbrev t : MeshOver (Row np) (Row ne) (Row nf)

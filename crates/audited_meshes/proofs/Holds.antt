@@ -24,7 +24,9 @@ use Rattle.audited_meshes.proofs.Positions.{getD-map-below}
 use Rattle.audited_meshes.proofs.Cycles.{ClassWalk, walk-of-cycle}
 use Rattle.audited_meshes.proofs.Audited.{audit-is-audited}
 use Rattle.audited_meshes.proofs.Rows.{rows, rows-stand, rows-fit}
-use Rattle.audited_meshes.proofs.Darts.{number, num, Seen, acwOfFace-dart, cwOfFace-dart, acwOfPoint-dart, firstPoint-dart, borders-dart, touches-first, dart-of-borders, dart-of-touches, settled-on-face, settled-at-point}
+use Rattle.audited_meshes.proofs.Darts.{number, num, Seen, acwOfFace-dart, cwOfFace-dart, acwOfPoint-dart}
+use Rattle.audited_meshes.proofs.Darts.{firstPoint-dart, borders-dart, touches-first, dart-of-borders}
+use Rattle.audited_meshes.proofs.Darts.{dart-of-touches, settled-on-face, settled-at-point}
 use Rattle.audited_meshes.proofs.Closed.{closed-rows}
 
 -- the place with a number

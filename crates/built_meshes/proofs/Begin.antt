@@ -25,7 +25,9 @@ use Rattle.tables.specs.declared.Sizes.{Sizes}
 use Rattle.tables.specs.Counted.{rowsFor, zeroedRows}
 use Rattle.built_meshes.specs.Beyond.{Within}
 use Rattle.built_meshes.specs.Claims.{zeroEdge}
-use Rattle.built_meshes.specs.Grounds.{Over-counts, many-points, many-faces, many-listed, point-cut, face-cut, unlike, sum-unlike, Unfit-number, coordinate, interval, Few-rows, few-points, few-faces, few-edges}
+use Rattle.built_meshes.specs.Grounds.{Over-counts, many-points, many-faces, many-listed, point-cut}
+use Rattle.built_meshes.specs.Grounds.{face-cut, unlike, sum-unlike, Unfit-number, coordinate}
+use Rattle.built_meshes.specs.Grounds.{interval, Few-rows, few-points, few-faces, few-edges}
 use Rattle.built_meshes.proofs.Rows.{row, edgeAt-words, ofWords-cong}
 use Rattle.built_meshes.proofs.Beyond.{behind-zeroed}
 use Rattle.built_meshes.proofs.Entering.{counted}

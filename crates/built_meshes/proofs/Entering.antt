@@ -425,8 +425,11 @@ module _ (l : Lists) (D C : ℕ → ℕ → Type 0) (m : Mesh) (ne : ℕ) (f₀ 
 
           old : valence new x ≡ valence m x → At-new (start m x)
           old same =
-              let s = v .start-is x k (subst (λ n. 0 < n) same h) in
-              (omega (arith, s .0), ⊎-elim (λ z. inl (ap (λ (r : TnurccEdge). r .origin) (there (start m x) (s .0)) ∙ z)) (λ z. inr (ap (λ (r : TnurccEdge). r .dest) (there (start m x) (s .0)) ∙ z)) (s .1))
+              let s = v .start-is x k (subst (λ n. 0 < n) same h) in (
+                omega (arith, s .0),
+                ⊎-elim (λ z. inl (ap (λ (r : TnurccEdge). r .origin) (there (start m x) (s .0)) ∙ z))
+                    (λ z. inr (ap (λ (r : TnurccEdge). r .dest) (there (start m x) (s .0)) ∙ z)) (s .1),
+              )
 
           go : Dec (x ≡ p) → Dec (x ≡ q) → At-new (start new x)
           go (yes i) d =

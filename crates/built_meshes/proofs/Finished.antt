@@ -203,39 +203,39 @@ module _ (c : Sizes) (l : Lists) (m₀ : Mesh) (counted' : Counted c l) (numbere
   edged' p b h = edged p b (sym (valence-finished l (s .mesh) p) ∙ h)
 
   pub audited-finished : Audited after (pointsOf l) (s .edges) (facesOf l)
-  audited-finished =
-      record {
-        points-fit = points-fit;
-        edges-fit = edges-fit;
-        faces-fit = faces-fit;
-        start-in-range = λ p b. v .start-is p b (let h = edged' p b in omega arith) .0;
-        edge-in-range = λ e b.
-            record {
-              origin-in-range = v .origin-in e b;
-              dest-in-range = v .dest-in e b;
-              leftFace-in-range = face-in Left e b;
-              rightFace-in-range = face-in Right e b;
-              leftCw-in-range = cw-below l after (s .edges) v right' Left e b;
-              leftAcw-in-range = acw-below l after (s .edges) v right' Left e b;
-              rightCw-in-range = cw-below l after (s .edges) v right' Right e b;
-              rightAcw-in-range = acw-below l after (s .edges) v right' Right e b;
-            };
-        faceStart-in-range = λ f b. faces' .starts f b .below;
-        x-finite = λ p b. subst (λ k. finite (getD (after .positions) k nan) ≡ true) (let z : p * 3 + 0 ≡ p * 3 = omega arith in z) (coordinate-finite p 0 b (omega arith));
-        y-finite = λ p b. coordinate-finite p 1 b (omega arith);
-        z-finite = λ p b. coordinate-finite p 2 b (omega arith);
-        interval-fit = v .interval-fit;
-        ends-differ = v .ends-differ;
-        sides-differ = sides-differ l after (s .edges) v right';
-        one-edge = one-edge l after (s .edges) v right';
-        left-acw = acw-links l after (s .edges) v right' Left;
-        right-acw = acw-links l after (s .edges) v right' Right;
-        left-cw = cw-links l after (s .edges) v right' Left;
-        right-cw = cw-links l after (s .edges) v right' Right;
-        face-walked = λ f b. face-walk l after (s .edges) v right' f b (fit .sound f b) (faces' .starts f b) (few' f b);
-        point-walked = λ p b.
-            point-walk l after (s .edges) v right' p b (edged' p b)
-            (subst (λ w. valence after p ≤ passed w) (sym (walk-finished l (s .mesh) (s .edges) p)) (subst (λ n. n ≤ passed (pointWalk (s .mesh) (s .edges) (valence (s .mesh) p) p)) (sym (valence-finished l (s .mesh) p)) (walked p b)));
-        corner-fit = λ f k b h. inr (faces' .corners f k b h);
-        mark-fit = mark-fits;
-      }
+  audited-finished = record {
+    points-fit = points-fit;
+    edges-fit = edges-fit;
+    faces-fit = faces-fit;
+    start-in-range = λ p b. v .start-is p b (let h = edged' p b in omega arith) .0;
+    edge-in-range = λ e b. record {
+      origin-in-range = v .origin-in e b;
+      dest-in-range = v .dest-in e b;
+      leftFace-in-range = face-in Left e b;
+      rightFace-in-range = face-in Right e b;
+      leftCw-in-range = cw-below l after (s .edges) v right' Left e b;
+      leftAcw-in-range = acw-below l after (s .edges) v right' Left e b;
+      rightCw-in-range = cw-below l after (s .edges) v right' Right e b;
+      rightAcw-in-range = acw-below l after (s .edges) v right' Right e b;
+    };
+    faceStart-in-range = λ f b. faces' .starts f b .below;
+    x-finite = λ p b. subst (λ k. finite (getD (after .positions) k nan) ≡ true)
+        (let z : p * 3 + 0 ≡ p * 3 = omega arith in z) (coordinate-finite p 0 b (omega arith));
+    y-finite = λ p b. coordinate-finite p 1 b (omega arith);
+    z-finite = λ p b. coordinate-finite p 2 b (omega arith);
+    interval-fit = v .interval-fit;
+    ends-differ = v .ends-differ;
+    sides-differ = sides-differ l after (s .edges) v right';
+    one-edge = one-edge l after (s .edges) v right';
+    left-acw = acw-links l after (s .edges) v right' Left;
+    right-acw = acw-links l after (s .edges) v right' Right;
+    left-cw = cw-links l after (s .edges) v right' Left;
+    right-cw = cw-links l after (s .edges) v right' Right;
+    face-walked = λ f b. face-walk l after (s .edges) v right' f b (fit .sound f b) (faces' .starts f b) (few' f b);
+    point-walked = λ p b. point-walk l after (s .edges) v right' p b (edged' p b)
+        (subst (λ w. valence after p ≤ passed w) (sym (walk-finished l (s .mesh) (s .edges) p))
+        (subst (λ n. n ≤ passed (pointWalk (s .mesh) (s .edges) (valence (s .mesh) p) p))
+        (sym (valence-finished l (s .mesh) p)) (walked p b)));
+    corner-fit = λ f k b h. inr (faces' .corners f k b h);
+    mark-fit = mark-fits;
+  }

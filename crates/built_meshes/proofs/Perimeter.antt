@@ -206,7 +206,10 @@ module _ (l : Lists) (s : State) (k : ℕ) (kf : k < facesOf l) (sound : FaceSou
             invariant-as l D (Or-this (Chained l k (suc i)) k i) (Done l k (suc (suc i))) (Chained l k (suc (suc i))) (joined m' e (r .before)) ne'
             (done-suc l k (suc i)) (suc-done l k (suc i)) chain
             (invariant-joined l D (Chained l k (suc i)) m' ne' (t .invariant) (enough (suc i) below r a t) k i e (r .before) g sits-o sits-e done done');
-        counts = counted-same m' (joined m' e (r .before)) ne' (right-joined l D (Chained l k (suc i)) m' ne' (t .invariant) (enough (suc i) below r a t) k i e (r .before) g sits-o sits-e done done') ∙ counts-entry (suc i) below r a t;
+        counts =
+            counted-same m' (joined m' e (r .before)) ne'
+            (right-joined l D (Chained l k (suc i)) m' ne' (t .invariant) (enough (suc i) below r a t) k i e (r .before) g sits-o sits-e done done')
+            ∙ counts-entry (suc i) below r a t;
         within =
             within-trans l (within-trans l (a .within) (t .within))
             (record {

@@ -28,7 +28,9 @@ use Rattle.built_meshes.specs.Builds.{Builds, Accepted-builds}
 use Rattle.built_meshes.specs.Grounds.{Over-counts, Where, lists, whole, Met, over-counts, unfit-number, few-rows, face-size, out-of-range, point-twice, non-rectangular, triple-face, same-way, missing-face, no-edge, missed-edge, First-met, Holds}
 use Rattle.built_meshes.specs.Claims.{First-ground, Refused-by, Refusals-hold, Accepts-exactly, Audited-counts, Accepted-audited, Untouched-beyond}
 use Rattle.built_meshes.specs.declared.Ground.{Ground}
-use Rattle.built_meshes.specs.declared.Ground.the-variants.{OverCounts, UnfitNumber, FewRows, FaceSize, OutOfRange, PointTwice, NonRectangularFace, EdgeTripleFace, SameWay, MissingFace, NoEdge, MissedEdge}
+use Rattle.built_meshes.specs.declared.Ground.the-variants.{OverCounts, UnfitNumber, FewRows, FaceSize, OutOfRange}
+use Rattle.built_meshes.specs.declared.Ground.the-variants.{PointTwice, NonRectangularFace, EdgeTripleFace}
+use Rattle.built_meshes.specs.declared.Ground.the-variants.{SameWay, MissingFace, NoEdge, MissedEdge}
 use Rattle.built_meshes.specs.declared.Verdict.{Verdict}
 use Rattle.built_meshes.specs.declared.Built.the-variants.{Accepted, Refused}
 use Rattle.built_meshes.proofs.Rows.{row}
@@ -37,7 +39,9 @@ use Rattle.built_meshes.proofs.Entering.{counted}
 use Rattle.built_meshes.proofs.Perimeter.{Faces}
 use Rattle.built_meshes.proofs.Before.{Clear-lists, first-lists, first-once}
 use Rattle.built_meshes.proofs.Faces.{Fit-faces, Faces-came, stand, stop, faces-came}
-use Rattle.built_meshes.proofs.Begin.{row-zeroed, Counted, counts-is, counts-fail, counted-fits, Numbered, numbers-is, numbers-fail, numbered-fits, Roomy, rows-is, rows-fail, roomy-fits, listed-all, within-zeroed, ready, faces-none}
+use Rattle.built_meshes.proofs.Begin.{row-zeroed, Counted, counts-is, counts-fail, counted-fits, Numbered}
+use Rattle.built_meshes.proofs.Begin.{numbers-is, numbers-fail, numbered-fits, Roomy, rows-is, rows-fail}
+use Rattle.built_meshes.proofs.Begin.{roomy-fits, listed-all, within-zeroed, ready, faces-none}
 use Rattle.built_meshes.proofs.Finished.{within-finished, audited-finished}
 use Rattle.built_meshes.proofs.Builds.{builds-finished}
 use Rattle.built_meshes.proofs.Refusals.{Whole-fit, Whole-verdict, whole-fit, whole-unfit, whole-verdict-is}

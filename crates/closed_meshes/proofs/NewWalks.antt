@@ -7,7 +7,10 @@ use Rattle.closed_meshes.specs.Cycles.{Cycles}
 use Rattle.closed_meshes.specs.Closed.{Closed}
 use Rattle.closed_meshes.specs.Refinement.{NewPoint, old, mid, facePoint, NewEdge, org, dst, join, refined}
 use Rattle.closed_meshes.proofs.Darts.{edge-flip}
-use Rattle.closed_meshes.proofs.NewDarts.{start-half, end-half, outward, by-kind, next', prev', edge-start-half, first-start-half, first-end-half, face-start-half, face-end-half, next-start-half, next-end-half, prev-start-half, prev-end-half, flip-start-half, flip-end-half}
+use Rattle.closed_meshes.proofs.NewDarts.{start-half, end-half, outward, by-kind, next', prev'}
+use Rattle.closed_meshes.proofs.NewDarts.{edge-start-half, first-start-half, first-end-half}
+use Rattle.closed_meshes.proofs.NewDarts.{face-start-half, face-end-half, next-start-half, next-end-half}
+use Rattle.closed_meshes.proofs.NewDarts.{prev-start-half, prev-end-half, flip-start-half, flip-end-half}
 
 module _ {P E F : Type 0} (m : Mesh P E F) (c : Closed m) where
   -- Walks about the new faces: ranks 0 to 3.

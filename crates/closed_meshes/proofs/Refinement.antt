@@ -6,7 +6,10 @@ use Rattle.closed_meshes.specs.Mesh.{Mesh, Dart, lft, rgt, edge, first, 
 use Rattle.closed_meshes.specs.Closed.{Closed}
 use Rattle.closed_meshes.specs.Refinement.{NewPoint, old, mid, facePoint, NewEdge, org, dst, join, refined, StaysClosed}
 use Rattle.closed_meshes.proofs.Darts.{dart-of-first, dart-of-second, dart-of-face, face-prev, edge-moves}
-use Rattle.closed_meshes.proofs.NewDarts.{start-half, end-half, inward, outward, by-kind, next', prev', edge-start-half, edge-end-half, first-start-half, second-start-half, first-end-half, second-end-half, face-start-half, face-end-half, next-start-half, next-end-half, prev-start-half, prev-end-half}
+use Rattle.closed_meshes.proofs.NewDarts.{start-half, end-half, inward, outward, by-kind, next', prev'}
+use Rattle.closed_meshes.proofs.NewDarts.{edge-start-half, edge-end-half, first-start-half, second-start-half}
+use Rattle.closed_meshes.proofs.NewDarts.{first-end-half, second-end-half, face-start-half, face-end-half}
+use Rattle.closed_meshes.proofs.NewDarts.{next-start-half, next-end-half, prev-start-half, prev-end-half}
 use Rattle.closed_meshes.proofs.NewWalks.{about-faces', about-points', pointDart', edge-pointDart'}
 
 module _ {P E F : Type 0} (m : Mesh P E F) (c : Closed m) where

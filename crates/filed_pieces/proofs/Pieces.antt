@@ -20,5 +20,9 @@ use Rattle.runs.specs.Runs.{numbered}
 use Rattle.filed_pieces.specs.Pieces.{answersTo, pieces, AsFiled}
 
 pub theorem : AsFiled
-unfolding pieces answersTo build step numbered linksOf lt over zeroed refinedRows copied visits visit faceWalk turns filled visitAlong splitAll splitWhole split ringOf putRing putJoin putFirst putSecond putNewFace putFacePoint putEdge putPoint putStart putFace facePointOf facePointAbout facePoint windowSum windowWeight sixTerms threeTerms acwAbout cwAbout again edgePoint edgeMiddle shares oldPoint radialSum radialTerms radialEdge edgeWeight faceWeight add sub mul div neg le ofBits ofInt
+unfolding pieces answersTo build step numbered linksOf lt over zeroed refinedRows copied visits visit faceWalk turns
+    filled visitAlong splitAll splitWhole split ringOf putRing putJoin putFirst putSecond putNewFace putFacePoint
+    putEdge putPoint putStart putFace facePointOf facePointAbout facePoint windowSum windowWeight sixTerms threeTerms
+    acwAbout cwAbout again edgePoint edgeMiddle shares oldPoint radialSum radialTerms radialEdge edgeWeight faceWeight
+    add sub mul div neg le ofBits ofInt
 theorem = refl

@@ -13,12 +13,30 @@ use Rattle.mesh_text.specs.Lists.{listedPoints}
 use Rattle.mesh_text.specs.declared.Reading.the-variants as Reading
 
 -- how many points, faces and listed points a text has; nothing for a text that is not of the form
+sizesOf : List ℕ → List ℕ
+sizesOf s = given (λ m n. length (m .points) ∷ length (m .faces) ∷ length (listedPoints m) ∷ []) [] (text s)
+
 sizes : String → List ℕ
-sizes t = given (λ m n. length (m .points) ∷ length (m .faces) ∷ length (listedPoints m) ∷ []) [] (text (bytes t))
+sizes t = sizesOf (bytes t)
 
 -- the cube of document 01
-cube : sizes "[mesh 1]\n[point bff0000000000000 bff0000000000000 bff0000000000000]\n[point 3ff0000000000000 bff0000000000000 bff0000000000000]\n[point bff0000000000000 3ff0000000000000 bff0000000000000]\n[point 3ff0000000000000 3ff0000000000000 bff0000000000000]\n[point bff0000000000000 bff0000000000000 3ff0000000000000]\n[point 3ff0000000000000 bff0000000000000 3ff0000000000000]\n[point bff0000000000000 3ff0000000000000 3ff0000000000000]\n[point 3ff0000000000000 3ff0000000000000 3ff0000000000000]\n[face [0 [2 3ff0000000000000]] [2 [3 3ff0000000000000]] [3 [1 3ff0000000000000]] [1 [0 3ff0000000000000]]]\n[face [4 [5 3ff0000000000000]] [5 [7 3ff0000000000000]] [7 [6 3ff0000000000000]] [6 [4 3ff0000000000000]]]\n[face [0 [1 3ff0000000000000]] [1 [5 3ff0000000000000]] [5 [4 3ff0000000000000]] [4 [0 3ff0000000000000]]]\n[face [2 [6 3ff0000000000000]] [6 [7 3ff0000000000000]] [7 [3 3ff0000000000000]] [3 [2 3ff0000000000000]]]\n[face [0 [4 3ff0000000000000]] [4 [6 3ff0000000000000]] [6 [2 3ff0000000000000]] [2 [0 3ff0000000000000]]]\n[face [1 [3 3ff0000000000000]] [3 [7 3ff0000000000000]] [7 [5 3ff0000000000000]] [5 [1 3ff0000000000000]]]\n[end]\n" ≡ 8 ∷ 6 ∷ 24 ∷ []
-unfolding sizes digitValue value stands literal digit bits digits decimalFrom decimal many coordinate point listed side face ends mesh text times flat
+cube : sizesOf (bytes "[mesh 1]\n" ++
+    bytes "[point bff0000000000000 bff0000000000000 bff0000000000000]\n" ++
+    bytes "[point 3ff0000000000000 bff0000000000000 bff0000000000000]\n" ++
+    bytes "[point bff0000000000000 3ff0000000000000 bff0000000000000]\n" ++
+    bytes "[point 3ff0000000000000 3ff0000000000000 bff0000000000000]\n" ++
+    bytes "[point bff0000000000000 bff0000000000000 3ff0000000000000]\n" ++
+    bytes "[point 3ff0000000000000 bff0000000000000 3ff0000000000000]\n" ++
+    bytes "[point bff0000000000000 3ff0000000000000 3ff0000000000000]\n" ++
+    bytes "[point 3ff0000000000000 3ff0000000000000 3ff0000000000000]\n" ++
+    bytes "[face [0 [2 3ff0000000000000]] [2 [3 3ff0000000000000]] [3 [1 3ff0000000000000]] [1 [0 3ff0000000000000]]]\n" ++
+    bytes "[face [4 [5 3ff0000000000000]] [5 [7 3ff0000000000000]] [7 [6 3ff0000000000000]] [6 [4 3ff0000000000000]]]\n" ++
+    bytes "[face [0 [1 3ff0000000000000]] [1 [5 3ff0000000000000]] [5 [4 3ff0000000000000]] [4 [0 3ff0000000000000]]]\n" ++
+    bytes "[face [2 [6 3ff0000000000000]] [6 [7 3ff0000000000000]] [7 [3 3ff0000000000000]] [3 [2 3ff0000000000000]]]\n" ++
+    bytes "[face [0 [4 3ff0000000000000]] [4 [6 3ff0000000000000]] [6 [2 3ff0000000000000]] [2 [0 3ff0000000000000]]]\n" ++
+    bytes "[face [1 [3 3ff0000000000000]] [3 [7 3ff0000000000000]] [7 [5 3ff0000000000000]] [5 [1 3ff0000000000000]]]\n" ++
+    bytes "[end]\n") ≡ 8 ∷ 6 ∷ 24 ∷ []
+unfolding sizes sizesOf digitValue value stands literal digit bits digits decimalFrom decimal many coordinate point listed side face ends mesh text times flat
 cube = refl
 
 -- no points, no faces; a face and no point; empty sides; 4294967295, as a listed and as a first point; a NaN, which is of the form
@@ -29,7 +47,7 @@ good : map sizes (
     "[mesh 1]\n[face [4294967295 [4294967295 3ff0000000000000]] [0] [0] [0]]\n[end]\n" ∷
     "[mesh 1]\n[point 7ff8000000000000 7ff0000000000000 fff0000000000000]\n[end]\n" ∷ [])
     ≡ (0 ∷ 0 ∷ 0 ∷ []) ∷ (0 ∷ 1 ∷ 1 ∷ []) ∷ (0 ∷ 1 ∷ 0 ∷ []) ∷ (0 ∷ 1 ∷ 1 ∷ []) ∷ (1 ∷ 0 ∷ 0 ∷ []) ∷ []
-unfolding sizes digitValue value stands literal digit bits digits decimalFrom decimal many coordinate point listed side face ends mesh text times flat
+unfolding sizes sizesOf digitValue value stands literal digit bits digits decimalFrom decimal many coordinate point listed side face ends mesh text times flat
 good = refl
 
 -- no byte; one byte; the head alone; cut before the last byte; a byte after the end; another version; a version with more digits;
@@ -64,7 +82,7 @@ bad : map sizes (
     "[mesh 1]\n[face [0 [18446744073709551616 3ff0000000000000]] [0] [0] [0]]\n[end]\n" ∷
     "[mesh 1]\n[face [0 [-1 3ff0000000000000]] [0] [0] [0]]\n[end]\n" ∷ [])
     ≡ replicate 25 []
-unfolding sizes digitValue value stands literal digit bits digits decimalFrom decimal many coordinate point listed side face ends mesh text times flat
+unfolding sizes sizesOf digitValue value stands literal digit bits digits decimalFrom decimal many coordinate point listed side face ends mesh text times flat
 bad = refl
 
 -- the numbers of a text, each in its place

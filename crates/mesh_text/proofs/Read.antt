@@ -113,7 +113,8 @@ module _ (s : List ℕ) (m : Mesh) (n : ℕ) (e : text s ≡ found m n) where
   length-lengths =
       let (a, i, j, ep, ef) = lines s m n e in
       length-flat (map length) 4 (m .faces)
-      (many-each s (bytes "[face") (face s) (λ (sides : List (List Listed)). length (map length sides) ≡ 4) (λ at sides k h. length-map sides length ∙ length-face s at sides k h) (length s) i (m .faces) j ef)
+      (many-each s (bytes "[face") (face s) (λ (sides : List (List Listed)). length (map length sides) ≡ 4)
+      (λ at sides k h. length-map sides length ∙ length-face s at sides k h) (length s) i (m .faces) j ef)
 
 pub length-intervals : (m : Mesh) → length (intervals m) ≡ length (listedPoints m)
 unfolding flat

@@ -131,7 +131,9 @@ cube-olds = refl
 
 -- all of it at once
 cube-point-0 : placedAt (oldPointOf cube 12 0) ≡ at 0xbfdc71c71c71c71c 0xbfdc71c71c71c71c 0xbfdc71c71c71c71c
-unfolding oldPointOf edgePointOf oldPoint radialSum radialTerms radialEdge edgeWeight faceWeight edgePoint edgeMiddle shares facePointOf facePointAbout facePoint windowSum windowWeight sixTerms threeTerms acwAbout cwAbout turns again faceWalk add sub mul div neg ofBits le ofInt
+unfolding oldPointOf edgePointOf oldPoint radialSum radialTerms radialEdge edgeWeight faceWeight edgePoint edgeMiddle
+    shares facePointOf facePointAbout facePoint windowSum windowWeight sixTerms threeTerms acwAbout cwAbout turns again
+    faceWalk add sub mul div neg ofBits le ofInt
 cube-point-0 = refl
 
 -- all intervals 0

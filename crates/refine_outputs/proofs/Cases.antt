@@ -2,7 +2,7 @@
 -- and a point that is not finite. Assumes nothing.
 --     cube                   document 01's example: its text, and its whole output
 use mathlib.Core.Path.{_≡_, refl}
-use mathlib.Core.List.{[], _∷_, map}
+use mathlib.Core.List.{[], _∷_, _++_, map}
 use lib.Ieee.{add, div, le, lt, mul, neg, ofBits, ofInt, sub, toBits}
 use Rattle.text_numbers.specs.Form.{bytes, literal, many, stands, times}
 use Rattle.text_numbers.specs.Numbers.{bits, decimal, decimalFrom, digit, digitValue, digits, value}
@@ -27,15 +27,55 @@ use Rattle.built_meshes.specs.Building.{build}
 use Rattle.steps.specs.Step.{step}
 use Rattle.runs.specs.Runs.{numbered}
 
-pub cube : output (bytes "[mesh 1]\n[point bff0000000000000 bff0000000000000 bff0000000000000]\n[point 3ff0000000000000 bff0000000000000 bff0000000000000]\n[point bff0000000000000 3ff0000000000000 bff0000000000000]\n[point 3ff0000000000000 3ff0000000000000 bff0000000000000]\n[point bff0000000000000 bff0000000000000 3ff0000000000000]\n[point 3ff0000000000000 bff0000000000000 3ff0000000000000]\n[point bff0000000000000 3ff0000000000000 3ff0000000000000]\n[point 3ff0000000000000 3ff0000000000000 3ff0000000000000]\n[face [0 [2 3ff0000000000000]] [2 [3 3ff0000000000000]] [3 [1 3ff0000000000000]] [1 [0 3ff0000000000000]]]\n[face [4 [5 3ff0000000000000]] [5 [7 3ff0000000000000]] [7 [6 3ff0000000000000]] [6 [4 3ff0000000000000]]]\n[face [0 [1 3ff0000000000000]] [1 [5 3ff0000000000000]] [5 [4 3ff0000000000000]] [4 [0 3ff0000000000000]]]\n[face [2 [6 3ff0000000000000]] [6 [7 3ff0000000000000]] [7 [3 3ff0000000000000]] [3 [2 3ff0000000000000]]]\n[face [0 [4 3ff0000000000000]] [4 [6 3ff0000000000000]] [6 [2 3ff0000000000000]] [2 [0 3ff0000000000000]]]\n[face [1 [3 3ff0000000000000]] [3 [7 3ff0000000000000]] [7 [5 3ff0000000000000]] [5 [1 3ff0000000000000]]]\n[end]\n")
+pub cube : output (bytes "[mesh 1]\n" ++
+    bytes "[point bff0000000000000 bff0000000000000 bff0000000000000]\n" ++
+    bytes "[point 3ff0000000000000 bff0000000000000 bff0000000000000]\n" ++
+    bytes "[point bff0000000000000 3ff0000000000000 bff0000000000000]\n" ++
+    bytes "[point 3ff0000000000000 3ff0000000000000 bff0000000000000]\n" ++
+    bytes "[point bff0000000000000 bff0000000000000 3ff0000000000000]\n" ++
+    bytes "[point 3ff0000000000000 bff0000000000000 3ff0000000000000]\n" ++
+    bytes "[point bff0000000000000 3ff0000000000000 3ff0000000000000]\n" ++
+    bytes "[point 3ff0000000000000 3ff0000000000000 3ff0000000000000]\n" ++
+    bytes "[face [0 [2 3ff0000000000000]] [2 [3 3ff0000000000000]] [3 [1 3ff0000000000000]] [1 [0 3ff0000000000000]]]\n" ++
+    bytes "[face [4 [5 3ff0000000000000]] [5 [7 3ff0000000000000]] [7 [6 3ff0000000000000]] [6 [4 3ff0000000000000]]]\n" ++
+    bytes "[face [0 [1 3ff0000000000000]] [1 [5 3ff0000000000000]] [5 [4 3ff0000000000000]] [4 [0 3ff0000000000000]]]\n" ++
+    bytes "[face [2 [6 3ff0000000000000]] [6 [7 3ff0000000000000]] [7 [3 3ff0000000000000]] [3 [2 3ff0000000000000]]]\n" ++
+    bytes "[face [0 [4 3ff0000000000000]] [4 [6 3ff0000000000000]] [6 [2 3ff0000000000000]] [2 [0 3ff0000000000000]]]\n" ++
+    bytes "[face [1 [3 3ff0000000000000]] [3 [7 3ff0000000000000]] [7 [5 3ff0000000000000]] [5 [1 3ff0000000000000]]]\n" ++
+    bytes "[end]\n")
     ≡ bytes "[mesh 8 12 6]\n[step 26 48 24]\n[at 0 bfdc71c71c71c71c bfdc71c71c71c71c bfdc71c71c71c71c]\n"
-unfolding output digitValue value stands literal digit bits digits decimalFrom decimal many coordinate point listed side face ends mesh text times flat toBits decimalDigits hexByte hexBytes build step numbered linksOf lt over zeroed refinedRows copied visits visit faceWalk turns filled visitAlong splitAll splitWhole split ringOf putRing putJoin putFirst putSecond putNewFace putFacePoint putEdge putPoint putStart putFace facePointOf facePointAbout facePoint windowSum windowWeight sixTerms threeTerms acwAbout cwAbout again edgePoint edgeMiddle shares oldPoint radialSum radialTerms radialEdge edgeWeight faceWeight add sub mul div neg le ofBits ofInt
+unfolding output digitValue value stands literal digit bits digits decimalFrom decimal many coordinate point listed side
+    face ends mesh text times flat toBits decimalDigits hexByte hexBytes build step numbered linksOf lt over zeroed
+    refinedRows copied visits visit faceWalk turns filled visitAlong splitAll splitWhole split ringOf putRing putJoin
+    putFirst putSecond putNewFace putFacePoint putEdge putPoint putStart putFace facePointOf facePointAbout facePoint
+    windowSum windowWeight sixTerms threeTerms acwAbout cwAbout again edgePoint edgeMiddle shares oldPoint radialSum
+    radialTerms radialEdge edgeWeight faceWeight add sub mul div neg le ofBits ofInt
 cube = refl
 
 -- the cube with all intervals 0
-zero-cube : output (bytes "[mesh 1]\n[point bff0000000000000 bff0000000000000 bff0000000000000]\n[point 3ff0000000000000 bff0000000000000 bff0000000000000]\n[point bff0000000000000 3ff0000000000000 bff0000000000000]\n[point 3ff0000000000000 3ff0000000000000 bff0000000000000]\n[point bff0000000000000 bff0000000000000 3ff0000000000000]\n[point 3ff0000000000000 bff0000000000000 3ff0000000000000]\n[point bff0000000000000 3ff0000000000000 3ff0000000000000]\n[point 3ff0000000000000 3ff0000000000000 3ff0000000000000]\n[face [0 [2 0000000000000000]] [2 [3 0000000000000000]] [3 [1 0000000000000000]] [1 [0 0000000000000000]]]\n[face [4 [5 0000000000000000]] [5 [7 0000000000000000]] [7 [6 0000000000000000]] [6 [4 0000000000000000]]]\n[face [0 [1 0000000000000000]] [1 [5 0000000000000000]] [5 [4 0000000000000000]] [4 [0 0000000000000000]]]\n[face [2 [6 0000000000000000]] [6 [7 0000000000000000]] [7 [3 0000000000000000]] [3 [2 0000000000000000]]]\n[face [0 [4 0000000000000000]] [4 [6 0000000000000000]] [6 [2 0000000000000000]] [2 [0 0000000000000000]]]\n[face [1 [3 0000000000000000]] [3 [7 0000000000000000]] [7 [5 0000000000000000]] [5 [1 0000000000000000]]]\n[end]\n")
+zero-cube : output (bytes "[mesh 1]\n" ++
+    bytes "[point bff0000000000000 bff0000000000000 bff0000000000000]\n" ++
+    bytes "[point 3ff0000000000000 bff0000000000000 bff0000000000000]\n" ++
+    bytes "[point bff0000000000000 3ff0000000000000 bff0000000000000]\n" ++
+    bytes "[point 3ff0000000000000 3ff0000000000000 bff0000000000000]\n" ++
+    bytes "[point bff0000000000000 bff0000000000000 3ff0000000000000]\n" ++
+    bytes "[point 3ff0000000000000 bff0000000000000 3ff0000000000000]\n" ++
+    bytes "[point bff0000000000000 3ff0000000000000 3ff0000000000000]\n" ++
+    bytes "[point 3ff0000000000000 3ff0000000000000 3ff0000000000000]\n" ++
+    bytes "[face [0 [2 0000000000000000]] [2 [3 0000000000000000]] [3 [1 0000000000000000]] [1 [0 0000000000000000]]]\n" ++
+    bytes "[face [4 [5 0000000000000000]] [5 [7 0000000000000000]] [7 [6 0000000000000000]] [6 [4 0000000000000000]]]\n" ++
+    bytes "[face [0 [1 0000000000000000]] [1 [5 0000000000000000]] [5 [4 0000000000000000]] [4 [0 0000000000000000]]]\n" ++
+    bytes "[face [2 [6 0000000000000000]] [6 [7 0000000000000000]] [7 [3 0000000000000000]] [3 [2 0000000000000000]]]\n" ++
+    bytes "[face [0 [4 0000000000000000]] [4 [6 0000000000000000]] [6 [2 0000000000000000]] [2 [0 0000000000000000]]]\n" ++
+    bytes "[face [1 [3 0000000000000000]] [3 [7 0000000000000000]] [7 [5 0000000000000000]] [5 [1 0000000000000000]]]\n" ++
+    bytes "[end]\n")
     ≡ bytes "[mesh 8 12 6]\n[refused 33]\n"
-unfolding output digitValue value stands literal digit bits digits decimalFrom decimal many coordinate point listed side face ends mesh text times flat toBits decimalDigits hexByte hexBytes build step numbered linksOf lt over zeroed refinedRows copied visits visit faceWalk turns filled visitAlong splitAll splitWhole split ringOf putRing putJoin putFirst putSecond putNewFace putFacePoint putEdge putPoint putStart putFace facePointOf facePointAbout facePoint windowSum windowWeight sixTerms threeTerms acwAbout cwAbout again edgePoint edgeMiddle shares oldPoint radialSum radialTerms radialEdge edgeWeight faceWeight add sub mul div neg le ofBits ofInt
+unfolding output digitValue value stands literal digit bits digits decimalFrom decimal many coordinate point listed side
+    face ends mesh text times flat toBits decimalDigits hexByte hexBytes build step numbered linksOf lt over zeroed
+    refinedRows copied visits visit faceWalk turns filled visitAlong splitAll splitWhole split ringOf putRing putJoin
+    putFirst putSecond putNewFace putFacePoint putEdge putPoint putStart putFace facePointOf facePointAbout facePoint
+    windowSum windowWeight sixTerms threeTerms acwAbout cwAbout again edgePoint edgeMiddle shares oldPoint radialSum
+    radialTerms radialEdge edgeWeight faceWeight add sub mul div neg le ofBits ofInt
 zero-cube = refl
 
 texts : map (λ t. output (bytes t)) (

@@ -40,17 +40,21 @@ rowsOf m np ne nf =
     }
 
 cube-numbered : refinedRows cube 8 12 6 (0 ∷ 1 ∷ 2 ∷ 3 ∷ 4 ∷ 5 ∷ []) (used 26 48 24) ≡ rowsOf cubeNumbered 26 48 24
-unfolding refinedRows copied over visits visit faceWalk turns filled visitAlong splitAll splitWhole split ringOf putRing putJoin putFirst putSecond putNewFace putFacePoint putEdge putPoint putStart putFace mul add ofBits
+unfolding refinedRows copied over visits visit faceWalk turns filled visitAlong splitAll splitWhole split ringOf putRing
+    putJoin putFirst putSecond putNewFace putFacePoint putEdge putPoint putStart putFace mul add ofBits
 cube-numbered = refl
 
 cube-last-to-first : refinedRows cube 8 12 6 (5 ∷ 4 ∷ 3 ∷ 2 ∷ 1 ∷ 0 ∷ []) (used 26 48 24) ≡ rowsOf cubeLastToFirst 26 48 24
-unfolding refinedRows copied over visits visit faceWalk turns filled visitAlong splitAll splitWhole split ringOf putRing putJoin putFirst putSecond putNewFace putFacePoint putEdge putPoint putStart putFace mul add ofBits
+unfolding refinedRows copied over visits visit faceWalk turns filled visitAlong splitAll splitWhole split ringOf putRing
+    putJoin putFirst putSecond putNewFace putFacePoint putEdge putPoint putStart putFace mul add ofBits
 cube-last-to-first = refl
 
 two-triangles : refinedRows triangles 3 3 2 (0 ∷ 1 ∷ []) (used 8 12 6) ≡ rowsOf trianglesRefined 8 12 6
-unfolding refinedRows copied over visits visit faceWalk turns filled visitAlong splitAll splitWhole split ringOf putRing putJoin putFirst putSecond putNewFace putFacePoint putEdge putPoint putStart putFace mul add ofBits
+unfolding refinedRows copied over visits visit faceWalk turns filled visitAlong splitAll splitWhole split ringOf putRing
+    putJoin putFirst putSecond putNewFace putFacePoint putEdge putPoint putStart putFace mul add ofBits
 two-triangles = refl
 
 prism-in-order : refinedRows prism 10 15 7 (0 ∷ 6 ∷ 1 ∷ 3 ∷ 2 ∷ 5 ∷ 4 ∷ []) (used 32 60 30) ≡ rowsOf prismRefined 32 60 30
-unfolding refinedRows copied over visits visit faceWalk turns filled visitAlong splitAll splitWhole split ringOf putRing putJoin putFirst putSecond putNewFace putFacePoint putEdge putPoint putStart putFace mul add ofBits
+unfolding refinedRows copied over visits visit faceWalk turns filled visitAlong splitAll splitWhole split ringOf putRing
+    putJoin putFirst putSecond putNewFace putFacePoint putEdge putPoint putStart putFace mul add ofBits
 prism-in-order = refl

@@ -18,7 +18,10 @@ use Rattle.refined_meshes.specs.State.{State}
 use Rattle.refined_meshes.specs.Fits.{RoomFor}
 use Rattle.refined_meshes.proofs.Places.{dartAt, place, face-dartAt, place-dartAt, dartAt-place, place-below}
 use Rattle.refined_meshes.proofs.Numbering.{edgeNo, faceNo, edgeNo-injective, faceNo-injective, edgeNo-fits, faceNo-fits}
-use Rattle.refined_meshes.proofs.Words.{Ends, Side, ends, side, faceOf, dartOf, room-putEdge, room-putFace, room-putSide, ends-putEdge, left-putEdge, right-putEdge, ends-putEdge-other, side-putEdge-other, ends-putSide, side-putSide, side-putSide-other, faceOf-putFace, faceOf-putFace-other}
+use Rattle.refined_meshes.proofs.Words.{Ends, Side, ends, side, faceOf, dartOf, room-putEdge, room-putFace}
+use Rattle.refined_meshes.proofs.Words.{room-putSide, ends-putEdge, left-putEdge, right-putEdge}
+use Rattle.refined_meshes.proofs.Words.{ends-putEdge-other, side-putEdge-other, ends-putSide, side-putSide}
+use Rattle.refined_meshes.proofs.Words.{side-putSide-other, faceOf-putFace, faceOf-putFace-other}
 use Rattle.refined_meshes.proofs.Target.{isLeft, endsAt, outSide, inSide, faceAt, rowOf, rowOf-injective, oldDart}
 use Rattle.refined_meshes.proofs.Turns.{turns-stay, turns-ok, turns-other, turns-same}
 use Rattle.refined_meshes.proofs.Ring.{joinAt, joinEdge, halfAt, newFaceAt}

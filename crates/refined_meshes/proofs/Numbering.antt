@@ -21,7 +21,9 @@ use Rattle.closed_meshes.proofs.Isomorphisms.{to-injective}
 use Rattle.closed_meshes.proofs.Sums.{place-below as sum-below, place-unique, place-found}
 use Rattle.audited_meshes.specs.Folds.{one}
 use Rattle.refined_meshes.proofs.Places.{dartAt, place, face-dartAt, place-dartAt, place-below, place-injective}
-use Rattle.refined_meshes.proofs.Leads.{when, when-below, when-injective, when-from, leads, lead, edge-lead, leads-lead, lead-edge, atTurn-from, sizeAt, splitAt, splitsBefore, splits, sizeAt-when, splitAt-when}
+use Rattle.refined_meshes.proofs.Leads.{when, when-below, when-injective, when-from, leads, lead}
+use Rattle.refined_meshes.proofs.Leads.{edge-lead, leads-lead, lead-edge, atTurn-from, sizeAt}
+use Rattle.refined_meshes.proofs.Leads.{splitAt, splitsBefore, splits, sizeAt-when, splitAt-when}
 
 -- Numbers that are injective, below n and onto the numbers below n count the rows of a type.
 counted :

@@ -324,7 +324,9 @@ module _
         record {
           mesh = mesh' m stands c by-turns s h;
           stands = stands' m stands c by-turns s h ps;
-          numbering = renumbering (refined t c) (points m stands c by-turns s h) (edges m stands c by-turns s h) (faces m stands c by-turns s h) (λ x. edge (startDart m stands c by-turns s h x .0)) firstHalf;
+          numbering =
+              renumbering (refined t c) (points m stands c by-turns s h) (edges m stands c by-turns s h)
+              (faces m stands c by-turns s h) (λ x. edge (startDart m stands c by-turns s h x .0)) firstHalf;
           touching = touching' m stands c by-turns s h;
           old-row = λ p. unfold pointNo in refl;
           origin-row = λ e. unfold edgeNo in refl;

@@ -21,10 +21,14 @@ use Rattle.refined_meshes.specs.Fits.{RoomFor}
 use Rattle.refined_meshes.proofs.Places.{dartAt}
 use Rattle.refined_meshes.proofs.Numbering.{pointNo, edgeNo, faceNo, pointNo-injective, pointNo-fits}
 use Rattle.refined_meshes.proofs.Words.{ends, side, pointOf, faceOf, room-putPoint, pointOf-putPoint, pointOf-putPoint-other}
-use Rattle.refined_meshes.proofs.Target.{endsAt, firstSide, secondSide, outSide, inSide, centreAt, faceAt, rowOf, row-start, row-end, kind, oldDart, starting, inner, outer, ending, kind-start, kind-end, oldDart-start, oldDart-end}
+use Rattle.refined_meshes.proofs.Target.{endsAt, firstSide, secondSide, outSide, inSide, centreAt, faceAt}
+use Rattle.refined_meshes.proofs.Target.{rowOf, row-start, row-end, kind, oldDart, starting, inner, outer}
+use Rattle.refined_meshes.proofs.Target.{ending, kind-start, kind-end, oldDart-start, oldDart-end}
 use Rattle.refined_meshes.proofs.Turns.{turns-cong, turns-view}
 use Rattle.refined_meshes.proofs.Ring.{RingIs, joinAt, halfAt, newFaceAt, join-at, first-at, second-at, face-at}
-use Rattle.refined_meshes.proofs.Loops.{parts, not-on, joins, joins-fit, joins-same, joins-other, sideAt, halves, halves-fit, halves-ends, halves-same, halves-other, newFaces, newFaces-fit, newFaces-same, newFaces-other}
+use Rattle.refined_meshes.proofs.Loops.{parts, not-on, joins, joins-fit, joins-same, joins-other, sideAt}
+use Rattle.refined_meshes.proofs.Loops.{halves, halves-fit, halves-ends, halves-same, halves-other}
+use Rattle.refined_meshes.proofs.Loops.{newFaces, newFaces-fit, newFaces-same, newFaces-other}
 
 -- a side of an edge
 abbrev dartOver : {E : Type 0} → Bool → E → Dart E

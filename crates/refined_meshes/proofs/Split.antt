@@ -7,7 +7,10 @@ use Rattle.closed_meshes.specs.Mesh.{Dart, lft, rgt, edge}
 use Rattle.refined_meshes.specs.State.{State, edgeOf, putEdge, putPoint, putStart}
 use Rattle.refined_meshes.specs.Split.{half, originHalf, destinationHalf, split}
 use Rattle.refined_meshes.specs.Fits.{Room}
-use Rattle.refined_meshes.proofs.Words.{Ends, Side, PointWords, ends, side, pointOf, faceOf, room-putEdge, room-putPoint, room-putStart, ends-putEdge, left-putEdge, right-putEdge, ends-putEdge-other, side-putEdge-other, pointOf-putPoint, pointOf-putPoint-other, pointOf-putStart, pointOf-putStart-other}
+use Rattle.refined_meshes.proofs.Words.{Ends, Side, PointWords, ends, side, pointOf, faceOf, room-putEdge}
+use Rattle.refined_meshes.proofs.Words.{room-putPoint, room-putStart, ends-putEdge, left-putEdge, right-putEdge}
+use Rattle.refined_meshes.proofs.Words.{ends-putEdge-other, side-putEdge-other, pointOf-putPoint}
+use Rattle.refined_meshes.proofs.Words.{pointOf-putPoint-other, pointOf-putStart, pointOf-putStart-other}
 
 module _ {P E F : ℕ} (s : State) (room : Room P E F s) (e : ℕ) (e-below : e < E) (h-below : s .edgesTaken < E) (p-below : s .pointsTaken < P)
     (q-below : ends s e .dest < P) (e-other : s .edgesTaken ≢ e) (q-other : ends s e .dest ≢ s .pointsTaken) where

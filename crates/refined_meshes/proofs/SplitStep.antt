@@ -18,7 +18,9 @@ use Rattle.refined_meshes.proofs.Leads.{when}
 use Rattle.refined_meshes.proofs.Numbering.{pointNo, edgeNo, faceNo, pointNo-injective, edgeNo-injective, pointNo-fits, edgeNo-fits}
 use Rattle.refined_meshes.proofs.Words.{ends, side, pointOf}
 use Rattle.refined_meshes.proofs.Target.{endsOld, endsAt, midAt, rowOf, edge-rowOf}
-use Rattle.refined_meshes.proofs.Split.{room-split, ends-origin, left-origin, right-origin, ends-destination, ends-split-other, side-split-other, point-middle, point-destination, point-split-other, faceOf-split}
+use Rattle.refined_meshes.proofs.Split.{room-split, ends-origin, left-origin, right-origin}
+use Rattle.refined_meshes.proofs.Split.{ends-destination, ends-split-other, side-split-other}
+use Rattle.refined_meshes.proofs.Split.{point-middle, point-destination, point-split-other, faceOf-split}
 use Rattle.refined_meshes.proofs.Content.{link, Done, Latest, Unchanged, OldPoint, Content}
 
 module _ (m : Mesh) {np ne nf : ℕ} {t : MeshOver (Row np) (Row ne) (Row nf)} (c : Closed t) (order : Bijection (Row nf) (Row nf)) where

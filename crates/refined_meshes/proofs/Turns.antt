@@ -88,7 +88,11 @@ module _ {A : Type 0} where
           → (s : A) → Ok s → (i : ℕ) → i < n → get (turns n turn s) (key i) ≡ val i
       unfolding turns
       turns-same zero val same other injective s o i h = absurd (omega arith)
-      turns-same (suc n) val same other injective s o i h = go (turns-same n val (λ i y l. same i y (omega arith)) (λ i y z l. other i y z (omega arith)) (λ i j l k. injective i j (omega arith) (omega arith)) s o i) (ℕ-discrete i n)
+      turns-same (suc n) val same other injective s o i h =
+          go
+          (turns-same n val (λ i y l. same i y (omega arith)) (λ i y z l. other i y z (omega arith))
+          (λ i j l k. injective i j (omega arith) (omega arith)) s o i)
+          (ℕ-discrete i n)
         where
           go : (i < n → get (turns n turn s) (key i) ≡ val i) → Dec (i ≡ n) → get (turns (suc n) turn s) (key i) ≡ val i
           go ih (yes e) = rw e (same n (turns n turn s) (omega arith) (turns-ok n s o))

@@ -97,5 +97,9 @@ pieces =
     ∷ []
 
 pieces-answered : map answered pieces ≡ map (λ p. p .expected) pieces
-unfolding pieces step over zeroed refinedRows copied visits visit faceWalk turns filled visitAlong splitAll splitWhole split ringOf putRing putJoin putFirst putSecond putNewFace putFacePoint putEdge putPoint putStart putFace facePointOf facePointAbout facePoint windowSum windowWeight sixTerms threeTerms acwAbout cwAbout again edgePoint edgeMiddle shares oldPoint radialSum radialTerms radialEdge edgeWeight faceWeight add sub mul div neg le ofBits ofInt
+unfolding pieces step over zeroed refinedRows copied visits visit faceWalk turns filled visitAlong splitAll splitWhole
+    split ringOf putRing putJoin putFirst putSecond putNewFace putFacePoint putEdge putPoint putStart putFace
+    facePointOf facePointAbout facePoint windowSum windowWeight sixTerms threeTerms acwAbout cwAbout again edgePoint
+    edgeMiddle shares oldPoint radialSum radialTerms radialEdge edgeWeight faceWeight add sub mul div neg le ofBits
+    ofInt
 pieces-answered = refl

@@ -1,7 +1,7 @@
 -- Building from a text computed: document 01's cube, the empty mesh, no text at all, a byte too many, tables that have no rows for a
 -- face, a number that is not finite, and the limit of bytes.
 use mathlib.Core.Path.{_≡_, refl}
-use mathlib.Core.List.{List, [], _∷_, map}
+use mathlib.Core.List.{List, [], _∷_, _++_, map}
 use Prim.Native.Nat.{ℕ, _*_}
 use lib.Ieee.{ofBits, neg, add, sub, le, lt, binary64}
 use lib.ListN.{replicate}
@@ -32,7 +32,22 @@ unfolding buildText
 numbers b s = numbersOf (buildText b s (rowsOf 0 0 0) .answer)
 
 -- the cube of document 01
-cube : numbersOf (buildText Refine (bytes "[mesh 1]\n[point bff0000000000000 bff0000000000000 bff0000000000000]\n[point 3ff0000000000000 bff0000000000000 bff0000000000000]\n[point bff0000000000000 3ff0000000000000 bff0000000000000]\n[point 3ff0000000000000 3ff0000000000000 bff0000000000000]\n[point bff0000000000000 bff0000000000000 3ff0000000000000]\n[point 3ff0000000000000 bff0000000000000 3ff0000000000000]\n[point bff0000000000000 3ff0000000000000 3ff0000000000000]\n[point 3ff0000000000000 3ff0000000000000 3ff0000000000000]\n[face [0 [2 3ff0000000000000]] [2 [3 3ff0000000000000]] [3 [1 3ff0000000000000]] [1 [0 3ff0000000000000]]]\n[face [4 [5 3ff0000000000000]] [5 [7 3ff0000000000000]] [7 [6 3ff0000000000000]] [6 [4 3ff0000000000000]]]\n[face [0 [1 3ff0000000000000]] [1 [5 3ff0000000000000]] [5 [4 3ff0000000000000]] [4 [0 3ff0000000000000]]]\n[face [2 [6 3ff0000000000000]] [6 [7 3ff0000000000000]] [7 [3 3ff0000000000000]] [3 [2 3ff0000000000000]]]\n[face [0 [4 3ff0000000000000]] [4 [6 3ff0000000000000]] [6 [2 3ff0000000000000]] [2 [0 3ff0000000000000]]]\n[face [1 [3 3ff0000000000000]] [3 [7 3ff0000000000000]] [7 [5 3ff0000000000000]] [5 [1 3ff0000000000000]]]\n[end]\n") (rowsOf 8 24 6) .answer) ≡ 8 ∷ 12 ∷ 6 ∷ []
+cube : numbersOf (buildText Refine (bytes "[mesh 1]\n" ++
+    bytes "[point bff0000000000000 bff0000000000000 bff0000000000000]\n" ++
+    bytes "[point 3ff0000000000000 bff0000000000000 bff0000000000000]\n" ++
+    bytes "[point bff0000000000000 3ff0000000000000 bff0000000000000]\n" ++
+    bytes "[point 3ff0000000000000 3ff0000000000000 bff0000000000000]\n" ++
+    bytes "[point bff0000000000000 bff0000000000000 3ff0000000000000]\n" ++
+    bytes "[point 3ff0000000000000 bff0000000000000 3ff0000000000000]\n" ++
+    bytes "[point bff0000000000000 3ff0000000000000 3ff0000000000000]\n" ++
+    bytes "[point 3ff0000000000000 3ff0000000000000 3ff0000000000000]\n" ++
+    bytes "[face [0 [2 3ff0000000000000]] [2 [3 3ff0000000000000]] [3 [1 3ff0000000000000]] [1 [0 3ff0000000000000]]]\n" ++
+    bytes "[face [4 [5 3ff0000000000000]] [5 [7 3ff0000000000000]] [7 [6 3ff0000000000000]] [6 [4 3ff0000000000000]]]\n" ++
+    bytes "[face [0 [1 3ff0000000000000]] [1 [5 3ff0000000000000]] [5 [4 3ff0000000000000]] [4 [0 3ff0000000000000]]]\n" ++
+    bytes "[face [2 [6 3ff0000000000000]] [6 [7 3ff0000000000000]] [7 [3 3ff0000000000000]] [3 [2 3ff0000000000000]]]\n" ++
+    bytes "[face [0 [4 3ff0000000000000]] [4 [6 3ff0000000000000]] [6 [2 3ff0000000000000]] [2 [0 3ff0000000000000]]]\n" ++
+    bytes "[face [1 [3 3ff0000000000000]] [3 [7 3ff0000000000000]] [7 [5 3ff0000000000000]] [5 [1 3ff0000000000000]]]\n" ++
+    bytes "[end]\n") (rowsOf 8 24 6) .answer) ≡ 8 ∷ 12 ∷ 6 ∷ []
 unfolding buildText digitValue value stands literal digit bits digits decimalFrom decimal many coordinate point listed side face ends mesh text times flat ofBits neg add sub le lt linksOf
 cube = refl
 

@@ -10,22 +10,31 @@ use Rattle.audit.proofs.walks_fit.Tie as tie
 returns : tie.Need-returns
 returns c =
     let a = c .before .before .before .before .before .args in
-    walks-valences [] (a .points .now) (a .edges .now) [] (a .faces .now) (a .counts .points) (a .counts .edges) (a .counts .faces) (sym (c .before .valences-fit .ensures) ∙ not-true _ (c .if1 .taken))
+    walks-valences [] (a .points .now) (a .edges .now) [] (a .faces .now) (a .counts .points) (a .counts .edges)
+    (a .counts .faces) (sym (c .before .valences-fit .ensures) ∙ not-true _ (c .if1 .taken))
 
 returns-2 : tie.Need-returns-2
 returns-2 c =
     let a = c .before .before .before .before .before .before .before .args in
-    walks-faces [] (a .points .now) (a .edges .now) [] (a .faces .now) (a .counts .points) (a .counts .edges) (a .counts .faces) (sym (c .before .face-walks-fit .ensures) ∙ not-true _ (c .if2 .taken))
+    walks-faces [] (a .points .now) (a .edges .now) [] (a .faces .now) (a .counts .points) (a .counts .edges)
+    (a .counts .faces) (sym (c .before .face-walks-fit .ensures) ∙ not-true _ (c .if2 .taken))
 
 returns-3 : tie.Need-returns-3
 returns-3 c =
     let a = c .before .before .before .before .before .before .before .before .before .args in
-    walks-points [] (a .points .now) (a .edges .now) [] (a .faces .now) (a .counts .points) (a .counts .edges) (a .counts .faces) (sym (c .before .point-walks-fit .ensures) ∙ not-true _ (c .if3 .taken))
+    walks-points [] (a .points .now) (a .edges .now) [] (a .faces .now) (a .counts .points) (a .counts .edges)
+    (a .counts .faces) (sym (c .before .point-walks-fit .ensures) ∙ not-true _ (c .if3 .taken))
 
 returns-4 : tie.Need-returns-4
 returns-4 c =
     let a = c .before .before .before .before .before .before .before .before .before .before .args in
-    c .are-one-edges .ensures ∙ walks-edges [] (a .points .now) (a .edges .now) [] (a .faces .now) (a .counts .points) (a .counts .edges) (a .counts .faces) (sym (c .before .before .before .before .before .before .valences-fit .ensures) ∙ not-false _ (c .before .before .before .before .before .if1 .left)) (sym (c .before .before .before .before .face-walks-fit .ensures) ∙ not-false _ (c .before .before .before .if2 .left)) (sym (c .before .before .point-walks-fit .ensures) ∙ not-false _ (c .before .if3 .left))
+    c .are-one-edges .ensures
+    ∙ walks-edges [] (a .points .now) (a .edges .now) [] (a .faces .now) (a .counts .points) (a .counts .edges)
+    (a .counts .faces) (sym (c .before .before .before .before .before .before .valences-fit .ensures)
+    ∙ not-false _ (c .before .before .before .before .before .if1 .left))
+    (sym (c .before .before .before .before .face-walks-fit .ensures)
+    ∙ not-false _ (c .before .before .before .if2 .left))
+    (sym (c .before .before .point-walks-fit .ensures) ∙ not-false _ (c .before .if3 .left))
 
 pub walks-fit-spec : {M : Type 1} → statement M
 walks-fit-spec =

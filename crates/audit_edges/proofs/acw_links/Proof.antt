@@ -14,15 +14,20 @@ use Rattle.audit_edges.proofs.acw_links.Tie as tie
 returns : tie.Need-returns
 returns c =
     let a = c .before .before .before .before .before .args in
-    let t = ap (λ (w : ℕ). touches (faceTables (a .edges .now) []) w (a .a)) (sym (c .before .before .before .index .ensures)) ∙ sym (c .before .before .touches .ensures) ∙ c .before .if1 .taken in
+    let t = ap (λ (w : ℕ). touches (faceTables (a .edges .now) []) w (a .a))
+    (sym (c .before .before .before .index .ensures)) ∙ sym (c .before .before .touches .ensures)
+    ∙ c .before .if1 .taken in
     c .links-back .ensures
-    ∙ sym (acw-links-is (a .edges .now) (a .e) (a .p) (a .f) (a .a) ∙ ap (λ (b : Bool). b && linksBack (a .edges .now) 4 (a .f) (a .a) (a .e)) t)
+    ∙ sym (acw-links-is (a .edges .now) (a .e) (a .p) (a .f) (a .a)
+    ∙ ap (λ (b : Bool). b && linksBack (a .edges .now) 4 (a .f) (a .a) (a .e)) t)
 
 returns-2 : tie.Need-returns-2
 returns-2 c =
     let a = c .before .before .before .before .args in
-    let t = ap (λ (w : ℕ). touches (faceTables (a .edges .now) []) w (a .a)) (sym (c .before .before .index .ensures)) ∙ sym (c .before .touches .ensures) ∙ c .if1 .left in
-    sym (acw-links-is (a .edges .now) (a .e) (a .p) (a .f) (a .a) ∙ ap (λ (b : Bool). b && linksBack (a .edges .now) 4 (a .f) (a .a) (a .e)) t)
+    let t = ap (λ (w : ℕ). touches (faceTables (a .edges .now) []) w (a .a)) (sym (c .before .before .index .ensures))
+    ∙ sym (c .before .touches .ensures) ∙ c .if1 .left in
+    sym (acw-links-is (a .edges .now) (a .e) (a .p) (a .f) (a .a)
+    ∙ ap (λ (b : Bool). b && linksBack (a .edges .now) 4 (a .f) (a .a) (a .e)) t)
 
 pub acw-links-spec : {M : Type 1} → statement M
 acw-links-spec =

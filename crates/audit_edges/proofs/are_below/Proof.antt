@@ -29,7 +29,16 @@ returns-4 : tie.Need-returns-4
 returns-4 c =
     let a = c .before .before .before .before .before .before .before .args in
     ap (λ (w : ℕ). ltb w (a .k)) (c .index4 .ensures)
-    ∙ sym (rw (lt-ltb (a .a) (a .n) (omega (arith, c .before .before .before .before .before .before .index .ensures, c .before .before .before .before .before .if1 .left)), lt-ltb (a .b) (a .n) (omega (arith, c .before .before .before .before .index2 .ensures, c .before .before .before .if2 .left)), lt-ltb (a .c) (a .k) (omega (arith, c .before .before .index3 .ensures, c .before .if3 .left))))
+    ∙ sym (rw (
+      lt-ltb (a .a) (a .n) (omega (
+        arith,
+        c .before .before .before .before .before .before .index .ensures,
+        c .before .before .before .before .before .if1 .left,
+      )),
+      lt-ltb (a .b) (a .n)
+          (omega (arith, c .before .before .before .before .index2 .ensures, c .before .before .before .if2 .left)),
+      lt-ltb (a .c) (a .k) (omega (arith, c .before .before .index3 .ensures, c .before .if3 .left)),
+    ))
 
 pub are-below-spec : {M : Type 1} → statement M
 are-below-spec =

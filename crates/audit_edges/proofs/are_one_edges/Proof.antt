@@ -27,10 +27,16 @@ is-one-edge-requires c κs =
     (search needs, (search needs, (search needs, (ends .0, ends .1))))
 
 returns : tie.Need-returns Inv-loop μ-loop
-returns c = sym (every-stop _ _ _ (c .before .before .loop-test .taken) (sym (c .before .is-one-edge .ensures) ∙ not-true _ (c .if1 .taken)))
+returns c =
+    sym (every-stop _ _ _ (c .before .before .loop-test .taken)
+    (sym (c .before .is-one-edge .ensures) ∙ not-true _ (c .if1 .taken)))
 
 loop-again : tie.Need-loop-again Inv-loop μ-loop
-loop-again c = (omega arith, every-more _ _ (c .before .before .before .loop .inv .1) (sym (c .before .is-one-edge .ensures) ∙ not-false _ (c .if1 .left)))
+loop-again c = (
+  omega arith,
+  every-more _ _ (c .before .before .before .loop .inv .1)
+      (sym (c .before .is-one-edge .ensures) ∙ not-false _ (c .if1 .left)),
+)
 
 returns-2 : tie.Need-returns-2 Inv-loop μ-loop
 returns-2 c = sym (every-all _ _ _ (c .before .loop .inv .1) (omega arith))

@@ -30,13 +30,19 @@ returns-4 c =
 
 is-linked-requires : tie.Need-is-linked-requires
 is-linked-requires c κs =
-    let a = c .before .before .before .before .before .before .before .before .before .before .before .before .before .args in
-    let r = edge-in-range (faceTables (a .edges .now) []) (a .np) (a .ne) (a .nf) (a .e) (sym (c .before .before .before .before .before .before .before .before .before .before .edge-in-range .ensures) ∙ not-false _ (c .before .before .before .before .before .before .before .before .before .if1 .left)) in
-    (search needs, (search needs, (r .leftCw-in-range, (r .leftAcw-in-range, (r .rightCw-in-range, r .rightAcw-in-range)))))
+    let c8 = c .before .before .before .before .before .before .before .before in
+    let a = c8 .before .before .before .before .before .args in
+    let r = edge-in-range (faceTables (a .edges .now) []) (a .np) (a .ne) (a .nf) (a .e)
+    (sym (c8 .before .before .edge-in-range .ensures) ∙ not-false _ (c8 .before .if1 .left)) in (
+      search needs,
+      (search needs, (r .leftCw-in-range, (r .leftAcw-in-range, (r .rightCw-in-range, r .rightAcw-in-range)))),
+    )
 
 returns-5 : tie.Need-returns-5
 returns-5 c =
-    let a = c .before .before .before .before .before .before .before .before .before .before .before .before .before .before .args in
+    let c8 = c .before .before .before .before .before .before .before .before in
+    let a = c8 .before .before .before .before .before .before .args in
+    let edge-in-range = c8 .before .before .before .edge-in-range in
     c .is-linked .ensures ∙ sym (linked-rows _ _ _)
     ∙ sym (edge-links (edgeTables (a .edges .now) (a .intervals .now)) (a .np) (a .ne) (a .nf) (a .e)
     (edge-range-rows _ _ _ _ _ _ ∙ sym (c .before .before .before .before .before .before .before .before .before .before .before .edge-in-range .ensures) ∙ not-false _ (c .before .before .before .before .before .before .before .before .before .before .if1 .left)) (sym (c .before .before .before .before .before .before .before .before .interval-fits .ensures) ∙ not-false _ (c .before .before .before .before .before .before .before .if2 .left)) (c .before .before .before .before .if3 .left) (c .before .if4 .left))

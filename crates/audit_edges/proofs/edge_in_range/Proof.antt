@@ -7,9 +7,12 @@ use Rattle.audit_edges.proofs.edge_in_range.Tie as tie
 
 returns : tie.Need-returns
 returns c =
-    let a = c .before .before .before .before .before .before .before .before .before .before .before .before .args in
+    let c8 = c .before .before .before .before .before .before .before .before in
+    let a = c8 .before .before .before .before .args in
     c .are-below2 .ensures
-    ∙ sym (in-range-is (a .edges .now) (a .np) (a .ne) (a .nf) (a .e) ∙ rw (sym (c .before .before .before .before .before .before .are-below .ensures) ∙ c .before .before .before .before .before .if1 .taken))
+    ∙ sym (in-range-is (a .edges .now) (a .np) (a .ne) (a .nf) (a .e)
+    ∙ rw (sym (c .before .before .before .before .before .before .are-below .ensures)
+    ∙ c .before .before .before .before .before .if1 .taken))
 
 returns-2 : tie.Need-returns-2
 returns-2 c =

@@ -22,10 +22,16 @@ loop-holds : tie.Need-loop-holds Inv-loop μ-loop
 loop-holds c = (omega arith, every-none _)
 
 returns : tie.Need-returns Inv-loop μ-loop
-returns c = sym (every-stop _ _ _ (c .before .before .loop-test .taken) (sym (c .before .edge-fit .ensures) ∙ not-true _ (c .if1 .taken)))
+returns c =
+    sym (every-stop _ _ _ (c .before .before .loop-test .taken)
+    (sym (c .before .edge-fit .ensures) ∙ not-true _ (c .if1 .taken)))
 
 loop-again : tie.Need-loop-again Inv-loop μ-loop
-loop-again c = (omega arith, every-more _ _ (c .before .before .before .loop .inv .1) (sym (c .before .edge-fit .ensures) ∙ not-false _ (c .if1 .left)))
+loop-again c = (
+  omega arith,
+  every-more _ _ (c .before .before .before .loop .inv .1)
+      (sym (c .before .edge-fit .ensures) ∙ not-false _ (c .if1 .left)),
+)
 
 returns-2 : tie.Need-returns-2 Inv-loop μ-loop
 returns-2 c = sym (every-all _ _ _ (c .before .loop .inv .1) (omega arith))

@@ -18,19 +18,27 @@ abbrev μ-loop : tie.MeasureT-loop
 loop-holds : tie.Need-loop-holds Inv-loop μ-loop
 loop-holds c =
     let a = c .before .before .before .before .before .before .args in
-    lonely-start (pointTables (a .points .now) (a .edges .now)) (a .ne) (a .e) (a .p) (a .q) _ _ (c .before .before .index .ensures) (c .index2 .ensures)
+    lonely-start (pointTables (a .points .now) (a .edges .now)) (a .ne) (a .e) (a .p) (a .q) _ _
+    (c .before .before .index .ensures) (c .index2 .ensures)
 
 returns : tie.Need-returns Inv-loop μ-loop
-returns c = lonely-stop _ _ _ _ _ _ _ _ (c .before .before .before .loop .inv) (c .before .before .loop-test .taken) (sym (c .before .is-free .ensures) ∙ not-true _ (c .if1 .taken))
+returns c =
+    lonely-stop _ _ _ _ _ _ _ _ (c .before .before .before .loop .inv) (c .before .before .loop-test .taken)
+    (sym (c .before .is-free .ensures) ∙ not-true _ (c .if1 .taken))
 
 acw-of-point-requires : tie.Need-acw-of-point-requires Inv-loop μ-loop
 acw-of-point-requires c κs =
     let a = c .before .before .before .before .before .before .before .before .before .before .args in
-    let l = free-below (pointTables (a .points .now) (a .edges .now)) (a .ne) (a .e) (a .p) (a .q) (c .before .before .before .loop .i) (sym (c .before .is-free .ensures) ∙ not-false _ (c .if1 .left)) in
+    let l = free-below (pointTables (a .points .now) (a .edges .now)) (a .ne) (a .e) (a .p) (a .q)
+    (c .before .before .before .loop .i) (sym (c .before .is-free .ensures) ∙ not-false _ (c .if1 .left)) in
     omega arith
 
 loop-again : tie.Need-loop-again Inv-loop μ-loop
-loop-again c = lonely-more _ _ _ _ _ _ _ _ (c .before .before .before .before .before .loop .inv) _ (c .before .before .before .before .loop-test .taken) (sym (c .before .before .before .is-free .ensures) ∙ not-false _ (c .before .before .if1 .left)) (c .index3 .ensures ∙ c .before .acw-of-point .ensures)
+loop-again c =
+    lonely-more _ _ _ _ _ _ _ _ (c .before .before .before .before .before .loop .inv) _
+    (c .before .before .before .before .loop-test .taken)
+    (sym (c .before .before .before .is-free .ensures) ∙ not-false _ (c .before .before .if1 .left))
+    (c .index3 .ensures ∙ c .before .acw-of-point .ensures)
 
 returns-2 : tie.Need-returns-2 Inv-loop μ-loop
 returns-2 c = lonely-end _ _ _ _ _ _ _ _ (c .before .loop .inv) (search needs)

@@ -19,7 +19,8 @@ returns-2 c =
 returns-3 : tie.Need-returns-3
 returns-3 c =
     let a = c .before .before .before .before .args in
-    rw (lt-ltb (a .i) (a .ne) (c .before .before .if1 .left), ne-eqb (a .i) (a .e) (c .before .if2 .left)) (ap not (c .touches .ensures))
+    rw (lt-ltb (a .i) (a .ne) (c .before .before .if1 .left), ne-eqb (a .i) (a .e) (c .before .if2 .left))
+    (ap not (c .touches .ensures))
 
 pub is-free-spec : {M : Type 1} → statement M
 is-free-spec = tie.close (tie.spec returns returns-2 (λ c κs. search needs) returns-3)

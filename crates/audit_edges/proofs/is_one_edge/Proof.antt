@@ -9,12 +9,18 @@ use Rattle.tables.specs.Parts.{pointTables}
 returns : tie.Need-returns
 returns c =
     let a = c .before .before .before .before .before .before .before .before .before .before .args in
-    c .is-alone .ensures ∙ from-origin (pointTables (a .points .now) (a .edges .now)) (a .ne) (a .e) _ _ (c .before .before .before .before .before .before .index .ensures) (c .before .before .before .before .index2 .ensures) (c .before .if1 .taken)
+    c .is-alone .ensures
+    ∙ from-origin (pointTables (a .points .now) (a .edges .now)) (a .ne) (a .e) _ _
+    (c .before .before .before .before .before .before .index .ensures)
+    (c .before .before .before .before .index2 .ensures) (c .before .if1 .taken)
 
 returns-2 : tie.Need-returns-2
 returns-2 c =
     let a = c .before .before .before .before .before .before .before .before .before .before .args in
-    c .is-alone2 .ensures ∙ from-dest (pointTables (a .points .now) (a .edges .now)) (a .ne) (a .e) _ _ (c .before .before .before .before .before .before .index .ensures) (c .before .before .before .before .index2 .ensures) (c .before .if1 .left)
+    c .is-alone2 .ensures
+    ∙ from-dest (pointTables (a .points .now) (a .edges .now)) (a .ne) (a .e) _ _
+    (c .before .before .before .before .before .before .index .ensures)
+    (c .before .before .before .before .index2 .ensures) (c .before .if1 .left)
 
 pub is-one-edge-spec : {M : Type 1} → statement M
 is-one-edge-spec =

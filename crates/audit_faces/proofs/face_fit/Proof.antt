@@ -17,25 +17,33 @@ returns c =
 returns-2 : tie.Need-returns-2
 returns-2 c =
     let a = c .before .before .before .before .before .before .before .args in
-    sym (face-corner (faceTables [] (a .faces .now)) (a .np) (a .ne) (a .f) 0 (omega arith) (sym (c .before .corner-fit .ensures) ∙ not-true _ (c .if2 .taken)))
+    sym (face-corner (faceTables [] (a .faces .now)) (a .np) (a .ne) (a .f) 0 (omega arith)
+    (sym (c .before .corner-fit .ensures) ∙ not-true _ (c .if2 .taken)))
 
 returns-3 : tie.Need-returns-3
 returns-3 c =
     let a = c .before .before .before .before .before .before .before .before .before .before .args in
-    sym (face-corner (faceTables [] (a .faces .now)) (a .np) (a .ne) (a .f) 1 (omega arith) (sym (c .before .corner-fit2 .ensures) ∙ not-true _ (c .if3 .taken)))
+    sym (face-corner (faceTables [] (a .faces .now)) (a .np) (a .ne) (a .f) 1 (omega arith)
+    (sym (c .before .corner-fit2 .ensures) ∙ not-true _ (c .if3 .taken)))
 
 returns-4 : tie.Need-returns-4
 returns-4 c =
-    let a = c .before .before .before .before .before .before .before .before .before .before .before .before .before .args in
-    sym (face-corner (faceTables [] (a .faces .now)) (a .np) (a .ne) (a .f) 2 (omega arith) (sym (c .before .corner-fit3 .ensures) ∙ not-true _ (c .if4 .taken)))
+    let c8 = c .before .before .before .before .before .before .before .before in
+    let a = c8 .before .before .before .before .before .args in
+    sym (face-corner (faceTables [] (a .faces .now)) (a .np) (a .ne) (a .f) 2 (omega arith)
+    (sym (c .before .corner-fit3 .ensures) ∙ not-true _ (c .if4 .taken)))
 
 returns-5 : tie.Need-returns-5
 returns-5 c =
-    let a = c .before .before .before .before .before .before .before .before .before .before .before .before .before .before .before .args in
+    let c8 = c .before .before .before .before .before .before .before .before in
+    let a = c8 .before .before .before .before .before .before .before .args in
+    let index = c8 .before .before .before .before .index in
+    let if1 = c8 .before .before .before .if1 in
     c .corner-fit4 .ensures
-    ∙ sym (face-last (faceTables [] (a .faces .now)) (a .np) (a .ne) (a .f) (omega (arith, c .before .before .before .before .before .before .before .before .before .before .before .before .index .ensures, c .before .before .before .before .before .before .before .before .before .before .before .if1 .left))
-    (sym (c .before .before .before .before .before .before .before .before .before .corner-fit .ensures) ∙ not-false _ (c .before .before .before .before .before .before .before .before .if2 .left))
-    (sym (c .before .before .before .before .before .before .corner-fit2 .ensures) ∙ not-false _ (c .before .before .before .before .before .if3 .left))
+    ∙ sym (face-last (faceTables [] (a .faces .now)) (a .np) (a .ne) (a .f) (omega (arith, index .ensures, if1 .left))
+    (sym (c8 .before .corner-fit .ensures) ∙ not-false _ (c8 .if2 .left))
+    (sym (c .before .before .before .before .before .before .corner-fit2 .ensures)
+    ∙ not-false _ (c .before .before .before .before .before .if3 .left))
     (sym (c .before .before .before .corner-fit3 .ensures) ∙ not-false _ (c .before .before .if4 .left)))
 
 pub face-fit-spec : {M : Type 1} → statement M

@@ -20,12 +20,16 @@ are-distinct-requires c κs =
 returns-2 : tie.Need-returns-2
 returns-2 c =
     let a = c .before .before .before .before .before .before .before .before .before .args in
-    size-is (faceTables (a .edges .now) (a .faces .now)) (a .ne) (a .f) _ (c .before .before .before .before .put-border .ensures) (c .before .before .before .if1 .left) true (sym (c .if2 .taken) ∙ c .before .are-distinct .ensures)
+    size-is (faceTables (a .edges .now) (a .faces .now)) (a .ne) (a .f) _
+    (c .before .before .before .before .put-border .ensures) (c .before .before .before .if1 .left) true
+    (sym (c .if2 .taken) ∙ c .before .are-distinct .ensures)
 
 returns-3 : tie.Need-returns-3
 returns-3 c =
     let a = c .before .before .before .before .before .before .before .before .before .args in
-    size-is (faceTables (a .edges .now) (a .faces .now)) (a .ne) (a .f) _ (c .before .before .before .before .put-border .ensures) (c .before .before .before .if1 .left) false (sym (c .if2 .left) ∙ c .before .are-distinct .ensures)
+    size-is (faceTables (a .edges .now) (a .faces .now)) (a .ne) (a .f) _
+    (c .before .before .before .before .put-border .ensures) (c .before .before .before .if1 .left) false
+    (sym (c .if2 .left) ∙ c .before .are-distinct .ensures)
 
 pub face-size-spec : {M : Type 1} → statement M
 face-size-spec =

@@ -18,16 +18,25 @@ loop-holds : tie.Need-loop-holds Inv-loop μ-loop
 loop-holds c = (omega arith, added-start _ _ _)
 
 returns : tie.Need-returns Inv-loop μ-loop
-returns c = added-zero _ _ _ _ _ _ (c .before .before .before .loop .inv .1) _ (c .before .face-size .ensures) (c .before .before .loop-test .taken) (c .if1 .taken)
+returns c =
+    added-zero _ _ _ _ _ _ (c .before .before .before .loop .inv .1) _ (c .before .face-size .ensures)
+    (c .before .before .loop-test .taken) (c .if1 .taken)
 
 add-sum : tie.Need-add-sum Inv-loop μ-loop
 add-sum c = omega (arith, size-small _ _ _ _ (c .before .face-size .ensures), c .before .before .before .loop .inv .1 .not-past)
 
 returns-2 : tie.Need-returns-2 Inv-loop μ-loop
-returns-2 c = added-past _ _ _ _ _ _ (c .before .before .before .before .loop .inv .1) _ (c .before .before .face-size .ensures) (c .before .if1 .left) (c .before .before .before .loop-test .taken) (c .if2 .taken)
+returns-2 c =
+    added-past _ _ _ _ _ _ (c .before .before .before .before .loop .inv .1) _ (c .before .before .face-size .ensures)
+    (c .before .if1 .left) (c .before .before .before .loop-test .taken) (c .if2 .taken)
 
 loop-again : tie.Need-loop-again Inv-loop μ-loop
-loop-again c = (omega arith, added-more _ _ (c .before .before .before .before .before .before .before .args .nf) _ _ _ (c .before .before .before .before .loop .inv .1) _ (c .before .before .face-size .ensures) (c .before .if1 .left) (c .if2 .left))
+loop-again c = (
+  omega arith,
+  added-more _ _ (c .before .before .before .before .before .before .before .args .nf) _ _ _
+      (c .before .before .before .before .loop .inv .1) _ (c .before .before .face-size .ensures) (c .before .if1 .left)
+      (c .if2 .left),
+)
 
 returns-3 : tie.Need-returns-3 Inv-loop μ-loop
 returns-3 c = added-all _ _ _ _ _ _ (c .before .loop .inv .1) (omega arith)

@@ -24,7 +24,10 @@ returns : tie.Need-returns Inv-loop μ-loop
 returns c = sym (every-stop _ _ _ (c .before .before .loop-test .taken) (ap not (eq-eqb _ _ (sym (c .if1 .taken)))))
 
 loop-again : tie.Need-loop-again Inv-loop μ-loop
-loop-again c = (omega arith, every-more _ _ (c .before .before .before .loop .inv .1) (ap not (ne-eqb _ _ (λ q. c .if1 .left (sym q)))))
+loop-again c = (
+  omega arith,
+  every-more _ _ (c .before .before .before .loop .inv .1) (ap not (ne-eqb _ _ (λ q. c .if1 .left (sym q)))),
+)
 
 returns-2 : tie.Need-returns-2 Inv-loop μ-loop
 returns-2 c = sym (every-all _ _ _ (c .before .loop .inv .1) (omega arith))

@@ -84,7 +84,11 @@ array-share-prefix-positions c = search needs
 
 -- src/main.rt:106:18
 slice-aggregate-audit : tie.Need-slice-aggregate-audit
-slice-aggregate-audit c = sym (length-take-le (c .before .before .before .before .before .before .before .before .before .before .before .before .before .before .before .before .before .args .xs) (c .before .before .before .before .before .before .before .before .before .before .before .before .before .before .fill-numbers .last .1 .1 .0) (omega (arith, c .before .before .before .before .before .before .before .before .before .before .before .before .before .before .fill-numbers .ensures)))
+slice-aggregate-audit c =
+    let c8 = c .before .before .before .before .before .before .before .before in
+    let c16 = c8 .before .before .before .before .before .before .before .before in
+    let fill-numbers = c8 .before .before .before .before .before .before .fill-numbers in
+    sym (length-take-le (c16 .before .args .xs) (fill-numbers .last .1 .1 .0) (omega (arith, fill-numbers .ensures)))
 
 -- src/main.rt:106:36
 array-share-prefix-points : tie.Need-array-share-prefix-points
@@ -92,7 +96,12 @@ array-share-prefix-points c = search needs
 
 -- src/main.rt:106:36
 slice-aggregate-audit-2 : tie.Need-slice-aggregate-audit-2
-slice-aggregate-audit-2 c = sym (length-take-le (c .before .before .before .before .before .before .before .before .before .before .before .before .before .before .before .before .before .before .args .ps) (c .before .before .before .before .before .before .before .before .before .before .before .before .fill-words .last .1 .1 .0) (omega (arith, c .before .before .before .before .before .before .before .before .before .before .before .before .fill-words .ensures)))
+slice-aggregate-audit-2 c =
+    let c8 = c .before .before .before .before .before .before .before .before in
+    let c16 = c8 .before .before .before .before .before .before .before .before in
+    let fill-words = c8 .before .before .before .before .fill-words in
+    sym
+    (length-take-le (c16 .before .before .args .ps) (fill-words .last .1 .1 .0) (omega (arith, fill-words .ensures)))
 
 -- src/main.rt:106:51
 array-share-prefix-edges : tie.Need-array-share-prefix-edges
@@ -100,7 +109,12 @@ array-share-prefix-edges c = search needs
 
 -- src/main.rt:106:51
 slice-aggregate-audit-3 : tie.Need-slice-aggregate-audit-3
-slice-aggregate-audit-3 c = sym (length-take-le (c .before .before .before .before .before .before .before .before .before .before .before .before .before .before .before .before .before .before .before .args .es) (c .before .before .before .before .before .before .before .before .before .before .fill-words2 .last .1 .1 .0) (omega (arith, c .before .before .before .before .before .before .before .before .before .before .fill-words2 .ensures)))
+slice-aggregate-audit-3 c =
+    let c8 = c .before .before .before .before .before .before .before .before in
+    let c16 = c8 .before .before .before .before .before .before .before .before in
+    let args = c16 .before .before .before .args in
+    let fill-words2 = c8 .before .before .fill-words2 in
+    sym (length-take-le (args .es) (fill-words2 .last .1 .1 .0) (omega (arith, fill-words2 .ensures)))
 
 -- src/main.rt:106:65
 array-share-prefix-intervals : tie.Need-array-share-prefix-intervals
@@ -108,7 +122,12 @@ array-share-prefix-intervals c = search needs
 
 -- src/main.rt:106:65
 slice-aggregate-audit-4 : tie.Need-slice-aggregate-audit-4
-slice-aggregate-audit-4 c = sym (length-take-le (c .before .before .before .before .before .before .before .before .before .before .before .before .before .before .before .before .before .before .before .before .args .ds) (c .before .before .before .before .before .before .before .before .fill-numbers2 .last .1 .1 .0) (omega (arith, c .before .before .before .before .before .before .before .before .fill-numbers2 .ensures)))
+slice-aggregate-audit-4 c =
+    let c8 = c .before .before .before .before .before .before .before .before in
+    let c16 = c8 .before .before .before .before .before .before .before .before in
+    let args = c16 .before .before .before .before .args in
+    let fill-numbers2 = c8 .fill-numbers2 in
+    sym (length-take-le (args .ds) (fill-numbers2 .last .1 .1 .0) (omega (arith, fill-numbers2 .ensures)))
 
 -- src/main.rt:106:83
 array-share-prefix-faces : tie.Need-array-share-prefix-faces
@@ -116,7 +135,12 @@ array-share-prefix-faces c = search needs
 
 -- src/main.rt:106:83
 slice-aggregate-audit-5 : tie.Need-slice-aggregate-audit-5
-slice-aggregate-audit-5 c = sym (length-take-le (c .before .before .before .before .before .before .before .before .before .before .before .before .before .before .before .before .before .before .before .before .before .args .fs) (c .before .before .before .before .before .before .fill-words3 .last .1 .1 .0) (omega (arith, c .before .before .before .before .before .before .fill-words3 .ensures)))
+slice-aggregate-audit-5 c =
+    let c8 = c .before .before .before .before .before .before .before .before in
+    let c16 = c8 .before .before .before .before .before .before .before .before in
+    let args = c16 .before .before .before .before .before .args in
+    let fill-words3 = c .before .before .before .before .before .before .fill-words3 in
+    sym (length-take-le (args .fs) (fill-words3 .last .1 .1 .0) (omega (arith, fill-words3 .ensures)))
 
 -- src/main.rt:106:5
 audit-requires : tie.Need-audit-requires

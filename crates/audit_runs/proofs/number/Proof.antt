@@ -19,7 +19,9 @@ returns c = search needs
 
 -- src/main.rt:42:5
 float-from-bits-result : tie.Need-float-from-bits-result
-float-from-bits-result c = subst (λ (b : Bool). T (not b)) (sym (nanBits-above binary64 (c .before .long .result) ∙ le-ltb _ _ (c .if1 .left))) tt
+float-from-bits-result c =
+    subst (λ (b : Bool). T (not b)) (sym (nanBits-above binary64 (c .before .long .result) ∙ le-ltb _ _ (c .if1 .left)))
+    tt
 
 -- src/main.rt:34:1
 returns-2 : tie.Need-returns-2

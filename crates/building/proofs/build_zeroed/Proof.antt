@@ -10,32 +10,124 @@ use Rattle.building.proofs.build_zeroed.Statement.{statement}
 use Rattle.building.proofs.build_zeroed.Tie as tie
 
 zero-words-requires : tie.Need-zero-words-requires
-zero-words-requires c κs = let few = rooms-of (lists (c .before .before .before .before .before .before .before .before .before .before .before .args .coordinates .now) (c .before .before .before .before .before .before .before .before .before .before .before .args .sides .now) (c .before .before .before .before .before .before .before .before .before .before .before .args .listed .now) (c .before .before .before .before .before .before .before .before .before .before .before .args .beside .now)) (meshOf (c .before .before .before .before .before .before .before .before .before .before .before .args .positions .now) (c .before .before .before .before .before .before .before .before .before .before .before .args .points .now) (c .before .before .before .before .before .before .before .before .before .before .before .args .edges .now) (c .before .before .before .before .before .before .before .before .before .before .before .args .intervals .now) (c .before .before .before .before .before .before .before .before .before .before .before .args .faces .now)) (c .before .before .before .before .before .before .before .before .before .before .before .pre .0) .points-few in omega (arith, c .before .before .before .before .before .before .before .before .before .before .before .pre .1)
+zero-words-requires c κs =
+    let c8 = c .before .before .before .before .before .before .before .before in
+    let args = c8 .before .before .before .args in
+    let pre = c8 .before .before .before .pre in
+    let few = rooms-of (lists (args .coordinates .now) (args .sides .now) (args .listed .now) (args .beside .now))
+    (meshOf (args .positions .now) (args .points .now) (args .edges .now) (args .intervals .now) (args .faces .now))
+    (pre .0) .points-few in
+    omega (arith, pre .1)
 
 enter-faces-requires : tie.Need-enter-faces-requires
 unfolding offset
 enter-faces-requires c κs =
-    let r = rooms-of (lists (c .before .before .before .before .before .before .before .before .before .before .before .before .before .before .before .before .before .before .before .args .coordinates .now) (c .before .before .before .before .before .before .before .before .before .before .before .before .before .before .before .before .before .before .before .args .sides .now) (c .before .before .before .before .before .before .before .before .before .before .before .before .before .before .before .before .before .before .before .args .listed .now) (c .before .before .before .before .before .before .before .before .before .before .before .before .before .before .before .before .before .before .before .args .beside .now)) (meshOf (c .before .before .before .before .before .before .before .before .before .before .before .before .before .before .before .before .before .before .before .args .positions .now) (c .before .before .before .before .before .before .before .before .before .before .before .before .before .before .before .before .before .before .before .args .points .now) (c .before .before .before .before .before .before .before .before .before .before .before .before .before .before .before .before .before .before .before .args .edges .now) (c .before .before .before .before .before .before .before .before .before .before .before .before .before .before .before .before .before .before .before .args .intervals .now) (c .before .before .before .before .before .before .before .before .before .before .before .before .before .before .before .before .before .before .before .args .faces .now)) (c .before .before .before .before .before .before .before .before .before .before .before .before .before .before .before .before .before .before .before .pre .0) in
+    let c8 = c .before .before .before .before .before .before .before .before in
+    let c16 = c8 .before .before .before .before .before .before .before .before in
+    let args = c16 .before .before .before .args in
+    let pre = c16 .before .before .before .pre in
+    let zero-words = c .before .before .before .before .before .before .before .zero-words in
+    let l = lists (args .coordinates .now) (args .sides .now) (args .listed .now) (args .beside .now) in
+    let m = meshOf (args .positions .now) (args .points .now) (args .edges .now) (args .intervals .now)
+    (args .faces .now) in
+    let r = rooms-of l m (pre .0) in
     let few = r .points-few in (
-      standing-none (lists (c .before .before .before .before .before .before .before .before .before .before .before .before .before .before .before .before .before .before .before .args .coordinates .now) (c .before .before .before .before .before .before .before .before .before .before .before .before .before .before .before .before .before .before .before .args .sides .now) (c .before .before .before .before .before .before .before .before .before .before .before .before .before .before .before .before .before .before .before .args .listed .now) (c .before .before .before .before .before .before .before .before .before .before .before .before .before .before .before .before .before .before .before .args .beside .now)) (meshOf (c .before .before .before .before .before .before .before .before .before .before .before .before .before .before .before .before .before .before .before .args .positions .now) (c .before .before .before .before .before .before .before .before .before .before .before .before .before .before .before .before .before .before .before .args .points .now) (c .before .before .before .before .before .before .before .before .before .before .before .before .before .before .before .before .before .before .before .args .edges .now) (c .before .before .before .before .before .before .before .before .before .before .before .before .before .before .before .before .before .before .before .args .intervals .now) (c .before .before .before .before .before .before .before .before .before .before .before .before .before .before .before .before .before .before .before .args .faces .now)) (c .before .before .before .before .before .before .before .before .before .before .before .before .before .before .before .before .before .before .before .args .chain .now) (c .before .before .before .before .before .before .before .zero-words .last .0) (c .before .before .before .before .before .before .before .before .before .before .before .before .before .before .before .before .before .before .before .pre .0) (omega (arith, c .before .before .before .before .before .before .before .before .before .before .before .before .before .before .before .before .before .before .before .pre .1)) (c .before .before .before .before .before .before .before .zero-words .ensures),
-      (lent-rooms (lists (c .before .before .before .before .before .before .before .before .before .before .before .before .before .before .before .before .before .before .before .args .coordinates .now) (c .before .before .before .before .before .before .before .before .before .before .before .before .before .before .before .before .before .before .before .args .sides .now) (c .before .before .before .before .before .before .before .before .before .before .before .before .before .before .before .before .before .before .before .args .listed .now) (c .before .before .before .before .before .before .before .before .before .before .before .before .before .before .before .before .before .before .before .args .beside .now)) (meshOf (c .before .before .before .before .before .before .before .before .before .before .before .before .before .before .before .before .before .before .before .args .positions .now) (c .before .before .before .before .before .before .before .before .before .before .before .before .before .before .before .before .before .before .before .args .points .now) (c .before .before .before .before .before .before .before .before .before .before .before .before .before .before .before .before .before .before .before .args .edges .now) (c .before .before .before .before .before .before .before .before .before .before .before .before .before .before .before .before .before .before .before .args .intervals .now) (c .before .before .before .before .before .before .before .before .before .before .before .before .before .before .before .before .before .before .before .args .faces .now)) (c .before .before .before .before .before .before .before .zero-words .last .0) r (rw (c .before .before .before .before .before .before .before .zero-words .kept .0) (c .before .before .before .before .before .before .before .before .before .before .before .before .before .before .before .before .before .before .before .pre .1)), (r .faces-few, (r .faces-fit, r .all-listed))),
+      standing-none l m (args .chain .now) (zero-words .last .0) (pre .0) (omega (arith, pre .1)) (zero-words .ensures),
+      (
+        lent-rooms l m (zero-words .last .0) r (rw (zero-words .kept .0) (pre .1)),
+        (r .faces-few, (r .faces-fit, r .all-listed)),
+      ),
     )
 
 conclude-requires : tie.Need-conclude-requires
 conclude-requires c κs =
-    let r = rooms-of (lists (c .before .before .before .before .before .before .before .before .before .before .before .before .before .before .before .before .before .before .before .before .before .before .before .before .before .before .before .before .before .before .before .before .before .before .before .before .before .before .args .coordinates .now) (c .before .before .before .before .before .before .before .before .before .before .before .before .before .before .before .before .before .before .before .before .before .before .before .before .before .before .before .before .before .before .before .before .before .before .before .before .before .before .args .sides .now) (c .before .before .before .before .before .before .before .before .before .before .before .before .before .before .before .before .before .before .before .before .before .before .before .before .before .before .before .before .before .before .before .before .before .before .before .before .before .before .args .listed .now) (c .before .before .before .before .before .before .before .before .before .before .before .before .before .before .before .before .before .before .before .before .before .before .before .before .before .before .before .before .before .before .before .before .before .before .before .before .before .before .args .beside .now)) (meshOf (c .before .before .before .before .before .before .before .before .before .before .before .before .before .before .before .before .before .before .before .before .before .before .before .before .before .before .before .before .before .before .before .before .before .before .before .before .before .before .args .positions .now) (c .before .before .before .before .before .before .before .before .before .before .before .before .before .before .before .before .before .before .before .before .before .before .before .before .before .before .before .before .before .before .before .before .before .before .before .before .before .before .args .points .now) (c .before .before .before .before .before .before .before .before .before .before .before .before .before .before .before .before .before .before .before .before .before .before .before .before .before .before .before .before .before .before .before .before .before .before .before .before .before .before .args .edges .now) (c .before .before .before .before .before .before .before .before .before .before .before .before .before .before .before .before .before .before .before .before .before .before .before .before .before .before .before .before .before .before .before .before .before .before .before .before .before .before .args .intervals .now) (c .before .before .before .before .before .before .before .before .before .before .before .before .before .before .before .before .before .before .before .before .before .before .before .before .before .before .before .before .before .before .before .before .before .before .before .before .before .before .args .faces .now)) (c .before .before .before .before .before .before .before .before .before .before .before .before .before .before .before .before .before .before .before .before .before .before .before .before .before .before .before .before .before .before .before .before .before .before .before .before .before .before .pre .0) in
-    (r .positions-fit, (rw (c .before .before .before .before .before .before .before .before .before .before .before .before .before .before .before .before .before .before .enter-faces .kept .1 .1 .1 .0) (r .points-fit), (rw (c .before .before .before .before .before .before .before .before .before .before .before .before .before .before .before .before .before .before .enter-faces .kept .1 .1 .1 .1 .0) (r .edges-fit), (rw (c .before .before .before .before .before .before .before .before .before .before .before .before .before .before .before .before .before .before .enter-faces .kept .1 .1 .1 .1 .1 .0) (r .intervals-fit), (rw (c .before .before .before .before .before .before .before .before .before .before .before .before .before .before .before .before .before .before .enter-faces .kept .1 .1 .1 .1 .1 .1 .0) (r .faces-fit), (rw (c .before .before .before .before .before .before .k .given .1) at (c .before .before .before .before .before .before .before .before .before .before .before .before .before .before .before .before .before .before .enter-faces .ensures .1)) .1)))))
+    let c8 = c .before .before .before .before .before .before .before .before in
+    let c16 = c8 .before .before .before .before .before .before .before .before in
+    let c24 = c16 .before .before .before .before .before .before .before .before in
+    let c32 = c24 .before .before .before .before .before .before .before .before in
+    let args = c32 .before .before .before .before .before .before .args in
+    let pre = c32 .before .before .before .before .before .before .pre in
+    let enter-faces = c16 .before .before .enter-faces in
+    let r = rooms-of (lists (args .coordinates .now) (args .sides .now) (args .listed .now) (args .beside .now))
+    (meshOf (args .positions .now) (args .points .now) (args .edges .now) (args .intervals .now) (args .faces .now))
+    (pre .0) in (
+      r .positions-fit,
+      (
+        rw (enter-faces .kept .1 .1 .1 .0) (r .points-fit),
+        (
+          rw (enter-faces .kept .1 .1 .1 .1 .0) (r .edges-fit),
+          (
+            rw (enter-faces .kept .1 .1 .1 .1 .1 .0) (r .intervals-fit),
+            (
+              rw (enter-faces .kept .1 .1 .1 .1 .1 .1 .0) (r .faces-fit),
+              (rw (c .before .before .before .before .before .before .k .given .1) at (enter-faces .ensures .1)) .1,
+            ),
+          ),
+        ),
+      ),
+    )
 
 zero-rows-requires : tie.Need-zero-rows-requires
 zero-rows-requires c κs =
-    let r = rooms-of (lists (c .before .before .before .before .before .before .before .before .before .before .before .before .before .before .before .before .before .before .before .before .before .before .before .before .before .before .before .before .before .before .before .before .before .before .before .before .before .before .args .coordinates .now) (c .before .before .before .before .before .before .before .before .before .before .before .before .before .before .before .before .before .before .before .before .before .before .before .before .before .before .before .before .before .before .before .before .before .before .before .before .before .before .args .sides .now) (c .before .before .before .before .before .before .before .before .before .before .before .before .before .before .before .before .before .before .before .before .before .before .before .before .before .before .before .before .before .before .before .before .before .before .before .before .before .before .args .listed .now) (c .before .before .before .before .before .before .before .before .before .before .before .before .before .before .before .before .before .before .before .before .before .before .before .before .before .before .before .before .before .before .before .before .before .before .before .before .before .before .args .beside .now)) (meshOf (c .before .before .before .before .before .before .before .before .before .before .before .before .before .before .before .before .before .before .before .before .before .before .before .before .before .before .before .before .before .before .before .before .before .before .before .before .before .before .args .positions .now) (c .before .before .before .before .before .before .before .before .before .before .before .before .before .before .before .before .before .before .before .before .before .before .before .before .before .before .before .before .before .before .before .before .before .before .before .before .before .before .args .points .now) (c .before .before .before .before .before .before .before .before .before .before .before .before .before .before .before .before .before .before .before .before .before .before .before .before .before .before .before .before .before .before .before .before .before .before .before .before .before .before .args .edges .now) (c .before .before .before .before .before .before .before .before .before .before .before .before .before .before .before .before .before .before .before .before .before .before .before .before .before .before .before .before .before .before .before .before .before .before .before .before .before .before .args .intervals .now) (c .before .before .before .before .before .before .before .before .before .before .before .before .before .before .before .before .before .before .before .before .before .before .before .before .before .before .before .before .before .before .before .before .before .before .before .before .before .before .args .faces .now)) (c .before .before .before .before .before .before .before .before .before .before .before .before .before .before .before .before .before .before .before .before .before .before .before .before .before .before .before .before .before .before .before .before .before .before .before .before .before .before .pre .0) in
-    (r .positions-fit, (rw (c .before .before .before .before .before .before .before .before .before .before .before .before .before .before .before .before .before .before .enter-faces .kept .1 .1 .1 .0) (r .points-fit), (rw (c .before .before .before .before .before .before .before .before .before .before .before .before .before .before .before .before .before .before .enter-faces .kept .1 .1 .1 .1 .0) (r .edges-fit), (rw (c .before .before .before .before .before .before .before .before .before .before .before .before .before .before .before .before .before .before .enter-faces .kept .1 .1 .1 .1 .1 .0) (r .intervals-fit), rw (c .before .before .before .before .before .before .before .before .before .before .before .before .before .before .before .before .before .before .enter-faces .kept .1 .1 .1 .1 .1 .1 .0) (r .faces-fit)))))
+    let c8 = c .before .before .before .before .before .before .before .before in
+    let c16 = c8 .before .before .before .before .before .before .before .before in
+    let c24 = c16 .before .before .before .before .before .before .before .before in
+    let c32 = c24 .before .before .before .before .before .before .before .before in
+    let args = c32 .before .before .before .before .before .before .args in
+    let pre = c32 .before .before .before .before .before .before .pre in
+    let enter-faces = c16 .before .before .enter-faces in
+    let r = rooms-of (lists (args .coordinates .now) (args .sides .now) (args .listed .now) (args .beside .now))
+    (meshOf (args .positions .now) (args .points .now) (args .edges .now) (args .intervals .now) (args .faces .now))
+    (pre .0) in (
+      r .positions-fit,
+      (
+        rw (enter-faces .kept .1 .1 .1 .0) (r .points-fit),
+        (
+          rw (enter-faces .kept .1 .1 .1 .1 .0) (r .edges-fit),
+          (
+            rw (enter-faces .kept .1 .1 .1 .1 .1 .0) (r .intervals-fit),
+            rw (enter-faces .kept .1 .1 .1 .1 .1 .1 .0) (r .faces-fit),
+          ),
+        ),
+      ),
+    )
 
 returns : tie.Need-returns
-returns c = λ m begun z. on-outcome (lists (c .before .before .before .before .before .before .before .before .before .before .before .before .before .before .before .before .before .before .before .before .before .before .before .before .before .before .before .before .before .before .before .before .before .before .before .before .before .before .before .before .before .before .before .before .before .before .before .before .before .args .coordinates .now) (c .before .before .before .before .before .before .before .before .before .before .before .before .before .before .before .before .before .before .before .before .before .before .before .before .before .before .before .before .before .before .before .before .before .before .before .before .before .before .before .before .before .before .before .before .before .before .before .before .before .args .sides .now) (c .before .before .before .before .before .before .before .before .before .before .before .before .before .before .before .before .before .before .before .before .before .before .before .before .before .before .before .before .before .before .before .before .before .before .before .before .before .before .before .before .before .before .before .before .before .before .before .before .before .args .listed .now) (c .before .before .before .before .before .before .before .before .before .before .before .before .before .before .before .before .before .before .before .before .before .before .before .before .before .before .before .before .before .before .before .before .before .before .before .before .before .before .before .before .before .before .before .before .before .before .before .before .before .args .beside .now)) m (meshOf (c .before .before .before .before .before .before .before .before .before .before .before .before .before .before .before .before .before .before .before .before .before .before .before .before .before .before .before .before .before .before .before .before .before .before .before .before .before .before .before .before .before .before .before .before .before .before .before .before .before .args .positions .now) (c .before .before .before .before .before .before .before .before .before .before .before .before .before .before .before .before .before .before .before .before .before .before .before .before .before .before .before .before .before .before .before .before .before .before .before .before .before .before .before .before .before .before .before .before .before .before .before .before .before .args .points .now) (c .before .before .before .before .before .before .before .before .before .before .before .before .before .before .before .before .before .before .before .before .before .before .before .before .before .before .before .before .before .before .before .before .before .before .before .before .before .before .before .before .before .before .before .before .before .before .before .before .before .args .edges .now) (c .before .before .before .before .before .before .before .before .before .before .before .before .before .before .before .before .before .before .before .before .before .before .before .before .before .before .before .before .before .before .before .before .before .before .before .before .before .before .before .before .before .before .before .before .before .before .before .before .before .args .intervals .now) (c .before .before .before .before .before .before .before .before .before .before .before .before .before .before .before .before .before .before .before .before .before .before .before .before .before .before .before .before .before .before .before .before .before .before .before .before .before .before .before .before .before .before .before .before .before .before .before .before .before .args .faces .now)) begun z (c .before .before .before .before .before .before .before .before .before .before .before .before .before .before .before .before .before .k .given .0 .0) (meshOf (c .before .before .before .before .before .before .before .before .before .before .before .before .before .before .before .before .before .before .before .before .before .before .before .before .before .before .before .before .before .before .before .before .before .before .before .before .before .before .before .before .before .before .before .before .before .before .before .before .before .args .positions .now) (c .before .before .before .before .before .before .before .before .before .before .before .before .before .before .before .before .before .before .before .before .before .before .before .before .before .before .before .before .before .enter-faces .last .1 .1 .1 .0) (c .before .before .before .before .before .before .before .before .before .before .before .before .before .before .before .before .before .before .before .before .before .before .before .before .before .before .before .before .before .enter-faces .last .1 .1 .1 .1 .0) (c .before .before .before .before .before .before .before .before .before .before .before .before .before .before .before .before .before .before .before .before .before .before .before .before .before .before .before .before .before .enter-faces .last .1 .1 .1 .1 .1 .0) (c .before .before .before .before .before .before .before .before .before .before .before .before .before .before .before .before .before .before .before .before .before .before .before .before .before .before .before .before .before .enter-faces .last .1 .1 .1 .1 .1 .1 .0)) _ (rw (c .before .before .before .before .before .before .before .before .before .before .before .before .before .before .before .before .before .k .given .1) at (c .before .before .before .before .before .before .before .before .before .before .before .before .before .before .before .before .before .before .before .before .before .before .before .before .before .before .before .before .before .enter-faces .ensures .0 (c .before .before .before .before .before .before .before .before .before .before .before .before .before .before .before .before .before .before .before .before .before .before .before .before .before .before .before .before .before .before .before .before .before .before .before .before .before .before .before .before .before .before .before .before .before .before .before .before .before .args .coordinates .now) (c .before .before .before .before .before .before .before .before .before .before .before .before .before .before .before .before .before .before .before .before .before .before .before .before .before .before .before .before .before .before .before .before .before .before .before .before .before .before .before .before .before .before .before .before .before .before .before .before .before .args .positions .now) refl)) (c .before .before .before .before .before .before .before .before .before .before .conclude .ensures)
+returns c =
+    let c8 = c .before .before .before .before .before .before .before .before in
+    let c16 = c8 .before .before .before .before .before .before .before .before in
+    let c24 = c16 .before .before .before .before .before .before .before .before in
+    let c32 = c24 .before .before .before .before .before .before .before .before in
+    let c40 = c32 .before .before .before .before .before .before .before .before in
+    let c48 = c40 .before .before .before .before .before .before .before .before in
+    let args = c48 .before .args in
+    let enter-faces = c24 .before .before .before .before .before .enter-faces in
+    let k = c16 .before .k in
+    λ m begun z. on-outcome (lists (args .coordinates .now) (args .sides .now) (args .listed .now) (args .beside .now))
+    m (meshOf (args .positions .now) (args .points .now) (args .edges .now) (args .intervals .now) (args .faces .now))
+    begun z (k .given .0 .0) (meshOf (args .positions .now) (enter-faces .last .1 .1 .1 .0)
+    (enter-faces .last .1 .1 .1 .1 .0) (enter-faces .last .1 .1 .1 .1 .1 .0) (enter-faces .last .1 .1 .1 .1 .1 .1 .0)) _
+    (rw (k .given .1) at (enter-faces .ensures .0 (args .coordinates .now) (args .positions .now) refl))
+    (c8 .before .before .conclude .ensures)
 
 returns-2 : tie.Need-returns-2
-returns-2 c = λ m begun z. stopped-outcome (lists (c .before .before .before .before .before .before .before .before .before .before .before .before .before .before .before .before .before .before .before .before .before .before .before .before .before .before .before .before .before .before .before .before .before .before .before .before .before .before .before .before .before .before .before .before .before .before .before .before .before .args .coordinates .now) (c .before .before .before .before .before .before .before .before .before .before .before .before .before .before .before .before .before .before .before .before .before .before .before .before .before .before .before .before .before .before .before .before .before .before .before .before .before .before .before .before .before .before .before .before .before .before .before .before .before .args .sides .now) (c .before .before .before .before .before .before .before .before .before .before .before .before .before .before .before .before .before .before .before .before .before .before .before .before .before .before .before .before .before .before .before .before .before .before .before .before .before .before .before .before .before .before .before .before .before .before .before .before .before .args .listed .now) (c .before .before .before .before .before .before .before .before .before .before .before .before .before .before .before .before .before .before .before .before .before .before .before .before .before .before .before .before .before .before .before .before .before .before .before .before .before .before .before .before .before .before .before .before .before .before .before .before .before .args .beside .now)) m (meshOf (c .before .before .before .before .before .before .before .before .before .before .before .before .before .before .before .before .before .before .before .before .before .before .before .before .before .before .before .before .before .before .before .before .before .before .before .before .before .before .before .before .before .before .before .before .before .before .before .before .before .args .positions .now) (c .before .before .before .before .before .before .before .before .before .before .before .before .before .before .before .before .before .before .before .before .before .before .before .before .before .before .before .before .before .before .before .before .before .before .before .before .before .before .before .before .before .before .before .before .before .before .before .before .before .args .points .now) (c .before .before .before .before .before .before .before .before .before .before .before .before .before .before .before .before .before .before .before .before .before .before .before .before .before .before .before .before .before .before .before .before .before .before .before .before .before .before .before .before .before .before .before .before .before .before .before .before .before .args .edges .now) (c .before .before .before .before .before .before .before .before .before .before .before .before .before .before .before .before .before .before .before .before .before .before .before .before .before .before .before .before .before .before .before .before .before .before .before .before .before .before .before .before .before .before .before .before .before .before .before .before .before .args .intervals .now) (c .before .before .before .before .before .before .before .before .before .before .before .before .before .before .before .before .before .before .before .before .before .before .before .before .before .before .before .before .before .before .before .before .before .before .before .before .before .before .before .before .before .before .before .before .before .before .before .before .before .args .faces .now)) begun z (c .before .before .before .before .before .before .before .before .before .before .before .before .before .before .before .before .before .g .given .0 .0) (meshOf (c .before .before .before .before .before .before .before .before .before .before .before .before .before .before .before .before .before .before .before .before .before .before .before .before .before .before .before .before .before .before .before .before .before .before .before .before .before .before .before .before .before .before .before .before .before .before .before .before .before .args .positions .now) (c .before .before .before .before .before .before .before .before .before .before .before .before .before .before .before .before .before .before .before .before .before .before .before .before .before .before .before .before .before .enter-faces .last .1 .1 .1 .0) (c .before .before .before .before .before .before .before .before .before .before .before .before .before .before .before .before .before .before .before .before .before .before .before .before .before .before .before .before .before .enter-faces .last .1 .1 .1 .1 .0) (c .before .before .before .before .before .before .before .before .before .before .before .before .before .before .before .before .before .before .before .before .before .before .before .before .before .before .before .before .before .enter-faces .last .1 .1 .1 .1 .1 .0) (c .before .before .before .before .before .before .before .before .before .before .before .before .before .before .before .before .before .before .before .before .before .before .before .before .before .before .before .before .before .enter-faces .last .1 .1 .1 .1 .1 .1 .0)) _ (rw (c .before .before .before .before .before .before .before .before .before .before .before .before .before .before .before .before .before .g .given .1) at (c .before .before .before .before .before .before .before .before .before .before .before .before .before .before .before .before .before .before .before .before .before .before .before .before .before .before .before .before .before .enter-faces .ensures .0 (c .before .before .before .before .before .before .before .before .before .before .before .before .before .before .before .before .before .before .before .before .before .before .before .before .before .before .before .before .before .before .before .before .before .before .before .before .before .before .before .before .before .before .before .before .before .before .before .before .before .args .coordinates .now) (c .before .before .before .before .before .before .before .before .before .before .before .before .before .before .before .before .before .before .before .before .before .before .before .before .before .before .before .before .before .before .before .before .before .before .before .before .before .before .before .before .before .before .before .before .before .before .before .before .before .args .positions .now) refl)) (c .before .before .before .before .before .before .before .before .before .before .zero-rows .ensures)
+returns-2 c =
+    let c8 = c .before .before .before .before .before .before .before .before in
+    let c16 = c8 .before .before .before .before .before .before .before .before in
+    let c24 = c16 .before .before .before .before .before .before .before .before in
+    let c32 = c24 .before .before .before .before .before .before .before .before in
+    let c40 = c32 .before .before .before .before .before .before .before .before in
+    let c48 = c40 .before .before .before .before .before .before .before .before in
+    let args = c48 .before .args in
+    let enter-faces = c24 .before .before .before .before .before .enter-faces in
+    let g = c16 .before .g in
+    λ m begun z. stopped-outcome
+    (lists (args .coordinates .now) (args .sides .now) (args .listed .now) (args .beside .now)) m
+    (meshOf (args .positions .now) (args .points .now) (args .edges .now) (args .intervals .now) (args .faces .now))
+    begun z (g .given .0 .0) (meshOf (args .positions .now) (enter-faces .last .1 .1 .1 .0)
+    (enter-faces .last .1 .1 .1 .1 .0) (enter-faces .last .1 .1 .1 .1 .1 .0) (enter-faces .last .1 .1 .1 .1 .1 .1 .0)) _
+    (rw (g .given .1) at (enter-faces .ensures .0 (args .coordinates .now) (args .positions .now) refl))
+    (c8 .before .before .zero-rows .ensures)
 
 pub build-zeroed-spec : {M : Type 1} → statement M
 build-zeroed-spec =

@@ -11,16 +11,40 @@ use Rattle.building_faces.proofs.enter_face.Tie as tie
 
 face-verdict-requires : tie.Need-face-verdict-requires
 face-verdict-requires c κs =
-    let h = c .before .before .before .before .before .before .before .before .before .pre .1 .1 .0 in
-    (rw (c .index .ensures) (h .sides), (rw (c .index .ensures) (h .is-size), (h .within, rw (c .before .before .before .before .before .before .before .before .before .pre .1 .0 .beside) (h .within))))
+    let pre = c .before .before .before .before .before .before .before .before .before .pre in
+    let h = pre .1 .1 .0 in (
+      rw (c .index .ensures) (h .sides),
+      (rw (c .index .ensures) (h .is-size), (h .within, rw (pre .1 .0 .beside) (h .within))),
+    )
 
 enter-perimeter-requires : tie.Need-enter-perimeter-requires
 enter-perimeter-requires c κs =
-    let p = fit-placed (c .before .before .before .before .before .before .before .before .before .before .before .before .before .before .before .before .before .args .sides .now) (c .before .before .before .before .before .before .before .before .before .before .before .before .before .before .before .before .before .args .listed .now) (c .before .before .before .before .before .before .before .before .before .before .before .before .before .before .before .before .before .args .beside .now) (c .before .before .before .before .before .before .before .before .before .before .before .before .before .before .before .before .before .args .np) (c .before .before .before .before .before .before .before .before .before .before .before .before .before .before .before .before .before .args .f) (c .before .before .before .before .before .before .before .before .before .before .before .before .before .before .before .before .before .args .a) (c .before .before .before .before .before .before .before .before .before .before .before .before .before .before .before .before .before .args .n) (c .before .before .before .before .before .before .before .before .before .before .before .before .before .before .before .before .before .pre .1 .1 .0) (sym (rw (c .before .before .before .before .before .before .before .before .index .ensures) at (c .before .before .before .before .before .before .before .face-verdict .ensures [])) ∙ c .before .before .before .before .before .enum-told .given .1) in
-    (c .before .before .before .before .before .before .before .before .before .before .before .before .before .before .before .before .before .pre .0, (c .before .before .before .before .before .before .before .before .before .before .before .before .before .before .before .before .before .pre .1 .0, (p .0, (p .1, (c .before .before .before .before .before .before .before .before .before .before .before .before .before .before .before .before .before .pre .1 .1 .1 .0, c .before .before .before .before .before .before .before .before .before .before .before .before .before .before .before .before .before .pre .1 .1 .1 .1)))))
+    let c8 = c .before .before .before .before .before .before .before .before in
+    let c16 = c8 .before .before .before .before .before .before .before .before in
+    let args = c16 .before .args in
+    let pre = c16 .before .pre in
+    let p = fit-placed (args .sides .now) (args .listed .now) (args .beside .now) (args .np) (args .f) (args .a)
+    (args .n) (pre .1 .1 .0) (sym
+    (rw (c8 .index .ensures) at (c .before .before .before .before .before .before .before .face-verdict .ensures []))
+    ∙ c .before .before .before .before .before .enum-told .given .1) in
+    (pre .0, (pre .1 .0, (p .0, (p .1, (pre .1 .1 .1 .0, pre .1 .1 .1 .1)))))
 
 returns : tie.Need-returns
-returns c = ((λ cs ps z. passed-fit (c .before .before .before .before .before .before .before .before .before .before .before .before .before .before .before .before .before .before .before .before .before .before .before .before .before .before .before .before .args .sides .now) (c .before .before .before .before .before .before .before .before .before .before .before .before .before .before .before .before .before .before .before .before .before .before .before .before .before .before .before .before .args .listed .now) (c .before .before .before .before .before .before .before .before .before .before .before .before .before .before .before .before .before .before .before .before .before .before .before .before .before .before .before .before .args .beside .now) (c .before .before .before .before .before .before .before .before .before .before .before .before .before .before .before .before .before .before .before .before .before .before .before .before .before .before .before .before .args .np) (c .before .before .before .before .before .before .before .before .before .before .before .before .before .before .before .before .before .before .before .before .before .before .before .before .before .before .before .before .args .f) (c .before .before .before .before .before .before .before .before .before .before .before .before .before .before .before .before .before .before .before .before .before .before .before .before .before .before .before .before .args .a) (c .before .before .before .before .before .before .before .before .before .before .before .before .before .before .before .before .before .before .before .before .before .before .before .before .before .before .before .before .args .n) (c .before .before .before .before .before .before .before .before .before .before .before .before .before .before .before .before .before .before .before .before .before .before .before .before .before .before .before .before .pre .1 .1 .0) cs z (stateAt (meshOf ps (c .before .before .before .before .before .before .before .before .before .before .before .before .before .before .before .before .before .before .before .before .before .before .before .before .before .before .before .before .args .points .now) (c .before .before .before .before .before .before .before .before .before .before .before .before .before .before .before .before .before .before .before .before .before .before .before .before .before .before .before .before .args .edges .now) (c .before .before .before .before .before .before .before .before .before .before .before .before .before .before .before .before .before .before .before .before .before .before .before .before .before .before .before .before .args .intervals .now) (c .before .before .before .before .before .before .before .before .before .before .before .before .before .before .before .before .before .before .before .before .before .before .before .before .before .before .before .before .args .faces .now)) (c .before .before .before .before .before .before .before .before .before .before .before .before .before .before .before .before .before .before .before .before .before .before .before .before .before .before .before .before .args .k)) _ (sym (rw (c .before .before .before .before .before .before .before .before .before .before .before .before .before .before .before .before .before .before .before .index .ensures) at (c .before .before .before .before .before .before .before .before .before .before .before .before .before .before .before .before .before .before .face-verdict .ensures cs)) ∙ c .before .before .before .before .before .before .before .before .before .before .before .before .before .before .before .before .enum-told .given .1) (c .before .before .before .before .before .before .before .before .before .before .enter-perimeter .ensures .0 cs (c .before .before .before .before .before .before .before .before .before .before .before .before .before .before .before .before .before .before .before .before .before .before .before .before .before .before .before .before .args .sides .now) ps)), c .before .before .before .before .before .before .before .before .before .before .enter-perimeter .ensures .1)
+returns c =
+    let c8 = c .before .before .before .before .before .before .before .before in
+    let c16 = c8 .before .before .before .before .before .before .before .before in
+    let c24 = c16 .before .before .before .before .before .before .before .before in
+    let args = c24 .before .before .before .before .args in
+    let pre = c24 .before .before .before .before .pre in
+    let index = c16 .before .before .before .index in
+    let enter-perimeter = c8 .before .before .enter-perimeter in (
+      (λ cs ps z. passed-fit (args .sides .now) (args .listed .now) (args .beside .now) (args .np) (args .f) (args .a)
+          (args .n) (pre .1 .1 .0) cs z
+          (stateAt (meshOf ps (args .points .now) (args .edges .now) (args .intervals .now) (args .faces .now)) (args .k)) _
+          (sym (rw (index .ensures) at (c16 .before .before .face-verdict .ensures cs)) ∙ c16 .enum-told .given .1)
+          (enter-perimeter .ensures .0 cs (args .sides .now) ps)),
+      enter-perimeter .ensures .1,
+    )
 
 returns-2 : tie.Need-returns-2
 returns-2 c =

@@ -11,23 +11,43 @@ use Rattle.building_faces.proofs.enter_faces.Statement.{statement}
 use Rattle.building_faces.proofs.enter_faces.Tie as tie
 
 abbrev Inv-loop : tie.InvT-loop
-Inv-loop sides listed beside points₀ edges₀ intervals₀ faces₀ chain₀ np nf k₀ a₀ f₀ points edges intervals faces chain k a f = FacePassing np sides listed beside points₀ edges₀ intervals₀ faces₀ chain₀ points edges intervals faces chain k a f
+Inv-loop sides listed beside points₀ edges₀ intervals₀ faces₀ chain₀ np nf k₀ a₀ f₀ points edges intervals faces chain k
+    a f = FacePassing np sides listed beside points₀ edges₀ intervals₀ faces₀ chain₀ points edges intervals faces chain
+    k a f
 
 abbrev μ-loop : tie.MeasureT-loop
 μ-loop sides listed beside points₀ edges₀ intervals₀ faces₀ chain₀ np nf k₀ a₀ f₀ points edges intervals faces chain k a f = nf - f
 
 loop-holds : tie.Need-loop-holds Inv-loop μ-loop
-loop-holds c = face-start (c .before .before .before .before .before .before .before .before .args .np) (c .before .before .before .before .before .before .before .before .args .sides .now) (c .before .before .before .before .before .before .before .before .args .listed .now) (c .before .before .before .before .before .before .before .before .args .beside .now) (c .before .before .before .before .before .before .before .before .args .points .now) (c .before .before .before .before .before .before .before .before .args .edges .now) (c .before .before .before .before .before .before .before .before .args .intervals .now) (c .before .before .before .before .before .before .before .before .args .faces .now) (c .before .before .before .before .before .before .before .before .args .chain .now) (c .before .before .before .before .before .before .before .before .pre .0)
+loop-holds c =
+    let args = c .before .before .before .before .before .before .before .before .args in
+    let pre = c .before .before .before .before .before .before .before .before .pre in
+    face-start (args .np) (args .sides .now) (args .listed .now) (args .beside .now) (args .points .now)
+    (args .edges .now) (args .intervals .now) (args .faces .now) (args .chain .now) (pre .0)
 
 enter-face-requires : tie.Need-enter-face-requires Inv-loop μ-loop
 enter-face-requires c κs =
-    let h = c .before .before .before .before .before .before .before .loop .inv in
-    let r = c .before .before .before .before .before .before .before .before .before .before .before .before .before .before .before .before .pre .1 .1 .1 .0 in
+    let c8 = c .before .before .before .before .before .before .before .before in
+    let args = c8 .before .before .before .before .before .before .before .before .args in
+    let pre = c8 .before .before .before .before .before .before .before .before .pre in
+    let loop = c .before .before .before .before .before .before .before .loop in
+    let loop-test = c .before .before .before .before .before .before .loop-test in
+    let face-size = c .before .before .before .before .before .face-size in
+    let h = loop .inv in
+    let r = pre .1 .1 .1 .0 in
     let e = h .faces-length in (
       h .standing,
       (
-        lent-same (c .before .before .before .before .before .before .before .before .before .before .before .before .before .before .before .before .args .np) (c .before .before .before .before .before .before .before .before .before .before .before .before .before .before .before .before .args .listed .now) (c .before .before .before .before .before .before .before .before .before .before .before .before .before .before .before .before .args .beside .now) (c .before .before .before .before .before .before .before .before .before .before .before .before .before .before .before .before .args .edges .now) (c .before .before .before .before .before .before .before .loop .edges) (c .before .before .before .before .before .before .before .before .before .before .before .before .before .before .before .before .args .intervals .now) (c .before .before .before .before .before .before .before .loop .intervals) (c .before .before .before .before .before .before .before .before .before .before .before .before .before .before .before .before .args .chain .now) (c .before .before .before .before .before .before .before .loop .chain) (h .edges-length) (h .intervals-length) (h .links-length) (c .before .before .before .before .before .before .before .before .before .before .before .before .before .before .before .before .pre .1 .0),
-        ((face-sided (c .before .before .before .before .before .before .before .before .before .before .before .before .before .before .before .before .args .np) (c .before .before .before .before .before .before .before .before .before .before .before .before .before .before .before .before .args .sides .now) (c .before .before .before .before .before .before .before .before .before .before .before .before .before .before .before .before .args .listed .now) (c .before .before .before .before .before .before .before .before .before .before .before .before .before .before .before .before .args .beside .now) (c .before .before .before .before .before .before .before .before .before .before .before .before .before .before .before .before .args .points .now) (c .before .before .before .before .before .before .before .before .before .before .before .before .before .before .before .before .args .edges .now) (c .before .before .before .before .before .before .before .before .before .before .before .before .before .before .before .before .args .intervals .now) (c .before .before .before .before .before .before .before .before .before .before .before .before .before .before .before .before .args .faces .now) (c .before .before .before .before .before .before .before .before .before .before .before .before .before .before .before .before .args .chain .now) (c .before .before .before .before .before .before .before .before .before .before .before .before .before .before .before .before .pre .1 .1 .1 .1) (c .before .before .before .before .before .before .before .loop .points) (c .before .before .before .before .before .before .before .loop .edges) (c .before .before .before .before .before .before .before .loop .intervals) (c .before .before .before .before .before .before .before .loop .faces) (c .before .before .before .before .before .before .before .loop .chain) (c .before .before .before .before .before .before .before .loop .k) (c .before .before .before .before .before .before .before .loop .a) (c .before .before .before .before .before .before .before .loop .f) (c .before .before .before .before .before .face-size .result) (c .before .before .before .before .before .before .before .loop .inv) (c .before .before .before .before .before .before .loop-test .taken) (c .before .before .before .before .before .face-size .ensures)), (h .count, omega (arith, c .before .before .before .before .before .before .loop-test .taken))),
+        lent-same (args .np) (args .listed .now) (args .beside .now) (args .edges .now) (loop .edges)
+            (args .intervals .now) (loop .intervals) (args .chain .now) (loop .chain) (h .edges-length) (h .intervals-length)
+            (h .links-length) (pre .1 .0),
+        (
+          (face-sided (args .np) (args .sides .now) (args .listed .now) (args .beside .now) (args .points .now)
+              (args .edges .now) (args .intervals .now) (args .faces .now) (args .chain .now) (pre .1 .1 .1 .1) (loop .points)
+              (loop .edges) (loop .intervals) (loop .faces) (loop .chain) (loop .k) (loop .a) (loop .f) (face-size .result)
+              (loop .inv) (loop-test .taken) (face-size .ensures)),
+          (h .count, omega (arith, loop-test .taken)),
+        ),
       ),
     )
 
@@ -48,13 +68,57 @@ returns c =
     )
 
 add-a : tie.Need-add-a Inv-loop μ-loop
-add-a c = let w = (face-sided (c .before .before .before .before .before .before .before .before .before .before .before .before .before .before .before .before .before .before .before .before .before .before .before .before .before .before .before .before .before .before .args .np) (c .before .before .before .before .before .before .before .before .before .before .before .before .before .before .before .before .before .before .before .before .before .before .before .before .before .before .before .before .before .before .args .sides .now) (c .before .before .before .before .before .before .before .before .before .before .before .before .before .before .before .before .before .before .before .before .before .before .before .before .before .before .before .before .before .before .args .listed .now) (c .before .before .before .before .before .before .before .before .before .before .before .before .before .before .before .before .before .before .before .before .before .before .before .before .before .before .before .before .before .before .args .beside .now) (c .before .before .before .before .before .before .before .before .before .before .before .before .before .before .before .before .before .before .before .before .before .before .before .before .before .before .before .before .before .before .args .points .now) (c .before .before .before .before .before .before .before .before .before .before .before .before .before .before .before .before .before .before .before .before .before .before .before .before .before .before .before .before .before .before .args .edges .now) (c .before .before .before .before .before .before .before .before .before .before .before .before .before .before .before .before .before .before .before .before .before .before .before .before .before .before .before .before .before .before .args .intervals .now) (c .before .before .before .before .before .before .before .before .before .before .before .before .before .before .before .before .before .before .before .before .before .before .before .before .before .before .before .before .before .before .args .faces .now) (c .before .before .before .before .before .before .before .before .before .before .before .before .before .before .before .before .before .before .before .before .before .before .before .before .before .before .before .before .before .before .args .chain .now) (c .before .before .before .before .before .before .before .before .before .before .before .before .before .before .before .before .before .before .before .before .before .before .before .before .before .before .before .before .before .before .pre .1 .1 .1 .1) (c .before .before .before .before .before .before .before .before .before .before .before .before .before .before .before .before .before .before .before .before .before .loop .points) (c .before .before .before .before .before .before .before .before .before .before .before .before .before .before .before .before .before .before .before .before .before .loop .edges) (c .before .before .before .before .before .before .before .before .before .before .before .before .before .before .before .before .before .before .before .before .before .loop .intervals) (c .before .before .before .before .before .before .before .before .before .before .before .before .before .before .before .before .before .before .before .before .before .loop .faces) (c .before .before .before .before .before .before .before .before .before .before .before .before .before .before .before .before .before .before .before .before .before .loop .chain) (c .before .before .before .before .before .before .before .before .before .before .before .before .before .before .before .before .before .before .before .before .before .loop .k) (c .before .before .before .before .before .before .before .before .before .before .before .before .before .before .before .before .before .before .before .before .before .loop .a) (c .before .before .before .before .before .before .before .before .before .before .before .before .before .before .before .before .before .before .before .before .before .loop .f) (c .before .before .before .before .before .before .before .before .before .before .before .before .before .before .before .before .before .before .before .face-size .result) (c .before .before .before .before .before .before .before .before .before .before .before .before .before .before .before .before .before .before .before .before .before .loop .inv) (c .before .before .before .before .before .before .before .before .before .before .before .before .before .before .before .before .before .before .before .before .loop-test .taken) (c .before .before .before .before .before .before .before .before .before .before .before .before .before .before .before .before .before .before .before .face-size .ensures)) .within in omega (arith, c .before .before .before .before .before .before .before .before .before .before .before .before .before .before .before .before .before .before .before .before .before .before .before .before .before .before .before .before .before .before .good .1 .0)
+add-a c =
+    let c8 = c .before .before .before .before .before .before .before .before in
+    let c16 = c8 .before .before .before .before .before .before .before .before in
+    let c24 = c16 .before .before .before .before .before .before .before .before in
+    let args = c24 .before .before .before .before .before .before .args in
+    let good = c24 .before .before .before .before .before .before .good in
+    let pre = c24 .before .before .before .before .before .before .pre in
+    let loop = c16 .before .before .before .before .before .loop in
+    let loop-test = c16 .before .before .before .before .loop-test in
+    let face-size = c16 .before .before .before .face-size in
+    let w = (face-sided (args .np) (args .sides .now) (args .listed .now) (args .beside .now) (args .points .now)
+    (args .edges .now) (args .intervals .now) (args .faces .now) (args .chain .now) (pre .1 .1 .1 .1) (loop .points)
+    (loop .edges) (loop .intervals) (loop .faces) (loop .chain) (loop .k) (loop .a) (loop .f) (face-size .result)
+    (loop .inv) (loop-test .taken) (face-size .ensures)) .within in
+    omega (arith, good .1 .0)
 
 loop-again : tie.Need-loop-again Inv-loop μ-loop
-loop-again c = face-more (c .before .before .before .before .before .before .before .before .before .before .before .before .before .before .before .before .before .before .before .before .before .before .before .before .before .before .before .before .before .before .args .np) (c .before .before .before .before .before .before .before .before .before .before .before .before .before .before .before .before .before .before .before .before .before .before .before .before .before .before .before .before .before .before .args .sides .now) (c .before .before .before .before .before .before .before .before .before .before .before .before .before .before .before .before .before .before .before .before .before .before .before .before .before .before .before .before .before .before .args .listed .now) (c .before .before .before .before .before .before .before .before .before .before .before .before .before .before .before .before .before .before .before .before .before .before .before .before .before .before .before .before .before .before .args .beside .now) (c .before .before .before .before .before .before .before .before .before .before .before .before .before .before .before .before .before .before .before .before .before .before .before .before .before .before .before .before .before .before .args .points .now) (c .before .before .before .before .before .before .before .before .before .before .before .before .before .before .before .before .before .before .before .before .before .before .before .before .before .before .before .before .before .before .args .edges .now) (c .before .before .before .before .before .before .before .before .before .before .before .before .before .before .before .before .before .before .before .before .before .before .before .before .before .before .before .before .before .before .args .intervals .now) (c .before .before .before .before .before .before .before .before .before .before .before .before .before .before .before .before .before .before .before .before .before .before .before .before .before .before .before .before .before .before .args .faces .now) (c .before .before .before .before .before .before .before .before .before .before .before .before .before .before .before .before .before .before .before .before .before .before .before .before .before .before .before .before .before .before .args .chain .now) (c .before .before .before .before .before .before .before .before .before .before .before .before .before .before .before .before .before .before .before .before .before .before .before .before .before .before .before .before .before .before .pre .1 .1 .1 .1) (c .before .before .before .before .before .before .before .before .before .before .before .before .before .before .before .before .before .before .before .before .before .loop .points) (c .before .before .before .before .before .before .before .before .before .before .before .before .before .before .before .before .before .before .before .before .before .loop .edges) (c .before .before .before .before .before .before .before .before .before .before .before .before .before .before .before .before .before .before .before .before .before .loop .intervals) (c .before .before .before .before .before .before .before .before .before .before .before .before .before .before .before .before .before .before .before .before .before .loop .faces) (c .before .before .before .before .before .before .before .before .before .before .before .before .before .before .before .before .before .before .before .before .before .loop .chain) (c .before .before .before .before .before .before .before .before .before .before .before .before .before .before .before .before .before .before .before .before .before .loop .k) (c .before .before .before .before .before .before .before .before .before .before .before .before .before .before .before .before .before .before .before .before .before .loop .a) (c .before .before .before .before .before .before .before .before .before .before .before .before .before .before .before .before .before .before .before .before .before .loop .f) (c .before .before .before .before .before .before .before .before .before .before .before .before .before .before .before .before .before .before .before .face-size .result) (c .before .before .before .before .before .before .before .before .before .before .before .before .before .before .before .before .before .before .before .before .before .loop .inv) (c .before .before .before .before .before .before .before .before .before .before .before .before .before .before .before .before .before .before .before .before .loop-test .taken) (c .before .before .before .before .before .before .before .before .before .before .before .before .before .before .before .before .before .before .before .face-size .ensures) (c .before .before .before .before .before .before .before .before .before .before .before .before .before .enter-face .last .1 .1 .1 .0) (c .before .before .before .before .before .before .before .before .before .before .before .before .before .enter-face .last .1 .1 .1 .1 .0) (c .before .before .before .before .before .before .before .before .before .before .before .before .before .enter-face .last .1 .1 .1 .1 .1 .0) (c .before .before .before .before .before .before .before .before .before .before .before .before .before .enter-face .last .1 .1 .1 .1 .1 .1 .0) (c .before .before .before .before .before .before .before .before .before .before .before .before .before .enter-face .last .1 .1 .1 .1 .1 .1 .1 .0) (c .before .count .given .0 .0) (λ cs ps z. rw (c .before .count .given .1) at (c .before .before .before .before .before .before .before .before .before .before .before .before .before .enter-face .ensures .0 cs ps z)) (rw (c .before .count .given .1) at (c .before .before .before .before .before .before .before .before .before .before .before .before .before .enter-face .ensures .1)) (c .before .before .before .before .before .before .before .before .before .before .before .before .before .enter-face .kept .1 .1 .1 .0) (c .before .before .before .before .before .before .before .before .before .before .before .before .before .enter-face .kept .1 .1 .1 .1 .0) (c .before .before .before .before .before .before .before .before .before .before .before .before .before .enter-face .kept .1 .1 .1 .1 .1 .0) (c .before .before .before .before .before .before .before .before .before .before .before .before .before .enter-face .kept .1 .1 .1 .1 .1 .1 .0) (c .before .before .before .before .before .before .before .before .before .before .before .before .before .enter-face .kept .1 .1 .1 .1 .1 .1 .1 .0)
+loop-again c =
+    let c8 = c .before .before .before .before .before .before .before .before in
+    let c16 = c8 .before .before .before .before .before .before .before .before in
+    let c24 = c16 .before .before .before .before .before .before .before .before in
+    let args = c24 .before .before .before .before .before .before .args in
+    let pre = c24 .before .before .before .before .before .before .pre in
+    let loop = c16 .before .before .before .before .before .loop in
+    let loop-test = c16 .before .before .before .before .loop-test in
+    let face-size = c16 .before .before .before .face-size in
+    let enter-face = c8 .before .before .before .before .before .enter-face in
+    face-more (args .np) (args .sides .now) (args .listed .now) (args .beside .now) (args .points .now)
+    (args .edges .now) (args .intervals .now) (args .faces .now) (args .chain .now) (pre .1 .1 .1 .1) (loop .points)
+    (loop .edges) (loop .intervals) (loop .faces) (loop .chain) (loop .k) (loop .a) (loop .f) (face-size .result)
+    (loop .inv) (loop-test .taken) (face-size .ensures) (enter-face .last .1 .1 .1 .0) (enter-face .last .1 .1 .1 .1 .0)
+    (enter-face .last .1 .1 .1 .1 .1 .0) (enter-face .last .1 .1 .1 .1 .1 .1 .0)
+    (enter-face .last .1 .1 .1 .1 .1 .1 .1 .0) (c .before .count .given .0 .0)
+    (λ cs ps z. rw (c .before .count .given .1) at (enter-face .ensures .0 cs ps z))
+    (rw (c .before .count .given .1) at (enter-face .ensures .1)) (enter-face .kept .1 .1 .1 .0)
+    (enter-face .kept .1 .1 .1 .1 .0) (enter-face .kept .1 .1 .1 .1 .1 .0) (enter-face .kept .1 .1 .1 .1 .1 .1 .0)
+    (enter-face .kept .1 .1 .1 .1 .1 .1 .1 .0)
 
 returns-2 : tie.Need-returns-2 Inv-loop μ-loop
-returns-2 c = (face-end (c .before .before .before .before .before .before .before .before .before .before .args .np) (c .before .before .before .before .before .before .before .before .before .before .args .sides .now) (c .before .before .before .before .before .before .before .before .before .before .args .listed .now) (c .before .before .before .before .before .before .before .before .before .before .args .beside .now) (c .before .before .before .before .before .before .before .before .before .before .args .points .now) (c .before .before .before .before .before .before .before .before .before .before .args .edges .now) (c .before .before .before .before .before .before .before .before .before .before .args .intervals .now) (c .before .before .before .before .before .before .before .before .before .before .args .faces .now) (c .before .before .before .before .before .before .before .before .before .before .args .chain .now) (c .before .loop .points) (c .before .loop .edges) (c .before .loop .intervals) (c .before .loop .faces) (c .before .loop .chain) (c .before .loop .k) (c .before .loop .a) (c .before .loop .f) (c .before .loop .inv) (c .loop-test .left), faces-stand (c .before .before .before .before .before .before .before .before .before .before .args .np) (c .before .before .before .before .before .before .before .before .before .before .args .sides .now) (c .before .before .before .before .before .before .before .before .before .before .args .listed .now) (c .before .before .before .before .before .before .before .before .before .before .args .beside .now) (c .before .before .before .before .before .before .before .before .before .before .args .points .now) (c .before .before .before .before .before .before .before .before .before .before .args .edges .now) (c .before .before .before .before .before .before .before .before .before .before .args .intervals .now) (c .before .before .before .before .before .before .before .before .before .before .args .faces .now) (c .before .before .before .before .before .before .before .before .before .before .args .chain .now) (c .before .loop .points) (c .before .loop .edges) (c .before .loop .intervals) (c .before .loop .faces) (c .before .loop .chain) (c .before .loop .k) (c .before .loop .a) (c .before .loop .f) (c .before .loop .inv) (c .loop-test .left) (c .before .before .before .before .before .before .before .before .before .before .pre .1 .1 .1 .1))
+returns-2 c =
+    let c8 = c .before .before .before .before .before .before .before .before in
+    let args = c8 .before .before .args in
+    let loop = c .before .loop in (
+      face-end (args .np) (args .sides .now) (args .listed .now) (args .beside .now) (args .points .now)
+          (args .edges .now) (args .intervals .now) (args .faces .now) (args .chain .now) (loop .points) (loop .edges)
+          (loop .intervals) (loop .faces) (loop .chain) (loop .k) (loop .a) (loop .f) (loop .inv) (c .loop-test .left),
+      faces-stand (args .np) (args .sides .now) (args .listed .now) (args .beside .now) (args .points .now)
+          (args .edges .now) (args .intervals .now) (args .faces .now) (args .chain .now) (loop .points) (loop .edges)
+          (loop .intervals) (loop .faces) (loop .chain) (loop .k) (loop .a) (loop .f) (loop .inv) (c .loop-test .left)
+          (c8 .before .before .pre .1 .1 .1 .1),
+    )
 
 pub enter-faces-spec : {M : Type 1} → statement M
 enter-faces-spec =

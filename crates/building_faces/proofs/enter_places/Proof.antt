@@ -9,21 +9,32 @@ use Rattle.building_faces.proofs.enter_places.Statement.{statement}
 use Rattle.building_faces.proofs.enter_places.Tie as tie
 
 abbrev Inv-loop : tie.InvT-loop
-Inv-loop listed beside points₀ edges₀ intervals₀ chain₀ np k f a n ring₀ i₀ points edges intervals chain ring i = Passing np listed beside f a n k points₀ edges₀ intervals₀ chain₀ points edges intervals chain ring i
+Inv-loop listed beside points₀ edges₀ intervals₀ chain₀ np k f a n ring₀ i₀ points edges intervals chain ring i =
+    Passing np listed beside f a n k points₀ edges₀ intervals₀ chain₀ points edges intervals chain ring i
 
 abbrev μ-loop : tie.MeasureT-loop
 μ-loop listed beside points₀ edges₀ intervals₀ chain₀ np k f a n ring₀ i₀ points edges intervals chain ring i = n - i
 
 loop-holds : tie.Need-loop-holds Inv-loop μ-loop
-loop-holds c = passing-start (c .before .before .before .before .before .before .args .np) (c .before .before .before .before .before .before .args .listed .now) (c .before .before .before .before .before .before .args .beside .now) (c .before .before .before .before .before .before .args .f) (c .before .before .before .before .before .before .args .a) (c .before .before .before .before .before .before .args .n) (c .before .before .before .before .before .before .args .k) (c .before .before .before .before .before .before .args .points .now) (c .before .before .before .before .before .before .args .edges .now) (c .before .before .before .before .before .before .args .intervals .now) (c .before .before .before .before .before .before .args .chain .now) (c .before .before .before .before .before .before .pre .0) (c .before .before .before .before .before .before .pre .1 .1 .1 .1)
+loop-holds c =
+    let args = c .before .before .before .before .before .before .args in
+    let pre = c .before .before .before .before .before .before .pre in
+    passing-start (args .np) (args .listed .now) (args .beside .now) (args .f) (args .a) (args .n) (args .k)
+    (args .points .now) (args .edges .now) (args .intervals .now) (args .chain .now) (pre .0) (pre .1 .1 .1 .1)
 
 turn-place-requires : tie.Need-turn-place-requires Inv-loop μ-loop
 turn-place-requires c κs =
-    let h = c .before .before .before .before .before .loop .inv in (
+    let c8 = c .before .before .before .before .before .before .before .before in
+    let args = c8 .before .before .before .before .args in
+    let pre = c8 .before .before .before .before .pre in
+    let loop = c .before .before .before .before .before .loop in
+    let h = loop .inv in (
       h .standing,
       (
-        lent-same (c .before .before .before .before .before .before .before .before .before .before .before .before .args .np) (c .before .before .before .before .before .before .before .before .before .before .before .before .args .listed .now) (c .before .before .before .before .before .before .before .before .before .before .before .before .args .beside .now) (c .before .before .before .before .before .before .before .before .before .before .before .before .args .edges .now) (c .before .before .before .before .before .loop .edges) (c .before .before .before .before .before .before .before .before .before .before .before .before .args .intervals .now) (c .before .before .before .before .before .loop .intervals) (c .before .before .before .before .before .before .before .before .before .before .before .before .args .chain .now) (c .before .before .before .before .before .loop .chain) (h .edges-length) (h .intervals-length) (h .links-length) (c .before .before .before .before .before .before .before .before .before .before .before .before .pre .1 .0),
-        (c .before .before .before .before .before .before .before .before .before .before .before .before .pre .1 .1 .0, (c .before .before .before .before .loop-test .taken, (h .count, h .closing))),
+        lent-same (args .np) (args .listed .now) (args .beside .now) (args .edges .now) (loop .edges)
+            (args .intervals .now) (loop .intervals) (args .chain .now) (loop .chain) (h .edges-length) (h .intervals-length)
+            (h .links-length) (pre .1 .0),
+        (pre .1 .1 .0, (c .before .before .before .before .loop-test .taken, (h .count, h .closing))),
       ),
     )
 
@@ -39,10 +50,33 @@ returns c =
     )
 
 loop-again : tie.Need-loop-again Inv-loop μ-loop
-loop-again c = passing-more (c .before .before .before .before .before .before .before .before .before .before .before .before .before .before .before .before .before .before .before .before .before .before .before .before .args .np) (c .before .before .before .before .before .before .before .before .before .before .before .before .before .before .before .before .before .before .before .before .before .before .before .before .args .listed .now) (c .before .before .before .before .before .before .before .before .before .before .before .before .before .before .before .before .before .before .before .before .before .before .before .before .args .beside .now) (c .before .before .before .before .before .before .before .before .before .before .before .before .before .before .before .before .before .before .before .before .before .before .before .before .args .f) (c .before .before .before .before .before .before .before .before .before .before .before .before .before .before .before .before .before .before .before .before .before .before .before .before .args .a) (c .before .before .before .before .before .before .before .before .before .before .before .before .before .before .before .before .before .before .before .before .before .before .before .before .args .n) (c .before .before .before .before .before .before .before .before .before .before .before .before .before .before .before .before .before .before .before .before .before .before .before .before .args .k) (c .before .before .before .before .before .before .before .before .before .before .before .before .before .before .before .before .before .before .before .before .before .before .before .before .args .points .now) (c .before .before .before .before .before .before .before .before .before .before .before .before .before .before .before .before .before .before .before .before .before .before .before .before .args .edges .now) (c .before .before .before .before .before .before .before .before .before .before .before .before .before .before .before .before .before .before .before .before .before .before .before .before .args .intervals .now) (c .before .before .before .before .before .before .before .before .before .before .before .before .before .before .before .before .before .before .before .before .before .before .before .before .args .chain .now) (c .before .before .before .before .before .before .before .before .before .before .before .before .before .before .before .before .before .loop .points) (c .before .before .before .before .before .before .before .before .before .before .before .before .before .before .before .before .before .loop .edges) (c .before .before .before .before .before .before .before .before .before .before .before .before .before .before .before .before .before .loop .intervals) (c .before .before .before .before .before .before .before .before .before .before .before .before .before .before .before .before .before .loop .chain) (c .before .before .before .before .before .before .before .before .before .before .before .before .before .before .before .before .before .loop .ring) (c .before .before .before .before .before .before .before .before .before .before .before .before .before .before .before .before .before .loop .i) (c .before .before .before .before .before .before .before .before .before .before .before .before .before .before .before .before .before .loop .inv) (c .before .before .before .before .before .before .before .before .before .before .before .before .before .before .before .before .loop-test .taken) (c .before .before .before .before .before .before .before .before .before .before .before .turn-place .last .1 .1 .0) (c .before .before .before .before .before .before .before .before .before .before .before .turn-place .last .1 .1 .1 .0) (c .before .before .before .before .before .before .before .before .before .before .before .turn-place .last .1 .1 .1 .1 .0) (c .before .before .before .before .before .before .before .before .before .before .before .turn-place .last .1 .1 .1 .1 .1 .0) (c .before .next .given .0 .0) (λ cs ss ps fs. rw (c .before .next .given .1) at (c .before .before .before .before .before .before .before .before .before .before .before .turn-place .ensures .0 cs ss ps fs)) (rw (c .before .next .given .1) at (c .before .before .before .before .before .before .before .before .before .before .before .turn-place .ensures .1)) (c .before .before .before .before .before .before .before .before .before .before .before .turn-place .kept .1 .1 .0) (c .before .before .before .before .before .before .before .before .before .before .before .turn-place .kept .1 .1 .1 .0) (c .before .before .before .before .before .before .before .before .before .before .before .turn-place .kept .1 .1 .1 .1 .0) (c .before .before .before .before .before .before .before .before .before .before .before .turn-place .kept .1 .1 .1 .1 .1 .0)
+loop-again c =
+    let c8 = c .before .before .before .before .before .before .before .before in
+    let c16 = c8 .before .before .before .before .before .before .before .before in
+    let args = c16 .before .before .before .before .before .before .before .before .args in
+    let loop = c16 .before .loop in
+    let turn-place = c8 .before .before .before .turn-place in
+    passing-more (args .np) (args .listed .now) (args .beside .now) (args .f) (args .a) (args .n) (args .k)
+    (args .points .now) (args .edges .now) (args .intervals .now) (args .chain .now) (loop .points) (loop .edges)
+    (loop .intervals) (loop .chain) (loop .ring) (loop .i) (loop .inv) (c16 .loop-test .taken)
+    (turn-place .last .1 .1 .0) (turn-place .last .1 .1 .1 .0) (turn-place .last .1 .1 .1 .1 .0)
+    (turn-place .last .1 .1 .1 .1 .1 .0) (c .before .next .given .0 .0)
+    (λ cs ss ps fs. rw (c .before .next .given .1) at (turn-place .ensures .0 cs ss ps fs))
+    (rw (c .before .next .given .1) at (turn-place .ensures .1)) (turn-place .kept .1 .1 .0)
+    (turn-place .kept .1 .1 .1 .0) (turn-place .kept .1 .1 .1 .1 .0) (turn-place .kept .1 .1 .1 .1 .1 .0)
 
 returns-2 : tie.Need-returns-2 Inv-loop μ-loop
-returns-2 c = (passing-end (c .before .before .before .before .before .before .before .before .args .np) (c .before .before .before .before .before .before .before .before .args .listed .now) (c .before .before .before .before .before .before .before .before .args .beside .now) (c .before .before .before .before .before .before .before .before .args .f) (c .before .before .before .before .before .before .before .before .args .a) (c .before .before .before .before .before .before .before .before .args .n) (c .before .before .before .before .before .before .before .before .args .k) (c .before .before .before .before .before .before .before .before .args .points .now) (c .before .before .before .before .before .before .before .before .args .edges .now) (c .before .before .before .before .before .before .before .before .args .intervals .now) (c .before .before .before .before .before .before .before .before .args .chain .now) (c .before .loop .points) (c .before .loop .edges) (c .before .loop .intervals) (c .before .loop .chain) (c .before .loop .ring) (c .before .loop .i) (c .before .loop .inv) (c .loop-test .left), passing-stands (c .before .before .before .before .before .before .before .before .args .np) (c .before .before .before .before .before .before .before .before .args .listed .now) (c .before .before .before .before .before .before .before .before .args .beside .now) (c .before .before .before .before .before .before .before .before .args .f) (c .before .before .before .before .before .before .before .before .args .a) (c .before .before .before .before .before .before .before .before .args .n) (c .before .before .before .before .before .before .before .before .args .k) (c .before .before .before .before .before .before .before .before .args .points .now) (c .before .before .before .before .before .before .before .before .args .edges .now) (c .before .before .before .before .before .before .before .before .args .intervals .now) (c .before .before .before .before .before .before .before .before .args .chain .now) (c .before .loop .points) (c .before .loop .edges) (c .before .loop .intervals) (c .before .loop .chain) (c .before .loop .ring) (c .before .loop .i) (c .before .loop .inv) (c .loop-test .left) (c .before .before .before .before .before .before .before .before .pre .1 .1 .1 .0))
+returns-2 c =
+    let args = c .before .before .before .before .before .before .before .before .args in
+    let pre = c .before .before .before .before .before .before .before .before .pre in
+    let loop = c .before .loop in (
+      passing-end (args .np) (args .listed .now) (args .beside .now) (args .f) (args .a) (args .n) (args .k)
+          (args .points .now) (args .edges .now) (args .intervals .now) (args .chain .now) (loop .points) (loop .edges)
+          (loop .intervals) (loop .chain) (loop .ring) (loop .i) (loop .inv) (c .loop-test .left),
+      passing-stands (args .np) (args .listed .now) (args .beside .now) (args .f) (args .a) (args .n) (args .k)
+          (args .points .now) (args .edges .now) (args .intervals .now) (args .chain .now) (loop .points) (loop .edges)
+          (loop .intervals) (loop .chain) (loop .ring) (loop .i) (loop .inv) (c .loop-test .left) (pre .1 .1 .1 .0),
+    )
 
 pub enter-places-spec : {M : Type 1} → statement M
 enter-places-spec =

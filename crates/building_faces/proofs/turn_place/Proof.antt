@@ -23,11 +23,14 @@ shared-slice-read-q c = let l = next-below (c .before .before .before .before .b
 
 enter-requires : tie.Need-enter-requires
 enter-requires c κs =
-    let a = c .before .before .before .before .before .before .before .before .before .before .before .before .before .before .args in
-    let w = c .before .before .before .before .before .before .before .before .before .before .before .before .before .before .pre .1 .1 .0 .within in (
-      c .before .before .before .before .before .before .before .before .before .before .before .before .before .before .pre .0,
+    let c8 = c .before .before .before .before .before .before .before .before in
+    let a = c8 .before .before .before .before .before .before .args in
+    let pre = c8 .before .before .before .before .before .before .pre in
+    let w = pre .1 .1 .0 .within in (
+      pre .0,
       (
-        room-lent (a .np) (a .listed .now) (a .beside .now) (a .edges .now) (a .intervals .now) (a .chain .now) (a .ring .edges) (c .before .before .before .before .before .before .before .before .before .before .before .before .before .before .pre .1 .0) (omega (arith, c .before .before .before .before .before .before .before .before .before .before .before .before .before .before .pre .1 .1 .1 .1 .0, c .before .before .before .before .before .before .before .before .before .before .before .before .before .before .pre .1 .1 .1 .0)),
+        room-lent (a .np) (a .listed .now) (a .beside .now) (a .edges .now) (a .intervals .now) (a .chain .now)
+            (a .ring .edges) (pre .1 .0) (omega (arith, pre .1 .1 .1 .1 .0, pre .1 .1 .1 .0)),
         (
           placed-point (c .before .before .before .before .before .before .before .before .before .before .before .before .before .before .args .np) (c .before .before .before .before .before .before .before .before .before .before .before .before .before .before .args .listed .now) (c .before .before .before .before .before .before .before .before .before .before .before .before .before .before .args .a) (c .before .before .before .before .before .before .before .before .before .before .before .before .before .before .args .n) (a .i) (c .before .before .before .before .before .before .before .before .before .before .before .before .before .before .pre .1 .1 .0) (c .before .before .before .before .before .before .before .before .before .before .before .before .before .before .pre .1 .1 .1 .0),
           rw (c .before .before .before .before .before .before .next-place .ensures .0) (placed-point (c .before .before .before .before .before .before .before .before .before .before .before .before .before .before .args .np) (c .before .before .before .before .before .before .before .before .before .before .before .before .before .before .args .listed .now) (c .before .before .before .before .before .before .before .before .before .before .before .before .before .before .args .a) (c .before .before .before .before .before .before .before .before .before .before .before .before .before .before .args .n) _ (c .before .before .before .before .before .before .before .before .before .before .before .before .before .before .pre .1 .1 .0) (next-below (a .n) (a .i) (c .before .before .before .before .before .before .before .before .before .before .before .before .before .before .pre .1 .1 .1 .0))),
@@ -43,10 +46,26 @@ returns c = (
 
 connect-requires : tie.Need-connect-requires
 connect-requires c κs =
+    let c8 = c .before .before .before .before .before .before .before .before in
+    let c16 = c8 .before .before .before .before .before .before .before .before in
+    let c24 = c16 .before .before .before .before .before .before .before .before in
+    let args = c24 .before .before .before .before .before .args in
+    let pre = c24 .before .before .before .before .before .pre in
+    let next-place = c16 .before .before .before .before .before .next-place in
+    let enter = c8 .before .before .before .before .before .before .enter in
+    let count = c .before .before .before .before .count in
     let some = c .before .before .if1 .left in
-    let w = c .before .before .before .before .before .before .before .before .before .before .before .before .before .before .before .before .before .before .before .before .before .before .before .before .before .before .before .before .before .pre .1 .1 .0 .within in
-    let room = c .before .before .before .before .before .before .before .before .before .before .before .before .before .before .before .before .before .before .before .before .before .before .before .before .before .before .before .before .before .pre .1 .0 .interval-rows in
-    joined-fits (c .before .before .before .before .before .before .before .before .before .before .before .before .before .before .before .before .before .before .before .before .before .before .before .before .before .before .before .before .before .args .np) (c .before .before .before .before .before .before .before .before .before .before .before .before .before .before .enter .last .0) (c .before .before .before .before .before .before .before .before .before .before .before .before .before .before .enter .last .1 .0) (c .before .before .before .before .before .before .before .before .before .before .before .before .before .before .enter .last .1 .1 .1 .0) (c .before .before .before .before .before .before .before .before .before .before .before .before .before .before .before .before .before .before .before .before .before .before .before .before .before .before .before .before .before .args .ring .edges) (c .before .before .before .before .count .given .0 .0) (c .before .before .before .before .count .given .0 .1 .0) (c .before .before .before .before .before .before .before .before .before .before .before .before .before .before .before .before .before .before .before .before .before .before .before .before .before .before .before .before .before .args .a + c .before .before .before .before .before .before .before .before .before .before .before .before .before .before .before .before .before .before .before .before .before .before .before .before .before .before .before .before .before .args .i + 1) (rw (c .before .before .before .before .count .given .1) at (c .before .before .before .before .before .before .before .before .before .before .before .before .before .before .enter .ensures .1)) (made-counted (meshOf [] (c .before .before .before .before .before .before .before .before .before .before .before .before .before .before .before .before .before .before .before .before .before .before .before .before .before .before .before .before .before .args .points .now) (c .before .before .before .before .before .before .before .before .before .before .before .before .before .before .before .before .before .before .before .before .before .before .before .before .before .before .before .before .before .args .edges .now) (c .before .before .before .before .before .before .before .before .before .before .before .before .before .before .before .before .before .before .before .before .before .before .before .before .before .before .before .before .before .args .intervals .now) []) (meshOf [] (c .before .before .before .before .before .before .before .before .before .before .before .before .before .before .enter .last .0) (c .before .before .before .before .before .before .before .before .before .before .before .before .before .before .enter .last .1 .0) (c .before .before .before .before .before .before .before .before .before .before .before .before .before .before .enter .last .1 .1 .0) []) (c .before .before .before .before .before .before .before .before .before .before .before .before .before .before .before .before .before .before .before .before .before .before .before .before .before .before .before .before .before .args .ring .edges) (c .before .before .before .before .before .before .before .before .before .before .before .before .before .before .before .before .before .before .before .before .before .before .before .before .before .before .before .before .before .args .f) (getD (c .before .before .before .before .before .before .before .before .before .before .before .before .before .before .before .before .before .before .before .before .before .before .before .before .before .before .before .before .before .args .listed .now) (c .before .before .before .before .before .before .before .before .before .before .before .before .before .before .before .before .before .before .before .before .before .before .before .before .before .before .before .before .before .args .a + c .before .before .before .before .before .before .before .before .before .before .before .before .before .before .before .before .before .before .before .before .before .before .before .before .before .before .before .before .before .args .i) 0) (getD (c .before .before .before .before .before .before .before .before .before .before .before .before .before .before .before .before .before .before .before .before .before .before .before .before .before .before .before .before .before .args .listed .now) (c .before .before .before .before .before .before .before .before .before .before .before .before .before .before .before .before .before .before .before .before .before .before .before .before .before .before .before .before .before .args .a + c .before .before .before .before .before .before .before .before .before .before .before .before .before .before .before .before .before .before .before .before .before .next-place .result) 0) (getD (c .before .before .before .before .before .before .before .before .before .before .before .before .before .before .before .before .before .before .before .before .before .before .before .before .before .before .before .before .before .args .beside .now) (c .before .before .before .before .before .before .before .before .before .before .before .before .before .before .before .before .before .before .before .before .before .before .before .before .before .before .before .before .before .args .a + c .before .before .before .before .before .before .before .before .before .before .before .before .before .before .before .before .before .before .before .before .before .before .before .before .before .before .before .before .before .args .i) nan) (c .before .before .before .before .count .given .0 .0) (c .before .before .before .before .count .given .0 .1 .0) (rw (c .before .before .before .before .count .given .1) at (c .before .before .before .before .before .before .before .before .before .before .before .before .before .before .enter .ensures .0 [] []))) (let few = c .before .before .before .before .before .before .before .before .before .before .before .before .before .before .before .before .before .before .before .before .before .before .before .before .before .before .before .before .before .pre .1 .1 .1 .1 .0 in omega arith) (c .before .before .before .before .before .before .before .before .before .before .before .before .before .before .before .before .before .before .before .before .before .before .before .before .before .before .before .before .before .args .ring) refl (c .before .before .before .before .before .before .before .before .before .before .before .before .before .before .before .before .before .before .before .before .before .before .before .before .before .before .before .before .before .pre .1 .1 .1 .1 .1 (omega arith)) (c .before .before .before .before .before .before .before .before .before .before .before .before .before .before .enter .last .1 .1 .0) (rw (c .before .before .before .before .before .before .before .before .before .before .before .before .before .before .enter .kept .1 .1 .0) (omega (arith, c .before .before .before .before .before .before .before .before .before .before .before .before .before .before .before .before .before .before .before .before .before .before .before .before .before .before .before .before .before .pre .1 .1 .1 .0)))
+    let w = pre .1 .1 .0 .within in
+    let room = pre .1 .0 .interval-rows in
+    joined-fits (args .np) (enter .last .0) (enter .last .1 .0) (enter .last .1 .1 .1 .0) (args .ring .edges)
+    (count .given .0 .0) (count .given .0 .1 .0) (args .a + args .i + 1) (rw (count .given .1) at (enter .ensures .1))
+    (made-counted (meshOf [] (args .points .now) (args .edges .now) (args .intervals .now) [])
+    (meshOf [] (enter .last .0) (enter .last .1 .0) (enter .last .1 .1 .0) []) (args .ring .edges) (args .f)
+    (getD (args .listed .now) (args .a + args .i) 0) (getD (args .listed .now) (args .a + next-place .result) 0)
+    (getD (args .beside .now) (args .a + args .i) nan) (count .given .0 .0) (count .given .0 .1 .0)
+    (rw (count .given .1) at (enter .ensures .0 [] []))) (let few = pre .1 .1 .1 .1 .0 in omega arith) (args .ring) refl
+    (pre .1 .1 .1 .1 .1 (omega arith)) (enter .last .1 .1 .0)
+    (rw (enter .kept .1 .1 .0) (omega (arith, pre .1 .1 .1 .0)))
 
 returns-2 : tie.Need-returns-2
 returns-2 c =

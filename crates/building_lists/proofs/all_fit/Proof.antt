@@ -23,13 +23,25 @@ loop-holds : tie.Need-loop-holds Inv-loop μ-loop
 loop-holds c = (omega arith, every-none (λ i. intervalFit (getD (c .before .args .beside .now) i nan)))
 
 returns : tie.Need-returns Inv-loop μ-loop
-returns c = sym (every-stop (length (c .before .before .before .before .before .before .args .beside .now)) (c .before .before .before .before .loop .k) (λ i. intervalFit (getD (c .before .before .before .before .before .before .args .beside .now) i nan)) (c .before .before .before .loop-test .taken) (sym (c .before .interval-fits .ensures) ∙ not-true _ (c .if1 .taken)))
+returns c =
+    let args = c .before .before .before .before .before .before .args in
+    sym (every-stop (length (args .beside .now)) (c .before .before .before .before .loop .k)
+    (λ i. intervalFit (getD (args .beside .now) i nan)) (c .before .before .before .loop-test .taken)
+    (sym (c .before .interval-fits .ensures) ∙ not-true _ (c .if1 .taken)))
 
 loop-again : tie.Need-loop-again Inv-loop μ-loop
-loop-again c = (omega arith, every-more (c .before .before .before .before .loop .k) (λ i. intervalFit (getD (c .before .before .before .before .before .before .args .beside .now) i nan)) (c .before .before .before .before .loop .inv .1) (sym (c .before .interval-fits .ensures) ∙ not-false _ (c .if1 .left)))
+loop-again c =
+    let loop = c .before .before .before .before .loop in (
+      omega arith,
+      every-more (loop .k)
+          (λ i. intervalFit (getD (c .before .before .before .before .before .before .args .beside .now) i nan))
+          (loop .inv .1) (sym (c .before .interval-fits .ensures) ∙ not-false _ (c .if1 .left)),
+    )
 
 returns-2 : tie.Need-returns-2 Inv-loop μ-loop
-returns-2 c = sym (rw (whole (c .before .loop .k) (length (c .before .before .before .args .beside .now)) (c .before .loop .inv .0) (c .loop-test .left)) at (c .before .loop .inv .1))
+returns-2 c =
+    sym (rw (whole (c .before .loop .k) (length (c .before .before .before .args .beside .now))
+    (c .before .loop .inv .0) (c .loop-test .left)) at (c .before .loop .inv .1))
 
 pub all-fit-spec : {M : Type 1} → statement M
 all-fit-spec =

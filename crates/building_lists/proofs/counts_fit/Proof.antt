@@ -13,30 +13,84 @@ returns c = rw (← c .before .before .most .ensures, lt-leb _ _ (c .if1 .taken)
 
 returns-2 : tie.Need-returns-2
 unfolding countsFit
-returns-2 c = rw (← c .before .before .before .before .most .ensures, le-leb _ _ (c .before .before .if1 .left), lt-leb _ _ (c .if2 .taken))
+returns-2 c =
+    rw (
+      ← c .before .before .before .before .most .ensures,
+      le-leb _ _ (c .before .before .if1 .left),
+      lt-leb _ _ (c .if2 .taken),
+    )
 
 returns-3 : tie.Need-returns-3
 unfolding countsFit
-returns-3 c = rw (← c .before .before .before .before .before .before .most .ensures, le-leb _ _ (c .before .before .before .before .if1 .left), le-leb _ _ (c .before .before .if2 .left), lt-leb _ _ (c .if3 .taken))
+returns-3 c =
+    rw (
+      ← c .before .before .before .before .before .before .most .ensures,
+      le-leb _ _ (c .before .before .before .before .if1 .left),
+      le-leb _ _ (c .before .before .if2 .left),
+      lt-leb _ _ (c .if3 .taken),
+    )
 
 returns-4 : tie.Need-returns-4
 unfolding countsFit
-returns-4 c = rw (← c .before .before .before .before .before .before .before .most .ensures, le-leb _ _ (c .before .before .before .before .before .if1 .left), le-leb _ _ (c .before .before .before .if2 .left), le-leb _ _ (c .before .if3 .left), ne-eqb _ _ (c .if4 .taken))
+returns-4 c =
+    rw (
+      ← c .before .before .before .before .before .before .before .most .ensures,
+      le-leb _ _ (c .before .before .before .before .before .if1 .left),
+      le-leb _ _ (c .before .before .before .if2 .left),
+      le-leb _ _ (c .before .if3 .left),
+      ne-eqb _ _ (c .if4 .taken),
+    )
 
 returns-5 : tie.Need-returns-5
 unfolding countsFit
-returns-5 c = rw (← c .before .before .before .before .before .before .before .before .most .ensures, le-leb _ _ (c .before .before .before .before .before .before .if1 .left), le-leb _ _ (c .before .before .before .before .if2 .left), le-leb _ _ (c .before .before .if3 .left), eq-eqb _ _ (c .before .if4 .left), ne-eqb _ _ (c .if5 .taken))
+returns-5 c =
+    let most = c .before .before .before .before .before .before .before .before .most in
+    rw (
+      ← most .ensures,
+      le-leb _ _ (c .before .before .before .before .before .before .if1 .left),
+      le-leb _ _ (c .before .before .before .before .if2 .left),
+      le-leb _ _ (c .before .before .if3 .left),
+      eq-eqb _ _ (c .before .if4 .left),
+      ne-eqb _ _ (c .if5 .taken),
+    )
 
 returns-6 : tie.Need-returns-6
 unfolding countsFit
-returns-6 c = rw (← c .before .before .before .before .before .before .before .before .before .most .ensures, le-leb _ _ (c .before .before .before .before .before .before .before .if1 .left), le-leb _ _ (c .before .before .before .before .before .if2 .left), le-leb _ _ (c .before .before .before .if3 .left), eq-eqb _ _ (c .before .before .if4 .left), eq-eqb _ _ (c .before .if5 .left), ne-eqb _ _ (c .if6 .taken))
+returns-6 c =
+    let most = c .before .before .before .before .before .before .before .before .before .most in
+    rw (
+      ← most .ensures,
+      le-leb _ _ (c .before .before .before .before .before .before .before .if1 .left),
+      le-leb _ _ (c .before .before .before .before .before .if2 .left),
+      le-leb _ _ (c .before .before .before .if3 .left),
+      eq-eqb _ _ (c .before .before .if4 .left),
+      eq-eqb _ _ (c .before .if5 .left),
+      ne-eqb _ _ (c .if6 .taken),
+    )
 
 sum-of-requires : tie.Need-sum-of-requires
-sum-of-requires c κs = let h = faces-few (c .before .before .before .before .before .before .before .before .before .before .before .before .before .before .args .bounds) (c .before .before .before .before .before .before .before .before .before .most .result) (c .before .before .before .before .before .before .before .before .before .most .ensures) in omega arith
+sum-of-requires c κs =
+    let c8 = c .before .before .before .before .before .before .before .before in
+    let args = c8 .before .before .before .before .before .before .args in
+    let most = c8 .before .most in
+    let h = faces-few (args .bounds) (most .result) (most .ensures) in
+    omega arith
 
 returns-7 : tie.Need-returns-7
 unfolding countsFit
-returns-7 c = rw (← c .before .before .before .before .before .before .before .before .before .before .most .ensures, le-leb _ _ (c .before .before .before .before .before .before .before .before .if1 .left), le-leb _ _ (c .before .before .before .before .before .before .if2 .left), le-leb _ _ (c .before .before .before .before .if3 .left), eq-eqb _ _ (c .before .before .before .if4 .left), eq-eqb _ _ (c .before .before .if5 .left), eq-eqb _ _ (c .before .if6 .left), c .sum-of .ensures)
+returns-7 c =
+    let most = c .before .before .before .before .before .before .before .before .before .before .most in
+    let if1 = c .before .before .before .before .before .before .before .before .if1 in
+    rw (
+      ← most .ensures,
+      le-leb _ _ (if1 .left),
+      le-leb _ _ (c .before .before .before .before .before .before .if2 .left),
+      le-leb _ _ (c .before .before .before .before .if3 .left),
+      eq-eqb _ _ (c .before .before .before .if4 .left),
+      eq-eqb _ _ (c .before .before .if5 .left),
+      eq-eqb _ _ (c .before .if6 .left),
+      c .sum-of .ensures,
+    )
 
 pub counts-fit-spec : {M : Type 1} → statement M
 counts-fit-spec =

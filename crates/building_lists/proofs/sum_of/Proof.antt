@@ -19,14 +19,32 @@ loop-holds : tie.Need-loop-holds Inv-loop μ-loop
 loop-holds c = (omega arith, omega arith, sym (sum-none (λ i. getD (c .before .args .words .now) i 0)))
 
 add-sum : tie.Need-add-sum Inv-loop μ-loop
-add-sum c = let l = c .before .before .before .loop .inv .0 in let m = c .before .before .before .loop .inv .1 in omega (arith, c .index .ensures, c .before .before .before .before .shared-slice-known .given (c .before .before .before .loop .k), c .before .before .before .before .before .pre)
+add-sum c =
+    let loop = c .before .before .before .loop in
+    let l = loop .inv .0 in
+    let m = loop .inv .1 in
+    omega (
+      arith,
+      c .index .ensures,
+      c .before .before .before .before .shared-slice-known .given (loop .k),
+      c .before .before .before .before .before .pre,
+    )
 
 loop-again : tie.Need-loop-again Inv-loop μ-loop
-loop-again c = let l = c .before .before .before .loop .inv .0 in let m = c .before .before .before .loop .inv .1 in
-    (omega arith, omega (arith, c .index .ensures, c .before .before .before .before .shared-slice-known .given (c .before .before .before .loop .k)), ap₂ (λ (x y : ℕ). x + y) (c .before .before .before .loop .inv .2) (c .index .ensures) ∙ sym (sum-more (c .before .before .before .loop .k) (λ i. getD (c .before .before .before .before .before .args .words .now) i 0)))
+loop-again c =
+    let loop = c .before .before .before .loop in
+    let l = loop .inv .0 in
+    let m = loop .inv .1 in (
+      omega arith,
+      omega (arith, c .index .ensures, c .before .before .before .before .shared-slice-known .given (loop .k)),
+      ap₂ (λ (x y : ℕ). x + y) (loop .inv .2) (c .index .ensures)
+          ∙ sym (sum-more (loop .k) (λ i. getD (c .before .before .before .before .before .args .words .now) i 0)),
+    )
 
 returns : tie.Need-returns Inv-loop μ-loop
-returns c = rw (whole (c .before .loop .k) (length (c .before .before .before .args .words .now)) (c .before .loop .inv .0) (c .loop-test .left)) at (c .before .loop .inv .2)
+returns c =
+    rw (whole (c .before .loop .k) (length (c .before .before .before .args .words .now)) (c .before .loop .inv .0)
+    (c .loop-test .left)) at (c .before .loop .inv .2)
 
 pub sum-of-spec : {M : Type 1} → statement M
 sum-of-spec =

@@ -4,7 +4,14 @@ use Rattle.edge_points.proofs.blend.Statement.{statement}
 use Rattle.edge_points.proofs.blend.Tie as tie
 
 returns : tie.Need-returns
-returns c = rw (c .plus2 .ensures, c .before .before .plus .ensures, c .before .before .before .before .times .ensures, c .before .before .before .times2 .ensures, c .before .times3 .ensures)
+returns c =
+    rw (
+      c .plus2 .ensures,
+      c .before .before .plus .ensures,
+      c .before .before .before .before .times .ensures,
+      c .before .before .before .times2 .ensures,
+      c .before .times3 .ensures,
+    )
 
 pub blend-spec : {M : Type 1} → statement M
 blend-spec =

@@ -6,7 +6,15 @@ use Rattle.edge_points.proofs.shares.Tie as tie
 
 returns : tie.Need-returns
 unfolding shares
-returns c = rw (c .before .share .ensures, c .share2 .ensures, c .before .before .before .before .before .neighbour .ensures, c .before .before .before .before .neighbour2 .ensures, c .before .before .before .neighbour3 .ensures, c .before .before .neighbour4 .ensures)
+returns c =
+    rw (
+      c .before .share .ensures,
+      c .share2 .ensures,
+      c .before .before .before .before .before .neighbour .ensures,
+      c .before .before .before .before .neighbour2 .ensures,
+      c .before .before .before .neighbour3 .ensures,
+      c .before .before .neighbour4 .ensures,
+    )
 
 pub shares-spec : {M : Type 1} → statement M
 shares-spec =

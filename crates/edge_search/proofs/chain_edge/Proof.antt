@@ -8,7 +8,12 @@ use Rattle.edge_search.proofs.chain_edge.Tie as tie
 
 returns : tie.Need-returns
 unfolding chainedEdge
-returns c = rw (c .before .before .before .before .index .ensures, c .before .before .before .index2 .ensures, c .before .before .index3 .ensures)
+returns c =
+    rw (
+      c .before .before .before .before .index .ensures,
+      c .before .before .before .index2 .ensures,
+      c .before .before .index3 .ensures,
+    )
 
 pub chain-edge-spec : {M : Type 1} → statement M
 chain-edge-spec =

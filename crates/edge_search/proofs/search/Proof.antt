@@ -15,32 +15,57 @@ abbrev μ-loop : tie.MeasureT-loop
 μ-loop edges chain np k from p q link₀ found₀ link found = link
 
 loop-holds : tie.Need-loop-holds Inv-loop μ-loop
-loop-holds c = search-start (c .before .before .args .edges .now) (c .before .before .args .p) (c .before .before .args .q) (c .before .before .args .k) (c .before .before .args .from) (c .before .before .pre .1 .1 .1)
+loop-holds c =
+    let args = c .before .before .args in
+    search-start (args .edges .now) (args .p) (args .q) (args .k) (args .from) (c .before .before .pre .1 .1 .1)
 
 index-requires : tie.Need-index-requires Inv-loop μ-loop
 index-requires c κs = tt
 
 joins-points-requires : tie.Need-joins-points-requires Inv-loop μ-loop
-joins-points-requires c κs = let b = c .before .before .loop .inv .below in omega (arith, c .index .ensures, c .before .loop-test .taken)
+joins-points-requires c κs =
+    let b = c .before .before .loop .inv .below in
+    omega (arith, c .index .ensures, c .before .loop-test .taken)
 
 chosen-requires : tie.Need-chosen-requires Inv-loop μ-loop
 chosen-requires c κs = tt
 
 older-link-requires : tie.Need-older-link-requires Inv-loop μ-loop
-older-link-requires c κs = let b = c .before .before .before .before .loop .inv .below in omega (arith, c .before .before .index .ensures, c .before .before .before .loop-test .taken)
+older-link-requires c κs =
+    let b = c .before .before .before .before .loop .inv .below in
+    omega (arith, c .before .before .index .ensures, c .before .before .before .loop-test .taken)
 
 loop-less : tie.Need-loop-less Inv-loop μ-loop
 loop-less c =
-    let s : c .before .before .before .before .before .loop .link ≡ suc (c .before .before .before .index .result) = omega (arith, c .before .before .before .index .ensures, c .before .before .before .before .loop-test .taken) in
-    search-less (c .before .before .before .before .before .before .before .before .args .edges .now) (c .before .before .before .before .before .before .before .before .args .p) (c .before .before .before .before .before .before .before .before .args .q) (c .before .before .before .before .before .before .before .before .args .k) (c .before .before .before .before .before .before .before .before .args .np) (c .before .before .before .before .before .before .before .before .args .chain .now) (c .before .before .before .before .before .loop .link) (c .before .before .before .index .result) (c .before .before .before .before .before .loop .found) (c .older-link .result) (c .before .before .before .before .before .before .before .before .pre .1 .1 .0) s (c .older-link .ensures) (c .before .before .before .before .before .loop .inv)
+    let args = c .before .before .before .before .before .before .before .before .args in
+    let pre = c .before .before .before .before .before .before .before .before .pre in
+    let loop = c .before .before .before .before .before .loop in
+    let index = c .before .before .before .index in
+    let s : loop .link ≡ suc (index .result) = omega
+    (arith, index .ensures, c .before .before .before .before .loop-test .taken) in
+    search-less (args .edges .now) (args .p) (args .q) (args .k) (args .np) (args .chain .now) (loop .link)
+    (index .result) (loop .found) (c .older-link .result) (pre .1 .1 .0) s (c .older-link .ensures) (loop .inv)
 
 loop-again : tie.Need-loop-again Inv-loop μ-loop
 loop-again c =
-    let s : c .before .before .before .before .before .loop .link ≡ suc (c .before .before .before .index .result) = omega (arith, c .before .before .before .index .ensures, c .before .before .before .before .loop-test .taken) in
-    search-turn (c .before .before .before .before .before .before .before .before .args .edges .now) (c .before .before .before .before .before .before .before .before .args .p) (c .before .before .before .before .before .before .before .before .args .q) (c .before .before .before .before .before .before .before .before .args .k) (c .before .before .before .before .before .before .before .before .args .np) (c .before .before .before .before .before .before .before .before .args .chain .now) (c .before .before .before .before .before .loop .link) (c .before .before .before .index .result) (c .before .before .before .before .before .loop .found) (c .older-link .result) (c .before .chosen .result) (c .before .before .before .before .before .before .before .before .pre .1 .1 .0) s (c .older-link .ensures) (rw (c .before .before .joins-points .ensures) at (c .before .chosen .ensures)) (c .before .before .before .before .before .loop .inv)
+    let args = c .before .before .before .before .before .before .before .before .args in
+    let pre = c .before .before .before .before .before .before .before .before .pre in
+    let loop = c .before .before .before .before .before .loop in
+    let index = c .before .before .before .index in
+    let s : loop .link ≡ suc (index .result) = omega
+    (arith, index .ensures, c .before .before .before .before .loop-test .taken) in
+    search-turn (args .edges .now) (args .p) (args .q) (args .k) (args .np) (args .chain .now) (loop .link)
+    (index .result) (loop .found) (c .older-link .result) (c .before .chosen .result) (pre .1 .1 .0) s
+    (c .older-link .ensures) (rw (c .before .before .joins-points .ensures) at (c .before .chosen .ensures)) (loop .inv)
 
 returns : tie.Need-returns Inv-loop μ-loop
-returns c = (search-end (c .before .before .before .before .args .edges .now) (c .before .before .before .before .args .p) (c .before .before .before .before .args .q) (c .before .before .before .before .args .k) (c .before .loop .link) (c .before .loop .found) (c .loop-test .left) (c .before .loop .inv), c .before .loop .inv .found-below)
+returns c =
+    let args = c .before .before .before .before .args in
+    let loop = c .before .loop in (
+      search-end (args .edges .now) (args .p) (args .q) (args .k) (loop .link) (loop .found) (c .loop-test .left)
+          (loop .inv),
+      loop .inv .found-below,
+    )
 
 pub search-spec : {M : Type 1} → statement M
 search-spec =

@@ -7,10 +7,19 @@ use Rattle.face_points.proofs.face_point.Statement.{statement}
 use Rattle.face_points.proofs.face_point.Tie as tie
 
 window-sum-requires : tie.Need-window-sum-requires
-window-sum-requires c κs = (border-edges-fit _ _ _ _ _ _ (c .before .before .before .before .before .before .before .before .before .pre) _ (c .before .before .put-border .ensures), border-points-fit _ _ _ _ _ _ (c .before .before .before .before .before .before .before .before .before .pre) _ (c .before .before .put-border .ensures))
+window-sum-requires c κs =
+    let pre = c .before .before .before .before .before .before .before .before .before .pre in (
+      border-edges-fit _ _ _ _ _ _ (pre) _ (c .before .before .put-border .ensures),
+      border-points-fit _ _ _ _ _ _ (pre) _ (c .before .before .put-border .ensures),
+    )
 
 returns : tie.Need-returns
-returns c = rw (c .placed .ensures, c .before .over .ensures) (ap placedAt (facePoint-of-border _ _ _ _ _ _ (c .before .before .before .before .before .before .before .before .before .before .before .before .pre) _ _ (c .before .before .before .before .before .put-border .ensures) (c .before .before .window-sum .ensures)))
+returns c =
+    let c8 = c .before .before .before .before .before .before .before .before in
+    let pre = c8 .before .before .before .before .pre in
+    rw (c .placed .ensures, c .before .over .ensures)
+    (ap placedAt (facePoint-of-border _ _ _ _ _ _ (pre) _ _
+    (c .before .before .before .before .before .put-border .ensures) (c .before .before .window-sum .ensures)))
 
 pub face-point-spec : {M : Type 1} → statement M
 face-point-spec =

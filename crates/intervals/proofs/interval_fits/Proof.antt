@@ -10,10 +10,13 @@ returns : tie.Need-returns
 returns c = sym (not-finite-unfit (c .before .before .args .v) (sym (c .before .is-finite .ensures) ∙ not-true _ (c .if1 .taken)))
 
 float-to-bits-result : tie.Need-float-to-bits-result
-float-to-bits-result c = finite-number (c .before .before .args .v) (sym (c .before .is-finite .ensures) ∙ not-false _ (c .if1 .left))
+float-to-bits-result c =
+    finite-number (c .before .before .args .v) (sym (c .before .is-finite .ensures) ∙ not-false _ (c .if1 .left))
 
 returns-2 : tie.Need-returns-2
-returns-2 c = bits-below (c .before .before .args .v) (sym (c .before .is-finite .ensures) ∙ not-false _ (c .if1 .left)) (c .before .before .good .0 .1)
+returns-2 c =
+    bits-below (c .before .before .args .v) (sym (c .before .is-finite .ensures) ∙ not-false _ (c .if1 .left))
+    (c .before .before .good .0 .1)
 
 pub interval-fits-spec : {M : Type 1} → statement M
 interval-fits-spec = tie.close (tie.spec (λ c κs. search needs) returns float-to-bits-result returns-2)

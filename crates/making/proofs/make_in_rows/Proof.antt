@@ -11,27 +11,51 @@ use Rattle.making.proofs.make_in_rows.Statement.{statement}
 use Rattle.making.proofs.make_in_rows.Tie as tie
 
 mul-f : tie.Need-mul-f
-mul-f c = omega (arith, c .before .before .before .before .before .before .before .before .before .before .before .before .before .before)
+mul-f c =
+    let c8 = c .before .before .before .before .before .before .before .before in
+    omega (arith, c8 .before .before .before .before .before .before)
 
 slice-aggregate-make : tie.Need-slice-aggregate-make
-slice-aggregate-make c = sym (length-take-le _ (c .before .before .before .before .before .before .before .before .before .before .before .before .before .before .before .args .places .now) (c .before .before .before .before .before .before .before .before .before .before .before .before .before .before .before .pre .0 .positions))
+slice-aggregate-make c =
+    let c8 = c .before .before .before .before .before .before .before .before in
+    let args = c8 .before .before .before .before .before .before .before .args in
+    let pre = c8 .before .before .before .before .before .before .before .pre in
+    sym (length-take-le _ (args .places .now) (pre .0 .positions))
 
 slice-aggregate-make-2 : tie.Need-slice-aggregate-make-2
-slice-aggregate-make-2 c = sym (length-take-le _ (c .before .before .before .before .before .before .before .before .before .before .before .before .before .before .before .before .args .rows .now) (c .before .before .before .before .before .before .before .before .before .before .before .before .before .before .before .before .pre .0 .points))
+slice-aggregate-make-2 c =
+    let c8 = c .before .before .before .before .before .before .before .before in
+    let args = c8 .before .before .before .before .before .before .before .before .args in
+    let pre = c8 .before .before .before .before .before .before .before .before .pre in
+    sym (length-take-le _ (args .rows .now) (pre .0 .points))
 
 slice-aggregate-make-3 : tie.Need-slice-aggregate-make-3
-slice-aggregate-make-3 c = sym (length-take-le _ (c .before .before .before .before .before .before .before .before .before .before .before .before .before .before .before .before .before .args .halves .now) (c .before .before .before .before .before .before .before .before .before .before .before .before .before .before .before .before .before .pre .0 .edges))
+slice-aggregate-make-3 c =
+    let c8 = c .before .before .before .before .before .before .before .before in
+    let c16 = c8 .before .before .before .before .before .before .before .before in
+    sym (length-take-le _ (c16 .before .args .halves .now) (c16 .before .pre .0 .edges))
 
 slice-aggregate-make-4 : tie.Need-slice-aggregate-make-4
-slice-aggregate-make-4 c = sym (length-take-le _ (c .before .before .before .before .before .before .before .before .before .before .before .before .before .before .before .before .before .before .args .lengths .now) (c .before .before .before .before .before .before .before .before .before .before .before .before .before .before .before .before .before .before .pre .0 .intervals))
+slice-aggregate-make-4 c =
+    let c8 = c .before .before .before .before .before .before .before .before in
+    let c16 = c8 .before .before .before .before .before .before .before .before in
+    sym (length-take-le _ (c16 .before .before .args .lengths .now) (c16 .before .before .pre .0 .intervals))
 
 slice-aggregate-make-5 : tie.Need-slice-aggregate-make-5
-slice-aggregate-make-5 c = sym (length-take-le _ (c .before .before .before .before .before .before .before .before .before .before .before .before .before .before .before .before .before .before .before .args .quads .now) (c .before .before .before .before .before .before .before .before .before .before .before .before .before .before .before .before .before .before .before .pre .0 .faces))
+slice-aggregate-make-5 c =
+    let c8 = c .before .before .before .before .before .before .before .before in
+    let c16 = c8 .before .before .before .before .before .before .before .before in
+    let args = c16 .before .before .before .args in
+    let pre = c16 .before .before .before .pre in
+    sym (length-take-le _ (args .quads .now) (pre .0 .faces))
 
 make-requires : tie.Need-make-requires
 unfolding firstRows
 make-requires c κs =
-    let r = c .before .before .before .before .before .before .before .before .before .before .before .before .before .before .before .before .before .before .before .pre .1 in
+    let c8 = c .before .before .before .before .before .before .before .before in
+    let c16 = c8 .before .before .before .before .before .before .before .before in
+    let pre = c16 .before .before .before .pre in
+    let r = pre .1 in
     record {
       closed = r .closed;
       once = r .once;
@@ -44,17 +68,26 @@ make-requires c κs =
 returns : tie.Need-returns
 unfolding firstRows
 returns c =
-    let a = c .before .before .before .before .before .before .before .before .before .before .before .before .before .before .before .before .before .before .before .before .before .before .before .before .before .before .before .before .before .before .args in
-    let h = c .before .before .before .before .before .before .before .before .before .before .before .before .before .before .before .before .before .before .before .before .before .before .before .before .before .before .before .before .before .before .pre .0 in
+    let c8 = c .before .before .before .before .before .before .before .before in
+    let c16 = c8 .before .before .before .before .before .before .before .before in
+    let c24 = c16 .before .before .before .before .before .before .before .before in
+    let a = c24 .before .before .before .before .before .before .args in
+    let pre = c24 .before .before .before .before .before .before .pre in
+    let v = c8 .before .before .make in
+    let h = pre .0 in
     let t : Mesh = meshOf (a .places .now) (a .rows .now) (a .halves .now) (a .lengths .now) (a .quads .now) in
-    let v = c .before .before .before .before .before .before .before .before .before .before .make in
     let lp = v .kept .1 .1 .1 .1 .1 .1 .1 .0 ∙ length-take-le _ (a .places .now) (h .positions) in
     let lw = v .kept .1 .1 .1 .1 .1 .1 .1 .1 .0 ∙ length-take-le _ (a .rows .now) (h .points) in
     let le = v .kept .1 .1 .1 .1 .1 .1 .1 .1 .1 .0 ∙ length-take-le _ (a .halves .now) (h .edges) in
     let li = v .kept .1 .1 .1 .1 .1 .1 .1 .1 .1 .1 .0 ∙ length-take-le _ (a .lengths .now) (h .intervals) in
     let lf = v .kept .1 .1 .1 .1 .1 .1 .1 .1 .1 .1 .1 .0 ∙ length-take-le _ (a .quads .now) (h .faces) in (
-      v .ensures ∙ ap (madeAs (v .result)) (sym (first-rows-back (a .c) t (v .last .1 .1 .1 .1 .1 .1 .1 .0) (v .last .1 .1 .1 .1 .1 .1 .1 .1 .0) (v .last .1 .1 .1 .1 .1 .1 .1 .1 .1 .0) (v .last .1 .1 .1 .1 .1 .1 .1 .1 .1 .1 .0) (v .last .1 .1 .1 .1 .1 .1 .1 .1 .1 .1 .1 .0) lp lw le li lf)),
-      zeroed-rows-back (a .c) t (v .last .1 .1 .1 .1 .1 .1 .1 .0) (v .last .1 .1 .1 .1 .1 .1 .1 .1 .0) (v .last .1 .1 .1 .1 .1 .1 .1 .1 .1 .0) (v .last .1 .1 .1 .1 .1 .1 .1 .1 .1 .1 .0) (v .last .1 .1 .1 .1 .1 .1 .1 .1 .1 .1 .1 .0) lp lw le li lf,
+      v .ensures
+          ∙ ap (madeAs (v .result)) (sym (first-rows-back (a .c) t (v .last .1 .1 .1 .1 .1 .1 .1 .0)
+          (v .last .1 .1 .1 .1 .1 .1 .1 .1 .0) (v .last .1 .1 .1 .1 .1 .1 .1 .1 .1 .0)
+          (v .last .1 .1 .1 .1 .1 .1 .1 .1 .1 .1 .0) (v .last .1 .1 .1 .1 .1 .1 .1 .1 .1 .1 .1 .0) lp lw le li lf)),
+      zeroed-rows-back (a .c) t (v .last .1 .1 .1 .1 .1 .1 .1 .0) (v .last .1 .1 .1 .1 .1 .1 .1 .1 .0)
+          (v .last .1 .1 .1 .1 .1 .1 .1 .1 .1 .0) (v .last .1 .1 .1 .1 .1 .1 .1 .1 .1 .1 .0)
+          (v .last .1 .1 .1 .1 .1 .1 .1 .1 .1 .1 .1 .0) lp lw le li lf,
     )
 
 pub make-in-rows-spec : {M : Type 1} → statement M

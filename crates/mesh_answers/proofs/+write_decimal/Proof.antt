@@ -63,7 +63,10 @@ write-decimal-slice-write-out : (t : ℕ) → write-decimal-lts.Need-slice-write
   write-decimal-below t,
   write-decimal.Post,
 ) (write-decimal-at t) write-decimal.Post
-write-decimal-slice-write-out t c = let h = c .before .before .if1 .left in let p = c .before .before .before .before .pre .1 in omega arith
+write-decimal-slice-write-out t c =
+    let h = c .before .before .if1 .left in
+    let p = c .before .before .before .before .pre .1 in
+    omega arith
 
 -- src/lib.rt:54:16
 write-decimal-add-result : (t : ℕ) → write-decimal-lts.Need-add-result (
@@ -72,7 +75,10 @@ write-decimal-add-result : (t : ℕ) → write-decimal-lts.Need-add-result (
   write-decimal-below t,
   write-decimal.Post,
 ) (write-decimal-at t) write-decimal.Post
-write-decimal-add-result t c = let h = c .before .before .if1 .left in let p = c .before .before .before .before .pre .1 in omega arith
+write-decimal-add-result t c =
+    let h = c .before .before .if1 .left in
+    let p = c .before .before .before .before .pre .1 in
+    omega arith
 
 -- src/lib.rt:54:9
 write-decimal-same-length : (t : ℕ) → write-decimal-lts.Need-same-length (
@@ -140,11 +146,13 @@ write-decimal-slice-write-out-2 : (t : ℕ) → write-decimal-lts.Need-slice-wri
   write-decimal.Post,
 ) (write-decimal-at t) write-decimal.Post
 write-decimal-slice-write-out-2 t c =
+    let args = c .before .before .before .before .before .before .before .before .args in
+    let pre = c .before .before .before .before .before .before .before .before .pre in
     let h = c .before .before .before .before .before .before .if1 .left in
     let e = c .before .before .before .write-decimal .ensures .place in
-    let l = length-decimal (c .before .before .before .before .before .before .before .before .args .k - 1) (c .before .before .before .before .before .before .before .before .args .n / 10) in
+    let l = length-decimal (args .k - 1) (args .n / 10) in
     let s = c .before .before .before .write-decimal .kept .0 in
-    let p = c .before .before .before .before .before .before .before .before .pre .1 in
+    let p = pre .1 in
     omega arith
 
 -- src/lib.rt:58:5
@@ -155,11 +163,13 @@ write-decimal-add-result-2 : (t : ℕ) → write-decimal-lts.Need-add-result-2 (
   write-decimal.Post,
 ) (write-decimal-at t) write-decimal.Post
 write-decimal-add-result-2 t c =
+    let args = c .before .before .before .before .before .before .before .before .args in
+    let pre = c .before .before .before .before .before .before .before .before .pre in
     let h = c .before .before .before .before .before .before .if1 .left in
     let e = c .before .before .before .write-decimal .ensures .place in
-    let l = length-decimal (c .before .before .before .before .before .before .before .before .args .k - 1) (c .before .before .before .before .before .before .before .before .args .n / 10) in
+    let l = length-decimal (args .k - 1) (args .n / 10) in
     let s = c .before .before .before .write-decimal .kept .0 in
-    let p = c .before .before .before .before .before .before .before .before .pre .1 in
+    let p = pre .1 in
     omega arith
 
 -- src/lib.rt:45:1
@@ -169,7 +179,9 @@ write-decimal-same-length-2 : (t : ℕ) → write-decimal-lts.Need-same-length-2
   write-decimal-below t,
   write-decimal.Post,
 ) (write-decimal-at t) write-decimal.Post
-write-decimal-same-length-2 t c = length-set (c .before .before .before .write-decimal .last .0) _ _ ∙ c .before .before .before .write-decimal .kept .0
+write-decimal-same-length-2 t c =
+    length-set (c .before .before .before .write-decimal .last .0) _ _
+    ∙ c .before .before .before .write-decimal .kept .0
 
 -- src/lib.rt:45:1
 write-decimal-returns-3 : (t : ℕ) → write-decimal-lts.Need-returns-3 (
@@ -178,7 +190,10 @@ write-decimal-returns-3 : (t : ℕ) → write-decimal-lts.Need-returns-3 (
   write-decimal-below t,
   write-decimal.Post,
 ) (write-decimal-at t) write-decimal.Post
-write-decimal-returns-3 t c = decimal-last _ _ _ _ (c .before .before .before .before .before .before .if1 .left) (c .before .before .before .before .before .if2 .left) (c .before .before .before .write-decimal .ensures) (c .byte-of2 .ensures)
+write-decimal-returns-3 t c =
+    decimal-last _ _ _ _ (c .before .before .before .before .before .before .if1 .left)
+    (c .before .before .before .before .before .if2 .left) (c .before .before .before .write-decimal .ensures)
+    (c .byte-of2 .ensures)
 
 pub +write-decimal-spec : {M : Type 1} → statement M
 +write-decimal-spec = close μ-write-decimal λ t. write-decimal-lts.spec (

@@ -72,9 +72,10 @@ write-hex-slice-write-out : (t : ℕ) → write-hex-lts.Need-slice-write-out (
   hex-byte-reads.Learnt,
 ) (write-hex-at t) write-hex.Post
 write-hex-slice-write-out t c =
+    let args = c .before .before .before .before .before .before .before .args in
     let h = c .before .before .before .before .before .if1 .left in
     let e = c .before .before .before .write-hex .ensures .place in
-    let l = length-hex (c .before .before .before .before .before .before .before .args .k - 1) (c .before .before .before .before .before .before .before .args .n / 16) in
+    let l = length-hex (args .k - 1) (args .n / 16) in
     let s = c .before .before .before .write-hex .kept .0 in
     let p = c .before .before .before .before .before .before .before .pre .1 in
     omega arith
@@ -87,9 +88,10 @@ write-hex-add-result : (t : ℕ) → write-hex-lts.Need-add-result (
   hex-byte-reads.Learnt,
 ) (write-hex-at t) write-hex.Post
 write-hex-add-result t c =
+    let args = c .before .before .before .before .before .before .before .args in
     let h = c .before .before .before .before .before .if1 .left in
     let e = c .before .before .before .write-hex .ensures .place in
-    let l = length-hex (c .before .before .before .before .before .before .before .args .k - 1) (c .before .before .before .before .before .before .before .args .n / 16) in
+    let l = length-hex (args .k - 1) (args .n / 16) in
     let p = c .before .before .before .before .before .before .before .pre .1 in
     omega arith
 
@@ -100,7 +102,8 @@ write-hex-same-length : (t : ℕ) → write-hex-lts.Need-same-length (
   hex-byte-reads.Asked,
   hex-byte-reads.Learnt,
 ) (write-hex-at t) write-hex.Post
-write-hex-same-length t c = length-set (c .before .before .before .write-hex .last .0) _ _ ∙ c .before .before .before .write-hex .kept .0
+write-hex-same-length t c =
+    length-set (c .before .before .before .write-hex .last .0) _ _ ∙ c .before .before .before .write-hex .kept .0
 
 -- src/lib.rt:62:1
 write-hex-returns-2 : (t : ℕ) → write-hex-lts.Need-returns-2 (
@@ -109,7 +112,9 @@ write-hex-returns-2 : (t : ℕ) → write-hex-lts.Need-returns-2 (
   hex-byte-reads.Asked,
   hex-byte-reads.Learnt,
 ) (write-hex-at t) write-hex.Post
-write-hex-returns-2 t c = hex-last _ _ _ _ (c .before .before .before .before .before .if1 .left) (c .before .before .before .write-hex .ensures) (c .hex-byte .ensures)
+write-hex-returns-2 t c =
+    hex-last _ _ _ _ (c .before .before .before .before .before .if1 .left)
+    (c .before .before .before .write-hex .ensures) (c .hex-byte .ensures)
 
 pub +write-hex-spec : {M : Type 1} → statement M
 +write-hex-spec = close μ-write-hex λ t. write-hex-lts.spec (

@@ -43,7 +43,12 @@ loop-less c = search needs
 
 -- src/lib.rt:18:5
 loop-again : tie.Need-loop-again Inv-loop μ-loop
-loop-again c = (search needs, length-set (c .before .before .loop .out) _ _ ∙ c .before .before .loop .inv .1, turn _ _ _ _ _ (c .before .before .loop .inv .2) (c .before .loop-test .taken))
+loop-again c =
+    let loop = c .before .before .loop in (
+      search needs,
+      length-set (loop .out) _ _ ∙ loop .inv .1,
+      turn _ _ _ _ _ (loop .inv .2) (c .before .loop-test .taken),
+    )
 
 -- src/lib.rt:22:5
 add-result : tie.Need-add-result Inv-loop μ-loop

@@ -35,15 +35,19 @@ write-bits-requires-2 c κs =
 -- src/lib.rt:125:9
 write-bits-requires-3 : tie.Need-write-bits-requires-3
 write-bits-requires-3 c κs =
-    let p = c .before .before .before .before .before .before .before .before .before .before .before .before .before .before .before .pre in
-    let e0 = c .before .before .before .before .before .before .before .before .before .before .before .write .ensures .place in
-    let k0 = c .before .before .before .before .before .before .before .before .before .before .before .write .kept .0 in
-    let e1 = c .before .before .before .before .before .before .before .write-bits .ensures .place in
-    let k1 = c .before .before .before .before .before .before .before .write-bits .kept .0 in
-    let l1 = length-bits (c .before .before .before .before .before .before .before .before .before .before .before .before .before .before .before .args .x) in
+    let c8 = c .before .before .before .before .before .before .before .before in
+    let args = c8 .before .before .before .before .before .before .before .args in
+    let p = c8 .before .before .before .before .before .before .before .pre in
+    let write = c8 .before .before .before .write in
+    let write-bits = c .before .before .before .before .before .before .before .write-bits in
+    let e0 = write .ensures .place in
+    let k0 = write .kept .0 in
+    let e1 = write-bits .ensures .place in
+    let k1 = write-bits .kept .0 in
+    let l1 = length-bits (args .x) in
     let e2 = c .before .before .before .write-bits2 .ensures .place in
     let k2 = c .before .before .before .write-bits2 .kept .0 in
-    let l2 = length-bits (c .before .before .before .before .before .before .before .before .before .before .before .before .before .before .before .args .y) in
+    let l2 = length-bits (args .y) in
     omega arith
 
 -- src/lib.rt:126:19
@@ -53,18 +57,25 @@ slice-aggregate-write-2 c = search needs
 -- src/lib.rt:126:5
 write-requires-2 : tie.Need-write-requires-2
 write-requires-2 c κs =
-    let p = c .before .before .before .before .before .before .before .before .before .before .before .before .before .before .before .before .before .before .before .before .pre in
-    let e0 = c .before .before .before .before .before .before .before .before .before .before .before .before .before .before .before .before .write .ensures .place in
-    let k0 = c .before .before .before .before .before .before .before .before .before .before .before .before .before .before .before .before .write .kept .0 in
-    let e1 = c .before .before .before .before .before .before .before .before .before .before .before .before .write-bits .ensures .place in
-    let k1 = c .before .before .before .before .before .before .before .before .before .before .before .before .write-bits .kept .0 in
-    let l1 = length-bits (c .before .before .before .before .before .before .before .before .before .before .before .before .before .before .before .before .before .before .before .before .args .x) in
-    let e2 = c .before .before .before .before .before .before .before .before .write-bits2 .ensures .place in
-    let k2 = c .before .before .before .before .before .before .before .before .write-bits2 .kept .0 in
-    let l2 = length-bits (c .before .before .before .before .before .before .before .before .before .before .before .before .before .before .before .before .before .before .before .before .args .y) in
-    let e3 = c .before .before .before .before .write-bits3 .ensures .place in
-    let k3 = c .before .before .before .before .write-bits3 .kept .0 in
-    let l3 = length-bits (c .before .before .before .before .before .before .before .before .before .before .before .before .before .before .before .before .before .before .before .before .args .z) in
+    let c8 = c .before .before .before .before .before .before .before .before in
+    let c16 = c8 .before .before .before .before .before .before .before .before in
+    let args = c16 .before .before .before .before .args in
+    let p = c16 .before .before .before .before .pre in
+    let write = c16 .write in
+    let write-bits = c8 .before .before .before .before .write-bits in
+    let write-bits2 = c8 .write-bits2 in
+    let write-bits3 = c .before .before .before .before .write-bits3 in
+    let e0 = write .ensures .place in
+    let k0 = write .kept .0 in
+    let e1 = write-bits .ensures .place in
+    let k1 = write-bits .kept .0 in
+    let l1 = length-bits (args .x) in
+    let e2 = write-bits2 .ensures .place in
+    let k2 = write-bits2 .kept .0 in
+    let l2 = length-bits (args .y) in
+    let e3 = write-bits3 .ensures .place in
+    let k3 = write-bits3 .kept .0 in
+    let l3 = length-bits (args .z) in
     omega arith
 
 -- src/lib.rt:118:1
@@ -73,7 +84,16 @@ same-length c = search needs
 
 -- src/lib.rt:118:1
 returns : tie.Need-returns
-returns c = written-append (written-append (written-append (written-append (c .before .before .before .before .before .before .before .before .before .before .before .before .before .before .before .before .before .before .before .write .ensures) (c .before .before .before .before .before .before .before .before .before .before .before .before .before .before .before .write-bits .ensures)) (c .before .before .before .before .before .before .before .before .before .before .before .write-bits2 .ensures)) (c .before .before .before .before .before .before .before .write-bits3 .ensures)) (c .before .before .write2 .ensures)
+returns c =
+    let c8 = c .before .before .before .before .before .before .before .before in
+    let c16 = c8 .before .before .before .before .before .before .before .before in
+    let write = c16 .before .before .before .write in
+    let write-bits = c8 .before .before .before .before .before .before .before .write-bits in
+    let write-bits2 = c8 .before .before .before .write-bits2 in
+    written-append (written-append
+    (written-append (written-append (write .ensures) (write-bits .ensures)) (write-bits2 .ensures))
+    (c .before .before .before .before .before .before .before .write-bits3 .ensures))
+    (c .before .before .write2 .ensures)
 
 pub write-at-spec : {M : Type 1} → statement M
 write-at-spec =

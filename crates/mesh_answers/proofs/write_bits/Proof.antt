@@ -26,7 +26,9 @@ same-length c = search needs
 
 -- src/lib.rt:81:1
 returns : tie.Need-returns
-returns c = written-append (c .before .before .before .before .before .before .write .ensures) (c .before .before .write-hex .ensures)
+returns c =
+    written-append (c .before .before .before .before .before .before .write .ensures)
+    (c .before .before .write-hex .ensures)
 
 pub write-bits-spec : {M : Type 1} → statement M
 write-bits-spec =

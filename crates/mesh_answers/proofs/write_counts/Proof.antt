@@ -31,15 +31,19 @@ write-number-requires-2 c κs =
 -- src/lib.rt:97:9
 write-number-requires-3 : tie.Need-write-number-requires-3
 write-number-requires-3 c κs =
-    let p = c .before .before .before .before .before .before .before .before .before .before .before .before .before .before .before .pre in
-    let e0 = c .before .before .before .before .before .before .before .before .before .before .before .write .ensures .place in
-    let k0 = c .before .before .before .before .before .before .before .before .before .before .before .write .kept .0 in
-    let e1 = c .before .before .before .before .before .before .before .write-number .ensures .place in
-    let k1 = c .before .before .before .before .before .before .before .write-number .kept .0 in
-    let l1 = length-number (c .before .before .before .before .before .before .before .before .before .before .before .before .before .before .before .args .p) in
+    let c8 = c .before .before .before .before .before .before .before .before in
+    let args = c8 .before .before .before .before .before .before .before .args in
+    let p = c8 .before .before .before .before .before .before .before .pre in
+    let write = c8 .before .before .before .write in
+    let write-number = c .before .before .before .before .before .before .before .write-number in
+    let e0 = write .ensures .place in
+    let k0 = write .kept .0 in
+    let e1 = write-number .ensures .place in
+    let k1 = write-number .kept .0 in
+    let l1 = length-number (args .p) in
     let e2 = c .before .before .before .write-number2 .ensures .place in
     let k2 = c .before .before .before .write-number2 .kept .0 in
-    let l2 = length-number (c .before .before .before .before .before .before .before .before .before .before .before .before .before .before .before .args .e) in
+    let l2 = length-number (args .e) in
     omega arith
 
 -- src/lib.rt:98:19
@@ -49,18 +53,25 @@ slice-aggregate-write c = search needs
 -- src/lib.rt:98:5
 write-requires-2 : tie.Need-write-requires-2
 write-requires-2 c κs =
-    let p = c .before .before .before .before .before .before .before .before .before .before .before .before .before .before .before .before .before .before .before .before .pre in
-    let e0 = c .before .before .before .before .before .before .before .before .before .before .before .before .before .before .before .before .write .ensures .place in
-    let k0 = c .before .before .before .before .before .before .before .before .before .before .before .before .before .before .before .before .write .kept .0 in
-    let e1 = c .before .before .before .before .before .before .before .before .before .before .before .before .write-number .ensures .place in
-    let k1 = c .before .before .before .before .before .before .before .before .before .before .before .before .write-number .kept .0 in
-    let l1 = length-number (c .before .before .before .before .before .before .before .before .before .before .before .before .before .before .before .before .before .before .before .before .args .p) in
-    let e2 = c .before .before .before .before .before .before .before .before .write-number2 .ensures .place in
-    let k2 = c .before .before .before .before .before .before .before .before .write-number2 .kept .0 in
-    let l2 = length-number (c .before .before .before .before .before .before .before .before .before .before .before .before .before .before .before .before .before .before .before .before .args .e) in
-    let e3 = c .before .before .before .before .write-number3 .ensures .place in
-    let k3 = c .before .before .before .before .write-number3 .kept .0 in
-    let l3 = length-number (c .before .before .before .before .before .before .before .before .before .before .before .before .before .before .before .before .before .before .before .before .args .f) in
+    let c8 = c .before .before .before .before .before .before .before .before in
+    let c16 = c8 .before .before .before .before .before .before .before .before in
+    let args = c16 .before .before .before .before .args in
+    let p = c16 .before .before .before .before .pre in
+    let write = c16 .write in
+    let write-number = c8 .before .before .before .before .write-number in
+    let write-number2 = c8 .write-number2 in
+    let write-number3 = c .before .before .before .before .write-number3 in
+    let e0 = write .ensures .place in
+    let k0 = write .kept .0 in
+    let e1 = write-number .ensures .place in
+    let k1 = write-number .kept .0 in
+    let l1 = length-number (args .p) in
+    let e2 = write-number2 .ensures .place in
+    let k2 = write-number2 .kept .0 in
+    let l2 = length-number (args .e) in
+    let e3 = write-number3 .ensures .place in
+    let k3 = write-number3 .kept .0 in
+    let l3 = length-number (args .f) in
     omega arith
 
 -- src/lib.rt:90:1
@@ -69,7 +80,16 @@ same-length c = search needs
 
 -- src/lib.rt:90:1
 returns : tie.Need-returns
-returns c = written-append (written-append (written-append (written-append (c .before .before .before .before .before .before .before .before .before .before .before .before .before .before .before .before .before .before .before .write .ensures) (c .before .before .before .before .before .before .before .before .before .before .before .before .before .before .before .write-number .ensures)) (c .before .before .before .before .before .before .before .before .before .before .before .write-number2 .ensures)) (c .before .before .before .before .before .before .before .write-number3 .ensures)) (c .before .before .write2 .ensures)
+returns c =
+    let c8 = c .before .before .before .before .before .before .before .before in
+    let c16 = c8 .before .before .before .before .before .before .before .before in
+    let write = c16 .before .before .before .write in
+    let write-number = c8 .before .before .before .before .before .before .before .write-number in
+    let write-number2 = c8 .before .before .before .write-number2 in
+    written-append (written-append
+    (written-append (written-append (write .ensures) (write-number .ensures)) (write-number2 .ensures))
+    (c .before .before .before .before .before .before .before .write-number3 .ensures))
+    (c .before .before .write2 .ensures)
 
 pub write-counts-spec : {M : Type 1} → statement M
 write-counts-spec =

@@ -26,7 +26,9 @@ same-length c = search needs
 
 -- src/lib.rt:72:1
 returns : tie.Need-returns
-returns c = written-append (c .before .before .before .before .before .before .write .ensures) (c .before .before .write-decimal .ensures)
+returns c =
+    written-append (c .before .before .before .before .before .before .write .ensures)
+    (c .before .before .write-decimal .ensures)
 
 pub write-number-spec : {M : Type 1} → statement M
 write-number-spec =

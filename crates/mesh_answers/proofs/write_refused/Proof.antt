@@ -28,12 +28,16 @@ slice-aggregate-write-2 c = search needs
 -- src/lib.rt:136:5
 write-requires-2 : tie.Need-write-requires-2
 write-requires-2 c κs =
-    let p = c .before .before .before .before .before .before .before .before .before .before .before .before .pre in
-    let e0 = c .before .before .before .before .before .before .before .before .write .ensures .place in
-    let k0 = c .before .before .before .before .before .before .before .before .write .kept .0 in
-    let e1 = c .before .before .before .before .write-number .ensures .place in
-    let k1 = c .before .before .before .before .write-number .kept .0 in
-    let l1 = length-number (c .before .before .before .before .before .before .before .before .before .before .before .before .args .n) in
+    let c8 = c .before .before .before .before .before .before .before .before in
+    let args = c8 .before .before .before .before .args in
+    let p = c8 .before .before .before .before .pre in
+    let write = c8 .write in
+    let write-number = c .before .before .before .before .write-number in
+    let e0 = write .ensures .place in
+    let k0 = write .kept .0 in
+    let e1 = write-number .ensures .place in
+    let k1 = write-number .kept .0 in
+    let l1 = length-number (args .n) in
     omega arith
 
 -- src/lib.rt:130:1
@@ -42,7 +46,11 @@ same-length c = search needs
 
 -- src/lib.rt:130:1
 returns : tie.Need-returns
-returns c = written-append (written-append (c .before .before .before .before .before .before .before .before .before .before .before .write .ensures) (c .before .before .before .before .before .before .before .write-number .ensures)) (c .before .before .write2 .ensures)
+returns c =
+    let write = c .before .before .before .before .before .before .before .before .before .before .before .write in
+    written-append
+    (written-append (write .ensures) (c .before .before .before .before .before .before .before .write-number .ensures))
+    (c .before .before .write2 .ensures)
 
 pub write-refused-spec : {M : Type 1} → statement M
 write-refused-spec =

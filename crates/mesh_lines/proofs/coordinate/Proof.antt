@@ -14,11 +14,16 @@ unfolding coordinate
 returns c = rw (literal-none _ _ _ (sym (c .before .stands .ensures) ∙ not-true _ (c .if1 .taken)))
 
 bits-requires : tie.Need-bits-requires
-bits-requires c κs = stands-inside (c .before .before .before .before .args .s .now) (bytes " ") (c .before .before .before .before .args .at) refl (c .before .before .before .before .pre) (sym (c .before .stands .ensures) ∙ not-false _ (c .if1 .left))
+bits-requires c κs =
+    let args = c .before .before .before .before .args in
+    stands-inside (args .s .now) (bytes " ") (args .at) refl (c .before .before .before .before .pre)
+    (sym (c .before .stands .ensures) ∙ not-false _ (c .if1 .left))
 
 returns-2 : tie.Need-returns-2
 unfolding coordinate
-returns-2 c = rw (literal-found _ _ _ (sym (c .before .before .stands .ensures) ∙ not-false _ (c .before .if1 .left))) (c .bits .ensures)
+returns-2 c =
+    rw (literal-found _ _ _ (sym (c .before .before .stands .ensures) ∙ not-false _ (c .before .if1 .left)))
+    (c .bits .ensures)
 
 pub coordinate-spec : {M : Type 1} → statement M
 coordinate-spec =

@@ -21,10 +21,19 @@ coordinate-requires : tie.Need-coordinate-requires Inv-loop μ-loop
 coordinate-requires c κs = c .before .loop .inv .inside
 
 returns : tie.Need-returns Inv-loop μ-loop
-returns c = (stop _ _ _ _ _ _ _ (c .before .before .before .before .loop .inv) (c .before .before .before .loop-test .taken) (number-none _ (sym (c .before .before .coordinate .ensures) ∙ c .enum-told .given .1)), tt)
+returns c = (
+  stop _ _ _ _ _ _ _ (c .before .before .before .before .loop .inv) (c .before .before .before .loop-test .taken)
+      (number-none _ (sym (c .before .before .coordinate .ensures) ∙ c .enum-told .given .1)),
+  tt,
+)
 
 loop-again : tie.Need-loop-again Inv-loop μ-loop
-loop-again c = turn _ _ _ _ _ _ _ (c .before .before .before .before .before .before .before .before .before .before .loop .inv) (c .before .before .before .before .before .before .before .before .before .loop-test .taken) (c .before .before .before .before .before .before .before .before .before .before .before .before .before .pre .0) (number-is _ (sym (c .before .before .before .before .before .before .before .before .coordinate .ensures) ∙ c .before .before .before .before .before .before .b .given .1)) (c .before .before .before .float .ensures) (c .before .before .put-number .ensures)
+loop-again c =
+    let c8 = c .before .before .before .before .before .before .before .before in
+    let pre = c8 .before .before .before .before .before .pre in
+    turn _ _ _ _ _ _ _ (c8 .before .before .loop .inv) (c8 .before .loop-test .taken) (pre .0)
+    (number-is _ (sym (c8 .coordinate .ensures) ∙ c .before .before .before .before .before .before .b .given .1))
+    (c .before .before .before .float .ensures) (c .before .before .put-number .ensures)
 
 returns-2 : tie.Need-returns-2 Inv-loop μ-loop
 returns-2 c = end _ _ _ _ _ _ _ (c .before .loop .inv) (c .loop-test .left)

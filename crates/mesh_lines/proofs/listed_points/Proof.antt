@@ -24,7 +24,9 @@ stands-requires : tie.Need-stands-requires Inv-loop μ-loop
 stands-requires c κs = c .before .loop .inv .1 .inside
 
 listed-requires : tie.Need-listed-requires Inv-loop μ-loop
-listed-requires c κs = head-inside _ _ _ _ _ _ _ _ _ (c .before .before .before .loop .inv .1) (sym (c .before .stands .ensures) ∙ c .if1 .taken)
+listed-requires c κs =
+    head-inside _ _ _ _ _ _ _ _ _ (c .before .before .before .loop .inv .1)
+    (sym (c .before .stands .ensures) ∙ c .if1 .taken)
 
 same-length : tie.Need-same-length Inv-loop μ-loop
 same-length c = c .before .before .before .before .before .before .loop .inv .1 .same-points
@@ -33,13 +35,37 @@ same-length-2 : tie.Need-same-length-2 Inv-loop μ-loop
 same-length-2 c = c .before .before .before .before .before .before .loop .inv .1 .same-intervals
 
 returns : tie.Need-returns Inv-loop μ-loop
-returns c = (stop _ _ _ _ _ _ _ _ _ (c .before .before .before .before .before .before .loop .inv .1) (sym (c .before .before .before .before .stands .ensures) ∙ c .before .before .before .if1 .taken) (listing-none _ (sym (c .before .before .listed .ensures) ∙ c .enum-told .given .1)), (tt, tt))
+returns c = (
+  stop _ _ _ _ _ _ _ _ _ (c .before .before .before .before .before .before .loop .inv .1)
+      (sym (c .before .before .before .before .stands .ensures) ∙ c .before .before .before .if1 .taken)
+      (listing-none _ (sym (c .before .before .listed .ensures) ∙ c .enum-told .given .1)),
+  (tt, tt),
+)
 
 loop-less : tie.Need-loop-less Inv-loop μ-loop
-loop-less c = let h = listed-longer _ _ _ _ _ _ _ _ _ (c .before .before .before .before .before .before .before .before .before .before .before .before .before .before .before .before .loop .inv .1) (sym (c .before .before .before .before .before .before .before .before .before .before .before .before .before .before .stands .ensures) ∙ c .before .before .before .before .before .before .before .before .before .before .before .before .before .if1 .taken) (listing-is _ (sym (c .before .before .before .before .before .before .before .before .before .before .before .before .listed .ensures) ∙ c .before .before .before .before .before .before .before .before .before .before .p .given .1)) in omega arith
+loop-less c =
+    let c8 = c .before .before .before .before .before .before .before .before in
+    let loop = c8 .before .before .before .before .before .before .before .before .loop in
+    let stands = c8 .before .before .before .before .before .before .stands in
+    let if1 = c8 .before .before .before .before .before .if1 in
+    let listed = c8 .before .before .before .before .listed in
+    let h = listed-longer _ _ _ _ _ _ _ _ _ (loop .inv .1) (sym (stands .ensures) ∙ if1 .taken)
+    (listing-is _ (sym (listed .ensures) ∙ c8 .before .before .p .given .1)) in
+    omega arith
 
 loop-again : tie.Need-loop-again Inv-loop μ-loop
-loop-again c = (refl, turn _ _ _ _ _ _ _ _ _ (c .before .before .before .before .before .before .before .before .before .before .before .before .before .before .before .before .loop .inv .1) (sym (c .before .before .before .before .before .before .before .before .before .before .before .before .before .before .stands .ensures) ∙ c .before .before .before .before .before .before .before .before .before .before .before .before .before .if1 .taken) (listing-is _ (sym (c .before .before .before .before .before .before .before .before .before .before .before .before .listed .ensures) ∙ c .before .before .before .before .before .before .before .before .before .before .p .given .1)) (c .before .before .before .before .before .before .before .put-word .ensures) (c .before .before .before .float .ensures) (c .before .before .put-number .ensures))
+loop-again c =
+    let c8 = c .before .before .before .before .before .before .before .before in
+    let loop = c8 .before .before .before .before .before .before .before .before .loop in
+    let stands = c8 .before .before .before .before .before .before .stands in
+    let if1 = c8 .before .before .before .before .before .if1 in
+    let listed = c8 .before .before .before .before .listed in (
+      refl,
+      turn _ _ _ _ _ _ _ _ _ (loop .inv .1) (sym (stands .ensures) ∙ if1 .taken)
+          (listing-is _ (sym (listed .ensures) ∙ c8 .before .before .p .given .1))
+          (c .before .before .before .before .before .before .before .put-word .ensures)
+          (c .before .before .before .float .ensures) (c .before .before .put-number .ensures),
+    )
 
 same-length-3 : tie.Need-same-length-3 Inv-loop μ-loop
 same-length-3 c = c .before .before .before .loop .inv .1 .same-points

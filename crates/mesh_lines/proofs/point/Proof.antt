@@ -12,16 +12,32 @@ returns : tie.Need-returns
 returns c = (no-coordinates _ _ (c .before .before .before .before .coordinates .ensures .0) (c .enum-told .given .1), tt)
 
 stands-requires : tie.Need-stands-requires
-stands-requires c κs = coordinates-inside _ _ (c .before .before .before .before .before .before .before .before .before .before .pre .0) (c .before .before .before .before .before .before .coordinates .ensures .0) (c .before .before .i .given .1)
+stands-requires c κs =
+    let pre = c .before .before .before .before .before .before .before .before .before .before .pre in
+    coordinates-inside _ _ (pre .0) (c .before .before .before .before .before .before .coordinates .ensures .0)
+    (c .before .before .i .given .1)
 
 returns-2 : tie.Need-returns-2
-returns-2 c = (no-end _ _ (c .before .before .before .before .before .before .before .before .coordinates .ensures .0) (c .before .before .before .before .i .given .1) (sym (c .before .stands .ensures) ∙ not-true _ (c .if1 .taken)), tt)
+returns-2 c =
+    let coordinates = c .before .before .before .before .before .before .before .before .coordinates in (
+      no-end _ _ (coordinates .ensures .0) (c .before .before .before .before .i .given .1)
+          (sym (c .before .stands .ensures) ∙ not-true _ (c .if1 .taken)),
+      tt,
+    )
 
 add-t14 : tie.Need-add-t14
-add-t14 c = let h = coordinates-inside _ _ (c .before .before .before .before .before .before .before .before .before .before .before .before .pre .0) (c .before .before .before .before .before .before .before .before .coordinates .ensures .0) (c .before .before .before .before .i .given .1) in omega arith
+add-t14 c =
+    let c8 = c .before .before .before .before .before .before .before .before in
+    let pre = c8 .before .before .before .before .pre in
+    let h = coordinates-inside _ _ (pre .0) (c8 .coordinates .ensures .0)
+    (c .before .before .before .before .i .given .1) in
+    omega arith
 
 returns-3 : tie.Need-returns-3
-returns-3 c = whole _ _ _ _ (c .before .before .before .before .before .before .before .before .coordinates .ensures .0) (c .before .before .before .before .i .given .1) (c .before .before .before .before .before .before .before .before .coordinates .ensures .1) (sym (c .before .stands .ensures) ∙ not-false _ (c .if1 .left))
+returns-3 c =
+    let coordinates = c .before .before .before .before .before .before .before .before .coordinates in
+    whole _ _ _ _ (coordinates .ensures .0) (c .before .before .before .before .i .given .1) (coordinates .ensures .1)
+    (sym (c .before .stands .ensures) ∙ not-false _ (c .if1 .left))
 
 pub point-spec : {M : Type 1} → statement M
 point-spec =

@@ -23,19 +23,44 @@ stands-requires : tie.Need-stands-requires Inv-loop μ-loop
 stands-requires c κs = c .before .loop .inv .1 .inside
 
 point-requires : tie.Need-point-requires Inv-loop μ-loop
-point-requires c κs = let h = head-inside _ _ _ _ _ _ (c .before .before .before .before .loop .inv .1) (sym (c .before .before .stands .ensures) ∙ c .before .if1 .taken) in omega arith
+point-requires c κs =
+    let h = head-inside _ _ _ _ _ _ (c .before .before .before .before .loop .inv .1)
+    (sym (c .before .before .stands .ensures) ∙ c .before .if1 .taken) in
+    omega arith
 
 same-length : tie.Need-same-length Inv-loop μ-loop
-same-length c = c .before .before .before .before .point .kept .1 .1 .0 ∙ c .before .before .before .before .before .before .before .before .before .loop .inv .1 .same
+same-length c =
+    let loop = c .before .before .before .before .before .before .before .before .before .loop in
+    c .before .before .before .before .point .kept .1 .1 .0 ∙ loop .inv .1 .same
 
 returns : tie.Need-returns Inv-loop μ-loop
-returns c = (stop _ _ _ _ _ _ (c .before .before .before .before .before .before .before .before .before .loop .inv .1) (sym (c .before .before .before .before .before .before .before .stands .ensures) ∙ c .before .before .before .before .before .before .if1 .taken) (c .before .before .before .before .point .ensures .0) (c .enum-told .given .1), tt)
+returns c =
+    let loop = c .before .before .before .before .before .before .before .before .before .loop in (
+      stop _ _ _ _ _ _ (loop .inv .1) (sym (c .before .before .before .before .before .before .before .stands .ensures)
+          ∙ c .before .before .before .before .before .before .if1 .taken)
+          (c .before .before .before .before .point .ensures .0) (c .enum-told .given .1),
+      tt,
+    )
 
 loop-less : tie.Need-loop-less Inv-loop μ-loop
-loop-less c = let h = line-longer _ _ _ _ _ _ (c .before .before .before .before .before .before .before .before .before .before .loop .inv .1) (sym (c .before .before .before .before .before .before .before .before .stands .ensures) ∙ c .before .before .before .before .before .before .before .if1 .taken) (c .before .before .before .before .before .point .ensures .0) (c .before .j .given .1) in omega arith
+loop-less c =
+    let loop = c .before .before .before .before .before .before .before .before .before .before .loop in
+    let stands = c .before .before .before .before .before .before .before .before .stands in
+    let h = line-longer _ _ _ _ _ _ (loop .inv .1)
+    (sym (stands .ensures) ∙ c .before .before .before .before .before .before .before .if1 .taken)
+    (c .before .before .before .before .before .point .ensures .0) (c .before .j .given .1) in
+    omega arith
 
 loop-again : tie.Need-loop-again Inv-loop μ-loop
-loop-again c = (refl, turn _ _ _ _ _ _ (c .before .before .before .before .before .before .before .before .before .before .loop .inv .1) (sym (c .before .before .before .before .before .before .before .before .stands .ensures) ∙ c .before .before .before .before .before .before .before .if1 .taken) (c .before .before .before .before .before .point .ensures .0) (c .before .j .given .1) (c .before .before .before .before .before .point .ensures .1))
+loop-again c =
+    let loop = c .before .before .before .before .before .before .before .before .before .before .loop in
+    let stands = c .before .before .before .before .before .before .before .before .stands in
+    let point = c .before .before .before .before .before .point in (
+      refl,
+      turn _ _ _ _ _ _ (loop .inv .1)
+          (sym (stands .ensures) ∙ c .before .before .before .before .before .before .before .if1 .taken) (point .ensures .0)
+          (c .before .j .given .1) (point .ensures .1),
+    )
 
 same-length-2 : tie.Need-same-length-2 Inv-loop μ-loop
 same-length-2 c = c .before .before .before .loop .inv .1 .same

@@ -18,7 +18,10 @@ loop-holds : tie.Need-loop-holds Inv-loop μ-loop
 loop-holds c = start _ _ _ _ _ _ _ (c .before .before .before .before .pre .0) (c .before .before .before .before .pre .1 .1)
 
 add-side : tie.Need-add-side Inv-loop μ-loop
-add-side c = let h = c .before .before .before .loop .inv .inside in let k = c .before .before .before .loop .inv .counted in omega arith
+add-side c =
+    let h = c .before .before .before .loop .inv .inside in
+    let k = c .before .before .before .loop .inv .counted in
+    omega arith
 
 side-requires : tie.Need-side-requires Inv-loop μ-loop
 side-requires c κs = (c .before .before .before .loop .inv .inside, c .before .before .before .loop .inv .counted)
@@ -27,28 +30,67 @@ same-length : tie.Need-same-length Inv-loop μ-loop
 same-length c = c .before .before .before .before .before .before .before .before .before .before .loop .inv .same-lengths
 
 same-length-2 : tie.Need-same-length-2 Inv-loop μ-loop
-same-length-2 c = c .before .before .before .before .before .before .side .kept .1 .1 .0 ∙ c .before .before .before .before .before .before .before .before .before .before .loop .inv .same-points
+same-length-2 c =
+    let loop = c .before .before .before .before .before .before .before .before .before .before .loop in
+    c .before .before .before .before .before .before .side .kept .1 .1 .0 ∙ loop .inv .same-points
 
 same-length-3 : tie.Need-same-length-3 Inv-loop μ-loop
-same-length-3 c = c .before .before .before .before .before .before .side .kept .1 .1 .1 .0 ∙ c .before .before .before .before .before .before .before .before .before .before .loop .inv .same-intervals
+same-length-3 c =
+    let loop = c .before .before .before .before .before .before .before .before .before .before .loop in
+    c .before .before .before .before .before .before .side .kept .1 .1 .1 .0 ∙ loop .inv .same-intervals
 
 returns : tie.Need-returns Inv-loop μ-loop
-returns c = (stop _ _ _ _ _ _ _ _ _ _ _ _ _ (c .before .before .before .before .before .before .before .before .before .before .loop .inv) (c .before .before .before .before .before .before .before .before .before .loop-test .taken) (c .before .before .before .before .before .before .side .ensures .0) (c .enum-told .given .1), (tt, (tt, tt)))
+returns c =
+    let c8 = c .before .before .before .before .before .before .before .before in (
+      stop _ _ _ _ _ _ _ _ _ _ _ _ _ (c8 .before .before .loop .inv) (c8 .before .loop-test .taken)
+          (c .before .before .before .before .before .before .side .ensures .0) (c .enum-told .given .1),
+      (tt, (tt, tt)),
+    )
 
 add-put-word : tie.Need-add-put-word Inv-loop μ-loop
-add-put-word c = let h = c .before .before .before .before .before .before .before .before .before .before .before .before .before .before .before .before .before .pre .0 in let k = c .before .before .before .before .before .before .before .before .before .before .before .before .before .before .before .before .before .pre .1 .0 in let t = c .before .before .before .before .before .before .before .before .before .before .before .loop-test .taken in omega arith
+add-put-word c =
+    let c8 = c .before .before .before .before .before .before .before .before in
+    let c16 = c8 .before .before .before .before .before .before .before .before in
+    let pre = c16 .before .pre in
+    let loop-test = c8 .before .before .before .loop-test in
+    let h = pre .0 in
+    let k = pre .1 .0 in
+    let t = loop-test .taken in
+    omega arith
 
 add-c : tie.Need-add-c Inv-loop μ-loop
-add-c c = let h = side-longer _ _ _ _ _ _ _ _ _ _ _ _ _ (c .before .before .before .before .before .before .before .before .before .before .before .before .before .before .before .loop .inv) (c .before .before .before .before .before .before .before .before .before .before .before .before .before .before .loop-test .taken) (c .before .before .before .before .before .before .before .before .before .before .before .side .ensures .0) (c .before .before .before .before .before .m .given .1) in omega arith
+add-c c =
+    let c8 = c .before .before .before .before .before .before .before .before in
+    let loop = c8 .before .before .before .before .before .before .before .loop in
+    let loop-test = c8 .before .before .before .before .before .before .loop-test in
+    let side = c8 .before .before .before .side in
+    let h = side-longer _ _ _ _ _ _ _ _ _ _ _ _ _ (loop .inv) (loop-test .taken) (side .ensures .0)
+    (c .before .before .before .before .before .m .given .1) in
+    omega arith
 
 add-k : tie.Need-add-k Inv-loop μ-loop
-add-k c = let t = c .before .before .before .before .before .before .before .before .before .before .before .before .before .before .loop-test .taken in omega arith
+add-k c =
+    let c8 = c .before .before .before .before .before .before .before .before in
+    let loop-test = c8 .before .before .before .before .before .before .loop-test in
+    let t = loop-test .taken in
+    omega arith
 
 loop-less : tie.Need-loop-less Inv-loop μ-loop
-loop-less c = let t = c .before .before .before .before .before .before .before .before .before .before .before .before .before .before .loop-test .taken in omega arith
+loop-less c =
+    let c8 = c .before .before .before .before .before .before .before .before in
+    let loop-test = c8 .before .before .before .before .before .before .loop-test in
+    let t = loop-test .taken in
+    omega arith
 
 loop-again : tie.Need-loop-again Inv-loop μ-loop
-loop-again c = turn _ _ _ _ _ _ _ _ _ _ _ _ _ (c .before .before .before .before .before .before .before .before .before .before .before .before .before .before .before .loop .inv) (c .before .before .before .before .before .before .before .before .before .before .before .before .before .before .loop-test .taken) (c .before .before .before .before .before .before .before .before .before .before .before .side .ensures .0) (c .before .before .before .before .before .m .given .1) (c .before .before .put-word .ensures) (c .before .before .before .before .before .before .before .before .before .before .before .side .ensures .1 .0) (c .before .before .before .before .before .before .before .before .before .before .before .side .ensures .1 .1)
+loop-again c =
+    let c8 = c .before .before .before .before .before .before .before .before in
+    let loop = c8 .before .before .before .before .before .before .before .loop in
+    let loop-test = c8 .before .before .before .before .before .before .loop-test in
+    let side = c8 .before .before .before .side in
+    turn _ _ _ _ _ _ _ _ _ _ _ _ _ (loop .inv) (loop-test .taken) (side .ensures .0)
+    (c .before .before .before .before .before .m .given .1) (c .before .before .put-word .ensures)
+    (side .ensures .1 .0) (side .ensures .1 .1)
 
 same-length-4 : tie.Need-same-length-4 Inv-loop μ-loop
 same-length-4 c = c .before .loop .inv .same-lengths

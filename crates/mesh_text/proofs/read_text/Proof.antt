@@ -11,10 +11,20 @@ returns : tie.Need-returns
 returns c = not-text _ _ _ (c .before .before .sizes .ensures) (c .enum-told .given .1)
 
 returns-2 : tie.Need-returns-2
-returns-2 c = over-limits _ _ _ (c .before .before .before .before .before .sizes .ensures) (c .before .before .before .points .given .1) (sym (c .before .within .ensures) ∙ not-true _ (c .if1 .taken))
+returns-2 c =
+    over-limits _ _ _ (c .before .before .before .before .before .sizes .ensures)
+    (c .before .before .before .points .given .1) (sym (c .before .within .ensures) ∙ not-true _ (c .if1 .taken))
 
 returns-3 : tie.Need-returns-3
-returns-3 c = whole _ _ _ (c .before .before .before .before .before .before .before .before .before .before .before .before .before .before .before .before .before .before .sizes .ensures) (c .before .before .before .before .before .before .before .before .before .before .before .before .before .before .before .before .points .given .1) (sym (c .before .before .before .before .before .before .before .before .before .before .before .before .before .before .within .ensures) ∙ not-false _ (c .before .before .before .before .before .before .before .before .before .before .before .before .before .if1 .left)) (c .before .before .before .before .before .before .before .before .scan .ensures .0) (c .before .before .before .before .before .before .before .before .scan .ensures .1 .0) (c .before .before .before .before .before .before .before .before .scan .ensures .1 .1 .0) (c .before .before .before .before .before .before .before .before .scan .ensures .1 .1 .1 .0) (c .before .before .before .before .before .before .before .before .scan .ensures .1 .1 .1 .1)
+returns-3 c =
+    let c8 = c .before .before .before .before .before .before .before .before in
+    let c16 = c8 .before .before .before .before .before .before .before .before in
+    let within = c8 .before .before .before .before .before .before .within in
+    let if1 = c8 .before .before .before .before .before .if1 in
+    let scan = c8 .scan in
+    whole _ _ _ (c16 .before .before .sizes .ensures) (c16 .points .given .1)
+    (sym (within .ensures) ∙ not-false _ (if1 .left)) (scan .ensures .0) (scan .ensures .1 .0) (scan .ensures .1 .1 .0)
+    (scan .ensures .1 .1 .1 .0) (scan .ensures .1 .1 .1 .1)
 
 pub read-text-spec : {M : Type 1} → statement M
 read-text-spec =

@@ -16,31 +16,99 @@ returns-2 c = simp (le-leb _ _ (c .before .before .before .if1 .left), lt-leb _ 
 
 returns-3 : tie.Need-returns-3
 unfolding within
-returns-3 c = simp (le-leb _ _ (c .before .before .before .before .before .before .if1 .left), le-leb _ _ (c .before .before .before .if2 .left), lt-leb _ _ (c .if3 .taken))
+returns-3 c =
+    simp (
+      le-leb _ _ (c .before .before .before .before .before .before .if1 .left),
+      le-leb _ _ (c .before .before .before .if2 .left),
+      lt-leb _ _ (c .if3 .taken),
+    )
 
 returns-4 : tie.Need-returns-4
 unfolding within
-returns-4 c = simp (le-leb _ _ (c .before .before .before .before .before .before .before .before .if1 .left), le-leb _ _ (c .before .before .before .before .before .if2 .left), le-leb _ _ (c .before .before .if3 .left), lt-leb _ _ (c .if4 .taken))
+returns-4 c =
+    let if1 = c .before .before .before .before .before .before .before .before .if1 in
+    simp (
+      le-leb _ _ (if1 .left),
+      le-leb _ _ (c .before .before .before .before .before .if2 .left),
+      le-leb _ _ (c .before .before .if3 .left),
+      lt-leb _ _ (c .if4 .taken),
+    )
 
 returns-5 : tie.Need-returns-5
 unfolding within
-returns-5 c = simp (le-leb _ _ (c .before .before .before .before .before .before .before .before .before .before .if1 .left), le-leb _ _ (c .before .before .before .before .before .before .before .if2 .left), le-leb _ _ (c .before .before .before .before .if3 .left), le-leb _ _ (c .before .before .if4 .left), lt-leb _ _ (over-three _ _ (c .if5 .taken)))
+returns-5 c =
+    let if1 = c .before .before .before .before .before .before .before .before .before .before .if1 in
+    simp (
+      le-leb _ _ (if1 .left),
+      le-leb _ _ (c .before .before .before .before .before .before .before .if2 .left),
+      le-leb _ _ (c .before .before .before .before .if3 .left),
+      le-leb _ _ (c .before .before .if4 .left),
+      lt-leb _ _ (over-three _ _ (c .if5 .taken)),
+    )
 
 returns-6 : tie.Need-returns-6
 unfolding within
-returns-6 c = simp (le-leb _ _ (c .before .before .before .before .before .before .before .before .before .before .before .before .if1 .left), le-leb _ _ (c .before .before .before .before .before .before .before .before .before .if2 .left), le-leb _ _ (c .before .before .before .before .before .before .if3 .left), le-leb _ _ (c .before .before .before .before .if4 .left), le-leb _ _ (room-three _ _ (c .before .before .if5 .left)), lt-leb _ _ (over-four _ _ (c .if6 .taken)))
+returns-6 c =
+    let c8 = c .before .before .before .before .before .before .before .before in
+    let if1 = c8 .before .before .before .before .if1 in
+    simp (
+      le-leb _ _ (if1 .left),
+      le-leb _ _ (c8 .before .if2 .left),
+      le-leb _ _ (c .before .before .before .before .before .before .if3 .left),
+      le-leb _ _ (c .before .before .before .before .if4 .left),
+      le-leb _ _ (room-three _ _ (c .before .before .if5 .left)),
+      lt-leb _ _ (over-four _ _ (c .if6 .taken)),
+    )
 
 returns-7 : tie.Need-returns-7
 unfolding within
-returns-7 c = simp (le-leb _ _ (c .before .before .before .before .before .before .before .before .before .before .before .before .before .before .if1 .left), le-leb _ _ (c .before .before .before .before .before .before .before .before .before .before .before .if2 .left), le-leb _ _ (c .before .before .before .before .before .before .before .before .if3 .left), le-leb _ _ (c .before .before .before .before .before .before .if4 .left), le-leb _ _ (room-three _ _ (c .before .before .before .before .if5 .left)), le-leb _ _ (room-four _ _ (c .before .before .if6 .left)), lt-leb _ _ (c .if7 .taken))
+returns-7 c =
+    let c8 = c .before .before .before .before .before .before .before .before in
+    let if1 = c8 .before .before .before .before .before .before .if1 in
+    let if2 = c8 .before .before .before .if2 in
+    simp (
+      le-leb _ _ (if1 .left),
+      le-leb _ _ (if2 .left),
+      le-leb _ _ (c8 .if3 .left),
+      le-leb _ _ (c .before .before .before .before .before .before .if4 .left),
+      le-leb _ _ (room-three _ _ (c .before .before .before .before .if5 .left)),
+      le-leb _ _ (room-four _ _ (c .before .before .if6 .left)),
+      lt-leb _ _ (c .if7 .taken),
+    )
 
 returns-8 : tie.Need-returns-8
 unfolding within
-returns-8 c = simp (le-leb _ _ (c .before .before .before .before .before .before .before .before .before .before .before .before .before .before .before .before .if1 .left), le-leb _ _ (c .before .before .before .before .before .before .before .before .before .before .before .before .before .if2 .left), le-leb _ _ (c .before .before .before .before .before .before .before .before .before .before .if3 .left), le-leb _ _ (c .before .before .before .before .before .before .before .before .if4 .left), le-leb _ _ (room-three _ _ (c .before .before .before .before .before .before .if5 .left)), le-leb _ _ (room-four _ _ (c .before .before .before .before .if6 .left)), le-leb _ _ (c .before .before .if7 .left), lt-leb _ _ (c .if8 .taken))
+returns-8 c =
+    let c8 = c .before .before .before .before .before .before .before .before in
+    let if1 = c8 .before .before .before .before .before .before .before .before .if1 in
+    let if2 = c8 .before .before .before .before .before .if2 in
+    simp (
+      le-leb _ _ (if1 .left),
+      le-leb _ _ (if2 .left),
+      le-leb _ _ (c8 .before .before .if3 .left),
+      le-leb _ _ (c8 .if4 .left),
+      le-leb _ _ (room-three _ _ (c .before .before .before .before .before .before .if5 .left)),
+      le-leb _ _ (room-four _ _ (c .before .before .before .before .if6 .left)),
+      le-leb _ _ (c .before .before .if7 .left),
+      lt-leb _ _ (c .if8 .taken),
+    )
 
 returns-9 : tie.Need-returns-9
 unfolding within
-returns-9 c = simp (le-leb _ _ (c .before .before .before .before .before .before .before .before .before .before .before .before .before .before .before .before .if1 .left), le-leb _ _ (c .before .before .before .before .before .before .before .before .before .before .before .before .before .if2 .left), le-leb _ _ (c .before .before .before .before .before .before .before .before .before .before .if3 .left), le-leb _ _ (c .before .before .before .before .before .before .before .before .if4 .left), le-leb _ _ (room-three _ _ (c .before .before .before .before .before .before .if5 .left)), le-leb _ _ (room-four _ _ (c .before .before .before .before .if6 .left)), le-leb _ _ (c .before .before .if7 .left), le-leb _ _ (c .if8 .left))
+returns-9 c =
+    let c8 = c .before .before .before .before .before .before .before .before in
+    let if1 = c8 .before .before .before .before .before .before .before .before .if1 in
+    let if2 = c8 .before .before .before .before .before .if2 in
+    simp (
+      le-leb _ _ (if1 .left),
+      le-leb _ _ (if2 .left),
+      le-leb _ _ (c8 .before .before .if3 .left),
+      le-leb _ _ (c8 .if4 .left),
+      le-leb _ _ (room-three _ _ (c .before .before .before .before .before .before .if5 .left)),
+      le-leb _ _ (room-four _ _ (c .before .before .before .before .if6 .left)),
+      le-leb _ _ (c .before .before .if7 .left),
+      le-leb _ _ (c .if8 .left),
+    )
 
 pub within-spec : {M : Type 1} → statement M
 within-spec =

@@ -4,7 +4,13 @@ use Rattle.old_points.proofs.face_between.Statement.{statement}
 use Rattle.old_points.proofs.face_between.Tie as tie
 
 returns : tie.Need-returns
-returns c = rw (c .index .ensures, c .before .common-face .ensures, c .before .before .before .load-edge .ensures, c .before .before .load-edge2 .ensures)
+returns c =
+    rw (
+      c .index .ensures,
+      c .before .common-face .ensures,
+      c .before .before .before .load-edge .ensures,
+      c .before .before .load-edge2 .ensures,
+    )
 
 pub face-between-spec : {M : Type 1} → statement M
 face-between-spec =

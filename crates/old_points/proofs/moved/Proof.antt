@@ -8,7 +8,15 @@ returns : tie.Need-returns
 returns c = rw (sym (c .before .is-small .ensures) ∙ c .if1 .taken)
 
 returns-2 : tie.Need-returns-2
-returns-2 c = rw (c .plus .ensures, c .before .before .before .before .times .ensures, c .before .over .ensures, c .before .before .before .times2 .ensures, sym (c .before .before .before .before .before .before .is-small .ensures) ∙ c .before .before .before .before .before .if1 .left)
+returns-2 c =
+    rw (
+      c .plus .ensures,
+      c .before .before .before .before .times .ensures,
+      c .before .over .ensures,
+      c .before .before .before .times2 .ensures,
+      sym (c .before .before .before .before .before .before .is-small .ensures)
+          ∙ c .before .before .before .before .before .if1 .left,
+    )
 
 pub moved-spec : {M : Type 1} → statement M
 moved-spec =

@@ -5,11 +5,22 @@ use Rattle.old_points.proofs.old_point.Statement.{statement}
 use Rattle.old_points.proofs.old_point.Tie as tie
 
 radial-sum-requires : tie.Need-radial-sum-requires
-radial-sum-requires c κs = rw (c .before .index .ensures, c .before .before .load-point .ensures) (c .before .before .before .before .before .before .before .before .before .before .pre .radial-fits)
+radial-sum-requires c κs =
+    let pre = c .before .before .before .before .before .before .before .before .before .before .pre in
+    rw (c .before .index .ensures, c .before .before .load-point .ensures) (pre .radial-fits)
 
 returns : tie.Need-returns
 unfolding oldPoint
-returns c = rw (c .placed .ensures, c .before .moved .ensures, c .before .before .number .ensures, c .before .before .before .radial-sum .ensures, c .before .before .before .before .before .index .ensures, c .before .before .before .before .index2 .ensures, c .before .before .before .before .before .before .load-point .ensures)
+returns c =
+    rw (
+      c .placed .ensures,
+      c .before .moved .ensures,
+      c .before .before .number .ensures,
+      c .before .before .before .radial-sum .ensures,
+      c .before .before .before .before .before .index .ensures,
+      c .before .before .before .before .index2 .ensures,
+      c .before .before .before .before .before .before .load-point .ensures,
+    )
 
 pub old-point-spec : {M : Type 1} → statement M
 old-point-spec =

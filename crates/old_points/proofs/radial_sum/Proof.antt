@@ -13,13 +13,20 @@ use Rattle.old_points.proofs.radial_sum.Statement.{statement}
 use Rattle.old_points.proofs.radial_sum.Tie as tie
 
 abbrev Inv-loop : tie.InvT-loop
-Inv-loop edges intervals places halves quads p start n s₀ r₀ i₀ s r i = (i ≤ n) × RadialFits edges intervals r places halves quads × (r ≡ radialEdge edges p start i) × (s ≡ radialSum edges intervals (edgePointAt places halves) (facePointAt places quads) p start i)
+Inv-loop edges intervals places halves quads p start n s₀ r₀ i₀ s r i = (i ≤ n) × RadialFits edges intervals r places
+    halves quads × (r ≡ radialEdge edges p start i) ×
+    (s ≡ radialSum edges intervals (edgePointAt places halves) (facePointAt places quads) p start i)
 
 abbrev μ-loop : tie.MeasureT-loop
 μ-loop edges intervals places halves quads p start n s₀ r₀ i₀ s r i = n - i
 
 loop-holds : tie.Need-loop-holds Inv-loop μ-loop
-loop-holds c = (search needs, c .before .before .before .before .before .before .pre, sym (radialEdge-none _ _ _), rw (c .origin .ensures) (sym (radialSum-none _ _ _ _ _ _)))
+loop-holds c = (
+  search needs,
+  c .before .before .before .before .before .before .pre,
+  sym (radialEdge-none _ _ _),
+  rw (c .origin .ensures) (sym (radialSum-none _ _ _ _ _ _)),
+)
 
 radial-terms-requires : tie.Need-radial-terms-requires Inv-loop μ-loop
 radial-terms-requires c κs = c .before .loop .inv .1
@@ -28,15 +35,22 @@ acw-about-requires : tie.Need-acw-about-requires Inv-loop μ-loop
 acw-about-requires c κs = row-there _ _ _ (radial-edge-fits _ _ _ _ _ _ (c .before .before .loop .inv .1))
 
 loop-again : tie.Need-loop-again Inv-loop μ-loop
-loop-again c = (
-  omega arith,
-  rw (c .acw-about .ensures) (radial-next-fits _ _ _ _ _ (c .before .before .before .before .before .before .before .before .before .before .args .p) _ (c .before .before .before .loop .inv .1)),
-  c .acw-about .ensures ∙ rw (c .before .before .before .loop .inv .2) (sym (radialEdge-more _ _ _ _)),
-  c .before .radial-terms .ensures ∙ rw (c .before .before .before .loop .inv .2, c .before .before .before .loop .inv .3) (sym (radialSum-more _ _ _ _ _ _ _)),
-)
+loop-again c =
+    let args = c .before .before .before .before .before .before .before .before .before .before .args in
+    let loop = c .before .before .before .loop in (
+      omega arith,
+      rw (c .acw-about .ensures) (radial-next-fits _ _ _ _ _ (args .p) _ (loop .inv .1)),
+      c .acw-about .ensures ∙ rw (loop .inv .2) (sym (radialEdge-more _ _ _ _)),
+      c .before .radial-terms .ensures ∙ rw (loop .inv .2, loop .inv .3) (sym (radialSum-more _ _ _ _ _ _ _)),
+    )
 
 returns : tie.Need-returns Inv-loop μ-loop
-returns c = c .before .loop .inv .3 ∙ ap (λ (k : ℕ). radialSum (c .before .before .before .before .before .before .before .before .args .edges .now) (c .before .before .before .before .before .before .before .before .args .intervals .now) (edgePointAt (c .before .before .before .before .before .before .before .before .args .places .now) (c .before .before .before .before .before .before .before .before .args .halves .now)) (facePointAt (c .before .before .before .before .before .before .before .before .args .places .now) (c .before .before .before .before .before .before .before .before .args .quads .now)) (c .before .before .before .before .before .before .before .before .args .p) (c .before .before .before .before .before .before .before .before .args .start) k) (omega arith)
+returns c =
+    let args = c .before .before .before .before .before .before .before .before .args in
+    c .before .loop .inv .3
+    ∙ ap (λ (k : ℕ). radialSum (args .edges .now) (args .intervals .now)
+    (edgePointAt (args .places .now) (args .halves .now)) (facePointAt (args .places .now) (args .quads .now)) (args .p)
+    (args .start) k) (omega arith)
 
 pub radial-sum-spec : {M : Type 1} → statement M
 radial-sum-spec =

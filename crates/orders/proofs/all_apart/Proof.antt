@@ -28,9 +28,9 @@ loop-again c =
     let k = c .before .before .before .loop .k in (
       omega arith,
       refl,
-      λ j l.
-          below-suc j k (omega arith) (λ lt. c .before .before .before .loop .inv .2 j lt)
-          (λ e. subst (λ (j : ℕ). ApartAbove (j * window) order) (sym e) (c .before .apart-above .ensures .0 (not-false _ (c .if1 .left)))),
+      λ j l. below-suc j k (omega arith) (λ lt. c .before .before .before .loop .inv .2 j lt)
+          (λ e. subst (λ (j : ℕ). ApartAbove (j * window) order) (sym e)
+          (c .before .apart-above .ensures .0 (not-false _ (c .if1 .left)))),
     )
 
 returns-2 : tie.Need-returns-2 Inv-loop μ-loop

@@ -23,17 +23,24 @@ loop-holds c = (omega arith, unfold every in refl)
 
 returns : tie.Need-returns Inv-loop μ-loop
 returns c =
-    let order = c .before .before .before .before .before .before .args .order .now in
-    let nf = c .before .before .before .before .before .before .args .nf in
-    let past : nf ≤ getD order (c .before .before .before .before .loop .i) 0 = omega arith in
-    sym (every-fails nf (λ (k : ℕ). ltb (getD order k 0) nf) (c .before .before .before .before .loop .i) (omega arith) (le-ltb (getD order (c .before .before .before .before .loop .i) 0) nf past))
+    let args = c .before .before .before .before .before .before .args in
+    let loop = c .before .before .before .before .loop in
+    let order = args .order .now in
+    let nf = args .nf in
+    let past : nf ≤ getD order (loop .i) 0 = omega arith in
+    sym (every-fails nf (λ (k : ℕ). ltb (getD order k 0) nf) (loop .i) (omega arith)
+    (le-ltb (getD order (loop .i) 0) nf past))
 
 loop-again : tie.Need-loop-again Inv-loop μ-loop
 loop-again c =
-    let order = c .before .before .before .before .before .before .args .order .now in
-    let nf = c .before .before .before .before .before .before .args .nf in
-    let below : getD order (c .before .before .before .before .loop .i) 0 < nf = omega arith in
-    (omega arith, every-more (c .before .before .before .before .loop .i) (λ (k : ℕ). ltb (getD order k 0) nf) (c .before .before .before .before .loop .inv .1) (lt-ltb (getD order (c .before .before .before .before .loop .i) 0) nf below))
+    let args = c .before .before .before .before .before .before .args in
+    let loop = c .before .before .before .before .loop in
+    let order = args .order .now in
+    let nf = args .nf in
+    let below : getD order (loop .i) 0 < nf = omega arith in (
+      omega arith,
+      every-more (loop .i) (λ (k : ℕ). ltb (getD order k 0) nf) (loop .inv .1) (lt-ltb (getD order (loop .i) 0) nf below),
+    )
 
 returns-2 : tie.Need-returns-2 Inv-loop μ-loop
 returns-2 c =

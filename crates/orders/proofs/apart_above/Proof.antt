@@ -21,33 +21,38 @@ abbrev μ-loop : tie.MeasureT-loop
 μ-loop order base seen₀ i₀ seen i = length order - i
 
 loop-holds : tie.Need-loop-holds Inv-loop μ-loop
-loop-holds c = (omega arith, marks-none (c .before .args .base) (c .before .args .order .now), λ i j l. absurd (not-suc-le-zero l))
+loop-holds c =
+    (omega arith, marks-none (c .before .args .base) (c .before .args .order .now), λ i j l. absurd (not-suc-le-zero l))
 
 returns : tie.Need-returns Inv-loop μ-loop
 returns c =
-    let order = c .before .before .before .before .before .before .before .before .args .order .now in
-    let base = c .before .before .before .before .before .before .before .before .args .base in
-    let n = c .before .before .before .before .before .before .loop .i in
+    let args = c .before .before .before .before .before .before .before .before .args in
+    let loop = c .before .before .before .before .before .before .loop in
+    let order = args .order .now in
+    let base = args .base in
+    let n = loop .i in
     let o : c .before .before .index .result ≡ getD order n 0 = c .before .before .index .ensures in
-    let stale : fresh base (c .before .before .before .before .before .before .loop .seen) (getD order n 0) ≡ false =
-    ap (fresh base (c .before .before .before .before .before .before .loop .seen)) (sym o) ∙ sym (c .before .mark .ensures .0) ∙ not-true _ (c .if1 .taken) in (
+    let stale : fresh base (loop .seen) (getD order n 0) ≡ false = ap (fresh base (loop .seen)) (sym o)
+    ∙ sym (c .before .mark .ensures .0) ∙ not-true _ (c .if1 .taken) in (
       λ e. absurd (false≢true e),
-      λ apart. absurd (not-apart base order n (c .before .before .before .before .before .before .loop .seen) (c .before .before .before .before .before .before .loop .inv .1) stale (λ i j l. apart i j (omega arith))),
+      λ apart. absurd (not-apart base order n (loop .seen) (loop .inv .1) stale (λ i j l. apart i j (omega arith))),
     )
 
 loop-again : tie.Need-loop-again Inv-loop μ-loop
 loop-again c =
-    let order = c .before .before .before .before .before .before .before .before .args .order .now in
-    let base = c .before .before .before .before .before .before .before .before .args .base in
-    let n = c .before .before .before .before .before .before .loop .i in
-    let seen = c .before .before .before .before .before .before .loop .seen in
+    let args = c .before .before .before .before .before .before .before .before .args in
+    let loop = c .before .before .before .before .before .before .loop in
+    let order = args .order .now in
+    let base = args .base in
+    let n = loop .i in
+    let seen = loop .seen in
     let o : c .before .before .index .result ≡ getD order n 0 = c .before .before .index .ensures in
-    let new : fresh base seen (getD order n 0) ≡ true =
-    ap (fresh base seen) (sym o) ∙ sym (c .before .mark .ensures .0) ∙ not-false _ (c .if1 .left) in
-    let marks = marks-more base order n seen (c .before .before .before .before .before .before .loop .inv .1) in (
+    let new : fresh base seen (getD order n 0) ≡ true = ap (fresh base seen) (sym o) ∙ sym (c .before .mark .ensures .0)
+    ∙ not-false _ (c .if1 .left) in
+    let marks = marks-more base order n seen (loop .inv .1) in (
       omega arith,
       rw (add-one n, c .before .mark .ensures .1, o) marks,
-      rw (add-one n) (apart-more base order n seen (c .before .before .before .before .before .before .loop .inv .1) new (c .before .before .before .before .before .before .loop .inv .2)),
+      rw (add-one n) (apart-more base order n seen (loop .inv .1) new (loop .inv .2)),
     )
 
 returns-2 : tie.Need-returns-2 Inv-loop μ-loop

@@ -20,15 +20,21 @@ returns-2 c = rw (eq-eqb _ _ (c .before .before .if1 .left), sym (c .before .all
 
 all-apart-requires : tie.Need-all-apart-requires
 all-apart-requires c κs =
-    let order = c .before .before .before .before .args .order .now in
-    let nf = c .before .before .before .before .args .nf in
+    let args = c .before .before .before .before .args in
+    let order = args .order .now in
+    let nf = args .nf in
     λ i l.
-    let below = every-is nf (λ (k : ℕ). ltb-is (getD order k 0) nf) .0 (sym (c .before .all-below .ensures) ∙ not-false _ (c .if2 .left)) i (omega arith) in
+    let below = every-is nf (λ (k : ℕ). ltb-is (getD order k 0) nf) .0
+    (sym (c .before .all-below .ensures) ∙ not-false _ (c .if2 .left)) i (omega arith) in
     omega arith
 
 returns-3 : tie.Need-returns-3
 unfolding eachFaceOnce
-returns-3 c = rw (eq-eqb _ _ (c .before .before .before .if1 .left), sym (c .before .before .all-below .ensures) ∙ not-false _ (c .before .if2 .left)) (c .all-apart .ensures)
+returns-3 c =
+    rw (
+      eq-eqb _ _ (c .before .before .before .if1 .left),
+      sym (c .before .before .all-below .ensures) ∙ not-false _ (c .before .if2 .left),
+    ) (c .all-apart .ensures)
 
 pub each-face-once-spec : {M : Type 1} → statement M
 each-face-once-spec =

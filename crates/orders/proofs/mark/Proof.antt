@@ -8,10 +8,16 @@ returns : tie.Need-returns
 returns c = (rw (lt-ltb _ _ (c .if1 .taken)), rw (lt-ltb _ _ (c .if1 .taken)))
 
 returns-2 : tie.Need-returns-2
-returns-2 c = (rw (le-ltb _ _ (c .before .if1 .left), le-ltb _ _ (c .if2 .taken)), rw (le-ltb _ _ (c .before .if1 .left), le-ltb _ _ (c .if2 .taken)))
+returns-2 c = (
+  rw (le-ltb _ _ (c .before .if1 .left), le-ltb _ _ (c .if2 .taken)),
+  rw (le-ltb _ _ (c .before .if1 .left), le-ltb _ _ (c .if2 .taken)),
+)
 
 returns-3 : tie.Need-returns-3
-returns-3 c = (rw (le-ltb _ _ (c .before .before .if1 .left), lt-ltb _ _ (c .before .if2 .left)), rw (le-ltb _ _ (c .before .before .if1 .left), lt-ltb _ _ (c .before .if2 .left)))
+returns-3 c = (
+  rw (le-ltb _ _ (c .before .before .if1 .left), lt-ltb _ _ (c .before .if2 .left)),
+  rw (le-ltb _ _ (c .before .before .if1 .left), lt-ltb _ _ (c .before .if2 .left)),
+)
 
 pub mark-spec : {M : Type 1} → statement M
 mark-spec =

@@ -28,16 +28,28 @@ same-length c = search needs
 -- src/lib.rt:140:9
 returns : tie.Need-returns
 returns c =
-    let a = c .before .before .before .before .before .before .before .before .before .before .before .before .before .args in
-    let m : Mesh = record { positions = a .positions .now; points = a .points .now; edges = a .edges .now; intervals = a .intervals .now; faces = a .faces .now } in
+    let c8 = c .before .before .before .before .before .before .before .before in
+    let a = c8 .before .before .before .before .before .args in
+    let place-face-points = c .before .before .before .place-face-points in
+    let m : Mesh = record {
+      positions = a .positions .now;
+      points = a .points .now;
+      edges = a .edges .now;
+      intervals = a .intervals .now;
+      faces = a .faces .now;
+    } in
     let s = rowsOf (a .halves .now) (a .quads .now) in
-    let one = c .before .before .before .place-face-points .last .1 .1 .1 .1 .1 .1 .1 .0 in
+    let one = place-face-points .last .1 .1 .1 .1 .1 .1 .1 .0 in
     stopped-at-faces m (a .counts) s (a .places .now)
-    (faces-placed m (a .counts) s _ (c .before .before .before .place-face-points .ensures ∙ ap (λ (b : Bool). came b one) (not-true (c .before .before .before .place-face-points .result) (c .if1 .taken))))
+    (faces-placed m (a .counts) s _
+    (place-face-points .ensures ∙ ap (λ (b : Bool). came b one) (not-true (place-face-points .result) (c .if1 .taken))))
 
 -- src/lib.rt:142:9
 place-edge-points-requires : tie.Need-place-edge-points-requires
-place-edge-points-requires c κs = edges-fit-length (c .before .before .before .before .place-face-points .kept .1 .1 .1 .1 .1 .1 .1 .0) (c .before .before .before .before .before .before .before .before .before .before .before .before .before .before .pre .1 .0)
+place-edge-points-requires c κs =
+    let c8 = c .before .before .before .before .before .before .before .before in
+    let pre = c8 .before .before .before .before .before .before .pre in
+    edges-fit-length (c .before .before .before .before .place-face-points .kept .1 .1 .1 .1 .1 .1 .1 .0) (pre .1 .0)
 
 -- src/lib.rt:143:9
 same-length-2 : tie.Need-same-length-2
@@ -46,19 +58,35 @@ same-length-2 c = search needs
 -- src/lib.rt:143:9
 returns-2 : tie.Need-returns-2
 returns-2 c =
-    let a = c .before .before .before .before .before .before .before .before .before .before .before .before .before .before .before .before .before .before .args in
-    let m : Mesh = record { positions = a .positions .now; points = a .points .now; edges = a .edges .now; intervals = a .intervals .now; faces = a .faces .now } in
+    let c8 = c .before .before .before .before .before .before .before .before in
+    let c16 = c8 .before .before .before .before .before .before .before .before in
+    let a = c16 .before .before .args in
+    let place-face-points = c8 .place-face-points in
+    let place-edge-points = c .before .before .before .place-edge-points in
+    let m : Mesh = record {
+      positions = a .positions .now;
+      points = a .points .now;
+      edges = a .edges .now;
+      intervals = a .intervals .now;
+      faces = a .faces .now;
+    } in
     let s = rowsOf (a .halves .now) (a .quads .now) in
-    let one = c .before .before .before .before .before .before .before .before .place-face-points .last .1 .1 .1 .1 .1 .1 .1 .0 in
-    let two = c .before .before .before .place-edge-points .last .1 .1 .1 .1 .1 .1 .0 in
+    let one = place-face-points .last .1 .1 .1 .1 .1 .1 .1 .0 in
+    let two = place-edge-points .last .1 .1 .1 .1 .1 .1 .0 in
     stopped-at-edges m (a .counts) s (a .places .now) one
-    (faces-placed m (a .counts) s _ (c .before .before .before .before .before .before .before .before .place-face-points .ensures ∙ ap (λ (b : Bool). came b one) (not-false (c .before .before .before .before .before .before .before .before .place-face-points .result) (c .before .before .before .before .before .if1 .left))))
-    (c .before .before .before .place-edge-points .ensures ∙ ap (λ (b : Bool). came b two) (not-true (c .before .before .before .place-edge-points .result) (c .if2 .taken)))
+    (faces-placed m (a .counts) s _ (place-face-points .ensures
+    ∙ ap (λ (b : Bool). came b one)
+    (not-false (place-face-points .result) (c .before .before .before .before .before .if1 .left))))
+    (place-edge-points .ensures ∙ ap (λ (b : Bool). came b two) (not-true (place-edge-points .result) (c .if2 .taken)))
 
 -- src/lib.rt:145:5
 place-old-points-requires : tie.Need-place-old-points-requires
 place-old-points-requires c κs =
-    points-fit-length (c .before .before .before .before .place-edge-points .kept .1 .1 .1 .1 .1 .1 .0 ∙ c .before .before .before .before .before .before .before .before .before .place-face-points .kept .1 .1 .1 .1 .1 .1 .1 .0) (c .before .before .before .before .before .before .before .before .before .before .before .before .before .before .before .before .before .before .before .pre .1 .1)
+    let c8 = c .before .before .before .before .before .before .before .before in
+    let c16 = c8 .before .before .before .before .before .before .before .before in
+    let pre = c16 .before .before .before .pre in
+    points-fit-length (c .before .before .before .before .place-edge-points .kept .1 .1 .1 .1 .1 .1 .0
+    ∙ c8 .before .place-face-points .kept .1 .1 .1 .1 .1 .1 .1 .0) (pre .1 .1)
 
 -- src/lib.rt:111:1
 same-length-3 : tie.Need-same-length-3
@@ -67,14 +95,27 @@ same-length-3 c = search needs
 -- src/lib.rt:111:1
 returns-3 : tie.Need-returns-3
 returns-3 c =
-    let a = c .before .before .before .before .before .before .before .before .before .before .before .before .before .before .before .before .before .before .before .before .before .before .args in
-    let m : Mesh = record { positions = a .positions .now; points = a .points .now; edges = a .edges .now; intervals = a .intervals .now; faces = a .faces .now } in
+    let c8 = c .before .before .before .before .before .before .before .before in
+    let c16 = c8 .before .before .before .before .before .before .before .before in
+    let a = c16 .before .before .before .before .before .before .args in
+    let place-face-points = c8 .before .before .before .before .place-face-points in
+    let place-edge-points = c .before .before .before .before .before .before .before .place-edge-points in
+    let m : Mesh = record {
+      positions = a .positions .now;
+      points = a .points .now;
+      edges = a .edges .now;
+      intervals = a .intervals .now;
+      faces = a .faces .now;
+    } in
     let s = rowsOf (a .halves .now) (a .quads .now) in
-    let one = c .before .before .before .before .before .before .before .before .before .before .before .before .place-face-points .last .1 .1 .1 .1 .1 .1 .1 .0 in
-    let two = c .before .before .before .before .before .before .before .place-edge-points .last .1 .1 .1 .1 .1 .1 .0 in
+    let one = place-face-points .last .1 .1 .1 .1 .1 .1 .1 .0 in
+    let two = place-edge-points .last .1 .1 .1 .1 .1 .1 .0 in
     all-placed m (a .counts) s (a .places .now) one two _
-    (faces-placed m (a .counts) s _ (c .before .before .before .before .before .before .before .before .before .before .before .before .place-face-points .ensures ∙ ap (λ (b : Bool). came b one) (not-false (c .before .before .before .before .before .before .before .before .before .before .before .before .place-face-points .result) (c .before .before .before .before .before .before .before .before .before .if1 .left))))
-    (c .before .before .before .before .before .before .before .place-edge-points .ensures ∙ ap (λ (b : Bool). came b two) (not-false (c .before .before .before .before .before .before .before .place-edge-points .result) (c .before .before .before .before .if2 .left)))
+    (faces-placed m (a .counts) s _ (place-face-points .ensures
+    ∙ ap (λ (b : Bool). came b one) (not-false (place-face-points .result) (c8 .before .if1 .left))))
+    (place-edge-points .ensures
+    ∙ ap (λ (b : Bool). came b two)
+    (not-false (place-edge-points .result) (c .before .before .before .before .if2 .left)))
     (c .before .before .place-old-points .ensures)
 
 pub place-all-spec : {M : Type 1} → statement M

@@ -27,33 +27,53 @@ loop-holds : tie.Need-loop-holds Inv-loop μ-loop
 loop-holds c = (omega arith, refl, unfold placed in refl)
 
 old-point-requires : tie.Need-old-point-requires Inv-loop μ-loop
-old-point-requires c κs = c .before .before .before .before .before .before .before .before .before .before .pre .rule-fits (c .before .before .loop .places) (c .before .before .loop .inv .1) (c .before .before .loop .p) (omega arith)
+old-point-requires c κs =
+    let pre = c .before .before .before .before .before .before .before .before .before .before .pre in
+    let loop = c .before .before .loop in
+    pre .rule-fits (loop .places) (loop .inv .1) (loop .p) (omega arith)
 
 returns : tie.Need-returns Inv-loop μ-loop
 returns c =
-    let a = c .before .before .before .before .before .before .before .before .before .before .before .before .before .args in
+    let c8 = c .before .before .before .before .before .before .before .before in
+    let a = c8 .before .before .before .before .before .args in
+    let loop = c .before .before .before .before .before .loop in
     let row : ℕ → ℕ = λ k. k in
-    let rule : ℕ → List Float → Position = λ k ps. oldPoint (a .positions .now) (a .points .now) (a .edges .now) (a .intervals .now) (edgePointAt ps (a .halves .now)) (facePointAt ps (a .quads .now)) k in
+    let rule : ℕ → List Float → Position = λ k ps. oldPoint (a .positions .now) (a .points .now) (a .edges .now)
+    (a .intervals .now) (edgePointAt ps (a .halves .now)) (facePointAt ps (a .quads .now)) k in
     let start = on (a .places .now) in
-    placed-ends row rule start (a .np) (c .before .before .before .before .before .loop .p) (c .before .before .before .before .before .loop .places) (omega arith) (c .before .before .before .before .before .loop .inv .2) (sym (c .before .before .old-point .ensures) ∙ c .enum-told .given .1)
+    placed-ends row rule start (a .np) (loop .p) (loop .places) (omega arith) (loop .inv .2)
+    (sym (c .before .before .old-point .ensures) ∙ c .enum-told .given .1)
 
 store-position-requires : tie.Need-store-position-requires Inv-loop μ-loop
-store-position-requires c κs = omega (arith, c .before .before .before .before .before .before .before .before .before .before .before .before .before .before .before .pre .place-there (c .before .before .before .before .before .before .before .loop .p) (omega arith))
+store-position-requires c κs =
+    let c8 = c .before .before .before .before .before .before .before .before in
+    let pre = c8 .before .before .before .before .before .before .before .pre in
+    omega (arith, pre .place-there (c .before .before .before .before .before .before .before .loop .p) (omega arith))
 
 loop-again : tie.Need-loop-again Inv-loop μ-loop
 loop-again c =
-    let a = c .before .before .before .before .before .before .before .before .before .before .before .before .before .before .before .before .before .before .args in
+    let c8 = c .before .before .before .before .before .before .before .before in
+    let c16 = c8 .before .before .before .before .before .before .before .before in
+    let a = c16 .before .before .args in
+    let loop = c8 .before .before .loop in
     let row : ℕ → ℕ = λ k. k in
-    let rule : ℕ → List Float → Position = λ k ps. oldPoint (a .positions .now) (a .points .now) (a .edges .now) (a .intervals .now) (edgePointAt ps (a .halves .now)) (facePointAt ps (a .quads .now)) k in
+    let rule : ℕ → List Float → Position = λ k ps. oldPoint (a .positions .now) (a .points .now) (a .edges .now)
+    (a .intervals .now) (edgePointAt ps (a .halves .now)) (facePointAt ps (a .quads .now)) k in
     let start = on (a .places .now) in
-    let put = placed-more row rule start (c .before .before .before .before .before .before .before .before .before .before .loop .p) (c .before .before .before .before .before .before .before .before .before .before .loop .places) (c .before .before .before .before .before .before .before .before .before .before .loop .inv .2) (sym (c .before .before .before .before .before .before .before .old-point .ensures) ∙ c .before .before .before .before .before .x .given .1) in
-    (omega arith, rw (c .before .before .store-position .ensures, length-putRow) (c .before .before .before .before .before .before .before .before .before .before .loop .inv .1), rw (c .before .before .store-position .ensures) put)
+    let put = placed-more row rule start (loop .p) (loop .places) (loop .inv .2)
+    (sym (c .before .before .before .before .before .before .before .old-point .ensures)
+    ∙ c .before .before .before .before .before .x .given .1) in (
+      omega arith,
+      rw (c .before .before .store-position .ensures, length-putRow) (loop .inv .1),
+      rw (c .before .before .store-position .ensures) put,
+    )
 
 returns-2 : tie.Need-returns-2 Inv-loop μ-loop
 returns-2 c =
     let a = c .before .before .before .before .before .before .before .before .before .args in
     let row : ℕ → ℕ = λ k. k in
-    let rule : ℕ → List Float → Position = λ k ps. oldPoint (a .positions .now) (a .points .now) (a .edges .now) (a .intervals .now) (edgePointAt ps (a .halves .now)) (facePointAt ps (a .quads .now)) k in
+    let rule : ℕ → List Float → Position = λ k ps. oldPoint (a .positions .now) (a .points .now) (a .edges .now)
+    (a .intervals .now) (edgePointAt ps (a .halves .now)) (facePointAt ps (a .quads .now)) k in
     let start = on (a .places .now) in
     let all : a .np ≡ c .before .loop .p = omega arith in
     ap (λ (k : ℕ). placed k row rule start) all ∙ c .before .loop .inv .2

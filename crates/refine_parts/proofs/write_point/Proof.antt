@@ -7,13 +7,19 @@ use Rattle.refine_parts.proofs.write_point.Statement.{statement}
 use Rattle.refine_parts.proofs.write_point.Tie as tie
 
 float-to-bits-x : tie.Need-float-to-bits-x
-float-to-bits-x c = finite-number _ (finite-coordinates (positionAt (c .before .before .before .args .positions .now) 0) (c .before .before .before .pre .1 .is-finite) .0)
+float-to-bits-x c =
+    finite-number _ (finite-coordinates (positionAt (c .before .before .before .args .positions .now) 0)
+    (c .before .before .before .pre .1 .is-finite) .0)
 
 float-to-bits-y : tie.Need-float-to-bits-y
-float-to-bits-y c = finite-number _ (finite-coordinates (positionAt (c .before .before .before .before .args .positions .now) 0) (c .before .before .before .before .pre .1 .is-finite) .1)
+float-to-bits-y c =
+    finite-number _ (finite-coordinates (positionAt (c .before .before .before .before .args .positions .now) 0)
+    (c .before .before .before .before .pre .1 .is-finite) .1)
 
 float-to-bits-z : tie.Need-float-to-bits-z
-float-to-bits-z c = finite-number _ (finite-coordinates (positionAt (c .before .before .before .before .before .args .positions .now) 0) (c .before .before .before .before .before .pre .1 .is-finite) .2)
+float-to-bits-z c =
+    finite-number _ (finite-coordinates (positionAt (c .before .before .before .before .before .args .positions .now) 0)
+    (c .before .before .before .before .before .pre .1 .is-finite) .2)
 
 pub write-point-spec : {M : Type 1} → statement M
 write-point-spec =

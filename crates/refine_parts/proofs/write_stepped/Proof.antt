@@ -5,13 +5,32 @@ use Rattle.refine_parts.proofs.write_stepped.Statement.{statement}
 use Rattle.refine_parts.proofs.write_stepped.Tie as tie
 
 returns : tie.Need-returns
-returns c = written-counts (c .before .before .before .before .before .before .before .before .before .before .before .args .counts) (c .before .before .before .before .before .before .before .before .before .before .before .args .answer) (c .before .before .before .before .before .before .before .before .before .before .before .args .positions .now) _ (c .before .before .before .before .before .before .before .answer .given .1) (c .before .before .before .before .write-step .ensures) (c .if1 .taken)
+returns c =
+    let args = c .before .before .before .before .before .before .before .before .before .before .before .args in
+    written-counts (args .counts) (args .answer) (args .positions .now) _
+    (c .before .before .before .before .before .before .before .answer .given .1)
+    (c .before .before .before .before .write-step .ensures) (c .if1 .taken)
 
 write-point-requires : tie.Need-write-point-requires
-write-point-requires c κs = (point-room (c .before .before .before .before .before .before .before .before .before .before .before .before .args .counts) (c .before .before .before .before .before .before .before .before .before .before .before .before .args .answer) (c .before .before .before .before .before .before .before .before .before .before .before .before .args .positions .now) _ (c .before .before .before .before .before .before .before .before .answer .given .1) (c .before .before .before .before .before .write-step .ensures) (c .before .before .before .before .before .before .before .before .before .before .before .before .pre .0) (c .before .before .before .before .before .write-step .kept .0), point-of-ready (c .before .before .before .before .before .before .before .before .before .before .before .before .args .counts) (c .before .before .before .before .before .before .before .before .before .before .before .before .args .answer) (c .before .before .before .before .before .before .before .before .before .before .before .before .args .positions .now) _ (c .before .before .before .before .before .before .before .before .answer .given .1) (c .before .before .before .before .before .write-step .ensures) (c .before .before .before .before .before .before .before .before .before .before .before .before .pre .1) (c .before .if1 .left))
+write-point-requires c κs =
+    let c8 = c .before .before .before .before .before .before .before .before in
+    let args = c8 .before .before .before .before .args in
+    let pre = c8 .before .before .before .before .pre in
+    let answer = c8 .answer in
+    let write-step = c .before .before .before .before .before .write-step in (
+      point-room (args .counts) (args .answer) (args .positions .now) _ (answer .given .1) (write-step .ensures) (pre .0)
+          (write-step .kept .0),
+      point-of-ready (args .counts) (args .answer) (args .positions .now) _ (answer .given .1) (write-step .ensures)
+          (pre .1) (c .before .if1 .left),
+    )
 
 returns-2 : tie.Need-returns-2
-returns-2 c = written-point (c .before .before .before .before .before .before .before .before .before .before .before .before .before .before .before .args .counts) (c .before .before .before .before .before .before .before .before .before .before .before .before .before .before .before .args .answer) (c .before .before .before .before .before .before .before .before .before .before .before .before .before .before .before .args .positions .now) _ (c .before .before .before .before .before .before .before .before .before .before .before .answer .given .1) (c .before .before .before .before .before .before .before .before .write-step .ensures) (c .before .before .before .before .if1 .left) (c .before .before .write-point .ensures)
+returns-2 c =
+    let c8 = c .before .before .before .before .before .before .before .before in
+    let args = c8 .before .before .before .before .before .before .before .args in
+    let answer = c8 .before .before .before .answer in
+    written-point (args .counts) (args .answer) (args .positions .now) _ (answer .given .1) (c8 .write-step .ensures)
+    (c .before .before .before .before .if1 .left) (c .before .before .write-point .ensures)
 
 returns-3 : tie.Need-returns-3
 returns-3 c = rw (c .before .before .before .before .enum-told .given .1) (c .before .before .write-refused .ensures)

@@ -11,10 +11,26 @@ use Rattle.refine_text.proofs.numbered_step.Statement.{statement}
 use Rattle.refine_text.proofs.numbered_step.Tie as tie
 
 slice-aggregate-step-by-zeros : tie.Need-slice-aggregate-step-by-zeros
-slice-aggregate-step-by-zeros c = sym (length-take-le (c .before .before .before .before .before .before .before .before .before .before .before .before .before .before .args .counts .faces) (c .before .before .before .before .before .before .before .number-faces .last .0) (let e : length (c .before .before .before .before .before .before .before .number-faces .last .0) ≡ 64 = ap length (c .before .before .before .before .before .before .before .number-faces .ensures) ∙ length-numbered 64 in omega (arith, c .before .before .before .before .before .before .before .before .before .before .before .before .before .before .pre)))
+slice-aggregate-step-by-zeros c =
+    let c8 = c .before .before .before .before .before .before .before .before in
+    let args = c8 .before .before .before .before .before .before .args in
+    let pre = c8 .before .before .before .before .before .before .pre in
+    let number-faces = c .before .before .before .before .before .before .before .number-faces in
+    sym (length-take-le (args .counts .faces) (number-faces .last .0)
+    (let e : length (number-faces .last .0) ≡ 64 = ap length (number-faces .ensures) ∙ length-numbered 64 in
+    omega (arith, pre)))
 
 returns : tie.Need-returns
-returns c = in-numbered-order (meshOf (c .before .before .before .before .before .before .before .before .before .before .before .before .before .before .before .before .before .before .before .before .before .before .before .before .before .args .positions .now) (c .before .before .before .before .before .before .before .before .before .before .before .before .before .before .before .before .before .before .before .before .before .before .before .before .before .args .points .now) (c .before .before .before .before .before .before .before .before .before .before .before .before .before .before .before .before .before .before .before .before .before .before .before .before .before .args .edges .now) (c .before .before .before .before .before .before .before .before .before .before .before .before .before .before .before .before .before .before .before .before .before .before .before .before .before .args .intervals .now) (c .before .before .before .before .before .before .before .before .before .before .before .before .before .before .before .before .before .before .before .before .before .before .before .before .before .args .faces .now)) (c .before .before .before .before .before .before .before .before .before .before .before .before .before .before .before .before .before .before .before .before .before .before .before .before .before .args .counts) (c .before .before .before .before .before .before .before .before .before .before .before .before .before .before .before .before .before .before .number-faces .last .0) (c .before .before .before .before .before .before .before .before .before .before .before .before .before .before .before .before .before .before .before .before .before .before .before .before .before .pre) (c .before .before .before .before .before .before .before .before .before .before .before .before .before .before .before .before .before .before .number-faces .ensures) (c .before .before .before .before .before .before .before .before .before .before .step-by-zeros .ensures)
+returns c =
+    let c8 = c .before .before .before .before .before .before .before .before in
+    let c16 = c8 .before .before .before .before .before .before .before .before in
+    let c24 = c16 .before .before .before .before .before .before .before .before in
+    let args = c24 .before .args in
+    let number-faces = c16 .before .before .number-faces in
+    in-numbered-order
+    (meshOf (args .positions .now) (args .points .now) (args .edges .now) (args .intervals .now) (args .faces .now))
+    (args .counts) (number-faces .last .0) (c24 .before .pre) (number-faces .ensures)
+    (c8 .before .before .step-by-zeros .ensures)
 
 pub numbered-step-spec : {M : Type 1} → statement M
 numbered-step-spec =

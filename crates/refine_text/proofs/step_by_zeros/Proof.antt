@@ -6,7 +6,15 @@ use Rattle.refine_text.proofs.step_by_zeros.Statement.{statement}
 use Rattle.refine_text.proofs.step_by_zeros.Tie as tie
 
 returns : tie.Need-returns
-returns c = stepped-to (meshOf (c .before .before .before .before .before .before .before .before .before .before .before .before .before .before .before .before .before .before .before .before .before .before .before .before .before .before .before .before .before .before .before .before .args .positions .now) (c .before .before .before .before .before .before .before .before .before .before .before .before .before .before .before .before .before .before .before .before .before .before .before .before .before .before .before .before .before .before .before .before .args .points .now) (c .before .before .before .before .before .before .before .before .before .before .before .before .before .before .before .before .before .before .before .before .before .before .before .before .before .before .before .before .before .before .before .before .args .edges .now) (c .before .before .before .before .before .before .before .before .before .before .before .before .before .before .before .before .before .before .before .before .before .before .before .before .before .before .before .before .before .before .before .before .args .intervals .now) (c .before .before .before .before .before .before .before .before .before .before .before .before .before .before .before .before .before .before .before .before .before .before .before .before .before .before .before .before .before .before .before .before .args .faces .now)) (c .before .before .before .before .before .before .before .before .before .before .before .before .before .before .before .before .before .before .before .before .before .before .before .before .before .before .before .before .before .before .before .before .args .counts) (c .before .before .before .before .before .before .before .before .before .before .before .before .before .before .before .before .before .before .before .before .before .before .before .before .before .before .before .before .before .before .before .before .args .order .now) (c .before .before .before .before .before .before .before .before .before .before .before .before .before .before .before .step .ensures .0)
+returns c =
+    let c8 = c .before .before .before .before .before .before .before .before in
+    let c16 = c8 .before .before .before .before .before .before .before .before in
+    let c24 = c16 .before .before .before .before .before .before .before .before in
+    let args = c24 .before .before .before .before .before .before .before .before .args in
+    let step = c8 .before .before .before .before .before .before .before .step in
+    stepped-to
+    (meshOf (args .positions .now) (args .points .now) (args .edges .now) (args .intervals .now) (args .faces .now))
+    (args .counts) (args .order .now) (step .ensures .0)
 
 pub step-by-zeros-spec : {M : Type 1} → statement M
 step-by-zeros-spec =

@@ -22,23 +22,41 @@ not-one (inr (inr (inr e))) = omega (arith, e)
 
 returns : tie.Need-returns
 returns c =
-    let a = c .before .before .before .before .before .before .before .before .before .before .before .before .before .before .before .before .before .before .before .before .before .before .before .args in
+    let c8 = c .before .before .before .before .before .before .before .before in
+    let c16 = c8 .before .before .before .before .before .before .before .before in
+    let a = c16 .before .before .before .before .before .before .before .args in
+    let slice-known4 = c16 .before .before .before .slice-known4 in
     let m : Mesh = meshOf (a .positions .now) (a .points .now) (a .edges .now) (a .intervals .now) (a .faces .now) in
     let t : Mesh = meshOf (a .places .now) (a .rows .now) (a .halves .now) (a .lengths .now) (a .quads .now) in (
       refused m (a .counts) (a .order .now) t (c .before .first-ground .result) (c .before .first-ground .ensures)
           (λ c' e. not-one (subst (λ (x : Stepped). OneOf (1 ∷ 2 ∷ 3 ∷ 4 ∷ []) (tagOf the-type x)) e (c .match .keys2))),
-      λ e l. c .before .before .before .before .before .before .before .before .before .before .before .before .before .before .before .before .before .before .before .slice-known4 .given e,
+      λ e l. slice-known4 .given e,
     )
 
 finish-requires : tie.Need-finish-requires
 finish-requires c κs =
-    let a = c .before .before .before .before .before .before .before .before .before .before .before .before .before .before .before .before .before .before .before .before .before .before .before .before .before .before .before .before .before .before .before .before .before .before .before .args in
+    let c8 = c .before .before .before .before .before .before .before .before in
+    let c16 = c8 .before .before .before .before .before .before .before .before in
+    let c24 = c16 .before .before .before .before .before .before .before .before in
+    let c32 = c24 .before .before .before .before .before .before .before .before in
+    let a = c32 .before .before .before .args in
+    let first-ground = c8 .before .before .before .before .before .first-ground in
+    let ground = c8 .before .before .before .ground in
     let m : Mesh = meshOf (a .positions .now) (a .points .now) (a .edges .now) (a .intervals .now) (a .faces .now) in
     let t : Mesh = meshOf (a .places .now) (a .rows .now) (a .halves .now) (a .lengths .now) (a .quads .now) in
-    passed m (a .counts) (a .order .now) t _ (sym (c .before .before .before .before .before .before .before .before .before .before .before .ground .given .1) ∙ c .before .before .before .before .before .before .before .before .before .before .before .before .before .first-ground .ensures)
+    passed m (a .counts) (a .order .now) t _ (sym (ground .given .1) ∙ first-ground .ensures)
 
 returns-2 : tie.Need-returns-2
-returns-2 c = (c .before .before .before .before .before .before .before .before .before .before .before .before .before .before .before .before .before .before .before .before .finish .ensures, λ e l. c .before .before .before .before .before .before .before .before .before .before .before .before .before .before .before .before .before .before .before .before .before .before .before .before .before .before .before .before .before .before .before .before .before .before .before .before .before .before .before .before .before .before .before .before .before .before .before .before .before .before .before .before .slice-known4 .given e)
+returns-2 c =
+    let c8 = c .before .before .before .before .before .before .before .before in
+    let c16 = c8 .before .before .before .before .before .before .before .before in
+    let c24 = c16 .before .before .before .before .before .before .before .before in
+    let c32 = c24 .before .before .before .before .before .before .before .before in
+    let c40 = c32 .before .before .before .before .before .before .before .before in
+    let c48 = c40 .before .before .before .before .before .before .before .before in
+    let slice-known4 = c48 .before .before .before .before .slice-known4 in
+    let finish = c16 .before .before .before .before .finish in
+    (finish .ensures, λ e l. slice-known4 .given e)
 
 pub step-spec : {M : Type 1} → statement M
 step-spec =

@@ -6,8 +6,12 @@ use Rattle.ring_edges.proofs.join_edge.Tie as tie
 
 returns : tie.Need-returns
 returns c =
-    let a = c .before .before .before .before .before .before .before .before .before .before .before .before .args in
-    λ es s. join-put (a .rows) (a .i) es _ _ _ _ s _ _ _ _ (c .before .before .before .before .before .before .before .before .before .before .before .next-place .ensures .0) (c .before .before .before .before .before .before .before .before .before .before .prev-place .ensures .0) (c .before .before .before .before .before .face-row .ensures) (c .before .before .before .before .face-row2 .ensures)
+    let c8 = c .before .before .before .before .before .before .before .before in
+    let a = c8 .before .before .before .before .args in
+    let next-place = c8 .before .before .before .next-place in
+    λ es s. join-put (a .rows) (a .i) es _ _ _ _ s _ _ _ _ (next-place .ensures .0)
+    (c8 .before .before .prev-place .ensures .0) (c .before .before .before .before .before .face-row .ensures)
+    (c .before .before .before .before .face-row2 .ensures)
 
 pub join-edge-spec : {M : Type 1} → statement M
 join-edge-spec =

@@ -8,8 +8,13 @@ use Rattle.ring_edges.proofs.put_first.Tie as tie
 
 returns : tie.Need-returns
 returns c =
-    let a = c .before .before .before .before .before .before .before .before .before .before .before .before .before .before .args in
-    λ ms ps fs ds is k. c .before .before .put-side .ensures ps fs is k ∙ first-put (a .rows) (a .i) (a .perimeter .now) (a .firsts .now) (a .seconds .now) ms ds (tablesOf ps (a .edges .now) is fs k) (a .oldedges .now) _ (c .before .before .before .before .before .before .before .before .before .before .index .ensures) _ _ _ (c .before .before .before .before .before .before .before .before .before .on-left .ensures) (c .before .before .before .before .before .before .before .before .prev-place .ensures .0) (c .before .before .before .before .before .before .before .face-row .ensures)
+    let c8 = c .before .before .before .before .before .before .before .before in
+    let a = c8 .before .before .before .before .before .before .args in
+    λ ms ps fs ds is k. c .before .before .put-side .ensures ps fs is k
+    ∙ first-put (a .rows) (a .i) (a .perimeter .now) (a .firsts .now) (a .seconds .now) ms ds
+    (tablesOf ps (a .edges .now) is fs k) (a .oldedges .now) _ (c8 .before .before .index .ensures) _ _ _
+    (c8 .before .on-left .ensures) (c8 .prev-place .ensures .0)
+    (c .before .before .before .before .before .before .before .face-row .ensures)
 
 pub put-first-spec : {M : Type 1} → statement M
 put-first-spec =

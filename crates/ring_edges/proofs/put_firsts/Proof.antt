@@ -18,33 +18,59 @@ use Rattle.ring_edges.proofs.put_firsts.Statement.{statement}
 use Rattle.ring_edges.proofs.put_firsts.Tie as tie
 
 abbrev Inv-loop : tie.InvT-loop
-Inv-loop oldedges edges₀ perimeter firsts seconds rows n i₀ edges i = (i ≤ n) × (n ≡ rows .size) × (length edges ≡ length edges₀) × ((ms ps fs : List ℕ) (ds is : List Float) (c : Counts) → _≡_ {A = State} (tablesOf ps edges is fs c) (turns i (putFirst (faceTables oldedges []) (ring rows perimeter firsts seconds ms ds)) (tablesOf ps edges₀ is fs c)))
+Inv-loop oldedges edges₀ perimeter firsts seconds rows n i₀ edges i = (i ≤ n) × (n ≡ rows .size) ×
+    (length edges ≡ length edges₀) × ((ms ps fs : List ℕ) (ds is : List Float) (c : Counts) → _≡_ {A = State}
+    (tablesOf ps edges is fs c) (turns i (putFirst (faceTables oldedges []) (ring rows perimeter firsts seconds ms ds))
+    (tablesOf ps edges₀ is fs c)))
 
 abbrev μ-loop : tie.MeasureT-loop
 μ-loop oldedges edges₀ perimeter firsts seconds rows n i₀ edges i = n - i
 
 loop-holds : tie.Need-loop-holds Inv-loop μ-loop
 loop-holds c =
-    let a = c .before .before .args in
-    (search needs, refl, refl, λ ms ps fs ds is k. turns-none (putFirst (faceTables (a .oldedges .now) []) (ring (a .rows) (a .perimeter .now) (a .firsts .now) (a .seconds .now) ms ds)) (tablesOf ps (a .edges .now) is fs k))
+    let a = c .before .before .args in (
+      search needs,
+      refl,
+      refl,
+      λ ms ps fs ds is k. turns-none (putFirst (faceTables (a .oldedges .now) [])
+          (ring (a .rows) (a .perimeter .now) (a .firsts .now) (a .seconds .now) ms ds)) (tablesOf ps (a .edges .now) is fs k),
+    )
 
 put-first-requires : tie.Need-put-first-requires Inv-loop μ-loop
 put-first-requires c κs =
+    let p = c .before .before .before .before .before .pre in
     let t = c .before .before .loop in
-    let p = c .before .before .before .before .before .pre in let l = c .before .loop-test .taken in let q = t .inv .1 in let e = t .inv .2 in (p .0, (omega arith, (p .1 .0 (t .i) (omega arith), omega (arith, p .1 .1 (t .i) (omega arith)))))
+    let l = c .before .loop-test .taken in
+    let q = t .inv .1 in
+    let e = t .inv .2 in
+    (p .0, (omega arith, (p .1 .0 (t .i) (omega arith), omega (arith, p .1 .1 (t .i) (omega arith)))))
 
 loop-again : tie.Need-loop-again Inv-loop μ-loop
 loop-again c =
-    let put-first = c .before .before .put-first in
-    let a = c .before .before .before .before .before .before .before .before .args in let t = c .before .before .before .before .before .loop in (search needs, t .inv .1, put-first .kept .1 .0 ∙ t .inv .2, λ ms ps fs ds is k. put-first .ensures ms ps fs ds is k ∙ turns-turn (putFirst (faceTables (a .oldedges .now) []) (ring (a .rows) (a .perimeter .now) (a .firsts .now) (a .seconds .now) ms ds)) (t .i) (tablesOf ps _ is fs k) (tablesOf ps (a .edges .now) is fs k) (t .inv .3 ms ps fs ds is k))
+    let a = c .before .before .before .before .before .before .before .before .args in
+    let t = c .before .before .before .before .before .loop in
+    let put-first = c .before .before .put-first in (
+      search needs,
+      t .inv .1,
+      put-first .kept .1 .0 ∙ t .inv .2,
+      λ ms ps fs ds is k. put-first .ensures ms ps fs ds is k
+          ∙ turns-turn (putFirst (faceTables (a .oldedges .now) [])
+          (ring (a .rows) (a .perimeter .now) (a .firsts .now) (a .seconds .now) ms ds)) (t .i) (tablesOf ps _ is fs k)
+          (tablesOf ps (a .edges .now) is fs k) (t .inv .3 ms ps fs ds is k),
+    )
 
 same-length : tie.Need-same-length Inv-loop μ-loop
 same-length c = c .before .loop .inv .2
 
 returns : tie.Need-returns Inv-loop μ-loop
 returns c =
+    let a = c .before .before .before .before .args in
     let t = c .before .loop in
-    let a = c .before .before .before .before .args in λ ms ps fs ds is k. t .inv .3 ms ps fs ds is k ∙ turns-end (putFirst (faceTables (a .oldedges .now) []) (ring (a .rows) (a .perimeter .now) (a .firsts .now) (a .seconds .now) ms ds)) (t .i) (a .rows .size) (tablesOf ps (a .edges .now) is fs k) (let l = c .loop-test .left in let q = t .inv .1 in let w = t .inv .0 in omega arith)
+    λ ms ps fs ds is k. t .inv .3 ms ps fs ds is k
+    ∙ turns-end (putFirst (faceTables (a .oldedges .now) [])
+    (ring (a .rows) (a .perimeter .now) (a .firsts .now) (a .seconds .now) ms ds)) (t .i) (a .rows .size)
+    (tablesOf ps (a .edges .now) is fs k)
+    (let l = c .loop-test .left in let q = t .inv .1 in let w = t .inv .0 in omega arith)
 
 pub put-firsts-spec : {M : Type 1} → statement M
 put-firsts-spec =

@@ -12,8 +12,13 @@ use Rattle.ring_faces.proofs.put_new_face.Tie as tie
 returns : tie.Need-returns
 unfolding putFace
 returns c =
-    let a = c .before .before .before .before .before .before .before .before .before .before .before .before .before .before .before .args in
-    λ gs ps es ds is k. ap (λ (fs : List ℕ). tablesOf ps es is fs k) (c .before .before .store-face .ensures) ∙ face-put (a .rows) (a .i) (a .perimeter .now) (a .firsts .now) gs (a .mids .now) ds (tablesOf ps es is (a .faces .now) k) (a .oldedges .now) _ (c .before .before .before .before .before .before .before .before .before .before .index .ensures) _ _ _ (c .before .before .before .before .before .before .before .before .before .before .before .before .prev-place .ensures .0) (c .before .before .before .before .before .before .before .before .before .first-point .ensures) (c .before .before .before .before .before .before .before .before .face-row .ensures)
+    let c8 = c .before .before .before .before .before .before .before .before in
+    let a = c8 .before .before .before .before .before .before .before .args in
+    let prev-place = c8 .before .before .before .before .prev-place in
+    λ gs ps es ds is k. ap (λ (fs : List ℕ). tablesOf ps es is fs k) (c .before .before .store-face .ensures)
+    ∙ face-put (a .rows) (a .i) (a .perimeter .now) (a .firsts .now) gs (a .mids .now) ds
+    (tablesOf ps es is (a .faces .now) k) (a .oldedges .now) _ (c8 .before .before .index .ensures) _ _ _
+    (prev-place .ensures .0) (c8 .before .first-point .ensures) (c8 .face-row .ensures)
 
 pub put-new-face-spec : {M : Type 1} → statement M
 put-new-face-spec =

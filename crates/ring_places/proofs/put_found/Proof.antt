@@ -21,7 +21,9 @@ abbrev μ-loop : tie.MeasureT-loop
 μ-loop intervals perimeter n found₀ i₀ found i = n - i
 
 loop-holds : tie.Need-loop-holds Inv-loop μ-loop
-loop-holds c = let a = c .before .args in (search needs, filled-none (found-at (a .intervals .now) (a .perimeter .now)) (a .found .now))
+loop-holds c =
+    let a = c .before .args in
+    (search needs, filled-none (found-at (a .intervals .now) (a .perimeter .now)) (a .found .now))
 
 mul-found : tie.Need-mul-found Inv-loop μ-loop
 mul-found c =
@@ -38,8 +40,11 @@ shared-slice-read-found c =
 loop-again : tie.Need-loop-again Inv-loop μ-loop
 loop-again c =
     let a = c .before .before .before .before .before .before .args in
-    let t = c .before .before .before .before .loop in
-    (search needs, filled-turn (found-at (a .intervals .now) (a .perimeter .now)) (t .i) _ (a .found .now) _ (t .inv .1) (ap (λ (e : ℕ). getD (a .intervals .now) e nan) (c .before .index .ensures)))
+    let t = c .before .before .before .before .loop in (
+      search needs,
+      filled-turn (found-at (a .intervals .now) (a .perimeter .now)) (t .i) _ (a .found .now) _ (t .inv .1)
+          (ap (λ (e : ℕ). getD (a .intervals .now) e nan) (c .before .index .ensures)),
+    )
 
 returns : tie.Need-returns Inv-loop μ-loop
 returns c =

@@ -11,12 +11,24 @@ returns c = rw (← (c .before .before .point-rows .ensures), lt-leb _ _ (c .if1
 
 returns-2 : tie.Need-returns-2
 unfolding rowsFor
-returns-2 c = rw (← (c .before .before .before .before .before .point-rows .ensures), ← (c .before .before .edge-rows .ensures), le-leb _ _ (c .before .before .before .if1 .left), lt-leb _ _ (c .if2 .taken))
+returns-2 c =
+    rw (
+      ← (c .before .before .before .before .before .point-rows .ensures),
+      ← (c .before .before .edge-rows .ensures),
+      le-leb _ _ (c .before .before .before .if1 .left),
+      lt-leb _ _ (c .if2 .taken),
+    )
 
 returns-3 : tie.Need-returns-3
 unfolding rowsFor
 returns-3 c =
-    rw (← (c .before .before .before .before .before .before .before .point-rows .ensures), ← (c .before .before .before .before .edge-rows .ensures), ← (c .before .face-rows .ensures), le-leb _ _ (c .before .before .before .before .before .if1 .left), le-leb _ _ (c .before .before .if2 .left))
+    rw (
+      ← (c .before .before .before .before .before .before .before .point-rows .ensures),
+      ← (c .before .before .before .before .edge-rows .ensures),
+      ← (c .before .face-rows .ensures),
+      le-leb _ _ (c .before .before .before .before .before .if1 .left),
+      le-leb _ _ (c .before .before .if2 .left),
+    )
 
 pub rows-for-spec : {M : Type 1} → statement M
 rows-for-spec =

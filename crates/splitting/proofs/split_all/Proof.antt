@@ -16,13 +16,24 @@ loop-holds c = splitting-start _ _ _ _ _ _ _
 
 split-whole-requires : tie.Need-split-whole-requires Inv-loop μ-loop
 split-whole-requires c κs =
+    let p = c .before .before .before .before .before .before .before .before .before .pre in
     let t = c .before .before .before .before .before .loop in
-    let p = c .before .before .before .before .before .before .before .before .before .pre in let l = c .before .before .before .before .loop-test .taken in (splitting-rows _ _ _ _ _ _ _ _ _ _ _ _ (t .inv) (p .1 .0) l, (splitting-old _ _ _ _ _ _ _ _ _ _ _ _ (t .inv) (p .1 .1 .0), splitting-room _ _ _ _ _ _ _ _ _ _ _ _ (t .inv) l (p .1 .1 .1)))
+    let l = c .before .before .before .before .loop-test .taken in (
+      splitting-rows _ _ _ _ _ _ _ _ _ _ _ _ (t .inv) (p .1 .0) l,
+      (
+        splitting-old _ _ _ _ _ _ _ _ _ _ _ _ (t .inv) (p .1 .1 .0),
+        splitting-room _ _ _ _ _ _ _ _ _ _ _ _ (t .inv) l (p .1 .1 .1),
+      ),
+    )
 
 loop-again : tie.Need-loop-again Inv-loop μ-loop
 loop-again c =
+    let c8 = c .before .before .before .before .before .before .before .before in
+    let loop = c8 .before .before .before .before .loop in
+    let loop-test = c8 .before .before .before .loop-test in
     let split-whole = c .before .before .before .before .before .before .split-whole in
-    splitting-turn _ _ _ _ _ _ _ _ _ _ _ _ (c .before .before .before .before .before .before .before .before .before .before .before .before .loop .inv) _ _ _ _ (c .before .before .before .before .before .before .before .before .before .before .before .loop-test .taken) (split-whole .kept .0) (split-whole .kept .1 .0) (split-whole .kept .1 .1 .0) (split-whole .ensures)
+    splitting-turn _ _ _ _ _ _ _ _ _ _ _ _ (loop .inv) _ _ _ _ (loop-test .taken) (split-whole .kept .0)
+    (split-whole .kept .1 .0) (split-whole .kept .1 .1 .0) (split-whole .ensures)
 
 same-length : tie.Need-same-length Inv-loop μ-loop
 same-length c = c .before .loop .inv .same-points

@@ -10,19 +10,26 @@ use Rattle.splitting.proofs.split_whole.Tie as tie
 
 split-edge-requires : tie.Need-split-edge-requires
 split-edge-requires c κs =
-    let p = c .before .before .before .before .before .before .before .before .before .pre in
+    let c8 = c .before .before .before .before .before .before .before .before in
+    let args = c8 .before .args in
+    let p = c8 .before .pre in
     let t = c .before .before .before .if1 .taken in
     let x = c .before .before .before .before .index .ensures in
     let a = p .1 .0 in
-    let r = whole-room (c .before .before .before .before .before .before .before .before .before .args .points .now) (c .before .before .before .before .before .before .before .before .before .args .edges .now) (c .before .before .before .before .before .before .before .before .before .args .intervals .now) (c .before .before .before .before .before .before .before .before .before .args .np) (c .before .before .before .before .before .before .before .before .before .args .e) (c .before .before .before .before .before .before .before .before .before .args .taken) (omega arith) (p .1 .1) in
+    let r = whole-room (args .points .now) (args .edges .now) (args .intervals .now) (args .np) (args .e) (args .taken)
+    (omega arith) (p .1 .1) in
     (p .0, (r, omega (arith, r .points)))
 
 returns : tie.Need-returns
 returns c =
-    let a = c .before .before .before .before .before .before .before .before .before .before .before .before .before .before .before .before .args in
-    let t = c .before .before .before .before .before .before .before .before .before .before .if1 .taken in
-    let x = c .before .before .before .before .before .before .before .before .before .before .before .index .ensures in
-    c .before .before .before .before .before .before .split-edge .ensures ∙ sym (splitWhole-split (a .np) (a .e) (scratch (a .points .now) (a .edges .now) (a .intervals .now) (a .taken)) (omega arith))
+    let c8 = c .before .before .before .before .before .before .before .before in
+    let a = c8 .before .before .before .before .before .before .before .before .args in
+    let index = c8 .before .before .before .index in
+    let t = c8 .before .before .if1 .taken in
+    let x = index .ensures in
+    c .before .before .before .before .before .before .split-edge .ensures
+    ∙ sym (splitWhole-split (a .np) (a .e) (scratch (a .points .now) (a .edges .now) (a .intervals .now) (a .taken))
+    (omega arith))
 
 returns-2 : tie.Need-returns-2
 returns-2 c =

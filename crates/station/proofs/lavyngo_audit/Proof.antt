@@ -9,12 +9,14 @@ use Rattle.station.proofs.lavyngo_audit.Tie as tie
 returns : tie.Need-returns
 returns c =
     let a = c .before .before .before .before .before .before .before .before .args in
-    audited-closed (meshOf (a .positions .now) (a .points .now) (a .edges .now) (a .intervals .now) (a .faces .now)) (c .before .before .load-counts .ensures) ((sym (c .before .audit .ensures) ∙ c .if1 .taken))
+    audited-closed (meshOf (a .positions .now) (a .points .now) (a .edges .now) (a .intervals .now) (a .faces .now))
+    (c .before .before .load-counts .ensures) ((sym (c .before .audit .ensures) ∙ c .if1 .taken))
 
 returns-2 : tie.Need-returns-2
 returns-2 c =
     let a = c .before .before .before .before .before .before .before .before .args in
-    audited-open (meshOf (a .positions .now) (a .points .now) (a .edges .now) (a .intervals .now) (a .faces .now)) (c .before .before .load-counts .ensures) ((sym (c .before .audit .ensures) ∙ c .if1 .left))
+    audited-open (meshOf (a .positions .now) (a .points .now) (a .edges .now) (a .intervals .now) (a .faces .now))
+    (c .before .before .load-counts .ensures) ((sym (c .before .audit .ensures) ∙ c .if1 .left))
 
 pub lavyngo-audit-spec : {M : Type 1} → statement M
 lavyngo-audit-spec = tie.close (tie.spec (λ c κs. search needs) (λ c κs. search needs) returns returns-2)

@@ -5,7 +5,13 @@ use Rattle.station.proofs.lavyngo_build_text.Statement.{statement}
 use Rattle.station.proofs.lavyngo_build_text.Tie as tie
 
 returns : tie.Need-returns
-returns c = text-told (c .before .before .before .before .before .before .before .before .before .before .before .before .before .before .before .before .before .before .before .before .before .before .before .before .args .counts .now) (c .before .before .before .before .before .before .before .before .before .before .before .before .build-text .ensures) (c .tell-text-built .ensures .0) (c .tell-text-built .ensures .1)
+returns c =
+    let c8 = c .before .before .before .before .before .before .before .before in
+    let c16 = c8 .before .before .before .before .before .before .before .before in
+    let args = c16 .before .before .before .before .before .before .before .before .args in
+    let build-text = c8 .before .before .before .before .build-text in
+    text-told (args .counts .now) (build-text .ensures) (c .tell-text-built .ensures .0)
+    (c .tell-text-built .ensures .1)
 
 pub lavyngo-build-text-spec : {M : Type 1} → statement M
 lavyngo-build-text-spec =

@@ -7,7 +7,9 @@ use Rattle.station_answers.proofs.store_refined.Statement.{statement}
 use Rattle.station_answers.proofs.store_refined.Tie as tie
 
 returns : tie.Need-returns
-returns c = counts-told (c .before .before .before .before .before .args .counts .now) (ap numbersOf (c .before .before .before .answer .given .1)) (c .store-counts .ensures) .1
+returns c =
+    counts-told (c .before .before .before .before .before .args .counts .now)
+    (ap numbersOf (c .before .before .before .answer .given .1)) (c .store-counts .ensures) .1
 
 pub store-refined-spec : {M : Type 1} → statement M
 store-refined-spec =

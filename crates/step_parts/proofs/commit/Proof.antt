@@ -6,7 +6,12 @@ use Rattle.step_parts.proofs.commit.Tie as tie
 
 zero-rows-requires : tie.Need-zero-rows-requires
 zero-rows-requires c κs =
-    let r = c .before .before .before .before .before .before .before .before .before .before .before .before .before .before .before .before .before .before .before .before .before .before .before .before .before .before .before .before .before .before .before .before .before .before .before .before .pre .0 in
+    let c8 = c .before .before .before .before .before .before .before .before in
+    let c16 = c8 .before .before .before .before .before .before .before .before in
+    let c24 = c16 .before .before .before .before .before .before .before .before in
+    let c32 = c24 .before .before .before .before .before .before .before .before in
+    let pre = c32 .before .before .before .before .pre in
+    let r = pre .0 in
     (r .positions, (r .points, (r .edges, (r .intervals, r .faces))))
 
 pub commit-spec : {M : Type 1} → statement M

@@ -8,28 +8,45 @@ use Rattle.step_parts.proofs.make_from_rows.Tie as tie
 
 slice-aggregate-make-in-rows : tie.Need-slice-aggregate-make-in-rows
 slice-aggregate-make-in-rows c =
-    sym (length-take-le _ (c .before .before .before .before .before .before .before .before .before .before .before .before .before .before .before .args .positions .now) (c .before .before .before .before .before .before .before .before .before .before .before .before .before .before .before .pre .rows .positions))
+    let c8 = c .before .before .before .before .before .before .before .before in
+    let args = c8 .before .before .before .before .before .before .before .args in
+    let pre = c8 .before .before .before .before .before .before .before .pre in
+    sym (length-take-le _ (args .positions .now) (pre .rows .positions))
 
 slice-aggregate-make-in-rows-2 : tie.Need-slice-aggregate-make-in-rows-2
 slice-aggregate-make-in-rows-2 c =
-    sym (length-take-le _ (c .before .before .before .before .before .before .before .before .before .before .before .before .before .before .before .before .args .points .now) (c .before .before .before .before .before .before .before .before .before .before .before .before .before .before .before .before .pre .rows .points))
+    let c8 = c .before .before .before .before .before .before .before .before in
+    let args = c8 .before .before .before .before .before .before .before .before .args in
+    let pre = c8 .before .before .before .before .before .before .before .before .pre in
+    sym (length-take-le _ (args .points .now) (pre .rows .points))
 
 slice-aggregate-make-in-rows-3 : tie.Need-slice-aggregate-make-in-rows-3
 slice-aggregate-make-in-rows-3 c =
-    sym (length-take-le _ (c .before .before .before .before .before .before .before .before .before .before .before .before .before .before .before .before .before .args .edges .now) (c .before .before .before .before .before .before .before .before .before .before .before .before .before .before .before .before .before .pre .rows .edges))
+    let c8 = c .before .before .before .before .before .before .before .before in
+    let c16 = c8 .before .before .before .before .before .before .before .before in
+    sym (length-take-le _ (c16 .before .args .edges .now) (c16 .before .pre .rows .edges))
 
 slice-aggregate-make-in-rows-4 : tie.Need-slice-aggregate-make-in-rows-4
 slice-aggregate-make-in-rows-4 c =
-    sym (length-take-le _ (c .before .before .before .before .before .before .before .before .before .before .before .before .before .before .before .before .before .before .args .intervals .now) (c .before .before .before .before .before .before .before .before .before .before .before .before .before .before .before .before .before .before .pre .rows .intervals))
+    let c8 = c .before .before .before .before .before .before .before .before in
+    let c16 = c8 .before .before .before .before .before .before .before .before in
+    sym (length-take-le _ (c16 .before .before .args .intervals .now) (c16 .before .before .pre .rows .intervals))
 
 slice-aggregate-make-in-rows-5 : tie.Need-slice-aggregate-make-in-rows-5
 slice-aggregate-make-in-rows-5 c =
-    sym (length-take-le _ (c .before .before .before .before .before .before .before .before .before .before .before .before .before .before .before .before .before .before .before .args .faces .now) (c .before .before .before .before .before .before .before .before .before .before .before .before .before .before .before .before .before .before .before .pre .rows .faces))
+    let c8 = c .before .before .before .before .before .before .before .before in
+    let c16 = c8 .before .before .before .before .before .before .before .before in
+    let args = c16 .before .before .before .args in
+    let pre = c16 .before .before .before .pre in
+    sym (length-take-le _ (args .faces .now) (pre .rows .faces))
 
 make-in-rows-requires : tie.Need-make-in-rows-requires
 unfolding firstRows
 make-in-rows-requires c κs =
-    (c .before .before .before .before .before .before .before .before .before .before .before .before .before .before .before .before .before .before .before .before .before .before .before .before .pre .scratch, c .before .before .before .before .before .before .before .before .before .before .before .before .before .before .before .before .before .before .before .before .before .before .before .before .pre .ready)
+    let c8 = c .before .before .before .before .before .before .before .before in
+    let c16 = c8 .before .before .before .before .before .before .before .before in
+    let pre = c16 .before .before .before .before .before .before .before .before .pre in
+    (pre .scratch, pre .ready)
 
 returns : tie.Need-returns
 unfolding firstRows

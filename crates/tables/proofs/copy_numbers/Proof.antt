@@ -21,19 +21,22 @@ loop-holds : tie.Need-loop-holds Inv-loop μ-loop
 loop-holds c = (search needs, refl, sym (over-none (c .args .new .now) (c .args .numbers .now)))
 
 loop-again : tie.Need-loop-again Inv-loop μ-loop
-loop-again c = (
-  omega arith,
-  rw length-set (c .before .before .loop .inv .1),
-  ap (λ (l : List Float). set l (c .before .before .loop .i) (getD (c .before .before .before .args .new .now) (c .before .before .loop .i) nan)) (c .before .before .loop .inv .2)
-      ∙ over-more (c .before .before .loop .i) (c .before .before .before .args .new .now) (c .before .before .before .args .numbers .now) nan (omega arith) (omega arith),
-)
+loop-again c =
+    let args = c .before .before .before .args in
+    let loop = c .before .before .loop in (
+      omega arith,
+      rw length-set (loop .inv .1),
+      ap (λ (l : List Float). set l (loop .i) (getD (args .new .now) (loop .i) nan)) (loop .inv .2)
+          ∙ over-more (loop .i) (args .new .now) (args .numbers .now) nan (omega arith) (omega arith),
+    )
 
 same-length : tie.Need-same-length Inv-loop μ-loop
 same-length c = c .before .loop .inv .1
 
 returns : tie.Need-returns Inv-loop μ-loop
 returns c =
-    c .before .loop .inv .2 ∙ ap (λ (k : ℕ). over k (c .before .before .args .new .now) (c .before .before .args .numbers .now)) (omega arith)
+    c .before .loop .inv .2
+    ∙ ap (λ (k : ℕ). over k (c .before .before .args .new .now) (c .before .before .args .numbers .now)) (omega arith)
 
 pub copy-numbers-spec : {M : Type 1} → statement M
 copy-numbers-spec =

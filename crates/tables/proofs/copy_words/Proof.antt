@@ -20,19 +20,22 @@ loop-holds : tie.Need-loop-holds Inv-loop μ-loop
 loop-holds c = (search needs, refl, sym (over-none (c .args .new .now) (c .args .words .now)))
 
 loop-again : tie.Need-loop-again Inv-loop μ-loop
-loop-again c = (
-  omega arith,
-  rw length-set (c .before .before .loop .inv .1),
-  ap (λ (l : List ℕ). set l (c .before .before .loop .i) (getD (c .before .before .before .args .new .now) (c .before .before .loop .i) 0)) (c .before .before .loop .inv .2)
-      ∙ over-more (c .before .before .loop .i) (c .before .before .before .args .new .now) (c .before .before .before .args .words .now) 0 (omega arith) (omega arith),
-)
+loop-again c =
+    let args = c .before .before .before .args in
+    let loop = c .before .before .loop in (
+      omega arith,
+      rw length-set (loop .inv .1),
+      ap (λ (l : List ℕ). set l (loop .i) (getD (args .new .now) (loop .i) 0)) (loop .inv .2)
+          ∙ over-more (loop .i) (args .new .now) (args .words .now) 0 (omega arith) (omega arith),
+    )
 
 same-length : tie.Need-same-length Inv-loop μ-loop
 same-length c = c .before .loop .inv .1
 
 returns : tie.Need-returns Inv-loop μ-loop
 returns c =
-    c .before .loop .inv .2 ∙ ap (λ (k : ℕ). over k (c .before .before .args .new .now) (c .before .before .args .words .now)) (omega arith)
+    c .before .loop .inv .2
+    ∙ ap (λ (k : ℕ). over k (c .before .before .args .new .now) (c .before .before .args .words .now)) (omega arith)
 
 pub copy-words-spec : {M : Type 1} → statement M
 copy-words-spec =

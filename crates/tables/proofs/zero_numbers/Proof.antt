@@ -21,17 +21,21 @@ loop-holds : tie.Need-loop-holds Inv-loop μ-loop
 loop-holds c = (search needs, refl, sym (zeroed-none (ofBits binary64 0) (c .args .numbers .now)))
 
 loop-again : tie.Need-loop-again Inv-loop μ-loop
-loop-again c = (
-  omega arith,
-  rw length-set (c .before .loop .inv .1),
-  ap (λ (l : List Float). set l (c .before .loop .i) (ofBits binary64 0)) (c .before .loop .inv .2) ∙ zeroed-more (c .before .loop .i) (ofBits binary64 0) (c .before .before .args .numbers .now) (omega arith),
-)
+loop-again c =
+    let loop = c .before .loop in (
+      omega arith,
+      rw length-set (loop .inv .1),
+      ap (λ (l : List Float). set l (loop .i) (ofBits binary64 0)) (loop .inv .2)
+          ∙ zeroed-more (loop .i) (ofBits binary64 0) (c .before .before .args .numbers .now) (omega arith),
+    )
 
 same-length : tie.Need-same-length Inv-loop μ-loop
 same-length c = c .before .loop .inv .1
 
 returns : tie.Need-returns Inv-loop μ-loop
-returns c = c .before .loop .inv .2 ∙ ap (λ (k : ℕ). zeroed k (ofBits binary64 0) (c .before .before .args .numbers .now)) (omega arith)
+returns c =
+    c .before .loop .inv .2
+    ∙ ap (λ (k : ℕ). zeroed k (ofBits binary64 0) (c .before .before .args .numbers .now)) (omega arith)
 
 pub zero-numbers-spec : {M : Type 1} → statement M
 zero-numbers-spec =

@@ -20,11 +20,13 @@ loop-holds : tie.Need-loop-holds Inv-loop μ-loop
 loop-holds c = (search needs, refl, sym (zeroed-none 0 (c .args .words .now)))
 
 loop-again : tie.Need-loop-again Inv-loop μ-loop
-loop-again c = (
-  omega arith,
-  rw length-set (c .before .loop .inv .1),
-  ap (λ (l : List ℕ). set l (c .before .loop .i) 0) (c .before .loop .inv .2) ∙ zeroed-more (c .before .loop .i) 0 (c .before .before .args .words .now) (omega arith),
-)
+loop-again c =
+    let loop = c .before .loop in (
+      omega arith,
+      rw length-set (loop .inv .1),
+      ap (λ (l : List ℕ). set l (loop .i) 0) (loop .inv .2)
+          ∙ zeroed-more (loop .i) 0 (c .before .before .args .words .now) (omega arith),
+    )
 
 same-length : tie.Need-same-length Inv-loop μ-loop
 same-length c = c .before .loop .inv .1

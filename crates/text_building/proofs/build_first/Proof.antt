@@ -8,19 +8,36 @@ use Rattle.text_building.proofs.build_first.Statement.{statement}
 use Rattle.text_building.proofs.build_first.Tie as tie
 
 slice-aggregate-build : tie.Need-slice-aggregate-build
-slice-aggregate-build c = sym (length-take-le (3 * c .before .before .before .before .before .before .before .before .before .before .args .p) (c .before .before .before .before .before .before .before .before .before .before .args .coordinates .now) (c .before .before .before .before .before .before .before .before .before .before .pre .0))
+slice-aggregate-build c =
+    let c8 = c .before .before .before .before .before .before .before .before in
+    let args = c8 .before .before .args in
+    sym (length-take-le (3 * args .p) (args .coordinates .now) (c8 .before .before .pre .0))
 
 slice-aggregate-build-2 : tie.Need-slice-aggregate-build-2
-slice-aggregate-build-2 c = sym (length-take-le (4 * c .before .before .before .before .before .before .before .before .before .before .before .args .f) (c .before .before .before .before .before .before .before .before .before .before .before .args .sides .now) (c .before .before .before .before .before .before .before .before .before .before .before .pre .1 .0))
+slice-aggregate-build-2 c =
+    let c8 = c .before .before .before .before .before .before .before .before in
+    let args = c8 .before .before .before .args in
+    let pre = c8 .before .before .before .pre in
+    sym (length-take-le (4 * args .f) (args .sides .now) (pre .1 .0))
 
 slice-aggregate-build-3 : tie.Need-slice-aggregate-build-3
-slice-aggregate-build-3 c = sym (length-take-le (c .before .before .before .before .before .before .before .before .before .before .before .before .args .n) (c .before .before .before .before .before .before .before .before .before .before .before .before .args .listed .now) (c .before .before .before .before .before .before .before .before .before .before .before .before .pre .1 .1 .0))
+slice-aggregate-build-3 c =
+    let c8 = c .before .before .before .before .before .before .before .before in
+    let args = c8 .before .before .before .before .args in
+    let pre = c8 .before .before .before .before .pre in
+    sym (length-take-le (args .n) (args .listed .now) (pre .1 .1 .0))
 
 slice-aggregate-build-4 : tie.Need-slice-aggregate-build-4
-slice-aggregate-build-4 c = sym (length-take-le (c .before .before .before .before .before .before .before .before .before .before .before .before .before .args .n) (c .before .before .before .before .before .before .before .before .before .before .before .before .before .args .beside .now) (c .before .before .before .before .before .before .before .before .before .before .before .before .before .pre .1 .1 .1))
+slice-aggregate-build-4 c =
+    let c8 = c .before .before .before .before .before .before .before .before in
+    let args = c8 .before .before .before .before .before .args in
+    let pre = c8 .before .before .before .before .before .pre in
+    sym (length-take-le (args .n) (args .beside .now) (pre .1 .1 .1))
 
 returns : tie.Need-returns
-returns c = same-told (c .told .ensures) (c .before .before .before .before .before .before .before .before .before .before .before .build .ensures)
+returns c =
+    let build = c .before .before .before .before .before .before .before .before .before .before .before .build in
+    same-told (c .told .ensures) (build .ensures)
 
 pub build-first-spec : {M : Type 1} → statement M
 build-first-spec =

@@ -6,10 +6,22 @@ use Rattle.text_building.proofs.build_text.Statement.{statement}
 use Rattle.text_building.proofs.build_text.Tie as tie
 
 returns : tie.Need-returns
-returns c = too-long (c .before .before .before .before .before .before .before .before .args .bounds) (c .before .before .before .before .before .before .before .before .args .text .now) (meshOf (c .before .before .before .before .before .before .before .before .args .positions .now) (c .before .before .before .before .before .before .before .before .args .points .now) (c .before .before .before .before .before .before .before .before .args .edges .now) (c .before .before .before .before .before .before .before .before .args .intervals .now) (c .before .before .before .before .before .before .before .before .args .faces .now)) (c .before .is-too-long .ensures) (c .if1 .taken)
+returns c =
+    let args = c .before .before .before .before .before .before .before .before .args in
+    too-long (args .bounds) (args .text .now)
+    (meshOf (args .positions .now) (args .points .now) (args .edges .now) (args .intervals .now) (args .faces .now))
+    (c .before .is-too-long .ensures) (c .if1 .taken)
 
 returns-2 : tie.Need-returns-2
-returns-2 c = not-too-long (c .before .before .before .before .before .before .before .before .before .before .before .before .before .before .before .before .before .before .before .before .before .before .before .before .before .before .before .before .before .before .before .before .args .bounds) (c .before .before .before .before .before .before .before .before .before .before .before .before .before .before .before .before .before .before .before .before .before .before .before .before .before .before .before .before .before .before .before .before .args .text .now) (meshOf (c .before .before .before .before .before .before .before .before .before .before .before .before .before .before .before .before .before .before .before .before .before .before .before .before .before .before .before .before .before .before .before .before .args .positions .now) (c .before .before .before .before .before .before .before .before .before .before .before .before .before .before .before .before .before .before .before .before .before .before .before .before .before .before .before .before .before .before .before .before .args .points .now) (c .before .before .before .before .before .before .before .before .before .before .before .before .before .before .before .before .before .before .before .before .before .before .before .before .before .before .before .before .before .before .before .before .args .edges .now) (c .before .before .before .before .before .before .before .before .before .before .before .before .before .before .before .before .before .before .before .before .before .before .before .before .before .before .before .before .before .before .before .before .args .intervals .now) (c .before .before .before .before .before .before .before .before .before .before .before .before .before .before .before .before .before .before .before .before .before .before .before .before .before .before .before .before .before .before .before .before .args .faces .now)) (c .before .before .before .before .before .before .before .before .before .before .before .before .before .before .before .before .before .before .before .before .before .before .before .before .before .is-too-long .ensures) (c .before .before .before .before .before .before .before .before .before .before .before .before .before .before .before .before .before .before .before .before .before .before .before .before .if1 .left) (c .before .before .before .before .before .before .before .before .before .before .before .before .before .before .read-and-build .ensures)
+returns-2 c =
+    let c8 = c .before .before .before .before .before .before .before .before in
+    let c16 = c8 .before .before .before .before .before .before .before .before in
+    let c24 = c16 .before .before .before .before .before .before .before .before in
+    let args = c24 .before .before .before .before .before .before .before .before .args in
+    let read-and-build = c8 .before .before .before .before .before .before .read-and-build in
+    not-too-long (args .bounds) (args .text .now)
+    (meshOf (args .positions .now) (args .points .now) (args .edges .now) (args .intervals .now) (args .faces .now))
+    (c24 .before .is-too-long .ensures) (c24 .if1 .left) (read-and-build .ensures)
 
 pub build-text-spec : {M : Type 1} → statement M
 build-text-spec =

@@ -23,23 +23,34 @@ loop-holds : tie.Need-loop-holds Inv-loop μ-loop
 loop-holds c = (search needs, c .before .pre, search needs, bits-start _ _)
 
 returns : tie.Need-returns Inv-loop μ-loop
-returns c = bits-none _ _ _ _ _ (c .before .before .before .before .loop .inv .3) (c .before .before .before .loop-test .taken) (c .before .digit-value .ensures) (c .before .before .byte .ensures) (c .if1 .taken)
+returns c =
+    bits-none _ _ _ _ _ (c .before .before .before .before .loop .inv .3) (c .before .before .before .loop-test .taken)
+    (c .before .digit-value .ensures) (c .before .before .byte .ensures) (c .if1 .taken)
 
 mul-v : tie.Need-mul-v Inv-loop μ-loop
 mul-v c =
-    let v16 = next-fits (c .before .before .before .before .loop .v) (c .before .before .before .before .loop .k) 0 (c .before .before .before .loop-test .taken) (c .before .before .before .before .loop .inv .2) (omega arith) in
+    let loop = c .before .before .before .before .loop in
+    let v16 = next-fits (loop .v) (loop .k) 0 (c .before .before .before .loop-test .taken) (loop .inv .2)
+    (omega arith) in
     omega arith
 
 add-v : tie.Need-add-v Inv-loop μ-loop
-add-v c = record { fits = next-fits _ _ _ (c .before .before .before .loop-test .taken) (c .before .before .before .before .loop .inv .2) (c .if1 .left) }
+add-v c =
+    record {
+      fits = next-fits _ _ _ (c .before .before .before .loop-test .taken)
+          (c .before .before .before .before .loop .inv .2) (c .if1 .left);
+    }
 
 loop-again : tie.Need-loop-again Inv-loop μ-loop
-loop-again c = (
-  search needs,
-  bits-inside (c .before .before .before .before .before .before .args .s .now) (c .before .before .before .before .loop .i) (c .before .digit-value .ensures) (c .before .before .byte .ensures) (c .if1 .left),
-  next-below _ _ _ (c .before .before .before .before .loop .inv .2) (c .if1 .left),
-  bits-turn _ _ _ _ _ (c .before .before .before .before .loop .inv .3) (c .before .before .before .loop-test .taken) (c .before .digit-value .ensures) (c .before .before .byte .ensures) (c .if1 .left),
-)
+loop-again c =
+    let loop = c .before .before .before .before .loop in (
+      search needs,
+      bits-inside (c .before .before .before .before .before .before .args .s .now) (loop .i)
+          (c .before .digit-value .ensures) (c .before .before .byte .ensures) (c .if1 .left),
+      next-below _ _ _ (loop .inv .2) (c .if1 .left),
+      bits-turn _ _ _ _ _ (loop .inv .3) (c .before .before .before .loop-test .taken) (c .before .digit-value .ensures)
+          (c .before .before .byte .ensures) (c .if1 .left),
+    )
 
 returns-2 : tie.Need-returns-2 Inv-loop μ-loop
 returns-2 c = bits-end _ _ _ _ _ (c .before .loop .inv .3) (c .loop-test .left)

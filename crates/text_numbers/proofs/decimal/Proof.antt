@@ -13,10 +13,18 @@ returns-2 : tie.Need-returns-2
 returns-2 c = first-zero _ _ (c .before .before .digit-value .ensures) (c .before .before .before .byte .ensures) (c .if2 .taken)
 
 decimal-from-requires : tie.Need-decimal-from-requires
-decimal-from-requires c κs = (first-inside (c .before .before .before .before .before .args .s .now) (c .before .before .before .before .before .args .at) (c .before .before .digit-value .ensures) (c .before .before .before .byte .ensures) (c .before .if1 .left), c .before .if1 .left)
+decimal-from-requires c κs =
+    let args = c .before .before .before .before .before .args in (
+      first-inside (args .s .now) (args .at) (c .before .before .digit-value .ensures)
+          (c .before .before .before .byte .ensures) (c .before .if1 .left),
+      c .before .if1 .left,
+    )
 
 returns-3 : tie.Need-returns-3
-returns-3 c = c .decimal-from .ensures ∙ first-other _ _ (c .before .before .before .digit-value .ensures) (c .before .before .before .before .byte .ensures) (c .before .before .if1 .left) (c .before .if2 .left)
+returns-3 c =
+    c .decimal-from .ensures
+    ∙ first-other _ _ (c .before .before .before .digit-value .ensures)
+    (c .before .before .before .before .byte .ensures) (c .before .before .if1 .left) (c .before .if2 .left)
 
 pub decimal-spec : {M : Type 1} → statement M
 decimal-spec =

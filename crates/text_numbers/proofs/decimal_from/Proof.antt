@@ -23,19 +23,26 @@ loop-holds : tie.Need-loop-holds Inv-loop μ-loop
 loop-holds c = (omega arith, c .before .pre .0, rest-start _ _ _)
 
 returns : tie.Need-returns Inv-loop μ-loop
-returns c = rest-stop _ _ _ _ _ (c .before .before .before .before .loop .inv .2) (c .before .digit-value .ensures) (c .before .before .byte .ensures) (c .if1 .taken) (c .before .before .before .loop-test .taken)
+returns c =
+    rest-stop _ _ _ _ _ (c .before .before .before .before .loop .inv .2) (c .before .digit-value .ensures)
+    (c .before .before .byte .ensures) (c .if1 .taken) (c .before .before .before .loop-test .taken)
 
 loop-less : tie.Need-loop-less Inv-loop μ-loop
 loop-less c =
-    let h = rest-inside (c .before .before .before .before .before .before .args .s .now) (c .before .before .before .before .loop .i) (c .before .digit-value .ensures) (c .before .before .byte .ensures) (c .if1 .left) in
+    let h = rest-inside (c .before .before .before .before .before .before .args .s .now)
+    (c .before .before .before .before .loop .i) (c .before .digit-value .ensures) (c .before .before .byte .ensures)
+    (c .if1 .left) in
     omega arith
 
 loop-again : tie.Need-loop-again Inv-loop μ-loop
 loop-again c =
-    let h = rest-inside (c .before .before .before .before .before .before .args .s .now) (c .before .before .before .before .loop .i) (c .before .digit-value .ensures) (c .before .before .byte .ensures) (c .if1 .left) in (
+    let loop = c .before .before .before .before .loop in
+    let h = rest-inside (c .before .before .before .before .before .before .args .s .now) (loop .i)
+    (c .before .digit-value .ensures) (c .before .before .byte .ensures) (c .if1 .left) in (
       omega arith,
       omega arith,
-      rest-turn _ _ _ _ _ (c .before .before .before .before .loop .inv .2) (c .before .before .before .before .loop .inv .0) h (c .before .digit-value .ensures) (c .before .before .byte .ensures) (c .if1 .left),
+      rest-turn _ _ _ _ _ (loop .inv .2) (loop .inv .0) h (c .before .digit-value .ensures)
+          (c .before .before .byte .ensures) (c .if1 .left),
     )
 
 returns-2 : tie.Need-returns-2 Inv-loop μ-loop

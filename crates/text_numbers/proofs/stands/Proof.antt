@@ -19,10 +19,16 @@ loop-holds : tie.Need-loop-holds Inv-loop μ-loop
 loop-holds c = (search needs, stands-start _ _ _)
 
 returns : tie.Need-returns Inv-loop μ-loop
-returns c = stands-stop _ _ _ _ (c .before .before .before .before .loop .inv .1) (c .before .before .before .loop-test .taken) (c .before .before .byte .ensures) (c .if1 .taken)
+returns c =
+    stands-stop _ _ _ _ (c .before .before .before .before .loop .inv .1) (c .before .before .before .loop-test .taken)
+    (c .before .before .byte .ensures) (c .if1 .taken)
 
 loop-again : tie.Need-loop-again Inv-loop μ-loop
-loop-again c = (search needs, stands-turn _ _ _ _ (c .before .before .before .before .loop .inv .1) (c .before .before .before .loop-test .taken) (c .before .before .byte .ensures) (c .if1 .left))
+loop-again c = (
+  search needs,
+  stands-turn _ _ _ _ (c .before .before .before .before .loop .inv .1) (c .before .before .before .loop-test .taken)
+      (c .before .before .byte .ensures) (c .if1 .left),
+)
 
 returns-2 : tie.Need-returns-2 Inv-loop μ-loop
 returns-2 c = stands-end _ _ _ _ (c .before .loop .inv .1) (c .loop-test .left)

@@ -8,10 +8,16 @@ use Rattle.visiting.proofs.copy_rows.Tie as tie
 
 returns : tie.Need-returns
 returns c =
-    let a = c .before .before .before .before .before .before .before .before .before .before .before .before .before .before .before .before .before .before .before .before .before .before .before .before .before .before .before .args in
+    let c8 = c .before .before .before .before .before .before .before .before in
+    let c16 = c8 .before .before .before .before .before .before .before .before in
+    let c24 = c16 .before .before .before .before .before .before .before .before in
+    let a = c24 .before .before .before .args in
+    let copy-words2 = c8 .before .before .before .copy-words2 in
     rows-copied (meshOf [] (a .oldpoints .now) (a .oldedges .now) (a .oldintervals .now) (a .oldfaces .now))
     (meshOf [] (a .points .now) (a .edges .now) (a .intervals .now) (a .faces .now)) (a .old) _ _ _ _
-    (c .before .before .before .before .before .before .before .before .before .before .before .before .before .before .before .before .copy-words .ensures) (c .before .before .before .before .before .before .before .before .before .before .before .copy-words2 .ensures) (c .before .before .before .before .before .before .before .copy-numbers .ensures) (c .before .before .copy-words3 .ensures)
+    (c16 .copy-words .ensures) (copy-words2 .ensures)
+    (c .before .before .before .before .before .before .before .copy-numbers .ensures)
+    (c .before .before .copy-words3 .ensures)
 
 pub copy-rows-spec : {M : Type 1} → statement M
 copy-rows-spec =

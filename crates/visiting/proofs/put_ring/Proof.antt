@@ -8,9 +8,11 @@ use Rattle.visiting.proofs.put_ring.Tie as tie
 
 put-ring-edges-requires : tie.Need-put-ring-edges-requires
 put-ring-edges-requires c κs =
+    let c8 = c .before .before .before .before .before .before .before .before in
+    let args = c8 .before .before .before .before .before .before .before .args in
+    let p = c8 .before .before .before .before .before .before .before .pre in
     let put-places = c .before .before .before .before .before .put-places in
-    let p = c .before .before .before .before .before .before .before .before .before .before .before .before .before .before .before .pre in
-    let es = c .before .before .before .before .before .before .before .before .before .before .before .before .before .before .before .args .edges .now in (
+    let es = args .edges .now in (
       p .small,
       (
         p .joins,
@@ -29,21 +31,29 @@ put-ring-edges-requires c κs =
 
 put-new-faces-requires : tie.Need-put-new-faces-requires
 put-new-faces-requires c κs =
-    let p = c .before .before .before .before .before .before .before .before .before .before .before .before .before .before .before .before .before .before .before .before .before .before .before .pre in
+    let c8 = c .before .before .before .before .before .before .before .before in
+    let c16 = c8 .before .before .before .before .before .before .before .before in
+    let p = c16 .before .before .before .before .before .before .before .pre in
     (p .small, (p .mesh-rows, (p .face, p .faces)))
 
 put-face-point-requires : tie.Need-put-face-point-requires
 put-face-point-requires c κs =
-    let p = c .before .before .before .before .before .before .before .before .before .before .before .before .before .before .before .before .before .before .before .before .before .before .before .before .before .before .before .pre in
+    let c8 = c .before .before .before .before .before .before .before .before in
+    let c16 = c8 .before .before .before .before .before .before .before .before in
+    let c24 = c16 .before .before .before .before .before .before .before .before in
+    let p = c24 .before .before .before .pre in
     (p .small, p .centre)
 
 returns : tie.Need-returns
 returns c =
-    let put-places = c .before .before .before .before .before .before .before .before .before .before .before .before .before .before .before .before .before .before .before .before .put-places in
+    let c8 = c .before .before .before .before .before .before .before .before in
+    let c16 = c8 .before .before .before .before .before .before .before .before in
+    let c24 = c16 .before .before .before .before .before .before .before .before in
+    let a = c24 .before .before .before .before .before .before .args in
+    let put-places = c16 .before .before .before .before .put-places in
+    let put-ring-edges = c8 .before .before .before .before .before .before .put-ring-edges in
     let put-new-faces = c .before .before .before .before .before .before .put-new-faces in
-    let put-ring-edges = c .before .before .before .before .before .before .before .before .before .before .before .before .before .before .put-ring-edges in
     λ p.
-    let a = c .before .before .before .before .before .before .before .before .before .before .before .before .before .before .before .before .before .before .before .before .before .before .before .before .before .before .before .before .before .before .args in
     let hs = put-places .last .1 .1 .1 .1 .1 .0 in
     let gs = put-places .last .1 .1 .1 .1 .1 .1 .0 in
     let ms = put-places .last .1 .1 .1 .1 .1 .1 .1 .0 in
@@ -51,9 +61,9 @@ returns c =
     let is = put-ring-edges .last .1 .1 .0 in
     let fs = put-new-faces .last .1 .0 in
     let k : Counts = record { points = p; edges = a .rows .joins; faces = a .rows .faces } in
-    ring-written (a .oldedges .now) (a .points .now) _ (a .edges .now) es (a .faces .now) fs (a .perimeter .now) hs gs ms
-    (a .intervals .now) is (a .found .now) (a .rows) p (put-places .ensures .0) (put-places .ensures .1 .0) (put-places .ensures .1 .1)
-    (put-ring-edges .ensures (a .points .now) (a .faces .now) k)
+    ring-written (a .oldedges .now) (a .points .now) _ (a .edges .now) es (a .faces .now) fs (a .perimeter .now) hs gs
+    ms (a .intervals .now) is (a .found .now) (a .rows) p (put-places .ensures .0) (put-places .ensures .1 .0)
+    (put-places .ensures .1 .1) (put-ring-edges .ensures (a .points .now) (a .faces .now) k)
     (put-new-faces .ensures gs (a .points .now) es (a .found .now) is k)
     (c .before .before .put-face-point .ensures (a .perimeter .now) hs gs ms es fs (a .found .now) is k)
 

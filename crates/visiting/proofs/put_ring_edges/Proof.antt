@@ -18,21 +18,25 @@ put-firsts-requires c κs =
 
 put-seconds-requires : tie.Need-put-seconds-requires
 put-seconds-requires c κs =
-    let p = c .before .before .before .before .before .before .before .before .before .before .before .before .before .before .before .pre in
-    let k = c .before .before .before .before .before .before .before .before .before .put-joins .kept .0 in
+    let c8 = c .before .before .before .before .before .before .before .before in
+    let p = c8 .before .before .before .before .before .before .before .pre in
+    let k = c8 .before .put-joins .kept .0 in
     let j = c .before .before .before .put-firsts .kept .1 .0 in
     (p .0, (p .1 .1 .1 .0, λ i l. omega (arith, p .1 .1 .1 .1 .1 i l)))
 
 returns : tie.Need-returns
 returns c =
-    let put-joins = c .before .before .before .before .before .before .before .before .before .before .before .before .put-joins in
+    let c8 = c .before .before .before .before .before .before .before .before in
+    let c16 = c8 .before .before .before .before .before .before .before .before in
+    let a = c16 .before .before .args in
+    let put-joins = c8 .before .before .before .before .put-joins in
     λ ps fs k.
-    let a = c .before .before .before .before .before .before .before .before .before .before .before .before .before .before .before .before .before .before .args in
     let r = ring (a .rows) (a .perimeter .now) (a .firsts .now) (a .seconds .now) (a .mids .now) (a .found .now) in
     let m = faceTables (a .oldedges .now) [] in
     c .before .before .put-seconds .ensures (a .mids .now) ps fs (a .found .now) (put-joins .last .1 .0) k
     ∙ ap (turns (a .rows .size) (putSecond m r))
-    (c .before .before .before .before .before .before .put-firsts .ensures (a .mids .now) ps fs (a .found .now) (put-joins .last .1 .0) k
+    (c .before .before .before .before .before .before .put-firsts .ensures (a .mids .now) ps fs (a .found .now)
+    (put-joins .last .1 .0) k
     ∙ ap (turns (a .rows .size) (putFirst m r)) (put-joins .ensures (a .perimeter .now) ps fs k))
 
 pub put-ring-edges-spec : {M : Type 1} → statement M

@@ -15,31 +15,55 @@ copy-rows-requires c κs =
 
 visits-requires : tie.Need-visits-requires
 visits-requires c κs =
-    let a = c .before .before .before .before .before .before .before .before .before .before .before .before .before .before .before .before .before .before .before .before .before .before .before .before .before .before .args in
-    subst (λ (s : State). Fits (faceTables (a .oldedges .now) (a .oldfaces .now)) (a .old .points) (a .old .edges) (a .old .faces) (a .order .now) s)
-    (sym (c .before .before .before .before .before .before .before .before .before .before .before .before .copy-rows .ensures)) (c .before .before .before .before .before .before .before .before .before .before .before .before .before .before .before .before .before .before .before .before .before .before .before .before .before .before .pre .1 .1)
+    let c8 = c .before .before .before .before .before .before .before .before in
+    let c16 = c8 .before .before .before .before .before .before .before .before in
+    let c24 = c16 .before .before .before .before .before .before .before .before in
+    let a = c24 .before .before .args in
+    let copy-rows = c8 .before .before .before .before .copy-rows in
+    subst (λ (s : State). Fits (faceTables (a .oldedges .now) (a .oldfaces .now)) (a .old .points) (a .old .edges)
+    (a .old .faces) (a .order .now) s) (sym (copy-rows .ensures)) (c24 .before .before .pre .1 .1)
 
 same-length : tie.Need-same-length
-same-length c = c .before .before .before .before .before .before .before .before .visits .kept .1 .1 .0 ∙ c .before .before .before .before .before .before .before .before .before .before .before .before .before .before .before .before .before .before .before .before .before .copy-rows .kept .1 .1 .1 .1 .0
+same-length c =
+    let c8 = c .before .before .before .before .before .before .before .before in
+    let c16 = c8 .before .before .before .before .before .before .before .before in
+    let copy-rows = c16 .before .before .before .before .before .copy-rows in
+    c8 .visits .kept .1 .1 .0 ∙ copy-rows .kept .1 .1 .1 .1 .0
 
 same-length-2 : tie.Need-same-length-2
-same-length-2 c = c .before .before .before .before .before .before .before .before .visits .kept .1 .1 .1 .0 ∙ c .before .before .before .before .before .before .before .before .before .before .before .before .before .before .before .before .before .before .before .before .before .copy-rows .kept .1 .1 .1 .1 .1 .0
+same-length-2 c =
+    let c8 = c .before .before .before .before .before .before .before .before in
+    let c16 = c8 .before .before .before .before .before .before .before .before in
+    let copy-rows = c16 .before .before .before .before .before .copy-rows in
+    c8 .visits .kept .1 .1 .1 .0 ∙ copy-rows .kept .1 .1 .1 .1 .1 .0
 
 same-length-3 : tie.Need-same-length-3
-same-length-3 c = c .before .before .before .before .before .before .before .before .visits .kept .1 .1 .1 .1 .0 ∙ c .before .before .before .before .before .before .before .before .before .before .before .before .before .before .before .before .before .before .before .before .before .copy-rows .kept .1 .1 .1 .1 .1 .1 .0
+same-length-3 c =
+    let c8 = c .before .before .before .before .before .before .before .before in
+    let c16 = c8 .before .before .before .before .before .before .before .before in
+    let copy-rows = c16 .before .before .before .before .before .copy-rows in
+    c8 .visits .kept .1 .1 .1 .1 .0 ∙ copy-rows .kept .1 .1 .1 .1 .1 .1 .0
 
 same-length-4 : tie.Need-same-length-4
-same-length-4 c = c .before .before .before .before .before .before .before .before .visits .kept .1 .1 .1 .1 .1 .0 ∙ c .before .before .before .before .before .before .before .before .before .before .before .before .before .before .before .before .before .before .before .before .before .copy-rows .kept .1 .1 .1 .1 .1 .1 .1 .0
+same-length-4 c =
+    let c8 = c .before .before .before .before .before .before .before .before in
+    let c16 = c8 .before .before .before .before .before .before .before .before in
+    let copy-rows = c16 .before .before .before .before .before .copy-rows in
+    c8 .visits .kept .1 .1 .1 .1 .1 .0 ∙ copy-rows .kept .1 .1 .1 .1 .1 .1 .1 .0
 
 returns : tie.Need-returns
 unfolding copied
 returns c =
-    λ qs ps.
-    let a = c .before .before .before .before .before .before .before .before .before .before .before .before .before .before .before .before .before .before .before .before .before .before .before .before .before .before .before .before .before .before .before .before .before .before .before .args in
-    c .before .before .before .before .before .before .before .before .visits .ensures
+    let c8 = c .before .before .before .before .before .before .before .before in
+    let c16 = c8 .before .before .before .before .before .before .before .before in
+    let c24 = c16 .before .before .before .before .before .before .before .before in
+    let c32 = c24 .before .before .before .before .before .before .before .before in
+    let a = c32 .before .before .before .args in
+    let copy-rows = c16 .before .before .before .before .before .copy-rows in
+    λ qs ps. c8 .visits .ensures
     ∙ refinedRows-bare (meshOf qs (a .oldpoints .now) (a .oldedges .now) (a .oldintervals .now) (a .oldfaces .now))
-    (meshOf ps (a .points .now) (a .edges .now) (a .intervals .now) (a .faces .now)) (a .old .points) (a .old .edges) (a .old .faces) (a .order .now) _
-    (c .before .before .before .before .before .before .before .before .before .before .before .before .before .before .before .before .before .before .before .before .before .copy-rows .ensures)
+    (meshOf ps (a .points .now) (a .edges .now) (a .intervals .now) (a .faces .now)) (a .old .points) (a .old .edges)
+    (a .old .faces) (a .order .now) _ (copy-rows .ensures)
 
 pub refined-rows-spec : {M : Type 1} → statement M
 refined-rows-spec =

@@ -11,14 +11,21 @@ put-border-requires c κs = (search needs, (search needs, (refl, refl)))
 
 visit-along-requires : tie.Need-visit-along-requires
 visit-along-requires c κs =
-    let a = c .before .before .before .before .before .before .before .before .before .before .before .before .before .before .args in
-    let p = c .before .before .before .before .before .before .before .before .before .before .before .before .before .before .pre in
-    along-of-visit (a .oldedges .now) (a .oldfaces .now) (a .old .points) (a .old .edges) (a .old .faces) (a .f) _ _ (c .before .before .before .before .before .put-border .ensures) (p .0) (p .1 .0) (p .1 .1 .1)
+    let c8 = c .before .before .before .before .before .before .before .before in
+    let a = c8 .before .before .before .before .before .before .args in
+    let p = c8 .before .before .before .before .before .before .pre in
+    along-of-visit (a .oldedges .now) (a .oldfaces .now) (a .old .points) (a .old .edges) (a .old .faces) (a .f) _ _
+    (c .before .before .before .before .before .put-border .ensures) (p .0) (p .1 .0) (p .1 .1 .1)
 
 returns : tie.Need-returns
 returns c =
-    let a = c .before .before .before .before .before .before .before .before .before .before .before .before .before .before .before .before .before .before .before .before .before .before .before .args in
-    c .before .before .before .before .before .before .before .before .visit-along .ensures ∙ visited-border (a .oldedges .now) (a .oldfaces .now) (a .old .points) (a .old .edges) (a .f) _ _ (c .before .before .before .before .before .before .before .before .before .before .before .before .before .before .put-border .ensures)
+    let c8 = c .before .before .before .before .before .before .before .before in
+    let c16 = c8 .before .before .before .before .before .before .before .before in
+    let a = c16 .before .before .before .before .before .before .before .args in
+    let put-border = c8 .before .before .before .before .before .before .put-border in
+    c8 .visit-along .ensures
+    ∙ visited-border (a .oldedges .now) (a .oldfaces .now) (a .old .points) (a .old .edges) (a .f) _ _
+    (put-border .ensures)
 
 pub visit-spec : {M : Type 1} → statement M
 visit-spec =

@@ -7,59 +7,98 @@ use Rattle.visiting.proofs.visit_along.Statement.{statement}
 use Rattle.visiting.proofs.visit_along.Tie as tie
 
 put-found-requires : tie.Need-put-found-requires
-put-found-requires c κs = let p = c .before .before .before .before .before .before .before .pre in (p .few-places, λ i l. p .rows i l .number)
+put-found-requires c κs =
+    let p = c .before .before .before .before .before .before .before .pre in
+    (p .few-places, λ i l. p .rows i l .number)
 
 split-all-requires : tie.Need-split-all-requires
 split-all-requires c κs =
-    let p = c .before .before .before .before .before .before .before .before .before .before .before .before .pre in
-    let a = c .before .before .before .before .before .before .before .before .before .before .before .before .args in
-    (p .few-places, (p .rows, (p .old-points, split-room (a .oldedges .now) (a .points .now) (a .edges .now) (a .faces .now) (a .perimeter .now) (a .intervals .now) (a .np) (a .f) (a .n) (a .taken) p)))
+    let c8 = c .before .before .before .before .before .before .before .before in
+    let a = c8 .before .before .before .before .args in
+    let p = c8 .before .before .before .before .pre in (
+      p .few-places,
+      (
+        p .rows,
+        (
+          p .old-points,
+          split-room (a .oldedges .now) (a .points .now) (a .edges .now) (a .faces .now) (a .perimeter .now)
+              (a .intervals .now) (a .np) (a .f) (a .n) (a .taken) p,
+        ),
+      ),
+    )
 
 put-ring-requires : tie.Need-put-ring-requires
 put-ring-requires c κs =
-    let split-all = c .before .before .before .before .before .before .before .before .before .before .before .split-all in
-    let p = c .before .before .before .before .before .before .before .before .before .before .before .before .before .before .before .before .before .before .before .before .before .before .before .before .pre in
-    let a = c .before .before .before .before .before .before .before .before .before .before .before .before .before .before .before .before .before .before .before .before .before .before .before .before .args in
+    let c8 = c .before .before .before .before .before .before .before .before in
+    let c16 = c8 .before .before .before .before .before .before .before .before in
+    let a = c16 .before .before .before .before .before .before .before .before .args in
+    let p = c16 .before .before .before .before .before .before .before .before .pre in
+    let split-all = c8 .before .before .before .split-all in
     let all = split-all .result in
-    let split = along-split (a .points .now) _ (a .edges .now) _ (a .faces .now) (a .perimeter .now) (a .intervals .now) _ (a .np) (a .n) (a .taken) all (split-all .ensures) in
-    ring-fits (a .oldedges .now) (a .points .now) (a .edges .now) (a .faces .now) (a .perimeter .now) (a .intervals .now) (a .np) (a .f) (a .n) (a .taken) p
-    _ _ _ all split (split-all .kept .0) (split-all .kept .1 .0) (split-all .kept .1 .1 .0)
+    let split = along-split (a .points .now) _ (a .edges .now) _ (a .faces .now) (a .perimeter .now) (a .intervals .now)
+    _ (a .np) (a .n) (a .taken) all (split-all .ensures) in
+    ring-fits (a .oldedges .now) (a .points .now) (a .edges .now) (a .faces .now) (a .perimeter .now)
+    (a .intervals .now) (a .np) (a .f) (a .n) (a .taken) p _ _ _ all split (split-all .kept .0) (split-all .kept .1 .0)
+    (split-all .kept .1 .1 .0)
 
 add-t19-2 : tie.Need-add-t19-2
 add-t19-2 c =
-    let split-all = c .before .before .before .before .before .before .before .before .before .before .before .before .before .before .before .before .before .before .before .before .before .split-all in
-    let p = c .before .before .before .before .before .before .before .before .before .before .before .before .before .before .before .before .before .before .before .before .before .before .before .before .before .before .before .before .before .before .before .before .before .before .pre in
-    let a = c .before .before .before .before .before .before .before .before .before .before .before .before .before .before .before .before .before .before .before .before .before .before .before .before .before .before .before .before .before .before .before .before .before .before .args in
+    let c8 = c .before .before .before .before .before .before .before .before in
+    let c16 = c8 .before .before .before .before .before .before .before .before in
+    let c24 = c16 .before .before .before .before .before .before .before .before in
+    let c32 = c24 .before .before .before .before .before .before .before .before in
+    let a = c32 .before .before .args in
+    let p = c32 .before .before .pre in
+    let split-all = c16 .before .before .before .before .before .split-all in
     let all = split-all .result in
-    let split = along-split (a .points .now) _ (a .edges .now) _ (a .faces .now) (a .perimeter .now) (a .intervals .now) _ (a .np) (a .n) (a .taken) all (split-all .ensures) in
-    let small = ring-fits (a .oldedges .now) (a .points .now) (a .edges .now) (a .faces .now) (a .perimeter .now) (a .intervals .now) (a .np) (a .f) (a .n) (a .taken) p
-    _ _ _ all split (split-all .kept .0) (split-all .kept .1 .0) (split-all .kept .1 .1 .0) .small in
+    let split = along-split (a .points .now) _ (a .edges .now) _ (a .faces .now) (a .perimeter .now) (a .intervals .now)
+    _ (a .np) (a .n) (a .taken) all (split-all .ensures) in
+    let small = ring-fits (a .oldedges .now) (a .points .now) (a .edges .now) (a .faces .now) (a .perimeter .now)
+    (a .intervals .now) (a .np) (a .f) (a .n) (a .taken) p _ _ _ all split (split-all .kept .0) (split-all .kept .1 .0)
+    (split-all .kept .1 .1 .0) .small in
     omega (arith, small .few-edges)
 
 sub-t35 : tie.Need-sub-t35
 sub-t35 c =
-    let p = c .before .before .before .before .before .before .before .before .before .before .before .before .before .before .before .before .before .before .before .before .before .before .before .before .before .before .before .before .before .before .before .before .before .before .pre in
+    let c8 = c .before .before .before .before .before .before .before .before in
+    let c16 = c8 .before .before .before .before .before .before .before .before in
+    let c24 = c16 .before .before .before .before .before .before .before .before in
+    let c32 = c24 .before .before .before .before .before .before .before .before in
+    let p = c32 .before .before .pre in
     omega (arith, p .some-places)
 
 add-t36 : tie.Need-add-t36
 add-t36 c =
-    let split-all = c .before .before .before .before .before .before .before .before .before .before .before .before .before .before .before .before .before .before .before .before .before .before .split-all in
-    let p = c .before .before .before .before .before .before .before .before .before .before .before .before .before .before .before .before .before .before .before .before .before .before .before .before .before .before .before .before .before .before .before .before .before .before .before .pre in
-    let a = c .before .before .before .before .before .before .before .before .before .before .before .before .before .before .before .before .before .before .before .before .before .before .before .before .before .before .before .before .before .before .before .before .before .before .before .args in
+    let c8 = c .before .before .before .before .before .before .before .before in
+    let c16 = c8 .before .before .before .before .before .before .before .before in
+    let c24 = c16 .before .before .before .before .before .before .before .before in
+    let c32 = c24 .before .before .before .before .before .before .before .before in
+    let a = c32 .before .before .before .args in
+    let p = c32 .before .before .before .pre in
+    let split-all = c16 .before .before .before .before .before .before .split-all in
     let all = split-all .result in
-    let split = along-split (a .points .now) _ (a .edges .now) _ (a .faces .now) (a .perimeter .now) (a .intervals .now) _ (a .np) (a .n) (a .taken) all (split-all .ensures) in
-    let small = ring-fits (a .oldedges .now) (a .points .now) (a .edges .now) (a .faces .now) (a .perimeter .now) (a .intervals .now) (a .np) (a .f) (a .n) (a .taken) p
-    _ _ _ all split (split-all .kept .0) (split-all .kept .1 .0) (split-all .kept .1 .1 .0) .small in
+    let split = along-split (a .points .now) _ (a .edges .now) _ (a .faces .now) (a .perimeter .now) (a .intervals .now)
+    _ (a .np) (a .n) (a .taken) all (split-all .ensures) in
+    let small = ring-fits (a .oldedges .now) (a .points .now) (a .edges .now) (a .faces .now) (a .perimeter .now)
+    (a .intervals .now) (a .np) (a .f) (a .n) (a .taken) p _ _ _ all split (split-all .kept .0) (split-all .kept .1 .0)
+    (split-all .kept .1 .1 .0) .small in
     omega (arith, small .few-faces)
 
 returns : tie.Need-returns
 returns c =
-    let split-all = c .before .before .before .before .before .before .before .before .before .before .before .before .before .before .before .before .before .before .before .before .before .before .split-all in
-    let a = c .before .before .before .before .before .before .before .before .before .before .before .before .before .before .before .before .before .before .before .before .before .before .before .before .before .before .before .before .before .before .before .before .before .before .before .args in
+    let c8 = c .before .before .before .before .before .before .before .before in
+    let c16 = c8 .before .before .before .before .before .before .before .before in
+    let c24 = c16 .before .before .before .before .before .before .before .before in
+    let c32 = c24 .before .before .before .before .before .before .before .before in
+    let a = c32 .before .before .before .args in
+    let put-found = c24 .before .before .before .put-found in
+    let split-all = c16 .before .before .before .before .before .before .split-all in
     let all = split-all .result in
-    let split = along-split (a .points .now) _ (a .edges .now) _ (a .faces .now) (a .perimeter .now) (a .intervals .now) _ (a .np) (a .n) (a .taken) all (split-all .ensures) in
-    along-visited (a .oldedges .now) (a .points .now) _ _ (a .edges .now) _ _ (a .faces .now) _ (a .perimeter .now) (a .intervals .now) _ _ _ (a .np) (a .f) (a .n) (a .taken) all
-    (c .before .before .before .before .before .before .before .before .before .before .before .before .before .before .before .before .before .before .before .before .before .before .before .before .before .before .before .put-found .ensures) split (c .before .before .before .before .before .before .before .before .before .before .put-ring .ensures (all .points))
+    let split = along-split (a .points .now) _ (a .edges .now) _ (a .faces .now) (a .perimeter .now) (a .intervals .now)
+    _ (a .np) (a .n) (a .taken) all (split-all .ensures) in
+    along-visited (a .oldedges .now) (a .points .now) _ _ (a .edges .now) _ _ (a .faces .now) _ (a .perimeter .now)
+    (a .intervals .now) _ _ _ (a .np) (a .f) (a .n) (a .taken) all (put-found .ensures) split
+    (c8 .before .before .put-ring .ensures (all .points))
 
 pub visit-along-spec : {M : Type 1} → statement M
 visit-along-spec =

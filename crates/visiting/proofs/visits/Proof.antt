@@ -9,7 +9,9 @@ use Rattle.visiting.proofs.visits.Statement.{statement}
 use Rattle.visiting.proofs.visits.Tie as tie
 
 abbrev Inv-loop : tie.InvT-loop
-Inv-loop oldedges oldfaces points₀ edges₀ intervals₀ faces₀ old order taken₀ i₀ points edges intervals faces taken i = Turning (faceTables oldedges oldfaces) (old .points) (old .edges) (old .faces) order (tablesOf points₀ edges₀ intervals₀ faces₀ old) points edges intervals faces taken i
+Inv-loop oldedges oldfaces points₀ edges₀ intervals₀ faces₀ old order taken₀ i₀ points edges intervals faces taken i =
+    Turning (faceTables oldedges oldfaces) (old .points) (old .edges) (old .faces) order
+    (tablesOf points₀ edges₀ intervals₀ faces₀ old) points edges intervals faces taken i
 
 abbrev μ-loop : tie.MeasureT-loop
 μ-loop oldedges oldfaces points₀ edges₀ intervals₀ faces₀ old order taken₀ i₀ points edges intervals faces taken i = old .faces - i
@@ -17,10 +19,13 @@ abbrev μ-loop : tie.MeasureT-loop
 loop-holds : tie.Need-loop-holds Inv-loop μ-loop
 loop-holds c =
     let a = c .before .before .before .before .before .before .before .args in
-    turning-start (faceTables (a .oldedges .now) (a .oldfaces .now)) (a .old .points) (a .old .edges) (a .old .faces) (a .order .now) (a .points .now) (a .edges .now) (a .intervals .now) (a .faces .now) (a .old)
+    turning-start (faceTables (a .oldedges .now) (a .oldfaces .now)) (a .old .points) (a .old .edges) (a .old .faces)
+    (a .order .now) (a .points .now) (a .edges .now) (a .intervals .now) (a .faces .now) (a .old)
 
 mul-index : tie.Need-mul-index Inv-loop μ-loop
-mul-index c = let p = c .before .before .before .before .before .before .before .before .before .before .pre in omega (arith, p .ordered)
+mul-index c =
+    let p = c .before .before .before .before .before .before .before .before .before .before .pre in
+    omega (arith, p .ordered)
 
 shared-slice-read-index : tie.Need-shared-slice-read-index Inv-loop μ-loop
 shared-slice-read-index c =
@@ -29,13 +34,29 @@ shared-slice-read-index c =
 
 visit-requires : tie.Need-visit-requires Inv-loop μ-loop
 visit-requires c κs =
-    let p = c .before .before .before .before .before .before .before .before .before .before .before .before .before .before .before .before .pre in
-    (p .ceilings, (p .edges, (p .faces, turning-fits _ _ _ _ _ _ _ _ _ _ _ _ (c .before .before .before .before .before .before .before .before .loop .inv) _ (c .before .before .before .before .index .ensures) p (c .before .before .before .before .before .before .if1 .taken))))
+    let c8 = c .before .before .before .before .before .before .before .before in
+    let p = c8 .before .before .before .before .before .before .before .before .pre in (
+      p .ceilings,
+      (
+        p .edges,
+        (
+          p .faces,
+          turning-fits _ _ _ _ _ _ _ _ _ _ _ _ (c8 .loop .inv) _ (c .before .before .before .before .index .ensures) p
+              (c .before .before .before .before .before .before .if1 .taken),
+        ),
+      ),
+    )
 
 loop-again : tie.Need-loop-again Inv-loop μ-loop
 loop-again c =
-    let visit = c .before .before .before .before .before .before .before .before .visit in
-    turning-turn _ _ _ _ _ _ _ _ _ _ _ _ (c .before .before .before .before .before .before .before .before .before .before .before .before .before .before .before .before .before .loop .inv) _ _ _ _ _ _ (c .before .before .before .before .before .before .before .before .before .before .before .before .before .index .ensures) (c .before .before .before .before .before .before .before .before .before .before .before .before .before .before .before .if1 .taken) (visit .kept .1 .1 .0) (visit .kept .1 .1 .1 .0) (visit .kept .1 .1 .1 .1 .0) (visit .kept .1 .1 .1 .1 .1 .0) (visit .ensures)
+    let c8 = c .before .before .before .before .before .before .before .before in
+    let c16 = c8 .before .before .before .before .before .before .before .before in
+    let if1 = c8 .before .before .before .before .before .before .before .if1 in
+    let index = c8 .before .before .before .before .before .index in
+    let visit = c8 .visit in
+    turning-turn _ _ _ _ _ _ _ _ _ _ _ _ (c16 .before .loop .inv) _ _ _ _ _ _ (index .ensures) (if1 .taken)
+    (visit .kept .1 .1 .0) (visit .kept .1 .1 .1 .0) (visit .kept .1 .1 .1 .1 .0) (visit .kept .1 .1 .1 .1 .1 .0)
+    (visit .ensures)
 
 same-length : tie.Need-same-length Inv-loop μ-loop
 same-length c = c .before .before .loop .inv .same-points

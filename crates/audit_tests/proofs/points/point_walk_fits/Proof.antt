@@ -12,16 +12,20 @@ use Rattle.audit_tests.proofs.points.point_walk_fits.Tie as tie
 returns : tie.Need-returns
 returns c =
     let a = c .before .before .before .before .before .before .before .before .args in
+    let index = c .before .before .before .before .index in
     let m = pointTables (a .points .now) (a .edges .now) in
-    sym (back-after (pointWalk m (a .ne) (c .before .before .before .before .index .result) (a .p)) (c .before .before .before .before .index .result) _ (sym (c .before .n .given .1) ∙ c .before .before .before .point-walk .ensures))
-    ∙ ap (λ (v : ℕ). pointBack v (pointWalk m (a .ne) v (a .p))) (c .before .before .before .before .index .ensures)
+    sym (back-after (pointWalk m (a .ne) (index .result) (a .p)) (index .result) _
+    (sym (c .before .n .given .1) ∙ c .before .before .before .point-walk .ensures))
+    ∙ ap (λ (v : ℕ). pointBack v (pointWalk m (a .ne) v (a .p))) (index .ensures)
 
 returns-2 : tie.Need-returns-2
 returns-2 c =
     let a = c .before .before .before .before .before .before .before .args in
+    let index = c .before .before .before .index in
     let m = pointTables (a .points .now) (a .edges .now) in
-    sym (lost-after (pointWalk m (a .ne) (c .before .before .before .index .result) (a .p)) (c .before .before .before .index .result) (sym (c .enum-told .given .1) ∙ c .before .before .point-walk .ensures))
-    ∙ ap (λ (v : ℕ). pointBack v (pointWalk m (a .ne) v (a .p))) (c .before .before .before .index .ensures)
+    sym (lost-after (pointWalk m (a .ne) (index .result) (a .p)) (index .result)
+    (sym (c .enum-told .given .1) ∙ c .before .before .point-walk .ensures))
+    ∙ ap (λ (v : ℕ). pointBack v (pointWalk m (a .ne) v (a .p))) (index .ensures)
 
 pub point-walk-fits-spec : {M : Type 1} → statement M
 point-walk-fits-spec =

@@ -22,13 +22,25 @@ loop-holds : tie.Need-loop-holds Inv-loop μ-loop
 loop-holds c = (omega arith, sym (sumTo-none _), omega arith)
 
 add-sum : tie.Need-add-sum Inv-loop μ-loop
-add-sum c = omega (arith, c .index .ensures, c .before .before .before .before .shared-slice-known .given (c .before .before .before .loop .p * 3), c .before .before .before .loop .inv .2)
+add-sum c =
+    omega (
+      arith,
+      c .index .ensures,
+      c .before .before .before .before .shared-slice-known .given (c .before .before .before .loop .p * 3),
+      c .before .before .before .loop .inv .2,
+    )
 
 returns : tie.Need-returns Inv-loop μ-loop
-returns c = sumTo-stop _ _ _ (c .before .before .before .before .loop .inv .1) _ _ _ (c .before .before .before .loop-test .taken) (c .before .index .ensures) (c .if1 .taken)
+returns c =
+    sumTo-stop _ _ _ (c .before .before .before .before .loop .inv .1) _ _ _
+    (c .before .before .before .loop-test .taken) (c .before .index .ensures) (c .if1 .taken)
 
 loop-again : tie.Need-loop-again Inv-loop μ-loop
-loop-again c = (omega arith, sumTo-more _ _ _ (c .before .before .before .before .loop .inv .1) _ (c .before .index .ensures), c .if1 .left)
+loop-again c = (
+  omega arith,
+  sumTo-more _ _ _ (c .before .before .before .before .loop .inv .1) _ (c .before .index .ensures),
+  c .if1 .left,
+)
 
 returns-2 : tie.Need-returns-2 Inv-loop μ-loop
 returns-2 c = sumTo-all _ _ _ (c .before .loop .inv .1) _ _ (omega arith)

@@ -20,18 +20,34 @@ abbrev μ-loop : tie.MeasureT-loop
 μ-loop listed np a n i₀ i = n - i
 
 loop-holds : tie.Need-loop-holds Inv-loop μ-loop
-loop-holds c = (omega arith, every-none (λ j. ltb (getD (c .before .args .listed .now) (c .before .args .a + j) 0) (c .before .args .np)))
+loop-holds c = (
+  omega arith,
+  every-none (λ j. ltb (getD (c .before .args .listed .now) (c .before .args .a + j) 0) (c .before .args .np)),
+)
 
 returns : tie.Need-returns Inv-loop μ-loop
 unfolding inRange
-returns c = sym (every-stop (c .before .before .before .before .before .before .args .n) (c .before .before .before .before .loop .i) (λ j. ltb (getD (c .before .before .before .before .before .before .args .listed .now) (c .before .before .before .before .before .before .args .a + j) 0) (c .before .before .before .before .before .before .args .np)) (c .before .before .before .loop-test .taken) (le-ltb _ _ (rw (c .before .index .ensures) at (c .if1 .taken))))
+returns c =
+    let args = c .before .before .before .before .before .before .args in
+    sym (every-stop (args .n) (c .before .before .before .before .loop .i)
+    (λ j. ltb (getD (args .listed .now) (args .a + j) 0) (args .np)) (c .before .before .before .loop-test .taken)
+    (le-ltb _ _ (rw (c .before .index .ensures) at (c .if1 .taken))))
 
 loop-again : tie.Need-loop-again Inv-loop μ-loop
-loop-again c = (omega arith, every-more (c .before .before .before .before .loop .i) (λ j. ltb (getD (c .before .before .before .before .before .before .args .listed .now) (c .before .before .before .before .before .before .args .a + j) 0) (c .before .before .before .before .before .before .args .np)) (c .before .before .before .before .loop .inv .1) (lt-ltb _ _ (rw (c .before .index .ensures) at (c .if1 .left))))
+loop-again c =
+    let args = c .before .before .before .before .before .before .args in
+    let loop = c .before .before .before .before .loop in (
+      omega arith,
+      every-more (loop .i) (λ j. ltb (getD (args .listed .now) (args .a + j) 0) (args .np)) (loop .inv .1)
+          (lt-ltb _ _ (rw (c .before .index .ensures) at (c .if1 .left))),
+    )
 
 returns-2 : tie.Need-returns-2 Inv-loop μ-loop
 unfolding inRange
-returns-2 c = sym (rw (whole (c .before .loop .i) (c .before .before .before .args .n) (c .before .loop .inv .0) (c .loop-test .left)) at (c .before .loop .inv .1))
+returns-2 c =
+    sym (rw
+    (whole (c .before .loop .i) (c .before .before .before .args .n) (c .before .loop .inv .0) (c .loop-test .left)) at
+    (c .before .loop .inv .1))
 
 pub are-points-spec : {M : Type 1} → statement M
 are-points-spec =

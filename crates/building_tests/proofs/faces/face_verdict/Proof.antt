@@ -7,19 +7,68 @@ use Rattle.building_tests.proofs.faces.face_verdict.Statement.{statemen
 use Rattle.building_tests.proofs.faces.face_verdict.Tie as tie
 
 returns : tie.Need-returns
-returns c = λ cs. rw (verdict-is cs (c .before .before .before .before .before .args .sides .now) (c .before .before .before .before .before .args .listed .now) (c .before .before .before .before .before .args .beside .now) (c .before .before .before .before .before .args .np) (c .before .before .before .before .before .args .f) (c .before .before .before .before .before .args .a) (c .before .before .before .before .before .args .n) (c .before .before .before .before .before .pre .1 .0), sym (c .before .size-fits .ensures) ∙ not-true _ (c .if1 .taken))
+returns c =
+    let args = c .before .before .before .before .before .args in
+    λ cs. rw (
+      verdict-is cs (args .sides .now) (args .listed .now) (args .beside .now) (args .np) (args .f) (args .a)
+          (args .n) (c .before .before .before .before .before .pre .1 .0),
+      sym (c .before .size-fits .ensures) ∙ not-true _ (c .if1 .taken),
+    )
 
 returns-2 : tie.Need-returns-2
-returns-2 c = λ cs. rw (verdict-is cs (c .before .before .before .before .before .before .before .args .sides .now) (c .before .before .before .before .before .before .before .args .listed .now) (c .before .before .before .before .before .before .before .args .beside .now) (c .before .before .before .before .before .before .before .args .np) (c .before .before .before .before .before .before .before .args .f) (c .before .before .before .before .before .before .before .args .a) (c .before .before .before .before .before .before .before .args .n) (c .before .before .before .before .before .before .before .pre .1 .0), sym (c .before .before .before .size-fits .ensures) ∙ not-false _ (c .before .before .if1 .left), sym (c .before .are-points .ensures) ∙ not-true _ (c .if2 .taken))
+returns-2 c =
+    let args = c .before .before .before .before .before .before .before .args in
+    λ cs. rw (
+      verdict-is cs (args .sides .now) (args .listed .now) (args .beside .now) (args .np) (args .f) (args .a)
+          (args .n) (c .before .before .before .before .before .before .before .pre .1 .0),
+      sym (c .before .before .before .size-fits .ensures) ∙ not-false _ (c .before .before .if1 .left),
+      sym (c .before .are-points .ensures) ∙ not-true _ (c .if2 .taken),
+    )
 
 returns-3 : tie.Need-returns-3
-returns-3 c = λ cs. rw (verdict-is cs (c .before .before .before .before .before .before .before .before .before .args .sides .now) (c .before .before .before .before .before .before .before .before .before .args .listed .now) (c .before .before .before .before .before .before .before .before .before .args .beside .now) (c .before .before .before .before .before .before .before .before .before .args .np) (c .before .before .before .before .before .before .before .before .before .args .f) (c .before .before .before .before .before .before .before .before .before .args .a) (c .before .before .before .before .before .before .before .before .before .args .n) (c .before .before .before .before .before .before .before .before .before .pre .1 .0), sym (c .before .before .before .before .before .size-fits .ensures) ∙ not-false _ (c .before .before .before .before .if1 .left), sym (c .before .before .before .are-points .ensures) ∙ not-false _ (c .before .before .if2 .left), sym (c .before .no-point-twice .ensures) ∙ not-true _ (c .if3 .taken))
+returns-3 c =
+    let c8 = c .before .before .before .before .before .before .before .before in
+    let args = c8 .before .args in
+    λ cs. rw (
+      verdict-is cs (args .sides .now) (args .listed .now) (args .beside .now) (args .np) (args .f) (args .a)
+          (args .n) (c8 .before .pre .1 .0),
+      sym (c .before .before .before .before .before .size-fits .ensures)
+          ∙ not-false _ (c .before .before .before .before .if1 .left),
+      sym (c .before .before .before .are-points .ensures) ∙ not-false _ (c .before .before .if2 .left),
+      sym (c .before .no-point-twice .ensures) ∙ not-true _ (c .if3 .taken),
+    )
 
 returns-4 : tie.Need-returns-4
-returns-4 c = λ cs. rw (verdict-is cs (c .before .before .before .before .before .before .before .before .before .before .before .args .sides .now) (c .before .before .before .before .before .before .before .before .before .before .before .args .listed .now) (c .before .before .before .before .before .before .before .before .before .before .before .args .beside .now) (c .before .before .before .before .before .before .before .before .before .before .before .args .np) (c .before .before .before .before .before .before .before .before .before .before .before .args .f) (c .before .before .before .before .before .before .before .before .before .before .before .args .a) (c .before .before .before .before .before .before .before .before .before .before .before .args .n) (c .before .before .before .before .before .before .before .before .before .before .before .pre .1 .0), sym (c .before .before .before .before .before .before .before .size-fits .ensures) ∙ not-false _ (c .before .before .before .before .before .before .if1 .left), sym (c .before .before .before .before .before .are-points .ensures) ∙ not-false _ (c .before .before .before .before .if2 .left), sym (c .before .before .before .no-point-twice .ensures) ∙ not-false _ (c .before .before .if3 .left), sym (c .before .sums-fit .ensures) ∙ not-true _ (c .if4 .taken))
+returns-4 c =
+    let c8 = c .before .before .before .before .before .before .before .before in
+    let args = c8 .before .before .before .args in
+    let pre = c8 .before .before .before .pre in
+    λ cs. rw (
+      verdict-is cs (args .sides .now) (args .listed .now) (args .beside .now) (args .np) (args .f) (args .a)
+          (args .n) (pre .1 .0),
+      sym (c .before .before .before .before .before .before .before .size-fits .ensures)
+          ∙ not-false _ (c .before .before .before .before .before .before .if1 .left),
+      sym (c .before .before .before .before .before .are-points .ensures)
+          ∙ not-false _ (c .before .before .before .before .if2 .left),
+      sym (c .before .before .before .no-point-twice .ensures) ∙ not-false _ (c .before .before .if3 .left),
+      sym (c .before .sums-fit .ensures) ∙ not-true _ (c .if4 .taken),
+    )
 
 returns-5 : tie.Need-returns-5
-returns-5 c = λ cs. rw (verdict-is cs (c .before .before .before .before .before .before .before .before .before .before .before .args .sides .now) (c .before .before .before .before .before .before .before .before .before .before .before .args .listed .now) (c .before .before .before .before .before .before .before .before .before .before .before .args .beside .now) (c .before .before .before .before .before .before .before .before .before .before .before .args .np) (c .before .before .before .before .before .before .before .before .before .before .before .args .f) (c .before .before .before .before .before .before .before .before .before .before .before .args .a) (c .before .before .before .before .before .before .before .before .before .before .before .args .n) (c .before .before .before .before .before .before .before .before .before .before .before .pre .1 .0), sym (c .before .before .before .before .before .before .before .size-fits .ensures) ∙ not-false _ (c .before .before .before .before .before .before .if1 .left), sym (c .before .before .before .before .before .are-points .ensures) ∙ not-false _ (c .before .before .before .before .if2 .left), sym (c .before .before .before .no-point-twice .ensures) ∙ not-false _ (c .before .before .if3 .left), sym (c .before .sums-fit .ensures) ∙ not-false _ (c .if4 .left))
+returns-5 c =
+    let c8 = c .before .before .before .before .before .before .before .before in
+    let args = c8 .before .before .before .args in
+    let pre = c8 .before .before .before .pre in
+    λ cs. rw (
+      verdict-is cs (args .sides .now) (args .listed .now) (args .beside .now) (args .np) (args .f) (args .a)
+          (args .n) (pre .1 .0),
+      sym (c .before .before .before .before .before .before .before .size-fits .ensures)
+          ∙ not-false _ (c .before .before .before .before .before .before .if1 .left),
+      sym (c .before .before .before .before .before .are-points .ensures)
+          ∙ not-false _ (c .before .before .before .before .if2 .left),
+      sym (c .before .before .before .no-point-twice .ensures) ∙ not-false _ (c .before .before .if3 .left),
+      sym (c .before .sums-fit .ensures) ∙ not-false _ (c .if4 .left),
+    )
 
 pub face-verdict-spec : {M : Type 1} → statement M
 face-verdict-spec =

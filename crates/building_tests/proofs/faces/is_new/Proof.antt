@@ -19,16 +19,34 @@ abbrev μ-loop : tie.MeasureT-loop
 μ-loop listed a i p j₀ j = i - j
 
 loop-holds : tie.Need-loop-holds Inv-loop μ-loop
-loop-holds c = (omega arith, every-none (λ h. not (eqb (getD (c .before .args .listed .now) (c .before .args .a + c .before .args .i) 0) (getD (c .before .args .listed .now) (c .before .args .a + h) 0))))
+loop-holds c =
+    let args = c .before .args in (
+      omega arith,
+      every-none
+          (λ h. not (eqb (getD (args .listed .now) (args .a + args .i) 0) (getD (args .listed .now) (args .a + h) 0))),
+    )
 
 returns : tie.Need-returns Inv-loop μ-loop
-returns c = sym (every-stop (c .before .before .before .before .before .args .i) (c .before .before .before .loop .j) (λ h. not (eqb (getD (c .before .before .before .before .before .args .listed .now) (c .before .before .before .before .before .args .a + c .before .before .before .before .before .args .i) 0) (getD (c .before .before .before .before .before .args .listed .now) (c .before .before .before .before .before .args .a + h) 0))) (c .before .before .loop-test .taken) (ap not (eq-eqb _ _ (c .if1 .taken))))
+returns c =
+    let args = c .before .before .before .before .before .args in
+    sym (every-stop (args .i) (c .before .before .before .loop .j)
+    (λ h. not (eqb (getD (args .listed .now) (args .a + args .i) 0) (getD (args .listed .now) (args .a + h) 0)))
+    (c .before .before .loop-test .taken) (ap not (eq-eqb _ _ (c .if1 .taken))))
 
 loop-again : tie.Need-loop-again Inv-loop μ-loop
-loop-again c = (omega arith, every-more (c .before .before .before .loop .j) (λ h. not (eqb (getD (c .before .before .before .before .before .args .listed .now) (c .before .before .before .before .before .args .a + c .before .before .before .before .before .args .i) 0) (getD (c .before .before .before .before .before .args .listed .now) (c .before .before .before .before .before .args .a + h) 0))) (c .before .before .before .loop .inv .1) (ap not (ne-eqb _ _ (c .if1 .left))))
+loop-again c =
+    let args = c .before .before .before .before .before .args in (
+      omega arith,
+      every-more (c .before .before .before .loop .j)
+          (λ h. not (eqb (getD (args .listed .now) (args .a + args .i) 0) (getD (args .listed .now) (args .a + h) 0)))
+          (c .before .before .before .loop .inv .1) (ap not (ne-eqb _ _ (c .if1 .left))),
+    )
 
 returns-2 : tie.Need-returns-2 Inv-loop μ-loop
-returns-2 c = sym (rw (whole (c .before .loop .j) (c .before .before .before .args .i) (c .before .loop .inv .0) (c .loop-test .left)) at (c .before .loop .inv .1))
+returns-2 c =
+    sym (rw
+    (whole (c .before .loop .j) (c .before .before .before .args .i) (c .before .loop .inv .0) (c .loop-test .left)) at
+    (c .before .loop .inv .1))
 
 pub is-new-spec : {M : Type 1} → statement M
 is-new-spec =

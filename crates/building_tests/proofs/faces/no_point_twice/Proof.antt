@@ -29,14 +29,25 @@ loop-holds c = (omega arith, every-none (new (c .before .args .listed .now) (c .
 
 returns : tie.Need-returns Inv-loop μ-loop
 unfolding noPointTwice
-returns c = sym (every-stop (c .before .before .before .before .before .args .n) (c .before .before .before .loop .i) (new (c .before .before .before .before .before .args .listed .now) (c .before .before .before .before .before .args .a)) (c .before .before .loop-test .taken) (sym (c .before .is-new .ensures) ∙ not-true _ (c .if1 .taken)))
+returns c =
+    let args = c .before .before .before .before .before .args in
+    sym (every-stop (args .n) (c .before .before .before .loop .i) (new (args .listed .now) (args .a))
+    (c .before .before .loop-test .taken) (sym (c .before .is-new .ensures) ∙ not-true _ (c .if1 .taken)))
 
 loop-again : tie.Need-loop-again Inv-loop μ-loop
-loop-again c = (omega arith, every-more (c .before .before .before .loop .i) (new (c .before .before .before .before .before .args .listed .now) (c .before .before .before .before .before .args .a)) (c .before .before .before .loop .inv .1) (sym (c .before .is-new .ensures) ∙ not-false _ (c .if1 .left)))
+loop-again c =
+    let args = c .before .before .before .before .before .args in (
+      omega arith,
+      every-more (c .before .before .before .loop .i) (new (args .listed .now) (args .a))
+          (c .before .before .before .loop .inv .1) (sym (c .before .is-new .ensures) ∙ not-false _ (c .if1 .left)),
+    )
 
 returns-2 : tie.Need-returns-2 Inv-loop μ-loop
 unfolding noPointTwice
-returns-2 c = sym (rw (whole (c .before .loop .i) (c .before .before .before .args .n) (c .before .loop .inv .0) (c .loop-test .left)) at (c .before .loop .inv .1))
+returns-2 c =
+    sym (rw
+    (whole (c .before .loop .i) (c .before .before .before .args .n) (c .before .loop .inv .0) (c .loop-test .left)) at
+    (c .before .loop .inv .1))
 
 pub no-point-twice-spec : {M : Type 1} → statement M
 no-point-twice-spec =

@@ -20,10 +20,18 @@ loop-holds : tie.Need-loop-holds Inv-loop μ-loop
 loop-holds c = (omega arith, sym (sideSum-none (c .args .beside .now) (c .args .a)))
 
 loop-again : tie.Need-loop-again Inv-loop μ-loop
-loop-again c = (omega arith, ap (λ (x : Float). add binary64 x (getD (c .before .before .before .args .beside .now) (c .before .before .before .args .a + c .before .before .loop .i) nan)) (c .before .before .loop .inv .1) ∙ sym (sideSum-more (c .before .before .before .args .beside .now) (c .before .before .before .args .a) (c .before .before .loop .i)))
+loop-again c =
+    let args = c .before .before .before .args in
+    let loop = c .before .before .loop in (
+      omega arith,
+      ap (λ (x : Float). add binary64 x (getD (args .beside .now) (args .a + loop .i) nan)) (loop .inv .1)
+          ∙ sym (sideSum-more (args .beside .now) (args .a) (loop .i)),
+    )
 
 returns : tie.Need-returns Inv-loop μ-loop
-returns c = rw (whole (c .before .loop .i) (c .before .before .args .n) (c .before .loop .inv .0) (c .loop-test .left)) at (c .before .loop .inv .1)
+returns c =
+    rw (whole (c .before .loop .i) (c .before .before .args .n) (c .before .loop .inv .0) (c .loop-test .left)) at
+    (c .before .loop .inv .1)
 
 pub side-sum-spec : {M : Type 1} → statement M
 side-sum-spec =

@@ -26,13 +26,21 @@ slice-write-points : tie.Need-slice-write-points Inv-loop μ-loop
 slice-write-points c = let l = c .before .before .before .loop .inv .1 in omega arith
 
 loop-again : tie.Need-loop-again Inv-loop μ-loop
-loop-again c = (omega arith, rw length-set (c .before .before .before .loop .inv .1), marked-more (c .before .before .before .loop .p) (c .before .before .before .before .before .args .points .now) (c .before .before .before .loop .points) (c .mark-of .result) (c .before .before .before .loop .inv .2) (c .mark-of .ensures))
+loop-again c =
+    let loop = c .before .before .before .loop in (
+      omega arith,
+      rw length-set (loop .inv .1),
+      marked-more (loop .p) (c .before .before .before .before .before .args .points .now) (loop .points)
+          (c .mark-of .result) (loop .inv .2) (c .mark-of .ensures),
+    )
 
 same-length : tie.Need-same-length Inv-loop μ-loop
 same-length c = c .before .loop .inv .1
 
 returns : tie.Need-returns Inv-loop μ-loop
-returns c = rw (whole (c .before .loop .p) (c .before .before .before .args .np) (c .before .loop .inv .0) (c .loop-test .left)) at (c .before .loop .inv .2)
+returns c =
+    rw (whole (c .before .loop .p) (c .before .before .before .args .np) (c .before .loop .inv .0) (c .loop-test .left))
+    at (c .before .loop .inv .2)
 
 pub mark-points-spec : {M : Type 1} → statement M
 mark-points-spec =

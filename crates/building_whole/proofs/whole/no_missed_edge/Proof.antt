@@ -27,18 +27,31 @@ abbrev μ-loop : tie.MeasureT-loop
 μ-loop points edges np ne p₀ p = np - p
 
 loop-holds : tie.Need-loop-holds Inv-loop μ-loop
-loop-holds c = (omega arith, every-none (passes (c .before .before .args .points .now) (c .before .before .args .edges .now) (c .before .before .args .ne)))
+loop-holds c =
+    let args = c .before .before .args in
+    (omega arith, every-none (passes (args .points .now) (args .edges .now) (args .ne)))
 
 returns : tie.Need-returns Inv-loop μ-loop
 unfolding noMissedEdge
-returns c = sym (every-stop (c .before .before .before .before .before .before .args .np) (c .before .before .before .loop .p) (passes (c .before .before .before .before .before .before .args .points .now) (c .before .before .before .before .before .before .args .edges .now) (c .before .before .before .before .before .before .args .ne)) (c .before .before .loop-test .taken) (sym (c .before .walk-passes-all .ensures) ∙ not-true _ (c .if1 .taken)))
+returns c =
+    let args = c .before .before .before .before .before .before .args in
+    sym (every-stop (args .np) (c .before .before .before .loop .p)
+    (passes (args .points .now) (args .edges .now) (args .ne)) (c .before .before .loop-test .taken)
+    (sym (c .before .walk-passes-all .ensures) ∙ not-true _ (c .if1 .taken)))
 
 loop-again : tie.Need-loop-again Inv-loop μ-loop
-loop-again c = (omega arith, every-more (c .before .before .before .loop .p) (passes (c .before .before .before .before .before .before .args .points .now) (c .before .before .before .before .before .before .args .edges .now) (c .before .before .before .before .before .before .args .ne)) (c .before .before .before .loop .inv .1) (sym (c .before .walk-passes-all .ensures) ∙ not-false _ (c .if1 .left)))
+loop-again c =
+    let args = c .before .before .before .before .before .before .args in (
+      omega arith,
+      every-more (c .before .before .before .loop .p) (passes (args .points .now) (args .edges .now) (args .ne))
+          (c .before .before .before .loop .inv .1) (sym (c .before .walk-passes-all .ensures) ∙ not-false _ (c .if1 .left)),
+    )
 
 returns-2 : tie.Need-returns-2 Inv-loop μ-loop
 unfolding noMissedEdge
-returns-2 c = sym (rw (whole (c .before .loop .p) (c .before .before .before .before .args .np) (c .before .loop .inv .0) (c .loop-test .left)) at (c .before .loop .inv .1))
+returns-2 c =
+    sym (rw (whole (c .before .loop .p) (c .before .before .before .before .args .np) (c .before .loop .inv .0)
+    (c .loop-test .left)) at (c .before .loop .inv .1))
 
 pub no-missed-edge-spec : {M : Type 1} → statement M
 no-missed-edge-spec =

@@ -7,10 +7,19 @@ use Rattle.building_whole.proofs.whole.walk_passes_all.Statement.{state
 use Rattle.building_whole.proofs.whole.walk_passes_all.Tie as tie
 
 returns : tie.Need-returns
-returns c = passes-back (pointTables (c .before .before .before .before .before .before .before .before .args .points .now) (c .before .before .before .before .before .before .before .before .args .edges .now)) (c .before .before .before .before .before .before .before .before .args .ne) (c .before .before .before .before .index .result) _ (c .before .before .before .before .before .before .before .before .args .p) (c .before .before .before .before .index .ensures) (c .before .n .given .0 .0) (sym (c .before .before .before .point-walk .ensures) ∙ c .before .n .given .1)
+returns c =
+    let args = c .before .before .before .before .before .before .before .before .args in
+    let index = c .before .before .before .before .index in
+    passes-back (pointTables (args .points .now) (args .edges .now)) (args .ne) (index .result) _ (args .p)
+    (index .ensures) (c .before .n .given .0 .0)
+    (sym (c .before .before .before .point-walk .ensures) ∙ c .before .n .given .1)
 
 returns-2 : tie.Need-returns-2
-returns-2 c = passes-lost (pointTables (c .before .before .before .before .before .before .before .args .points .now) (c .before .before .before .before .before .before .before .args .edges .now)) (c .before .before .before .before .before .before .before .args .ne) (c .before .before .before .index .result) _ (c .before .before .before .before .before .before .before .args .p) (c .before .before .before .index .ensures) (sym (c .before .before .point-walk .ensures) ∙ c .enum-told .given .1)
+returns-2 c =
+    let args = c .before .before .before .before .before .before .before .args in
+    passes-lost (pointTables (args .points .now) (args .edges .now)) (args .ne)
+    (c .before .before .before .index .result) _ (args .p) (c .before .before .before .index .ensures)
+    (sym (c .before .before .point-walk .ensures) ∙ c .enum-told .given .1)
 
 pub walk-passes-all-spec : {M : Type 1} → statement M
 walk-passes-all-spec =

@@ -7,16 +7,43 @@ use Rattle.building_whole.proofs.whole.whole_verdict.Statement.{stateme
 use Rattle.building_whole.proofs.whole.whole_verdict.Tie as tie
 
 returns : tie.Need-returns
-returns c = λ ps is fs. rw (whole-is ps (c .before .before .before .before .args .points .now) (c .before .before .before .before .args .edges .now) is fs (c .before .before .before .before .args .np) (c .before .before .before .before .args .ne), sym (c .before .no-missing-face .ensures) ∙ not-true _ (c .if1 .taken))
+returns c =
+    let args = c .before .before .before .before .args in
+    λ ps is fs. rw (
+      whole-is ps (args .points .now) (args .edges .now) is fs (args .np) (args .ne),
+      sym (c .before .no-missing-face .ensures) ∙ not-true _ (c .if1 .taken),
+    )
 
 returns-2 : tie.Need-returns-2
-returns-2 c = λ ps is fs. rw (whole-is ps (c .before .before .before .before .before .before .args .points .now) (c .before .before .before .before .before .before .args .edges .now) is fs (c .before .before .before .before .before .before .args .np) (c .before .before .before .before .before .before .args .ne), sym (c .before .before .before .no-missing-face .ensures) ∙ not-false _ (c .before .before .if1 .left), sym (c .before .every-edged .ensures) ∙ not-true _ (c .if2 .taken))
+returns-2 c =
+    let args = c .before .before .before .before .before .before .args in
+    λ ps is fs. rw (
+      whole-is ps (args .points .now) (args .edges .now) is fs (args .np) (args .ne),
+      sym (c .before .before .before .no-missing-face .ensures) ∙ not-false _ (c .before .before .if1 .left),
+      sym (c .before .every-edged .ensures) ∙ not-true _ (c .if2 .taken),
+    )
 
 returns-3 : tie.Need-returns-3
-returns-3 c = λ ps is fs. rw (whole-is ps (c .before .before .before .before .before .before .before .before .args .points .now) (c .before .before .before .before .before .before .before .before .args .edges .now) is fs (c .before .before .before .before .before .before .before .before .args .np) (c .before .before .before .before .before .before .before .before .args .ne), sym (c .before .before .before .before .before .no-missing-face .ensures) ∙ not-false _ (c .before .before .before .before .if1 .left), sym (c .before .before .before .every-edged .ensures) ∙ not-false _ (c .before .before .if2 .left), sym (c .before .no-missed-edge .ensures) ∙ not-true _ (c .if3 .taken))
+returns-3 c =
+    let args = c .before .before .before .before .before .before .before .before .args in
+    λ ps is fs. rw (
+      whole-is ps (args .points .now) (args .edges .now) is fs (args .np) (args .ne),
+      sym (c .before .before .before .before .before .no-missing-face .ensures)
+          ∙ not-false _ (c .before .before .before .before .if1 .left),
+      sym (c .before .before .before .every-edged .ensures) ∙ not-false _ (c .before .before .if2 .left),
+      sym (c .before .no-missed-edge .ensures) ∙ not-true _ (c .if3 .taken),
+    )
 
 returns-4 : tie.Need-returns-4
-returns-4 c = λ ps is fs. rw (whole-is ps (c .before .before .before .before .before .before .before .before .args .points .now) (c .before .before .before .before .before .before .before .before .args .edges .now) is fs (c .before .before .before .before .before .before .before .before .args .np) (c .before .before .before .before .before .before .before .before .args .ne), sym (c .before .before .before .before .before .no-missing-face .ensures) ∙ not-false _ (c .before .before .before .before .if1 .left), sym (c .before .before .before .every-edged .ensures) ∙ not-false _ (c .before .before .if2 .left), sym (c .before .no-missed-edge .ensures) ∙ not-false _ (c .if3 .left))
+returns-4 c =
+    let args = c .before .before .before .before .before .before .before .before .args in
+    λ ps is fs. rw (
+      whole-is ps (args .points .now) (args .edges .now) is fs (args .np) (args .ne),
+      sym (c .before .before .before .before .before .no-missing-face .ensures)
+          ∙ not-false _ (c .before .before .before .before .if1 .left),
+      sym (c .before .before .before .every-edged .ensures) ∙ not-false _ (c .before .before .if2 .left),
+      sym (c .before .no-missed-edge .ensures) ∙ not-false _ (c .if3 .left),
+    )
 
 pub whole-verdict-spec : {M : Type 1} → statement M
 whole-verdict-spec =

@@ -5,7 +5,8 @@ use Rattle.position_rules.proofs.intervals.a2.Statement.{statement}
 use Rattle.position_rules.proofs.intervals.a2.Tie as tie
 
 a1-requires : tie.Need-a1-requires
-a1-requires c κs = rw (c .acw-about .ensures) (acw-fits _ _ (c .before .before .before .args .p) _ (c .before .before .before .pre))
+a1-requires c κs =
+    rw (c .acw-about .ensures) (acw-fits _ _ (c .before .before .before .args .p) _ (c .before .before .before .pre))
 
 returns : tie.Need-returns
 returns c = rw (c .before .acw-about .ensures) at (c .a1 .ensures)

@@ -6,10 +6,14 @@ use Rattle.position_rules.proofs.intervals.c1.Statement.{statement}
 use Rattle.position_rules.proofs.intervals.c1.Tie as tie
 
 mul-result : tie.Need-mul-result
-mul-result c = rw (c .cw-about .ensures) (omega (arith, interval-there _ _ _ (cw-fits _ _ (c .before .before .before .args .p) _ (c .before .before .before .pre))))
+mul-result c =
+    rw (c .cw-about .ensures) (omega
+    (arith, interval-there _ _ _ (cw-fits _ _ (c .before .before .before .args .p) _ (c .before .before .before .pre))))
 
 shared-slice-read-result : tie.Need-shared-slice-read-result
-shared-slice-read-result c = rw (c .before .cw-about .ensures) (interval-there _ _ _ (cw-fits _ _ (c .before .before .before .before .args .p) _ (c .before .before .before .before .pre)))
+shared-slice-read-result c =
+    rw (c .before .cw-about .ensures) (interval-there _ _ _
+    (cw-fits _ _ (c .before .before .before .before .args .p) _ (c .before .before .before .before .pre)))
 
 returns : tie.Need-returns
 returns c = rw (c .before .cw-about .ensures)

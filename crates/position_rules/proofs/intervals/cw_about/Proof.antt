@@ -9,11 +9,19 @@ use Rattle.position_rules.proofs.intervals.cw_about.Tie as tie
 
 returns : tie.Need-returns
 unfolding cwAbout
-returns c = c .index2 .ensures ∙ at-origin (c .before .before .before .before .before .before .args .edges .now) _ (c .before .before .before .before .load-edge-words .ensures) _ (c .before .before .before .index .ensures) cwAtEnd (c .before .before .if1 .taken) (c .before .cw-edge-from-end .ensures)
+returns c =
+    c .index2 .ensures
+    ∙ at-origin (c .before .before .before .before .before .before .args .edges .now) _
+    (c .before .before .before .before .load-edge-words .ensures) _ (c .before .before .before .index .ensures) cwAtEnd
+    (c .before .before .if1 .taken) (c .before .cw-edge-from-end .ensures)
 
 returns-2 : tie.Need-returns-2
 unfolding cwAbout
-returns-2 c = c .index3 .ensures ∙ at-dest (c .before .before .before .before .before .before .args .edges .now) _ (c .before .before .before .before .load-edge-words .ensures) _ (c .before .before .before .index .ensures) cwAtEnd (c .before .before .if1 .left) (c .before .cw-edge-from-end2 .ensures)
+returns-2 c =
+    c .index3 .ensures
+    ∙ at-dest (c .before .before .before .before .before .before .args .edges .now) _
+    (c .before .before .before .before .load-edge-words .ensures) _ (c .before .before .before .index .ensures) cwAtEnd
+    (c .before .before .if1 .left) (c .before .cw-edge-from-end2 .ensures)
 
 pub cw-about-spec : {M : Type 1} → statement M
 cw-about-spec =

@@ -6,11 +6,17 @@ use Rattle.positions.proofs.Position.is_finite.Tie as tie
 
 returns : tie.Need-returns
 returns c =
-    rw (sym (c .before .before .before .before .is-finite .ensures) ∙ c .before .before .before .if1 .taken, sym (c .before .before .is-finite2 .ensures) ∙ c .before .if2 .taken)
-    (c .is-finite3 .ensures)
+    rw (
+      sym (c .before .before .before .before .is-finite .ensures) ∙ c .before .before .before .if1 .taken,
+      sym (c .before .before .is-finite2 .ensures) ∙ c .before .if2 .taken,
+    ) (c .is-finite3 .ensures)
 
 returns-2 : tie.Need-returns-2
-returns-2 c = rw (sym (c .before .before .before .is-finite .ensures) ∙ c .before .before .if1 .taken, sym (c .before .is-finite2 .ensures) ∙ c .if2 .left)
+returns-2 c =
+    rw (
+      sym (c .before .before .before .is-finite .ensures) ∙ c .before .before .if1 .taken,
+      sym (c .before .is-finite2 .ensures) ∙ c .if2 .left,
+    )
 
 returns-3 : tie.Need-returns-3
 returns-3 c = rw (sym (c .before .is-finite .ensures) ∙ c .if1 .left)

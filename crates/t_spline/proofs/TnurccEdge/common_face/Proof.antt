@@ -8,7 +8,11 @@ returns : tie.Need-returns
 returns c = rw (sym (c .before .same-face .ensures) ∙ c .if1 .taken)
 
 returns-2 : tie.Need-returns-2
-returns-2 c = rw (sym (c .before .before .before .same-face .ensures) ∙ c .before .before .if1 .left, sym (c .before .same-face2 .ensures) ∙ c .if2 .taken)
+returns-2 c =
+    rw (
+      sym (c .before .before .before .same-face .ensures) ∙ c .before .before .if1 .left,
+      sym (c .before .same-face2 .ensures) ∙ c .if2 .taken,
+    )
 
 returns-3 : tie.Need-returns-3
 returns-3 c =
@@ -21,7 +25,8 @@ returns-3 c =
 returns-4 : tie.Need-returns-4
 returns-4 c =
     rw (
-      sym (c .before .before .before .before .before .before .before .same-face .ensures) ∙ c .before .before .before .before .before .before .if1 .left,
+      sym (c .before .before .before .before .before .before .before .same-face .ensures)
+          ∙ c .before .before .before .before .before .before .if1 .left,
       sym (c .before .before .before .before .before .same-face2 .ensures) ∙ c .before .before .before .before .if2 .left,
       sym (c .before .before .before .same-face3 .ensures) ∙ c .before .before .if3 .left,
       sym (c .before .same-face4 .ensures) ∙ c .if4 .taken,
@@ -30,7 +35,8 @@ returns-4 c =
 returns-5 : tie.Need-returns-5
 returns-5 c =
     rw (
-      sym (c .before .before .before .before .before .before .before .same-face .ensures) ∙ c .before .before .before .before .before .before .if1 .left,
+      sym (c .before .before .before .before .before .before .before .same-face .ensures)
+          ∙ c .before .before .before .before .before .before .if1 .left,
       sym (c .before .before .before .before .before .same-face2 .ensures) ∙ c .before .before .before .before .if2 .left,
       sym (c .before .before .before .same-face3 .ensures) ∙ c .before .before .if3 .left,
       sym (c .before .same-face4 .ensures) ∙ c .if4 .left,

@@ -35,36 +35,56 @@ loop-holds c = sought-start _ _ _ _ (c .before .before .before .args .k) _ refl
 returns : tie.Need-returns Inv-loop μ-loop
 returns c =
     let a = c .before .before .before .before .before .before .before .before .before .args in
-    let lost = sym (c .enum-told .given .1) ∙ c .before .before .point-step .ensures ∙ ap (pointStep (a .edges .now) (a .ne) (a .p)) (c .before .before .before .index .ensures) in
-    sought-lost _ _ _ _ _ _ _ _ (c .before .before .before .before .before .loop .inv) _ lost (c .before .before .before .before .loop-test .taken)
+    let lost = sym (c .enum-told .given .1) ∙ c .before .before .point-step .ensures
+    ∙ ap (pointStep (a .edges .now) (a .ne) (a .p)) (c .before .before .before .index .ensures) in
+    sought-lost _ _ _ _ _ _ _ _ (c .before .before .before .before .before .loop .inv) _ lost
+    (c .before .before .before .before .loop-test .taken)
 
 touches-requires : tie.Need-touches-requires Inv-loop μ-loop
 touches-requires c κs =
     let a = c .before .before .before .before .before .before .before .before .before .before .before .args in
-    let to = sym (c .before .before .next .given .1) ∙ c .before .before .before .before .point-step .ensures ∙ ap (pointStep (a .edges .now) (a .ne) (a .p)) (c .before .before .before .before .before .index .ensures) in
+    let to = sym (c .before .before .next .given .1) ∙ c .before .before .before .before .point-step .ensures
+    ∙ ap (pointStep (a .edges .now) (a .ne) (a .p)) (c .before .before .before .before .before .index .ensures) in
     let below = step-below (a .ne) _ _ _ _ _ _ to in
     omega (arith, c .index2 .ensures)
 
 returns-2 : tie.Need-returns-2 Inv-loop μ-loop
 returns-2 c =
-    let a = c .before .before .before .before .before .before .before .before .before .before .before .before .before .args in
-    let to = sym (c .before .before .before .before .next .given .1) ∙ c .before .before .before .before .before .before .point-step .ensures ∙ ap (pointStep (a .edges .now) (a .ne) (a .p)) (c .before .before .before .before .before .before .before .index .ensures) in
-    let at = ap (touches (pointTables (a .points .now) (a .edges .now)) (a .q)) (sym (c .before .before .index2 .ensures)) ∙ sym (c .before .touches .ensures) ∙ c .if1 .taken in
-    sought-at _ _ _ _ _ _ _ _ (c .before .before .before .before .before .before .before .before .before .loop .inv) _ _ _ to (c .before .before .before .before .before .before .before .before .loop-test .taken) at
+    let c8 = c .before .before .before .before .before .before .before .before in
+    let a = c8 .before .before .before .before .before .args in
+    let to = sym (c .before .before .before .before .next .given .1)
+    ∙ c .before .before .before .before .before .before .point-step .ensures
+    ∙ ap (pointStep (a .edges .now) (a .ne) (a .p))
+    (c .before .before .before .before .before .before .before .index .ensures) in
+    let at = ap (touches (pointTables (a .points .now) (a .edges .now)) (a .q))
+    (sym (c .before .before .index2 .ensures)) ∙ sym (c .before .touches .ensures) ∙ c .if1 .taken in
+    sought-at _ _ _ _ _ _ _ _ (c8 .before .loop .inv) _ _ _ to (c8 .loop-test .taken) at
 
 returns-3 : tie.Need-returns-3 Inv-loop μ-loop
 returns-3 c =
-    let a = c .before .before .before .before .before .before .before .before .before .before .before .before .before .before .args in
-    let to = sym (c .before .before .before .before .before .next .given .1) ∙ c .before .before .before .before .before .before .before .point-step .ensures ∙ ap (pointStep (a .edges .now) (a .ne) (a .p)) (c .before .before .before .before .before .before .before .before .index .ensures) in
-    let at = ap (touches (pointTables (a .points .now) (a .edges .now)) (a .q)) (sym (c .before .before .before .index2 .ensures)) ∙ sym (c .before .before .touches .ensures) ∙ c .before .if1 .left in
-    sought-last _ _ _ _ _ _ _ _ (c .before .before .before .before .before .before .before .before .before .before .loop .inv) _ _ _ to (c .before .before .before .before .before .before .before .before .before .loop-test .taken) at (c .if2 .taken)
+    let c8 = c .before .before .before .before .before .before .before .before in
+    let a = c8 .before .before .before .before .before .before .args in
+    let to = sym (c .before .before .before .before .before .next .given .1)
+    ∙ c .before .before .before .before .before .before .before .point-step .ensures
+    ∙ ap (pointStep (a .edges .now) (a .ne) (a .p)) (c8 .index .ensures) in
+    let at = ap (touches (pointTables (a .points .now) (a .edges .now)) (a .q))
+    (sym (c .before .before .before .index2 .ensures)) ∙ sym (c .before .before .touches .ensures)
+    ∙ c .before .if1 .left in
+    sought-last _ _ _ _ _ _ _ _ (c8 .before .before .loop .inv) _ _ _ to (c8 .before .loop-test .taken) at
+    (c .if2 .taken)
 
 loop-again : tie.Need-loop-again Inv-loop μ-loop
 loop-again c =
-    let a = c .before .before .before .before .before .before .before .before .before .before .before .before .before .before .args in
-    let to = sym (c .before .before .before .before .before .next .given .1) ∙ c .before .before .before .before .before .before .before .point-step .ensures ∙ ap (pointStep (a .edges .now) (a .ne) (a .p)) (c .before .before .before .before .before .before .before .before .index .ensures) in
-    let at = ap (touches (pointTables (a .points .now) (a .edges .now)) (a .q)) (sym (c .before .before .before .index2 .ensures)) ∙ sym (c .before .before .touches .ensures) ∙ c .before .if1 .left in
-    sought-more _ _ _ _ _ _ _ _ (c .before .before .before .before .before .before .before .before .before .before .loop .inv) _ _ _ to (c .before .before .before .before .before .before .before .before .before .loop-test .taken) at (c .if2 .left)
+    let c8 = c .before .before .before .before .before .before .before .before in
+    let a = c8 .before .before .before .before .before .before .args in
+    let to = sym (c .before .before .before .before .before .next .given .1)
+    ∙ c .before .before .before .before .before .before .before .point-step .ensures
+    ∙ ap (pointStep (a .edges .now) (a .ne) (a .p)) (c8 .index .ensures) in
+    let at = ap (touches (pointTables (a .points .now) (a .edges .now)) (a .q))
+    (sym (c .before .before .before .index2 .ensures)) ∙ sym (c .before .before .touches .ensures)
+    ∙ c .before .if1 .left in
+    sought-more _ _ _ _ _ _ _ _ (c8 .before .before .loop .inv) _ _ _ to (c8 .before .loop-test .taken) at
+    (c .if2 .left)
 
 returns-4 : tie.Need-returns-4 Inv-loop μ-loop
 returns-4 c = sought-out _ _ _ _ _ _ _ _ (c .before .loop .inv) (search needs)

@@ -24,7 +24,9 @@ returns c =
     (w, radial-lost (pointWalk (pointTables (a .points .now) (a .edges .now)) (a .ne) (length (a .radial .now)) (a .p)) _ w)
 
 loop-holds : tie.Need-loop-holds Inv-loop μ-loop
-loop-holds c = radial-start _ _ _ _ _ (sym (c .before .before .n .given .1) ∙ c .before .before .before .before .point-walk .ensures)
+loop-holds c =
+    radial-start _ _ _ _ _
+    (sym (c .before .before .n .given .1) ∙ c .before .before .before .before .point-walk .ensures)
 
 mul-radial : tie.Need-mul-radial Inv-loop μ-loop
 mul-radial c = let l = radial-place _ _ _ _ _ _ _ _ (c .before .loop .inv) (c .loop-test .taken) in search needs
@@ -33,15 +35,24 @@ slice-write-radial : tie.Need-slice-write-radial Inv-loop μ-loop
 slice-write-radial c = radial-place _ _ _ _ _ _ _ _ (c .before .loop .inv) (c .loop-test .taken)
 
 acw-of-point-requires : tie.Need-acw-of-point-requires Inv-loop μ-loop
-acw-of-point-requires c κs = let l = radial-edge _ _ _ _ _ _ _ _ (c .before .before .loop .inv) (c .before .loop-test .taken) in omega (arith, c .index .ensures)
+acw-of-point-requires c κs =
+    let l = radial-edge _ _ _ _ _ _ _ _ (c .before .before .loop .inv) (c .before .loop-test .taken) in
+    omega (arith, c .index .ensures)
 
 loop-again : tie.Need-loop-again Inv-loop μ-loop
 loop-again c =
-    let a = c .before .before .before .before .before .before .before .before .before .before .before .before .args in
-    radial-more _ _ _ _ _ _ _ _ (c .before .before .before .loop .inv) (c .before .before .loop-test .taken) _ (c .acw-of-point .ensures ∙ ap (acwOfPoint (pointTables (a .points .now) (a .edges .now)) (a .p)) (c .before .index .ensures))
+    let c8 = c .before .before .before .before .before .before .before .before in
+    let a = c8 .before .before .before .before .args in
+    radial-more _ _ _ _ _ _ _ _ (c .before .before .before .loop .inv) (c .before .before .loop-test .taken) _
+    (c .acw-of-point .ensures
+    ∙ ap (acwOfPoint (pointTables (a .points .now) (a .edges .now)) (a .p)) (c .before .index .ensures))
 
 returns-2 : tie.Need-returns-2 Inv-loop μ-loop
-returns-2 c = (sym (c .before .before .before .before .n .given .1) ∙ c .before .before .before .before .before .before .point-walk .ensures, radial-end _ _ _ _ _ _ _ _ (c .before .loop .inv) (search needs))
+returns-2 c = (
+  sym (c .before .before .before .before .n .given .1)
+      ∙ c .before .before .before .before .before .before .point-walk .ensures,
+  radial-end _ _ _ _ _ _ _ _ (c .before .loop .inv) (search needs),
+)
 
 pub radial-edges-spec : {M : Type 1} → statement M
 radial-edges-spec =

@@ -11,7 +11,9 @@ returns : tie.Need-returns
 returns c = simp (eq-eqb _ _ (sym (c .before .index .ensures) ∙ c .if1 .taken))
 
 returns-2 : tie.Need-returns-2
-returns-2 c = rw (ne-eqb _ _ (λ q. c .before .before .if1 .left (c .before .before .before .index .ensures ∙ q))) (ap (λ (w : ℕ). eqb w (c .before .before .before .before .before .before .args .p)) (c .index2 .ensures))
+returns-2 c =
+    rw (ne-eqb _ _ (λ q. c .before .before .if1 .left (c .before .before .before .index .ensures ∙ q)))
+    (ap (λ (w : ℕ). eqb w (c .before .before .before .before .before .before .args .p)) (c .index2 .ensures))
 
 pub touches-spec : {M : Type 1} → statement M
 touches-spec =

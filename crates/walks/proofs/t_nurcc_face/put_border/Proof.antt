@@ -20,30 +20,47 @@ loop-holds : tie.Need-loop-holds Inv-loop μ-loop
 unfolding padded
 loop-holds c =
     let a = c .before .before .before .args in
-    border-start (faceTables (a .edges .now) (a .faces .now)) (a .ne) (a .f) _ _ (c .before .before .before .pre .1 .1 .0) (c .before .before .before .pre .1 .1 .1)
+    border-start (faceTables (a .edges .now) (a .faces .now)) (a .ne) (a .f) _ _
+    (c .before .before .before .pre .1 .1 .0) (c .before .before .before .pre .1 .1 .1)
 
 returns : tie.Need-returns Inv-loop μ-loop
 returns c =
-    let a = c .before .before .before .before .before .before .before .before .before .before .before .before .args in
-    let lost = sym (c .before .before .before .enum-told .given .1) ∙ c .before .before .before .before .before .face-step .ensures ∙ ap (faceStep (a .edges .now) (a .ne) (a .f)) (c .before .before .before .before .before .before .index .ensures) in
-    cleared (faceTables (a .edges .now) (a .faces .now)) (a .ne) (a .f) _ _ (c .clear .ensures .0) (c .clear .ensures .1) (border-lost (faceTables (a .edges .now) (a .faces .now)) (a .ne) (a .f) _ _ _ _ (c .before .before .before .before .before .before .before .before .loop .inv) lost (c .before .before .before .before .before .before .before .loop-test .taken))
+    let c8 = c .before .before .before .before .before .before .before .before in
+    let a = c8 .before .before .before .before .args in
+    let lost = sym (c .before .before .before .enum-told .given .1)
+    ∙ c .before .before .before .before .before .face-step .ensures
+    ∙ ap (faceStep (a .edges .now) (a .ne) (a .f))
+    (c .before .before .before .before .before .before .index .ensures) in
+    cleared (faceTables (a .edges .now) (a .faces .now)) (a .ne) (a .f) _ _ (c .clear .ensures .0)
+    (c .clear .ensures .1) (border-lost (faceTables (a .edges .now) (a .faces .now)) (a .ne) (a .f) _ _ _ _
+    (c8 .loop .inv) lost (c .before .before .before .before .before .before .before .loop-test .taken))
 
 returns-2 : tie.Need-returns-2 Inv-loop μ-loop
 returns-2 c =
-    let a = c .before .before .before .before .before .before .before .before .before .before .before .before .before .args in
-    let to = sym (c .before .before .before .before .point .given .1) ∙ c .before .before .before .before .before .before .face-step .ensures ∙ ap (faceStep (a .edges .now) (a .ne) (a .f)) (c .before .before .before .before .before .before .before .index .ensures) in
-    border-last (faceTables (a .edges .now) (a .faces .now)) (a .ne) (a .f) _ _ _ _ (c .before .before .before .before .before .before .before .before .before .loop .inv) _ _ to (c .before .before .before .before .before .before .before .before .loop-test .taken) _ (c .before .before .if1 .taken) (c .put-first-four .ensures)
+    let c8 = c .before .before .before .before .before .before .before .before in
+    let a = c8 .before .before .before .before .before .args in
+    let to = sym (c .before .before .before .before .point .given .1)
+    ∙ c .before .before .before .before .before .before .face-step .ensures
+    ∙ ap (faceStep (a .edges .now) (a .ne) (a .f))
+    (c .before .before .before .before .before .before .before .index .ensures) in
+    border-last (faceTables (a .edges .now) (a .faces .now)) (a .ne) (a .f) _ _ _ _ (c8 .before .loop .inv) _ _ to
+    (c8 .loop-test .taken) _ (c .before .before .if1 .taken) (c .put-first-four .ensures)
 
 loop-again : tie.Need-loop-again Inv-loop μ-loop
 loop-again c =
     let a = c .before .before .before .before .before .before .before .before .before .before .before .args in
-    let to = sym (c .before .before .point .given .1) ∙ c .before .before .before .before .face-step .ensures ∙ ap (faceStep (a .edges .now) (a .ne) (a .f)) (c .before .before .before .before .before .index .ensures) in
-    border-more (faceTables (a .edges .now) (a .faces .now)) (a .ne) (a .f) _ _ _ _ (c .before .before .before .before .before .before .before .loop .inv) _ _ to (c .before .before .before .before .before .before .loop-test .taken) (c .if1 .left)
+    let to = sym (c .before .before .point .given .1) ∙ c .before .before .before .before .face-step .ensures
+    ∙ ap (faceStep (a .edges .now) (a .ne) (a .f)) (c .before .before .before .before .before .index .ensures) in
+    border-more (faceTables (a .edges .now) (a .faces .now)) (a .ne) (a .f) _ _ _ _
+    (c .before .before .before .before .before .before .before .loop .inv) _ _ to
+    (c .before .before .before .before .before .before .loop-test .taken) (c .if1 .left)
 
 returns-3 : tie.Need-returns-3 Inv-loop μ-loop
 returns-3 c =
     let a = c .before .before .before .before .before .before .before .before .args in
-    cleared (faceTables (a .edges .now) (a .faces .now)) (a .ne) (a .f) _ _ (c .clear2 .ensures .0) (c .clear2 .ensures .1) (border-out (faceTables (a .edges .now) (a .faces .now)) (a .ne) (a .f) _ _ _ _ (c .before .before .before .before .loop .inv) (search needs))
+    cleared (faceTables (a .edges .now) (a .faces .now)) (a .ne) (a .f) _ _ (c .clear2 .ensures .0)
+    (c .clear2 .ensures .1) (border-out (faceTables (a .edges .now) (a .faces .now)) (a .ne) (a .f) _ _ _ _
+    (c .before .before .before .before .loop .inv) (search needs))
 
 pub put-border-spec : {M : Type 1} → statement M
 put-border-spec =

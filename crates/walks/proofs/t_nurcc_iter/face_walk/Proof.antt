@@ -31,20 +31,26 @@ loop-holds c = counted-start _ _ _ 64 _ refl
 returns : tie.Need-returns Inv-loop μ-loop
 returns c =
     let a = c .before .before .before .before .before .before .before .before .before .args in
-    let lost = sym (c .enum-told .given .1) ∙ c .before .before .face-step .ensures ∙ ap (faceStep (a .edges .now) (a .ne) (a .f)) (c .before .before .before .index .ensures) in
-    counted-lost _ _ _ _ _ _ _ (c .before .before .before .before .before .loop .inv) _ lost (c .before .before .before .before .loop-test .taken)
+    let lost = sym (c .enum-told .given .1) ∙ c .before .before .face-step .ensures
+    ∙ ap (faceStep (a .edges .now) (a .ne) (a .f)) (c .before .before .before .index .ensures) in
+    counted-lost _ _ _ _ _ _ _ (c .before .before .before .before .before .loop .inv) _ lost
+    (c .before .before .before .before .loop-test .taken)
 
 returns-2 : tie.Need-returns-2 Inv-loop μ-loop
 returns-2 c =
     let a = c .before .before .before .before .before .before .before .before .before .before .before .args in
-    let to = sym (c .before .before .next .given .1) ∙ c .before .before .before .before .face-step .ensures ∙ ap (faceStep (a .edges .now) (a .ne) (a .f)) (c .before .before .before .before .before .index .ensures) in
-    counted-last _ _ _ _ _ _ _ (c .before .before .before .before .before .before .before .loop .inv) _ _ _ to (c .before .before .before .before .before .before .loop-test .taken) (c .if1 .taken)
+    let to = sym (c .before .before .next .given .1) ∙ c .before .before .before .before .face-step .ensures
+    ∙ ap (faceStep (a .edges .now) (a .ne) (a .f)) (c .before .before .before .before .before .index .ensures) in
+    counted-last _ _ _ _ _ _ _ (c .before .before .before .before .before .before .before .loop .inv) _ _ _ to
+    (c .before .before .before .before .before .before .loop-test .taken) (c .if1 .taken)
 
 loop-again : tie.Need-loop-again Inv-loop μ-loop
 loop-again c =
     let a = c .before .before .before .before .before .before .before .before .before .before .before .args in
-    let to = sym (c .before .before .next .given .1) ∙ c .before .before .before .before .face-step .ensures ∙ ap (faceStep (a .edges .now) (a .ne) (a .f)) (c .before .before .before .before .before .index .ensures) in
-    counted-more _ _ _ _ _ _ _ (c .before .before .before .before .before .before .before .loop .inv) _ _ _ to (c .before .before .before .before .before .before .loop-test .taken) (c .if1 .left)
+    let to = sym (c .before .before .next .given .1) ∙ c .before .before .before .before .face-step .ensures
+    ∙ ap (faceStep (a .edges .now) (a .ne) (a .f)) (c .before .before .before .before .before .index .ensures) in
+    counted-more _ _ _ _ _ _ _ (c .before .before .before .before .before .before .before .loop .inv) _ _ _ to
+    (c .before .before .before .before .before .before .loop-test .taken) (c .if1 .left)
 
 returns-3 : tie.Need-returns-3 Inv-loop μ-loop
 returns-3 c = counted-out _ _ _ _ _ _ _ (c .before .loop .inv) (search needs)
