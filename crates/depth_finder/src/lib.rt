@@ -5,6 +5,7 @@
 ghost use mathlib.Core.Path.{_≡_};
 ghost use Prim.Native.Nat.{ℕ, _+_, _*_, _≤_, _<_};
 ghost use lib.ListN.{length};
+ghost use Rattle.tables.specs.Layout.{edgeWidth};
 ghost use Rattle.tables.specs.Mesh.{meshOf};
 ghost use Rattle.crossings.specs.Crossings.{between, spans, crosses, firstFrom, find};
 ghost use Rattle.depth_finder.specs.Ends.{endTables, EndsStand};
@@ -39,7 +40,7 @@ fn spans_depth(a: f64, b: f64, depth: f64) -> bool
 
 // Whether edge e crosses a depth.
 fn crosses_depth(positions: &[f64], edges: &[u32], e: usize, depth: f64) -> bool
-    requires { ⌜ e * 8 + 8 ≤ length (now edges) ⌝ }
+    requires { ⌜ e * edgeWidth + edgeWidth ≤ length (now edges) ⌝ }
     requires { ⌜ EndsStand (now positions) (now edges) e ⌝ }
     ensures { λ r. ⌜ r ≡ crosses (endTables (now (positions .entry)) (now (edges .entry))) depth e ⌝ }
 {
@@ -51,7 +52,7 @@ fn crosses_depth(positions: &[f64], edges: &[u32], e: usize, depth: f64) -> bool
 
 // The first of ne edges that crosses a depth, or the word that none does.
 fn search(positions: &[f64], edges: &[u32], ne: usize, depth: f64) -> Crossing
-    requires { ⌜ ne * 8 ≤ length (now edges) ⌝ }
+    requires { ⌜ ne * edgeWidth ≤ length (now edges) ⌝ }
     requires { ⌜ ((e : ℕ) → e < ne → EndsStand (now positions) (now edges) e) ⌝ }
     ensures { λ r. ⌜ r ≡ firstFrom (λ e. crosses (endTables (now (positions .entry)) (now (edges .entry))) depth e) ne 0 ⌝ }
 {
