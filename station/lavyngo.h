@@ -119,15 +119,15 @@ uint32_t lavyngo_audit(
 /* Refines the mesh in the tables once. V, E, F become V + E + F, 4 E, 2 E; tables and scratch must have rows for these.
      counts       those before the step; those after it, where it is accepted
      order        the faces in the order in which they are visited, each once: 0, 1, 2, .. is numbered order
-     places, rows, halves, lengths, quads    scratch: tables of positions, points, edges, intervals and faces
+     newpositions, newpoints, newedges, newintervals, newfaces    scratch: tables of positions, points, edges, intervals and faces
    Answers 0, 30 to 33. Scratch is zeroed after an accepted step and after 33. */
 uint32_t lavyngo_step(
     double *positions, size_t positions_length, uint32_t *points, size_t points_length,
     uint32_t *edges, size_t edges_length, double *intervals, size_t intervals_length,
     uint32_t *faces, size_t faces_length, size_t counts[3], const uint32_t *order, size_t order_length,
-    double *places, size_t places_length, uint32_t *rows, size_t rows_length,
-    uint32_t *halves, size_t halves_length, double *lengths, size_t lengths_length,
-    uint32_t *quads, size_t quads_length);
+    double *newpositions, size_t newpositions_length, uint32_t *newpoints, size_t newpoints_length,
+    uint32_t *newedges, size_t newedges_length, double *newintervals, size_t newintervals_length,
+    uint32_t *newfaces, size_t newfaces_length);
 
 /* Finds the lowest-numbered edge of the mesh that crosses a depth, which is a z coordinate: one end is at or above the depth, the
    other at or below. Both ends at the depth will do; -0 is 0. Takes tables of any content and counts of any size.

@@ -3,11 +3,11 @@
 use mathlib.Core.Option.{Option, none, some}
 use Prim.Native.Nat.{ℕ}
 use Rattle.steps.specs.declared.Stepped.{Stepped}
-use Rattle.steps.specs.Step.{numberOf}
+use Rattle.steps.specs.Step.{stepGround}
 
 abbrev orZero : Option ℕ → ℕ
 orZero none = 0
 orZero (some g) = g
 
 abbrev pub stepNumber : Stepped → ℕ
-stepNumber a = orZero (numberOf a)
+stepNumber a = orZero (stepGround a)

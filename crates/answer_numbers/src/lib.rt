@@ -1,14 +1,14 @@
 // The answers of building and of the step in document 01's numbers, as values.
-// Contracts: `ground_number`, `step_number`. Definitions: `numberOf` of `built_meshes`, specs/Answers.antt; `specs/Numbers.antt`.
+// Contracts: `ground_number`, `step_number`. Definitions: `groundNumber` of `built_meshes`, specs/Answers.antt; `specs/Numbers.antt`.
 ghost use mathlib.Core.Path.{_≡_};
-ghost use Rattle.built_meshes.specs.Answers.{numberOf};
+ghost use Rattle.built_meshes.specs.Answers.{groundNumber};
 ghost use Rattle.answer_numbers.specs.Numbers.{stepNumber};
 use built_meshes::Ground;
 use steps::Stepped;
 
 // Document 01's number of a ground of building.
 pub fn ground_number(g: Ground) -> u32
-    ensures { λ r. ⌜ r ≡ numberOf g ⌝ }
+    ensures { λ r. ⌜ r ≡ groundNumber g ⌝ }
 {
     match g {
         Ground::OverCounts => 2,

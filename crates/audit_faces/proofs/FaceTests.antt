@@ -17,7 +17,7 @@ use Rattle.walks.specs.declared.FaceBorder.{FaceBorder}
 use Rattle.walks.specs.Border.{borderOf, border}
 use Rattle.walks.proofs.Laws.{border-point, border-walk, getD-map}
 use Rattle.walks.proofs.Back.{faceWalk-within}
-use Rattle.audit_tests.specs.Parts.{apart, faceSize, facesWalked}
+use Rattle.audit_tests.specs.Parts.{differAt, faceSize, facesWalked}
 use Rattle.audit_tests.proofs.Laws.{and-false, every-none, every-more, every-stop, every-all, every-cong, sumTo-none, sumTo-more, sumTo-stop, sumTo-all}
 
 module _ (m : Mesh) (np ne f : ℕ) where
@@ -39,7 +39,7 @@ module _ (m : Mesh) (np ne f : ℕ) where
 -- ---- the size of a face, by its border
 
 abbrev allApart : List ℕ → ℕ → Bool
-allApart ks n = every n (λ i. every i (λ j. apart ks i j))
+allApart ks n = every n (λ i. every i (λ j. differAt ks i j))
 
 module _ (m : Mesh) (f : ℕ) (es : List ℕ) where
   -- the points of the border are those of the walk, as far as they are looked at
@@ -48,7 +48,7 @@ module _ (m : Mesh) (f : ℕ) (es : List ℕ) where
   apart-border =
       every-cong (length es) _ _
       (λ i l. every-cong i _ _ (λ j k. ap₂ (λ (a b : ℕ). not (eqb a b)) (same i l) (same j (omega arith))))
-      ∙ ap (λ (n : ℕ). every n (λ i. every i (λ j. apart (map (firstPoint m f) es) i j))) (sym (length-map es (firstPoint m f)))
+      ∙ ap (λ (n : ℕ). every n (λ i. every i (λ j. differAt (map (firstPoint m f) es) i j))) (sym (length-map es (firstPoint m f)))
     where
       same : (i : ℕ) → i < length es → getD (borderOf m f (back es) .points) i 0 ≡ getD (map (firstPoint m f) es) i 0
       same i l = border-point m f es i l ∙ sym (getD-map (firstPoint m f) es i l)

@@ -10,7 +10,7 @@ ghost use Rattle.tables.specs.Layout.{edgeWidth, faceWidth, longestPerimeter};
 ghost use Rattle.tables.specs.Mesh.{none};
 ghost use Rattle.audited_meshes.specs.Folds.{every};
 ghost use Rattle.audited_meshes.specs.Quick.{faceFit};
-ghost use Rattle.audit_tests.specs.Parts.{apart, faceSize, facesWalked};
+ghost use Rattle.audit_tests.specs.Parts.{differAt, faceSize, facesWalked};
 ghost use Rattle.tables.specs.Parts.{faceTables};
 use t_spline::NONE;
 use tables::FACE_WIDTH;
@@ -72,7 +72,7 @@ pub fn faces_fit(faces: &[u32], np: usize, ne: usize, nf: usize) -> bool
 // Whether the point at place i is at none of the places before it.
 fn is_new(points: &[u32; LONGEST_BORDER], i: usize) -> bool
     requires { ⌜ i ≤ 67 ⌝ }
-    ensures { λ r. ⌜ r ≡ every i (λ j. apart (now (points .entry)) i j) ⌝ }
+    ensures { λ r. ⌜ r ≡ every i (λ j. differAt (now (points .entry)) i j) ⌝ }
 {
     let p = points[i];
     let mut j = 0;
@@ -88,7 +88,7 @@ fn is_new(points: &[u32; LONGEST_BORDER], i: usize) -> bool
 // Whether no point stands twice in the first n places.
 fn are_distinct(points: &[u32; LONGEST_BORDER], n: usize) -> bool
     requires { ⌜ n ≤ longestPerimeter ⌝ }
-    ensures { λ r. ⌜ r ≡ every n (λ i. every i (λ j. apart (now (points .entry)) i j)) ⌝ }
+    ensures { λ r. ⌜ r ≡ every n (λ i. every i (λ j. differAt (now (points .entry)) i j)) ⌝ }
 {
     let mut i = 0;
     while i < n {

@@ -2,7 +2,7 @@
 --     linksBack es k f a e    edge a borders face f and has the link back to edge e there: the link at place k of its words if f is
 --                             on its left, two places further if it is on its right; 4 for clockwise links, 5 for anticlockwise
 --     walkFits m ne p         the walk about point p comes back after its valence
---     apart ks i j            other numbers stand at the places i and j
+--     differAt ks i j         other numbers stand at the places i and j
 --     faceSize m ne f         how many edges the walk about face f passes, if it comes back after at least 3 and passes no point
 --                             twice; else 0
 --     facesWalked m ne nf t   the walks about the first nf faces come back so, and their lengths add up to t
@@ -26,8 +26,8 @@ linksBack es k f a e =
 abbrev pub walkFits : Mesh → ℕ → ℕ → Bool
 walkFits m ne p = pointBack (valence m p) (pointWalk m ne (valence m p) p)
 
-abbrev pub apart : List ℕ → ℕ → ℕ → Bool
-apart ks i j = not (eqb (getD ks i 0) (getD ks j 0))
+abbrev pub differAt : List ℕ → ℕ → ℕ → Bool
+differAt ks i j = not (eqb (getD ks i 0) (getD ks j 0))
 
 abbrev pub faceSize : Mesh → ℕ → ℕ → ℕ
 faceSize m ne f = cond (faceBack m f (faceWalk m ne f)) (passed (faceWalk m ne f)) 0

@@ -10,7 +10,8 @@ use lib.Dec.{eqb, ltb}
 use lib.ListN.{length, getD}
 use lib.Ieee.Scale.{finite}
 use Rattle.tables.specs.Counted.{countsOf, rowsFor}
-use Rattle.tables.specs.Mesh.{Mesh, none, x, y, z, valence, start, mark, origin, dest, leftFace, rightFace, leftCw, leftAcw, rightCw, rightAcw, interval, faceStart, corner, pointRows, edgeRows, faceRows}
+use Rattle.tables.specs.Mesh.{Mesh, none, x, y, z, valence, start, mark, origin, dest, leftFace, rightFace, leftCw}
+use Rattle.tables.specs.Mesh.{leftAcw, rightCw, rightAcw, interval, faceStart, corner, pointRows, edgeRows, faceRows}
 use Rattle.closed_meshes.specs.Renumbering.{sumTo}
 use Rattle.audited_meshes.specs.Folds.{every, occurrences, distinct, Distinct}
 use Rattle.audited_meshes.specs.Walks.{Walk, back, lost, borders, touches, acwOfFace, acwOfPoint, cwOfFace, firstPoint, faceWalk, pointWalk, Touches}

@@ -7,7 +7,7 @@ use Prim.Native.Nat.{ℕ, _≤_, _<_}
 use native.Mathlib.Omega.{arith}
 use native.Mathlib.Decide.{decLt}
 use lib.ListN.{length, getD, length-map}
-use Rattle.closed_meshes.specs.Mesh.{Mesh as MeshOver, Dart, lft, rgt, edge, flip, first, second, face, acw, cw}
+use Rattle.closed_meshes.specs.Mesh.{MeshOver, Dart, lft, rgt, edge, flip, first, second, face, acw, cw}
 use Rattle.closed_meshes.specs.Closed.{Closed}
 use Rattle.closed_meshes.specs.Cycles.{Cycles}
 use Rattle.closed_meshes.specs.Renumbering.{Row}

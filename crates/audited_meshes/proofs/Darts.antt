@@ -3,7 +3,7 @@ use mathlib.Core.Path.{_≡_, refl, sym, _∙_, ap}
 use mathlib.Core.Logic.{inl, inr, _≢_}
 use Prim.Native.Nat.{ℕ}
 use borrow.Author.Tests.{eq-eqb, ne-eqb}
-use Rattle.closed_meshes.specs.Mesh.{Mesh as MeshOver, Dart, lft, rgt, edge, first, face, acw, cw}
+use Rattle.closed_meshes.specs.Mesh.{MeshOver, Dart, lft, rgt, edge, first, face, acw, cw}
 use Rattle.closed_meshes.specs.Renumbering.{Row}
 use Rattle.closed_meshes.proofs.Counting.{row-path}
 use Rattle.tables.specs.Mesh.{Mesh, origin, leftFace}

@@ -8,7 +8,7 @@ use lib.Dec.{eqb}
 use lib.ListN.{length}
 use borrow.Author.Tests.{eq-eqb, ne-eqb}
 use Rattle.closed_meshes.specs.Renumbering.{sumTo}
-use Rattle.audited_meshes.specs.Folds.{one, occurrences}
+use Rattle.audited_meshes.specs.Folds.{oneIf, occurrences}
 
 -- a number below suc n is below n or is n
 pub below-suc : {A : Type 0} (k n : ℕ) → k < suc n → (k < n → A) → (k ≡ n → A) → A
@@ -62,25 +62,25 @@ sumTo-swap (suc n) k v =
     ap (λ (t : ℕ). t + sumTo k (λ j. v n j)) (sumTo-swap n k v) ∙ sym (sumTo-add k (λ j. sumTo n (λ i. v i j)) (λ j. v n j))
 
 -- the number i is found once among the numbers below n, if it is one of them
-sumTo-above : (n i : ℕ) → n ≤ i → sumTo n (λ k. one (eqb i k)) ≡ 0
+sumTo-above : (n i : ℕ) → n ≤ i → sumTo n (λ k. oneIf (eqb i k)) ≡ 0
 unfolding sumTo
 sumTo-above zero i h = refl
 sumTo-above (suc n) i h =
-    ap₂ (λ (x y : ℕ). x + y) (sumTo-above n i (omega arith)) (ap one (ne-eqb i n (λ e. omega arith)))
+    ap₂ (λ (x y : ℕ). x + y) (sumTo-above n i (omega arith)) (ap oneIf (ne-eqb i n (λ e. omega arith)))
 
-pub sumTo-one : (n i : ℕ) → i < n → sumTo n (λ k. one (eqb i k)) ≡ 1
+pub sumTo-one : (n i : ℕ) → i < n → sumTo n (λ k. oneIf (eqb i k)) ≡ 1
 unfolding sumTo
 sumTo-one zero i h = absurd (omega arith)
 sumTo-one (suc n) i h =
     below-suc i n h
-    (λ lt. ap₂ (λ (x y : ℕ). x + y) (sumTo-one n i lt) (ap one (ne-eqb i n (λ e. omega arith))))
-    (λ same. ap₂ (λ (x y : ℕ). x + y) (sumTo-above n i (omega arith)) (ap one (eq-eqb i n same)))
+    (λ lt. ap₂ (λ (x y : ℕ). x + y) (sumTo-one n i lt) (ap oneIf (ne-eqb i n (λ e. omega arith))))
+    (λ same. ap₂ (λ (x y : ℕ). x + y) (sumTo-above n i (omega arith)) (ap oneIf (eq-eqb i n same)))
 
 -- the length of a list of numbers below n is the sum of how often each stands in it
 pub length-sumTo : (n : ℕ) (ks : List ℕ) → ((i : ℕ) → 0 < occurrences i ks → i < n) → length ks ≡ sumTo n (λ i. occurrences i ks)
 unfolding occurrences
 length-sumTo n [] h = sym (sumTo-zero n)
 length-sumTo n (k ∷ ks) h =
-    let here : k < n = h k (subst (λ t. 0 < one t + occurrences k ks) (sym (eq-eqb k k refl)) (omega arith)) in
+    let here : k < n = h k (subst (λ t. 0 < oneIf t + occurrences k ks) (sym (eq-eqb k k refl)) (omega arith)) in
     let rest : length ks ≡ sumTo n (λ i. occurrences i ks) = length-sumTo n ks (λ i l. h i (omega arith)) in
-    omega (arith, rest, sumTo-one n k here, sumTo-add n (λ i. one (eqb k i)) (λ i. occurrences i ks))
+    omega (arith, rest, sumTo-one n k here, sumTo-add n (λ i. oneIf (eqb k i)) (λ i. occurrences i ks))

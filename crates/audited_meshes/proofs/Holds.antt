@@ -8,7 +8,7 @@ use mathlib.Core.Option
 use Prim.Native.Nat.{ℕ, zero, suc, _<_}
 use native.Mathlib.Omega.{arith}
 use lib.ListN.{length, getD, length-map}
-use Rattle.closed_meshes.specs.Mesh.{Mesh as MeshOver, Place, place0, place1, place2, place3, Dart, lft, rgt, edge, flip, first, second, face, acw, cw}
+use Rattle.closed_meshes.specs.Mesh.{MeshOver, Place, place0, place1, place2, place3, Dart, lft, rgt, edge, flip, first, second, face, acw, cw}
 use Rattle.closed_meshes.specs.Closed.{Closed}
 use Rattle.closed_meshes.specs.Renumbering.{Row}
 use Rattle.closed_meshes.proofs.Counting.{row-path}

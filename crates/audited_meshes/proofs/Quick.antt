@@ -11,7 +11,7 @@ use lib.ListN.{length}
 use lib.Ieee.Scale.{finite}
 use Rattle.tables.specs.Mesh.{Mesh, none, x, y, z, valence, start, mark, origin, dest, leftFace, rightFace, interval, faceStart, corner, pointRows, edgeRows, faceRows}
 use Rattle.closed_meshes.specs.Renumbering.{sumTo}
-use Rattle.audited_meshes.specs.Folds.{one, occurrences, distinct, Distinct}
+use Rattle.audited_meshes.specs.Folds.{oneIf, occurrences, distinct, Distinct}
 use Rattle.audited_meshes.specs.Walks.{Walk, back, lost, edgesOf, passed, borders, touches, acwOfFace, acwOfPoint, firstPoint, faceWalk, pointWalk, Touches}
 use Rattle.audited_meshes.specs.Audit.{intervalFit}
 use Rattle.audited_meshes.specs.Audited.{Borders, Passes, EdgeInRange, PointWalked, Audited}
@@ -61,7 +61,7 @@ module _ (m : Mesh) (np ne nf : ℕ) where
 -- how often a walk passes an edge: at most once, and an edge of its class alone
 at-most :
     (step : ℕ → ℕ) (On : ℕ → Type 0) (s : ℕ) (w : Walk) → ((es : List ℕ) → w ≡ back es → Passes step On s s es) →
-    (i : ℕ) (b : Bool) → (On i → b ≡ true) → occurrences i (edgesOf w) ≤ one b
+    (i : ℕ) (b : Bool) → (On i → b ≡ true) → occurrences i (edgesOf w) ≤ oneIf b
 unfolding occurrences
 at-most step On s (back es) h i true on = passes-once step On s s es (h es refl) i
 at-most step On s (back es) h i false on = go (decLe 1 (occurrences i es))
@@ -110,7 +110,7 @@ module _ (m : Mesh) (np ne nf : ℕ) (ranges : (e : ℕ) → e < ne → EdgeInRa
   face-sum :
       ((e : ℕ) → e < ne → leftFace m e ≢ rightFace m e) →
       (sumTo nf (λ f. passed (faceWalk m ne f)) ≡ 2 * ne)
-      ↔ ((f e : ℕ) → f < nf → e < ne → occurrences e (edgesOf (faceWalk m ne f)) ≡ one (borders m f e))
+      ↔ ((f e : ℕ) → f < nf → e < ne → occurrences e (edgesOf (faceWalk m ne f)) ≡ oneIf (borders m f e))
   face-sum differ =
       let walks : (f : ℕ) (es : List ℕ) → faceWalk m ne f ≡ back es → Passes (acwOfFace m f) (λ e. (e < ne) × Borders m f e) (faceStart m f) (faceStart m f) es
       = λ f es q. faceWalk-is m ne f es .0 q .0 in
@@ -123,7 +123,7 @@ module _ (m : Mesh) (np ne nf : ℕ) (ranges : (e : ℕ) → e < ne → EdgeInRa
   point-sum :
       (v : ℕ → ℕ) → ((e : ℕ) → e < ne → origin m e ≢ dest m e) →
       (sumTo np (λ p. passed (pointWalk m ne (v p) p)) ≡ 2 * ne)
-      ↔ ((p e : ℕ) → p < np → e < ne → occurrences e (edgesOf (pointWalk m ne (v p) p)) ≡ one (touches m p e))
+      ↔ ((p e : ℕ) → p < np → e < ne → occurrences e (edgesOf (pointWalk m ne (v p) p)) ≡ oneIf (touches m p e))
   point-sum v differ =
       let walks : (p : ℕ) (es : List ℕ) → pointWalk m ne (v p) p ≡ back es → Passes (acwOfPoint m p) (λ e. (e < ne) × Touches m p e) (start m p) (start m p) es
       = λ p es q. pointWalk-is m ne p (v p) es .0 q .0 in
@@ -135,10 +135,10 @@ module _ (m : Mesh) (np ne nf : ℕ) (ranges : (e : ℕ) → e < ne → EdgeInRa
 -- what a walk passes of an edge: once if the edge is one of its class
 once-of :
     (step : ℕ → ℕ) (On : ℕ → Type 0) (s e : ℕ) (es : List ℕ) {A : Type 0} {b : Bool} → Is b A →
-    Passes step On s s es → (On e → A) → (A → occurrences e es ≡ 1) → occurrences e es ≡ one b
+    Passes step On s s es → (On e → A) → (A → occurrences e es ≡ 1) → occurrences e es ≡ oneIf b
 once-of step On s e es {A} {b} = go b
   where
-    go : (b : Bool) → Is b A → Passes step On s s es → (On e → A) → (A → occurrences e es ≡ 1) → occurrences e es ≡ one b
+    go : (b : Bool) → Is b A → Passes step On s s es → (On e → A) → (A → occurrences e es ≡ 1) → occurrences e es ≡ oneIf b
     go true t p on once = once (t .0 refl)
     go false t p on once = none (decLe 1 (occurrences e es))
       where
@@ -225,7 +225,7 @@ module _ (m : Mesh) (np ne nf : ℕ) where
               edges = w .edges;
               passes = faceWalk-is m ne f (w .edges) .0 (w .came) .0;
               each-once = λ e k b.
-                  ap (λ v. occurrences e (edgesOf v)) (sym (w .came)) ∙ face-sum m np ne nf ranges sides .0 (r .sizes) f e l k ∙ ap one (borders-is m f e .1 b);
+                  ap (λ v. occurrences e (edgesOf v)) (sym (w .came)) ∙ face-sum m np ne nf ranges sides .0 (r .sizes) f e l k ∙ ap oneIf (borders-is m f e .1 b);
               no-point-twice = w .holds .1;
               at-least-3 = w .holds .0;
               at-most-64 = faceWalk-is m ne f (w .edges) .0 (w .came) .1;
@@ -257,7 +257,7 @@ module _ (m : Mesh) (np ne nf : ℕ) where
             edges = w .edges;
             passes = pointWalk-is m ne p (valence m p) (w .edges) .0 (w .came) .0;
             each-once = λ e k t.
-                ap (λ v. occurrences e (edgesOf v)) (sym (w .came)) ∙ point-sum m np ne nf ranges (λ p. valence m p) ends .0 lengths p e l k ∙ ap one (touches-is m p e .1 t);
+                ap (λ v. occurrences e (edgesOf v)) (sym (w .came)) ∙ point-sum m np ne nf ranges (λ p. valence m p) ends .0 lengths p e l k ∙ ap oneIf (touches-is m p e .1 t);
             at-least-2 = subst (λ n. 2 ≤ n) (sym (w .holds)) (r .points p l .0 .1);
             is-valence = w .holds;
           }

@@ -5,7 +5,7 @@ use mathlib.Core.Option.{Option, some}
 use mathlib.Core.Option
 use Prim.Native.Nat.{ℕ, _<_}
 use native.Mathlib.Omega.{arith}
-use Rattle.closed_meshes.specs.Mesh.{Mesh as MeshOver, Place, place0, place1, place2, place3}
+use Rattle.closed_meshes.specs.Mesh.{MeshOver, Place, place0, place1, place2, place3}
 use Rattle.closed_meshes.specs.Renumbering.{Row}
 use Rattle.tables.specs.Mesh.{Mesh, none, valence, start, origin, dest, leftFace, rightFace, leftCw, leftAcw, rightCw, rightAcw, faceStart, corner}
 use Rattle.audited_meshes.specs.Audited.{Audited}

@@ -11,7 +11,7 @@ use mathlib.Core.Option.{Option, some}
 use mathlib.Core.Option
 use Prim.Native.Nat.{ℕ, _≤_, _<_}
 use lib.Ieee.Scale.{finite}
-use Rattle.closed_meshes.specs.Mesh.{Mesh as MeshOver, Place, place0, place1, place2, place3}
+use Rattle.closed_meshes.specs.Mesh.{MeshOver, Place, place0, place1, place2, place3}
 use Rattle.closed_meshes.specs.Closed.{Closed}
 use Rattle.closed_meshes.specs.Renumbering.{Row}
 use Rattle.tables.specs.Mesh.{Mesh, none, x, y, z, valence, start, mark, origin, dest, leftFace, rightFace, leftCw, leftAcw, rightCw, rightAcw, interval, faceStart, corner, pointRows, edgeRows, faceRows}

@@ -17,10 +17,10 @@ use Rattle.tables.specs.Mesh.{Mesh, none, meshOf}
 use Rattle.tables.specs.Rows.{over, zeroed}
 use Rattle.tables.specs.Counted.{countsOf, rowsFor, zeroedRows}
 use Rattle.tables.proofs.Laws.{length-zeroed}
-use Rattle.built_meshes.specs.Lists.{Lists, pointsOf, facesOf, rowsOf, offset, countsFit, numbersFit}
+use Rattle.built_meshes.specs.Lists.{Lists, pointsOf, facesOf, rowsOf, offset, countsFit, listedFit}
 use Rattle.tables.specs.declared.Sizes.{Sizes}
-use Rattle.built_meshes.specs.Perimeters.{State, Step, on, stopped}
-use Rattle.built_meshes.specs.Building.{Outcome, refusal, wholeIf, facesFrom, answered, allFaces, buildIf, build}
+use Rattle.built_meshes.specs.Perimeters.{BuildState, Progress, on, stopped}
+use Rattle.built_meshes.specs.Building.{BuildOutcome, buildRefusal, wholeIf, facesFrom, answered, allFaces, buildIf, build}
 use Rattle.built_meshes.specs.Whole.{marked, finished, wholeVerdict}
 use Rattle.built_meshes.specs.declared.Ground.{Ground}
 use Rattle.built_meshes.specs.declared.Ground.the-variants.{OverCounts, UnfitNumber, FewRows}
@@ -33,7 +33,7 @@ use Rattle.building_tests.specs.Lent.{lists, limitsOf}
 use Rattle.building_tests.specs.declared.Bounds.{Bounds}
 use Rattle.building_tests.specs.declared.Bounds.the-variants.{General, Refine}
 use Rattle.edge_search.specs.Chains.{Newest, Standing}
-use Rattle.building_faces.specs.Rings.{stateAt, Lent}
+use Rattle.building_faces.specs.Rings.{stateAt, ListedRoom}
 use Rattle.building.specs.Concluding.{concluded, answeredFrom, Begun, Zeroed}
 
 -- ---- the ends of `conclude`
@@ -41,7 +41,7 @@ use Rattle.building.specs.Concluding.{concluded, answeredFrom, Begun, Ze
 module _ (cs : List Float) (np nl nf : ℕ) (m : Mesh) (k : ℕ) (v : Verdict) where
   pub concluded-fit : (row : ℕ) (ps : List Float) (pts : List ℕ) → v ≡ Fit → row ≡ k → ps ≡ over (np * 3) cs (m .positions)
       → pts ≡ marked np (m .points)
-      → _≡_ {A = Outcome}
+      → _≡_ {A = BuildOutcome}
       (record {
         answer = Accepted (record { points = np; edges = row; faces = nf });
         tables = meshOf ps pts (m .edges) (m .intervals) (m .faces);
@@ -51,7 +51,7 @@ module _ (cs : List Float) (np nl nf : ℕ) (m : Mesh) (k : ℕ) (v : Verdict) w
   concluded-fit row ps pts h r a b = rw (h, r, a, b)
 
   pub concluded-unfit : (g : Ground) (new : Mesh) → v ≡ Unfit g → new ≡ zeroedRows (countsOf np nl nf) m
-      → _≡_ {A = Outcome} (record { answer = Refused g; tables = new }) (concluded cs np nl nf m k v)
+      → _≡_ {A = BuildOutcome} (record { answer = Refused g; tables = new }) (concluded cs np nl nf m k v)
   unfolding concluded
   concluded-unfit g new h z = rw (h, z)
 
@@ -147,7 +147,7 @@ standing-none l t links ch h room c =
 
 -- there are rows and links for all edges
 pub lent-rooms : (l : Lists) (t : Mesh) (ch : List ℕ) → Rooms l t → 36864 ≤ length ch
-    → Lent (pointsOf l) (l .listed) (l .intervals) (t .edges) (t .intervals) ch
+    → ListedRoom (pointsOf l) (l .listed) (l .intervals) (t .edges) (t .intervals) ch
 lent-rooms l t ch r room =
     let a = r .points-few in
     let b = r .listed-few in
@@ -165,18 +165,18 @@ module _ (l : Lists) (m t : Mesh) (begun : Begun l m) (zero : t ≡ zeroedRows (
   faces-few : limitsOf (begun .bounds) .faces ≤ none
   faces-few = let few = limits-few (begun .bounds) in omega (arith, few .1)
 
-  all-from : (x : Step State) → x ≡ facesFrom (facesOf l) l 0 0 (on (stateAt t 0)) → x ≡ allFaces l m
+  all-from : (x : Progress BuildState) → x ≡ facesFrom (facesOf l) l 0 0 (on (stateAt t 0)) → x ≡ allFaces l m
   unfolding allFaces
   all-from x h = rw zero at h
 
-  zeroed-tables : (x : Step State) → x ≡ allFaces l m → zeroedRows (rowsOf l) (tablesOf x) ≡ zeroedRows (rowsOf l) m
+  zeroed-tables : (x : Progress BuildState) → x ≡ allFaces l m → zeroedRows (rowsOf l) (tablesOf x) ≡ zeroedRows (rowsOf l) m
   zeroed-tables x h =
-      ap (λ (y : Step State). zeroedRows (rowsOf l) (tablesOf y)) h
+      ap (λ (y : Progress BuildState). zeroedRows (rowsOf l) (tablesOf y)) h
       ∙ zeroed-after (limitsOf (begun .bounds)) l m faces-few (begun .counts) (begun .numbers) (begun .rows)
 
   pub stopped-outcome : (g : Ground) (n after : Mesh) → stopped g n ≡ facesFrom (facesOf l) l 0 0 (on (stateAt t 0))
       → after ≡ zeroedRows (rowsOf l) n
-      → _≡_ {A = Outcome} (record { answer = Refused g; tables = after }) (answeredFrom l m)
+      → _≡_ {A = BuildOutcome} (record { answer = Refused g; tables = after }) (answeredFrom l m)
   unfolding answeredFrom answered
   stopped-outcome g n after h z =
       rw (← all-from (stopped g n) h, z, zeroed-tables (stopped g n) (all-from (stopped g n) h))
@@ -185,39 +185,39 @@ module _ (l : Lists) (m t : Mesh) (begun : Begun l m) (zero : t ≡ zeroedRows (
       → concluded (l .coordinates) (pointsOf l) (length (l .listed)) (facesOf l) n k v ≡ wholeIf l m (stateAt n k) v
   unfolding concluded wholeIf finished
   verdict-outcome k n Fit z = refl
-  verdict-outcome k n (Unfit g) z = ap (λ (x : Mesh). refusal g x) z
+  verdict-outcome k n (Unfit g) z = ap (λ (x : Mesh). buildRefusal g x) z
 
-  pub on-outcome : (k : ℕ) (n : Mesh) (o : Outcome) → on (stateAt n k) ≡ facesFrom (facesOf l) l 0 0 (on (stateAt t 0))
+  pub on-outcome : (k : ℕ) (n : Mesh) (o : BuildOutcome) → on (stateAt n k) ≡ facesFrom (facesOf l) l 0 0 (on (stateAt t 0))
       → o ≡ concluded (l .coordinates) (pointsOf l) (length (l .listed)) (facesOf l) n k (wholeVerdict n (pointsOf l) k)
       → o ≡ answeredFrom l m
   unfolding answeredFrom answered
   on-outcome k n o h c =
       c ∙ verdict-outcome k n (wholeVerdict n (pointsOf l) k) (zeroed-tables (on (stateAt n k)) (all-from (on (stateAt n k)) h))
-      ∙ ap (λ (x : Step State). answered l m x) (all-from (on (stateAt n k)) h)
+      ∙ ap (λ (x : Progress BuildState). answered l m x) (all-from (on (stateAt n k)) h)
 
 -- ---- the tests before the faces
 
-pub numbers-same : (cs : List Float) (ss ls : List ℕ) (be : List Float) → numbersFit (lists cs [] [] be) ≡ numbersFit (lists cs ss ls be)
-unfolding numbersFit
+pub numbers-same : (cs : List Float) (ss ls : List ℕ) (be : List Float) → listedFit (lists cs [] [] be) ≡ listedFit (lists cs ss ls be)
+unfolding listedFit
 numbers-same cs ss ls be = refl
 
 pub rows-same : (l : Lists) (m : Mesh) → rowsFor (countsOf (pointsOf l) (length (l .listed)) (facesOf l)) m ≡ rowsFor (rowsOf l) m
 rows-same l m = refl
 
 module _ (b : Bounds) (l : Lists) (m : Mesh) where
-  pub refused-counts : countsFit (limitsOf b) l ≡ false → refusal OverCounts m ≡ build (limitsOf b) l m
+  pub refused-counts : countsFit (limitsOf b) l ≡ false → buildRefusal OverCounts m ≡ build (limitsOf b) l m
   unfolding build buildIf
   refused-counts h = rw h
 
-  pub refused-numbers : countsFit (limitsOf b) l ≡ true → numbersFit l ≡ false → refusal UnfitNumber m ≡ build (limitsOf b) l m
+  pub refused-numbers : countsFit (limitsOf b) l ≡ true → listedFit l ≡ false → buildRefusal UnfitNumber m ≡ build (limitsOf b) l m
   unfolding build buildIf
   refused-numbers h k = rw (h, k)
 
-  pub refused-rows : countsFit (limitsOf b) l ≡ true → numbersFit l ≡ true → rowsFor (rowsOf l) m ≡ false → refusal FewRows m ≡ build (limitsOf b) l m
+  pub refused-rows : countsFit (limitsOf b) l ≡ true → listedFit l ≡ true → rowsFor (rowsOf l) m ≡ false → buildRefusal FewRows m ≡ build (limitsOf b) l m
   unfolding build buildIf
   refused-rows h k r = rw (h, k, r)
 
-  pub begun-build : (o : Outcome) → countsFit (limitsOf b) l ≡ true → numbersFit l ≡ true → rowsFor (rowsOf l) m ≡ true → o ≡ answeredFrom l m
+  pub begun-build : (o : BuildOutcome) → countsFit (limitsOf b) l ≡ true → listedFit l ≡ true → rowsFor (rowsOf l) m ≡ true → o ≡ answeredFrom l m
       → o ≡ build (limitsOf b) l m
   unfolding build buildIf answeredFrom
   begun-build o h k r a = a ∙ rw (h, k, r)

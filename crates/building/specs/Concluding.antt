@@ -12,8 +12,8 @@ use Rattle.tables.specs.Layout.{positionWidth}
 use Rattle.tables.specs.Mesh.{Mesh}
 use Rattle.tables.specs.Rows.{over}
 use Rattle.tables.specs.Counted.{countsOf, rowsFor, zeroedRows}
-use Rattle.built_meshes.specs.Lists.{Lists, rowsOf, countsFit, numbersFit}
-use Rattle.built_meshes.specs.Building.{Outcome, refusal, answered, allFaces}
+use Rattle.built_meshes.specs.Lists.{Lists, rowsOf, countsFit, listedFit}
+use Rattle.built_meshes.specs.Building.{BuildOutcome, buildRefusal, answered, allFaces}
 use Rattle.built_meshes.specs.Whole.{marked}
 use Rattle.built_meshes.specs.declared.Verdict.{Verdict}
 use Rattle.built_meshes.specs.declared.Verdict.the-variants.{Fit, Unfit}
@@ -21,7 +21,7 @@ use Rattle.built_meshes.specs.declared.Built.the-variants.{Accepted}
 use Rattle.building_tests.specs.Lent.{limitsOf}
 use Rattle.building_tests.specs.declared.Bounds.{Bounds}
 
-unfoldable pub concluded : List Float → ℕ → ℕ → ℕ → Mesh → ℕ → Verdict → Outcome
+unfoldable pub concluded : List Float → ℕ → ℕ → ℕ → Mesh → ℕ → Verdict → BuildOutcome
 unfolding over marked zeroedRows
 concluded cs np nl nf m k Fit =
     record {
@@ -35,10 +35,10 @@ concluded cs np nl nf m k Fit =
             faces = m .faces;
           };
     }
-concluded cs np nl nf m k (Unfit g) = refusal g (zeroedRows (countsOf np nl nf) m)
+concluded cs np nl nf m k (Unfit g) = buildRefusal g (zeroedRows (countsOf np nl nf) m)
 
 -- what is answered of the lists l and the tables m when all faces were tried
-unfoldable pub answeredFrom : Lists → Mesh → Outcome
+unfoldable pub answeredFrom : Lists → Mesh → BuildOutcome
 unfolding answered allFaces
 answeredFrom l m = answered l m (allFaces l m)
 
@@ -46,7 +46,7 @@ answeredFrom l m = answered l m (allFaces l m)
 pub record Begun (l : Lists) (m : Mesh) : Type 0 where
   pub bounds : Bounds
   pub counts : countsFit (limitsOf bounds) l ≡ true
-  pub numbers : numbersFit l ≡ true
+  pub numbers : listedFit l ≡ true
   pub rows : rowsFor (rowsOf l) m ≡ true
 
 -- the tables t are such tables with the rows that ground 4 counts made zero

@@ -14,7 +14,7 @@ use Rattle.tables.specs.Records.{edgeAt, edgeWords}
 use Rattle.tables.proofs.Laws.{length-putRow, getD-putRow, getD-putRow-other}
 use Rattle.t_nurcc_edge.specs.Connected.{pairOf, connectedRows}
 use Rattle.built_meshes.proofs.Connecting.{Wrote, connected-wrote}
-use Rattle.edge_search.specs.Chains.{SameEnds}
+use Rattle.edge_search.specs.Chains.{EndsKept}
 use Rattle.edge_search.proofs.Chains.{ends-trans}
 
 -- an edge with the same ends is put into its row
@@ -30,7 +30,7 @@ module _ (es : List ℕ) (i : ℕ) (e : TnurccEdge) (fits : i * 8 + 8 ≤ length
           subst (λ y. getD new (y * 8 + j) 0 ≡ getD es (y * 8 + j) 0) (sym s) (getD-putRow (edgeWords e) es (i * 8) j 0 l fits ∙ same)
       go (no n) = getD-putRow-other (edgeWords e) es 8 i x j 0 refl n l
 
-  put-ends : e .origin ≡ getD es (i * 8) 0 → e .dest ≡ getD es (i * 8 + 1) 0 → SameEnds es new
+  put-ends : e .origin ≡ getD es (i * 8) 0 → e .dest ≡ getD es (i * 8 + 1) 0 → EndsKept es new
   put-ends a b =
       record {
         origins = λ x.
@@ -41,7 +41,7 @@ module _ (es : List ℕ) (i : ℕ) (e : TnurccEdge) (fits : i * 8 + 8 ≤ length
       }
 
 pub connected-ends : (es : List ℕ) (is : List Float) (i j : ℕ) → i * 8 + 8 ≤ length es → j * 8 + 8 ≤ length es
-    → SameEnds es (connectedRows es is i j)
+    → EndsKept es (connectedRows es is i j)
 unfolding connectedRows
 connected-ends es is i j hi hj =
     ends-trans es mid (connectedRows es is i j) one
@@ -55,5 +55,5 @@ connected-ends es is i j hi hj =
     wrote : Wrote i j (edgeAt es is i) (edgeAt es is j) (record { first = edgeAt es is i; other = edgeAt es is j }) (pairOf es is i j)
     wrote = connected-wrote i j (edgeAt es is i) (edgeAt es is j) refl refl
 
-    one : SameEnds es mid
+    one : EndsKept es mid
     one = put-ends es i (pairOf es is i j .first) hi (wrote .kept-first .origin) (wrote .kept-first .dest)

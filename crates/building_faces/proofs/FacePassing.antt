@@ -12,8 +12,8 @@ use lib.ListN.{length}
 use Rattle.tables.specs.Mesh.{Mesh, meshOf}
 use Rattle.audited_meshes.proofs.Tests.{and-is, leb-is}
 use Rattle.built_meshes.specs.Lists.{Lists, size, offset}
-use Rattle.built_meshes.specs.Faces.{sizeFit, inRange, noPointTwice, sumsFit, faceVerdict}
-use Rattle.built_meshes.specs.Perimeters.{State, Step, on, stopped, places, closedUp, perimeter}
+use Rattle.built_meshes.specs.Faces.{sizeFit, listedInRange, noPointTwice, sumsFit, faceVerdict}
+use Rattle.built_meshes.specs.Perimeters.{BuildState, Progress, on, stopped, places, closedUp, perimeter}
 use Rattle.built_meshes.specs.Building.{faceIf, facePassed, facesFrom}
 use Rattle.built_meshes.specs.declared.Ground.{Ground}
 use Rattle.built_meshes.specs.declared.Verdict.the-variants.{Fit, Unfit}
@@ -21,7 +21,7 @@ use Rattle.built_meshes.proofs.Perimeter.{offset-suc}
 use Rattle.building_tests.specs.Lent.{lists}
 use Rattle.building_tests.proofs.Laws.{verdictBy, verdict-is}
 use Rattle.edge_search.specs.Chains.{Standing}
-use Rattle.building_faces.specs.Rings.{ringAt, stateAt, Placed, Sided, FaceStands}
+use Rattle.building_faces.specs.Rings.{faceStateAt, stateAt, ListedFrom, Sided, FaceStands}
 use Rattle.building_faces.specs.declared.Faced.the-variants as Faces
 
 -- ---- one face
@@ -33,17 +33,17 @@ fit-tests false b c d h = let z : _≡_ {A = ℕ} 0 1 = cc in absurd (omega arit
 
 module _ (ss ls : List ℕ) (be : List Float) (np f a n : ℕ) (h : Sided ss ls f a n) where
   -- a face that passes its tests has points, and they are in range
-  pub fit-placed : faceVerdict (lists [] ss ls be) np f a ≡ Fit → Placed np ls a n × (0 < n)
+  pub fit-placed : faceVerdict (lists [] ss ls be) np f a ≡ Fit → ListedFrom np ls a n × (0 < n)
   fit-placed fit =
-      let t = fit-tests (sizeFit n) (inRange (lists [] [] ls []) np a n) (noPointTwice (lists [] [] ls []) a n)
+      let t = fit-tests (sizeFit n) (listedInRange (lists [] [] ls []) np a n) (noPointTwice (lists [] [] ls []) a n)
       (sumsFit (lists [] ss [] be) f a) (sym (verdict-is [] ss ls be np f a n (h .is-size)) ∙ fit) in (
         record { within = h .within; points = t .1 },
         let three = and-is (leb-is 3 n) (leb-is n 64) .0 (t .0) .0 in omega arith,
       )
 
-  module _ (cs : List Float) (np-is : length cs / 3 ≡ np) (s : State) where
-    pub passed-fit : (x : Step State) → faceVerdict (lists cs ss ls be) np f a ≡ Fit
-        → x ≡ closedUp f (places n (lists cs ss ls be) f a n 0 (on (ringAt (s .mesh) (s .edges)))) → x ≡ facePassed (lists cs ss ls be) f a s
+  module _ (cs : List Float) (np-is : length cs / 3 ≡ np) (s : BuildState) where
+    pub passed-fit : (x : Progress BuildState) → faceVerdict (lists cs ss ls be) np f a ≡ Fit
+        → x ≡ closedUp f (places n (lists cs ss ls be) f a n 0 (on (faceStateAt (s .mesh) (s .edges)))) → x ≡ facePassed (lists cs ss ls be) f a s
     unfolding facePassed faceIf perimeter
     passed-fit x v e = e ∙ rw (np-is, v, h .is-size)
 
@@ -68,7 +68,7 @@ from-stopped zero l f a g m = refl
 from-stopped (suc j) l f a g m = refl
 
 -- one face less
-from-turn : (l : Lists) (nf f a n : ℕ) (s : State) (x : Step State) → f < nf → n ≡ size l f → x ≡ facePassed l f a s
+from-turn : (l : Lists) (nf f a n : ℕ) (s : BuildState) (x : Progress BuildState) → f < nf → n ≡ size l f → x ≡ facePassed l f a s
     → facesFrom (nf - (f + 1)) l (f + 1) (a + n) x ≡ facesFrom (nf - f) l f a (on s)
 unfolding facesFrom
 from-turn l nf f a n s x h e p = rw (p, e, less nf f h, add-one f)

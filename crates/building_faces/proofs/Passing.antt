@@ -9,17 +9,17 @@ use lib.Ieee.{Float}
 use lib.ListN.{length}
 use Rattle.tables.specs.Mesh.{Mesh, meshOf}
 use Rattle.built_meshes.specs.Lists.{Lists}
-use Rattle.built_meshes.specs.Perimeters.{Ring, Step, on, stopped, turn, places}
+use Rattle.built_meshes.specs.Perimeters.{FaceState, Progress, on, stopped, turn, places}
 use Rattle.built_meshes.specs.declared.Ground.{Ground}
 use Rattle.building_tests.specs.Lent.{lists}
 use Rattle.edge_search.specs.Chains.{Standing}
-use Rattle.building_faces.specs.Rings.{ringOf, ringAt, Lent, Closing, TurnStands}
+use Rattle.building_faces.specs.Rings.{faceStateOf, faceStateAt, ListedRoom, Closing, TurnStands}
 use Rattle.building_faces.specs.declared.RingEdges.{RingEdges}
 use Rattle.building_faces.specs.declared.Turned.the-variants as Turns
 
 -- what is lent serves as well when the tables keep their lengths
 pub lent-same : (np : ℕ) (ls : List ℕ) (be : List Float) (es₀ es : List ℕ) (is₀ is : List Float) (ch₀ ch : List ℕ)
-    → length es ≡ length es₀ → length is ≡ length is₀ → length ch ≡ length ch₀ → Lent np ls be es₀ is₀ ch₀ → Lent np ls be es is ch
+    → length es ≡ length es₀ → length is ≡ length is₀ → length ch ≡ length ch₀ → ListedRoom np ls be es₀ is₀ ch₀ → ListedRoom np ls be es is ch
 lent-same np ls be es₀ es is₀ is ch₀ ch a b c h =
     record {
       edge-rows = rw a (h .edge-rows);
@@ -35,7 +35,7 @@ places-stopped zero l f a n i g m = refl
 places-stopped (suc j) l f a n i g m = refl
 
 -- one place less
-places-turn : (l : Lists) (f a n i : ℕ) (r : Ring) (x : Step Ring) → i < n → x ≡ turn l f a n i r
+places-turn : (l : Lists) (f a n i : ℕ) (r : FaceState) (x : Progress FaceState) → i < n → x ≡ turn l f a n i r
     → places (n - (i + 1)) l f a n (i + 1) x ≡ places (n - i) l f a n i (on r)
 unfolding places
 places-turn l f a n i r x h s = rw (add-one i, s, less n i h)
@@ -55,8 +55,8 @@ module _ (np : ℕ) (ls : List ℕ) (be : List Float) (f a n k : ℕ) (pts₀ es
     pub closing : 0 < i → Closing ring
     pub rest :
         (cs : List Float) (ss : List ℕ) (ps : List Float) (fs : List ℕ)
-        → places (n - i) (lists cs ss ls be) f a n i (on (ringOf (meshOf ps pts es is fs) ring))
-        ≡ places n (lists cs ss ls be) f a n 0 (on (ringAt (meshOf ps pts₀ es₀ is₀ fs) k))
+        → places (n - i) (lists cs ss ls be) f a n i (on (faceStateOf (meshOf ps pts es is fs) ring))
+        ≡ places n (lists cs ss ls be) f a n 0 (on (faceStateAt (meshOf ps pts₀ es₀ is₀ fs) k))
 
   pub passing-start : Standing np pts₀ es₀ ch₀ k → k ≤ a → Passing pts₀ es₀ is₀ ch₀ (record { edges = k; first = 0; before = 0 }) 0
   passing-start h l =
@@ -69,7 +69,7 @@ module _ (np : ℕ) (ls : List ℕ) (be : List Float) (f a n k : ℕ) (pts₀ es
         standing = h;
         count = omega arith;
         closing = λ z. absurd (omega arith);
-        rest = λ cs ss ps fs. ap (λ (j : ℕ). places j (lists cs ss ls be) f a n 0 (on (ringAt (meshOf ps pts₀ es₀ is₀ fs) k))) (none n);
+        rest = λ cs ss ps fs. ap (λ (j : ℕ). places j (lists cs ss ls be) f a n 0 (on (faceStateAt (meshOf ps pts₀ es₀ is₀ fs) k))) (none n);
       }
     where
       none : (n : ℕ) → n - 0 ≡ n
@@ -79,7 +79,7 @@ module _ (np : ℕ) (ls : List ℕ) (be : List Float) (f a n k : ℕ) (pts₀ es
       (pts' es' : List ℕ) (is' : List Float) (ch' : List ℕ) where
     pub passing-more : (next : RingEdges)
         → ((cs : List Float) (ss : List ℕ) (ps : List Float) (fs : List ℕ)
-        → on (ringOf (meshOf ps pts' es' is' fs) next) ≡ turn (lists cs ss ls be) f a n i (ringOf (meshOf ps pts es is fs) ring))
+        → on (faceStateOf (meshOf ps pts' es' is' fs) next) ≡ turn (lists cs ss ls be) f a n i (faceStateOf (meshOf ps pts es is fs) ring))
         → TurnStands np pts' es' ch' (a + i + 1) (Turns.On next)
         → length pts' ≡ length pts → length es' ≡ length es → length is' ≡ length is → length ch' ≡ length ch
         → Passing pts' es' is' ch' next (i + 1)
@@ -95,22 +95,22 @@ module _ (np : ℕ) (ls : List ℕ) (be : List Float) (f a n k : ℕ) (pts₀ es
           count = omega arith;
           closing = λ z. s .2;
           rest = λ cs ss ps fs.
-              places-turn (lists cs ss ls be) f a n i (ringOf (meshOf ps pts es is fs) ring) (on (ringOf (meshOf ps pts' es' is' fs) next)) l
+              places-turn (lists cs ss ls be) f a n i (faceStateOf (meshOf ps pts es is fs) ring) (on (faceStateOf (meshOf ps pts' es' is' fs) next)) l
               (turns cs ss ps fs)
               ∙ h .rest cs ss ps fs;
         }
 
     pub passing-stop : (g : Ground) (cs : List Float) (ss : List ℕ) (ps : List Float) (fs : List ℕ)
-        → stopped g (meshOf ps pts' es' is' fs) ≡ turn (lists cs ss ls be) f a n i (ringOf (meshOf ps pts es is fs) ring)
-        → stopped g (meshOf ps pts' es' is' fs) ≡ places n (lists cs ss ls be) f a n 0 (on (ringAt (meshOf ps pts₀ es₀ is₀ fs) k))
+        → stopped g (meshOf ps pts' es' is' fs) ≡ turn (lists cs ss ls be) f a n i (faceStateOf (meshOf ps pts es is fs) ring)
+        → stopped g (meshOf ps pts' es' is' fs) ≡ places n (lists cs ss ls be) f a n 0 (on (faceStateAt (meshOf ps pts₀ es₀ is₀ fs) k))
     passing-stop g cs ss ps fs turns =
         sym (places-stopped (n - (i + 1)) (lists cs ss ls be) f a n (i + 1) g (meshOf ps pts' es' is' fs))
-        ∙ places-turn (lists cs ss ls be) f a n i (ringOf (meshOf ps pts es is fs) ring) (stopped g (meshOf ps pts' es' is' fs)) l turns
+        ∙ places-turn (lists cs ss ls be) f a n i (faceStateOf (meshOf ps pts es is fs) ring) (stopped g (meshOf ps pts' es' is' fs)) l turns
         ∙ h .rest cs ss ps fs
 
   pub passing-end : (pts es : List ℕ) (is : List Float) (ch : List ℕ) (ring : RingEdges) (i : ℕ) → Passing pts es is ch ring i → n ≤ i
       → (cs : List Float) (ss : List ℕ) (ps : List Float) (fs : List ℕ)
-      → on (ringOf (meshOf ps pts es is fs) ring) ≡ places n (lists cs ss ls be) f a n 0 (on (ringAt (meshOf ps pts₀ es₀ is₀ fs) k))
+      → on (faceStateOf (meshOf ps pts es is fs) ring) ≡ places n (lists cs ss ls be) f a n 0 (on (faceStateAt (meshOf ps pts₀ es₀ is₀ fs) k))
   unfolding places
   passing-end pts es is ch ring i h l cs ss ps fs = rw (none (h .within) l) at (h .rest cs ss ps fs)
     where

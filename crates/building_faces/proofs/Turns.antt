@@ -16,18 +16,18 @@ use Rattle.t_nurcc_edge.specs.Connected.{connectedRows}
 use Rattle.t_nurcc_edge.proofs.Laws.{length-connectedRows}
 use Rattle.audited_meshes.proofs.Tests.{every-is, self-is}
 use Rattle.built_meshes.specs.Lists.{Lists}
-use Rattle.built_meshes.specs.Faces.{inRange}
-use Rattle.built_meshes.specs.Perimeters.{State, Ring, Step, on, stopped, turned, turn, faceOf, closedUp}
+use Rattle.built_meshes.specs.Faces.{listedInRange}
+use Rattle.built_meshes.specs.Perimeters.{BuildState, FaceState, Progress, on, stopped, turned, turn, faceOf, closedUp}
 use Rattle.built_meshes.specs.Edges.{Entered, at, refused, edgeBetween, enteredAt, enteredIf, entered, joined, withEdges}
 use Rattle.built_meshes.specs.declared.Ground.{Ground}
 use Rattle.built_meshes.specs.declared.Found.{Found}
 use Rattle.built_meshes.specs.declared.Found.the-variants as Founds
 use Rattle.building_tests.specs.Lent.{lists}
-use Rattle.edge_search.specs.Chains.{Standing, Room}
-use Rattle.edge_search.specs.Places.{Place, placeOf, entering, EnteredBy}
+use Rattle.edge_search.specs.Chains.{Standing, EdgeRoom}
+use Rattle.edge_search.specs.Places.{EnteredPlace, entryPlace, entering, EnteredBy}
 use Rattle.edge_search.specs.declared.Entry.the-variants.{Made, Refused}
 use Rattle.edge_search.proofs.Chains.{edgeBetween-below, standing-ends}
-use Rattle.building_faces.specs.Rings.{ringOf, Lent, Placed, Closing, SomeStand, TurnStands, FaceStands}
+use Rattle.building_faces.specs.Rings.{faceStateOf, ListedRoom, ListedFrom, Closing, SomeStand, TurnStands, FaceStands}
 use Rattle.building_faces.specs.declared.RingEdges.{RingEdges}
 use Rattle.building_faces.specs.declared.Turned.the-variants as Turns
 use Rattle.building_faces.specs.declared.Faced.the-variants as Faces
@@ -35,13 +35,13 @@ use Rattle.building_faces.proofs.Ends.{connected-ends}
 
 -- ---- what an entry says
 
-entering-at : (m n : Mesh) (k e : ℕ) (x : Entered) → placeOf n (Made k e) ≡ entering m x → x ≡ at n k e
+entering-at : (m n : Mesh) (k e : ℕ) (x : Entered) → entryPlace n (Made k e) ≡ entering m x → x ≡ at n k e
 entering-at m n k e (at n' k' e') h =
-    let q : _≡_ {A = Place} (record { mesh = n; edges = k; edge = e }) (record { mesh = n'; edges = k'; edge = e' }) = cc in
-    ap (λ (z : Place). at (z .mesh) (z .edges) (z .edge)) (sym q)
+    let q : _≡_ {A = EnteredPlace} (record { mesh = n; edges = k; edge = e }) (record { mesh = n'; edges = k'; edge = e' }) = cc in
+    ap (λ (z : EnteredPlace). at (z .mesh) (z .edges) (z .edge)) (sym q)
 entering-at m n k e (refused g) h = let z : _≡_ {A = ℕ} 0 1 = cc in absurd (omega arith)
 
-entering-refused : (m n : Mesh) (g : Ground) (x : Entered) → placeOf n (Refused g) ≡ entering m x → (x ≡ refused g) × (n ≡ m)
+entering-refused : (m n : Mesh) (g : Ground) (x : Entered) → entryPlace n (Refused g) ≡ entering m x → (x ≡ refused g) × (n ≡ m)
 entering-refused m n g (at n' k' e') h = let z : _≡_ {A = ℕ} 0 1 = cc in absurd (omega arith)
 entering-refused m n g (refused g') h = let a : g' ≡ g = cc in (ap refused a, cc)
 
@@ -70,14 +70,14 @@ pub made-counted : (m n : Mesh) (k f p q : ℕ) (v : Float) (c e : ℕ) → Ente
 made-counted m n k f p q v c e h = entered-counted m k f p q v (entering-at m n c e (entered m k f p q v) h)
 
 -- a listed point of the perimeter is a point
-pub placed-point : (np : ℕ) (ls : List ℕ) (a n i : ℕ) → Placed np ls a n → i < n → getD ls (a + i) 0 < np
-unfolding inRange
+pub placed-point : (np : ℕ) (ls : List ℕ) (a n i : ℕ) → ListedFrom np ls a n → i < n → getD ls (a + i) 0 < np
+unfolding listedInRange
 placed-point np ls a n i h l =
     ltb-true (getD ls (a + i) 0) np (every-is n (λ j. self-is (ltb (getD ls (a + j) 0) np)) .0 (h .points) i l)
 
 -- there is room for one more edge while as many stand as places were entered
 pub room-lent : (np : ℕ) (ls : List ℕ) (be : List Float) (es : List ℕ) (is : List Float) (ch : List ℕ) (k : ℕ)
-    → Lent np ls be es is ch → k < length ls → Room np es is ch k
+    → ListedRoom np ls be es is ch → k < length ls → EdgeRoom np es is ch k
 room-lent np ls be es is ch k h l =
     let a = h .edge-rows in let b = h .interval-rows in let c = h .link-rows in let d = h .few in
     record { edge-row = omega arith; interval-row = omega arith; links-row = omega arith; few = omega arith }
@@ -89,29 +89,29 @@ module _ (cs : List Float) (ss ls : List ℕ) (be : List Float) (f a n i next p 
   abbrev l : Lists
   l = lists cs ss ls be
 
-  turn-is : turn l f a n i (ringOf m ring) ≡ turned (ringOf m ring) i (entered m (ring .edges) f p q v)
+  turn-is : turn l f a n i (faceStateOf m ring) ≡ turned (faceStateOf m ring) i (entered m (ring .edges) f p q v)
   unfolding turn
   turn-is = rw (ep, eq, ev, en)
 
-  pub turn-stopped : (g : Ground) → EnteredBy (Refused g) m new (ring .edges) f p q v → stopped g new ≡ turn l f a n i (ringOf m ring)
+  pub turn-stopped : (g : Ground) → EnteredBy (Refused g) m new (ring .edges) f p q v → stopped g new ≡ turn l f a n i (faceStateOf m ring)
   unfolding turned
   turn-stopped g h =
       let r = entering-refused m new g (entered m (ring .edges) f p q v) h in rw (turn-is, r .0, r .1)
 
   pub turn-first : (c e : ℕ) → EnteredBy (Made c e) m new (ring .edges) f p q v → i ≡ 0
-      → on (ringOf new (record { edges = c; first = e; before = e })) ≡ turn l f a n i (ringOf m ring)
+      → on (faceStateOf new (record { edges = c; first = e; before = e })) ≡ turn l f a n i (faceStateOf m ring)
   unfolding turned
   turn-first c e h z = rw (turn-is, entering-at m new c e (entered m (ring .edges) f p q v) h, z)
 
-  chained-joined : (j : ℕ) (c e : ℕ) → (j ≡ 0 → ⊥) → turned (ringOf m ring) j (at new c e)
-      ≡ on (ringOf (joined new e (ring .before)) (record { edges = c; first = ring .first; before = e }))
+  chained-joined : (j : ℕ) (c e : ℕ) → (j ≡ 0 → ⊥) → turned (faceStateOf m ring) j (at new c e)
+      ≡ on (faceStateOf (joined new e (ring .before)) (record { edges = c; first = ring .first; before = e }))
   unfolding turned
   chained-joined zero c e z = absurd (z refl)
   chained-joined (suc j) c e z = refl
 
   pub turn-more : (c e : ℕ) (es : List ℕ) → EnteredBy (Made c e) m new (ring .edges) f p q v → (i ≡ 0 → ⊥)
       → es ≡ connectedRows (new .edges) (new .intervals) e (ring .before)
-      → on (ringOf (withEdges new es) (record { edges = c; first = ring .first; before = e })) ≡ turn l f a n i (ringOf m ring)
+      → on (faceStateOf (withEdges new es) (record { edges = c; first = ring .first; before = e })) ≡ turn l f a n i (faceStateOf m ring)
   unfolding joined
   turn-more c e es h z s =
       rw (turn-is, entering-at m new c e (entered m (ring .edges) f p q v) h, chained-joined i c e z, s)
@@ -163,14 +163,14 @@ some-more np pts es ch few most l h = let b = h .2 in (h .0, h .1, omega arith)
 
 -- ---- a perimeter closed up, and its face's row stored
 
-pub closed-on : (f row : ℕ) (x : Step Ring) (ring : RingEdges) (m : Mesh) (es fs : List ℕ) → on (ringOf m ring) ≡ x
+pub closed-on : (f row : ℕ) (x : Progress FaceState) (ring : RingEdges) (m : Mesh) (es fs : List ℕ) → on (faceStateOf m ring) ≡ x
     → es ≡ connectedRows (m .edges) (m .intervals) (ring .first) (ring .before) → row ≡ f
     → fs ≡ putRow (m .faces) (row * 5) (faceWords (faceOf (ring .first)))
-    → _≡_ {A = Step State} (on (record { mesh = meshOf (m .positions) (m .points) es (m .intervals) fs; edges = ring .edges })) (closedUp f x)
+    → _≡_ {A = Progress BuildState} (on (record { mesh = meshOf (m .positions) (m .points) es (m .intervals) fs; edges = ring .edges })) (closedUp f x)
 unfolding closedUp joined
 closed-on f row x ring m es fs h a b c = rw (← h, a, c, b)
 
-pub closed-stopped : (f : ℕ) (x : Step Ring) (g : Ground) (m : Mesh) → stopped g m ≡ x → _≡_ {A = Step State} (stopped g m) (closedUp f x)
+pub closed-stopped : (f : ℕ) (x : Progress FaceState) (g : Ground) (m : Mesh) → stopped g m ≡ x → _≡_ {A = Progress BuildState} (stopped g m) (closedUp f x)
 unfolding closedUp
 closed-stopped f x g m h = rw (← h)
 

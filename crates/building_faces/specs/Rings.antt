@@ -1,11 +1,11 @@
 -- Perimeters and faces, as the code answers them, and what their code asks of what it is lent.
---     ringOf m r              the definition's ring of the tables m and of the code's ring r
---     ringAt m k              the definition's ring before the first place, while k edges stand
+--     faceStateOf m r         the definition's ring of the tables m and of the code's ring r
+--     faceStateAt m k         the definition's ring before the first place, while k edges stand
 --     turnOf m r              the ring after a turn, or its ground, with the tables m as they stand then
 --     stateAt m k             the state of the tables m in which k edges stand
 --     stateOf m r             the state after a face, or its ground, with the tables m as they stand then
---     Lent                    there is a row and links for as many edges as points are listed, and an interval beside each
---     Placed                  n points from the place a on are listed and in range
+--     ListedRoom              there is a row and links for as many edges as points are listed, and an interval beside each
+--     ListedFrom              n points from the place a on are listed and in range
 --     Sided                   face f has its four sides, of n points in all, and as many are listed from the place a on
 --     Closing                 the first edge of a ring and the one before are edges
 --     SomeStand               the links are those of the edges that stand, at most so many
@@ -18,9 +18,9 @@ use lib.Ieee.{Float}
 use lib.ListN.{length}
 use Rattle.tables.specs.Layout.{edgeWidth}
 use Rattle.tables.specs.Mesh.{Mesh}
-use Rattle.built_meshes.specs.Lists.{size, general}
-use Rattle.built_meshes.specs.Faces.{inRange}
-use Rattle.built_meshes.specs.Perimeters.{State, Ring, Step, on, stopped}
+use Rattle.built_meshes.specs.Lists.{size, generalLimits}
+use Rattle.built_meshes.specs.Faces.{listedInRange}
+use Rattle.built_meshes.specs.Perimeters.{BuildState, FaceState, Progress, on, stopped}
 use Rattle.building_tests.specs.Lent.{lists}
 use Rattle.edge_search.specs.Chains.{Standing}
 use Rattle.building_faces.specs.declared.RingEdges.{RingEdges}
@@ -29,33 +29,33 @@ use Rattle.building_faces.specs.declared.Turned.the-variants as Turns
 use Rattle.building_faces.specs.declared.Faced.{Faced}
 use Rattle.building_faces.specs.declared.Faced.the-variants as Faces
 
-abbrev pub ringOf : Mesh → RingEdges → Ring
-ringOf m r = record { mesh = m; edges = r .edges; first = r .first; before = r .before }
+abbrev pub faceStateOf : Mesh → RingEdges → FaceState
+faceStateOf m r = record { mesh = m; edges = r .edges; first = r .first; before = r .before }
 
-abbrev pub ringAt : Mesh → ℕ → Ring
-ringAt m k = record { mesh = m; edges = k; first = 0; before = 0 }
+abbrev pub faceStateAt : Mesh → ℕ → FaceState
+faceStateAt m k = record { mesh = m; edges = k; first = 0; before = 0 }
 
-abbrev pub turnOf : Mesh → Turned → Step Ring
-turnOf m (Turns.On r) = on (ringOf m r)
+abbrev pub turnOf : Mesh → Turned → Progress FaceState
+turnOf m (Turns.On r) = on (faceStateOf m r)
 turnOf m (Turns.Stopped g) = stopped g m
 
-abbrev pub stateAt : Mesh → ℕ → State
+abbrev pub stateAt : Mesh → ℕ → BuildState
 stateAt m k = record { mesh = m; edges = k }
 
-abbrev pub stateOf : Mesh → Faced → Step State
+abbrev pub stateOf : Mesh → Faced → Progress BuildState
 stateOf m (Faces.On k) = on (stateAt m k)
 stateOf m (Faces.Stopped g) = stopped g m
 
-pub record Lent (np : ℕ) (ls : List ℕ) (be : List Float) (es : List ℕ) (is : List Float) (ch : List ℕ) : Type 0 where
+pub record ListedRoom (np : ℕ) (ls : List ℕ) (be : List Float) (es : List ℕ) (is : List Float) (ch : List ℕ) : Type 0 where
   pub edge-rows : length ls * edgeWidth ≤ length es
   pub interval-rows : length ls ≤ length is
   pub link-rows : np + length ls * 2 ≤ length ch
-  pub few : length ls ≤ general .listed
+  pub few : length ls ≤ generalLimits .listed
   pub beside : length be ≡ length ls
 
-pub record Placed (np : ℕ) (ls : List ℕ) (a n : ℕ) : Type 0 where
+pub record ListedFrom (np : ℕ) (ls : List ℕ) (a n : ℕ) : Type 0 where
   pub within : a + n ≤ length ls
-  pub points : inRange (lists [] [] ls []) np a n ≡ true
+  pub points : listedInRange (lists [] [] ls []) np a n ≡ true
 
 pub record Sided (ss ls : List ℕ) (f a n : ℕ) : Type 0 where
   pub sides : f * 4 + 4 ≤ length ss

@@ -8,14 +8,14 @@ ghost use mathlib.Core.List.{List, []};
 ghost use Prim.Native.Nat.{ℕ, _+_, _*_, _/_, _≤_, _<_};
 ghost use lib.Ieee.{Float};
 ghost use lib.ListN.{length};
-ghost use Rattle.built_meshes.specs.Lists.{offset, general};
-ghost use Rattle.built_meshes.specs.Perimeters.{Ring, State, Step, on, turn, places, closedUp};
+ghost use Rattle.built_meshes.specs.Lists.{offset, generalLimits};
+ghost use Rattle.built_meshes.specs.Perimeters.{FaceState, BuildState, Progress, on, turn, places, closedUp};
 ghost use Rattle.built_meshes.specs.Building.{facePassed, facesFrom};
 ghost use Rattle.building_tests.specs.Lent.{lists};
 ghost use Rattle.edge_search.specs.Chains.{Standing};
 ghost use Rattle.tables.specs.Layout.{positionWidth, faceWidth};
 ghost use Rattle.tables.specs.Mesh.{meshOf};
-ghost use Rattle.building_faces.specs.Rings.{ringOf, ringAt, turnOf, stateAt, stateOf, Lent, Placed, Sided, Closing, TurnStands, FaceStands};
+ghost use Rattle.building_faces.specs.Rings.{faceStateOf, faceStateAt, turnOf, stateAt, stateOf, ListedRoom, ListedFrom, Sided, Closing, TurnStands, FaceStands};
 use building_tests::faces::face_size;
 use building_tests::faces::face_verdict;
 use built_meshes::Ground;
@@ -64,12 +64,12 @@ fn turn_place(
     i: usize,
 ) -> Turned
     requires { ⌜ Standing np (now points) (now edges) (now chain) (ring .edges) ⌝ }
-    requires { ⌜ Lent np (now listed) (now beside) (now edges) (now intervals) (now chain) ⌝ }
-    requires { ⌜ Placed np (now listed) a n ⌝ }
+    requires { ⌜ ListedRoom np (now listed) (now beside) (now edges) (now intervals) (now chain) ⌝ }
+    requires { ⌜ ListedFrom np (now listed) a n ⌝ }
     requires { ⌜ i < n ⌝ }
     requires { ⌜ ring .edges ≤ a + i ⌝ }
     requires { ⌜ (0 < i → Closing ring) ⌝ }
-    ensures { λ r. ⌜ ((cs : List Float) (ss : List ℕ) (ps : List Float) (fs : List ℕ) → _≡_ {A = Step Ring} (turnOf (meshOf ps (now (points .exit)) (now (edges .exit)) (now (intervals .exit)) fs) r) (turn (lists cs ss (now (listed .entry)) (now (beside .entry))) f a n i (ringOf (meshOf ps (now (points .entry)) (now (edges .entry)) (now (intervals .entry)) fs) ring))) ⌝ }
+    ensures { λ r. ⌜ ((cs : List Float) (ss : List ℕ) (ps : List Float) (fs : List ℕ) → _≡_ {A = Progress FaceState} (turnOf (meshOf ps (now (points .exit)) (now (edges .exit)) (now (intervals .exit)) fs) r) (turn (lists cs ss (now (listed .entry)) (now (beside .entry))) f a n i (faceStateOf (meshOf ps (now (points .entry)) (now (edges .entry)) (now (intervals .entry)) fs) ring))) ⌝ }
     ensures { λ r. ⌜ TurnStands np (now (points .exit)) (now (edges .exit)) (now (chain .exit)) (a + i + 1) r ⌝ }
 {
     let p = listed[a + i];
@@ -111,11 +111,11 @@ fn enter_places(
     n: usize,
 ) -> Turned
     requires { ⌜ Standing np (now points) (now edges) (now chain) k ⌝ }
-    requires { ⌜ Lent np (now listed) (now beside) (now edges) (now intervals) (now chain) ⌝ }
-    requires { ⌜ Placed np (now listed) a n ⌝ }
+    requires { ⌜ ListedRoom np (now listed) (now beside) (now edges) (now intervals) (now chain) ⌝ }
+    requires { ⌜ ListedFrom np (now listed) a n ⌝ }
     requires { ⌜ 0 < n ⌝ }
     requires { ⌜ k ≤ a ⌝ }
-    ensures { λ r. ⌜ ((cs : List Float) (ss : List ℕ) (ps : List Float) (fs : List ℕ) → _≡_ {A = Step Ring} (turnOf (meshOf ps (now (points .exit)) (now (edges .exit)) (now (intervals .exit)) fs) r) (places n (lists cs ss (now (listed .entry)) (now (beside .entry))) f a n 0 (on (ringAt (meshOf ps (now (points .entry)) (now (edges .entry)) (now (intervals .entry)) fs) k)))) ⌝ }
+    ensures { λ r. ⌜ ((cs : List Float) (ss : List ℕ) (ps : List Float) (fs : List ℕ) → _≡_ {A = Progress FaceState} (turnOf (meshOf ps (now (points .exit)) (now (edges .exit)) (now (intervals .exit)) fs) r) (places n (lists cs ss (now (listed .entry)) (now (beside .entry))) f a n 0 (on (faceStateAt (meshOf ps (now (points .entry)) (now (edges .entry)) (now (intervals .entry)) fs) k)))) ⌝ }
     ensures { λ r. ⌜ TurnStands np (now (points .exit)) (now (edges .exit)) (now (chain .exit)) (a + n) r ⌝ }
 {
     let mut ring = RingEdges {
@@ -167,12 +167,12 @@ fn enter_perimeter(
     n: usize,
 ) -> Faced
     requires { ⌜ Standing np (now points) (now edges) (now chain) k ⌝ }
-    requires { ⌜ Lent np (now listed) (now beside) (now edges) (now intervals) (now chain) ⌝ }
-    requires { ⌜ Placed np (now listed) a n ⌝ }
+    requires { ⌜ ListedRoom np (now listed) (now beside) (now edges) (now intervals) (now chain) ⌝ }
+    requires { ⌜ ListedFrom np (now listed) a n ⌝ }
     requires { ⌜ 0 < n ⌝ }
     requires { ⌜ k ≤ a ⌝ }
     requires { ⌜ f * faceWidth + faceWidth ≤ length (now faces) ⌝ }
-    ensures { λ r. ⌜ ((cs : List Float) (ss : List ℕ) (ps : List Float) → _≡_ {A = Step State} (stateOf (meshOf ps (now (points .exit)) (now (edges .exit)) (now (intervals .exit)) (now (faces .exit))) r) (closedUp f (places n (lists cs ss (now (listed .entry)) (now (beside .entry))) f a n 0 (on (ringAt (meshOf ps (now (points .entry)) (now (edges .entry)) (now (intervals .entry)) (now (faces .entry))) k))))) ⌝ }
+    ensures { λ r. ⌜ ((cs : List Float) (ss : List ℕ) (ps : List Float) → _≡_ {A = Progress BuildState} (stateOf (meshOf ps (now (points .exit)) (now (edges .exit)) (now (intervals .exit)) (now (faces .exit))) r) (closedUp f (places n (lists cs ss (now (listed .entry)) (now (beside .entry))) f a n 0 (on (faceStateAt (meshOf ps (now (points .entry)) (now (edges .entry)) (now (intervals .entry)) (now (faces .entry))) k))))) ⌝ }
     ensures { λ r. ⌜ FaceStands np (now (points .exit)) (now (edges .exit)) (now (chain .exit)) (a + n) r ⌝ }
 {
     match enter_places(
@@ -221,11 +221,11 @@ fn enter_face(
     n: usize,
 ) -> Faced
     requires { ⌜ Standing np (now points) (now edges) (now chain) k ⌝ }
-    requires { ⌜ Lent np (now listed) (now beside) (now edges) (now intervals) (now chain) ⌝ }
+    requires { ⌜ ListedRoom np (now listed) (now beside) (now edges) (now intervals) (now chain) ⌝ }
     requires { ⌜ Sided (now sides) (now listed) f a n ⌝ }
     requires { ⌜ k ≤ a ⌝ }
     requires { ⌜ f * faceWidth + faceWidth ≤ length (now faces) ⌝ }
-    ensures { λ r. ⌜ ((cs : List Float) (ps : List Float) → length cs / positionWidth ≡ np → _≡_ {A = Step State} (stateOf (meshOf ps (now (points .exit)) (now (edges .exit)) (now (intervals .exit)) (now (faces .exit))) r) (facePassed (lists cs (now (sides .entry)) (now (listed .entry)) (now (beside .entry))) f a (stateAt (meshOf ps (now (points .entry)) (now (edges .entry)) (now (intervals .entry)) (now (faces .entry))) k))) ⌝ }
+    ensures { λ r. ⌜ ((cs : List Float) (ps : List Float) → length cs / positionWidth ≡ np → _≡_ {A = Progress BuildState} (stateOf (meshOf ps (now (points .exit)) (now (edges .exit)) (now (intervals .exit)) (now (faces .exit))) r) (facePassed (lists cs (now (sides .entry)) (now (listed .entry)) (now (beside .entry))) f a (stateAt (meshOf ps (now (points .entry)) (now (edges .entry)) (now (intervals .entry)) (now (faces .entry))) k))) ⌝ }
     ensures { λ r. ⌜ FaceStands np (now (points .exit)) (now (edges .exit)) (now (chain .exit)) (a + n) r ⌝ }
 {
     match face_verdict(sides, listed, beside, np, index(f), a, n) {
@@ -260,11 +260,11 @@ pub fn enter_faces(
     np: usize,
 ) -> Faced
     requires { ⌜ Standing np (now points) (now edges) (now chain) 0 ⌝ }
-    requires { ⌜ Lent np (now listed) (now beside) (now edges) (now intervals) (now chain) ⌝ }
-    requires { ⌜ length (now sides) / 4 ≤ general .faces ⌝ }
+    requires { ⌜ ListedRoom np (now listed) (now beside) (now edges) (now intervals) (now chain) ⌝ }
+    requires { ⌜ length (now sides) / 4 ≤ generalLimits .faces ⌝ }
     requires { ⌜ length (now sides) / 4 * faceWidth ≤ length (now faces) ⌝ }
     requires { ⌜ offset (lists [] (now sides) [] []) (length (now sides) / 4) ≡ length (now listed) ⌝ }
-    ensures { λ r. ⌜ ((cs : List Float) (ps : List Float) → length cs / positionWidth ≡ np → _≡_ {A = Step State} (stateOf (meshOf ps (now (points .exit)) (now (edges .exit)) (now (intervals .exit)) (now (faces .exit))) r) (facesFrom (length (now (sides .entry)) / 4) (lists cs (now (sides .entry)) (now (listed .entry)) (now (beside .entry))) 0 0 (on (stateAt (meshOf ps (now (points .entry)) (now (edges .entry)) (now (intervals .entry)) (now (faces .entry))) 0)))) ⌝ }
+    ensures { λ r. ⌜ ((cs : List Float) (ps : List Float) → length cs / positionWidth ≡ np → _≡_ {A = Progress BuildState} (stateOf (meshOf ps (now (points .exit)) (now (edges .exit)) (now (intervals .exit)) (now (faces .exit))) r) (facesFrom (length (now (sides .entry)) / 4) (lists cs (now (sides .entry)) (now (listed .entry)) (now (beside .entry))) 0 0 (on (stateAt (meshOf ps (now (points .entry)) (now (edges .entry)) (now (intervals .entry)) (now (faces .entry))) 0)))) ⌝ }
     ensures { λ r. ⌜ FaceStands np (now (points .exit)) (now (edges .exit)) (now (chain .exit)) (length (now (listed .entry))) r ⌝ }
 {
     let nf = sides.len() / 4;

@@ -10,7 +10,7 @@ ghost use lib.ListN.{length, getD};
 ghost use Rattle.closed_meshes.specs.Renumbering.{sumTo};
 ghost use Rattle.audited_meshes.specs.Folds.{every};
 ghost use Rattle.audited_meshes.specs.Audit.{intervalFit};
-ghost use Rattle.built_meshes.specs.Lists.{countsFit, numbersFit};
+ghost use Rattle.built_meshes.specs.Lists.{countsFit, listedFit};
 ghost use Rattle.building_tests.specs.Lent.{lists, limitsOf};
 use building_tests::Bounds;
 use intervals::interval_fits;
@@ -94,7 +94,7 @@ fn all_fit(beside: &[f64]) -> bool
 
 // Whether all numbers are fit.
 pub fn numbers_fit(coordinates: &[f64], beside: &[f64]) -> bool
-    ensures { λ r. ⌜ r ≡ numbersFit (lists (now (coordinates .entry)) [] [] (now (beside .entry))) ⌝ }
+    ensures { λ r. ⌜ r ≡ listedFit (lists (now (coordinates .entry)) [] [] (now (beside .entry))) ⌝ }
 {
     if all_finite(coordinates) {
         return all_fit(beside);

@@ -17,7 +17,7 @@ use lib.ListN.{getD}
 use Rattle.closed_meshes.specs.Renumbering.{sumTo}
 use Rattle.audited_meshes.specs.Folds.{every}
 use Rattle.built_meshes.specs.Lists.{size}
-use Rattle.built_meshes.specs.Faces.{sizeFit, inRange, noPointTwice, sideSum, apart, sumsFit, faceVerdict}
+use Rattle.built_meshes.specs.Faces.{sizeFit, listedInRange, noPointTwice, sideSum, sumsApart, sumsFit, faceVerdict}
 use Rattle.built_meshes.specs.declared.Verdict.{Verdict}
 use Rattle.built_meshes.specs.declared.Verdict.the-variants.{Fit, Unfit}
 use Rattle.built_meshes.specs.declared.Ground.the-variants.{FaceSize, OutOfRange, PointTwice, NonRectangularFace}
@@ -75,8 +75,8 @@ module _ (ss : List ℕ) (f : ℕ) {a b c d : ℕ} (ea : a ≡ getD ss (f * 4) 0
   -- how far apart the sums are that the code takes
   pub sums-read : (is : List Float) (at : ℕ) {s t u v : Float} → s ≡ sideSum is at a → t ≡ sideSum is (at + a) b
       → u ≡ sideSum is (at + a + b) c → v ≡ sideSum is (at + a + b + c) d
-      → sub binary64 (add binary64 (sub binary64 s u) t) v ≡ apart (lists [] ss [] is) f at
-  unfolding apart
+      → sub binary64 (add binary64 (sub binary64 s u) t) v ≡ sumsApart (lists [] ss [] is) f at
+  unfolding sumsApart
   sums-read is at es et eu ev = rw (es, et, eu, ev, ea, eb, ec, ed, add-zero (f * 4))
 
 pub faces-few : (b : Bounds) (s : Sizes) → s ≡ limitsOf b → s .faces ≤ 4096
@@ -91,6 +91,6 @@ verdictBy size points new sums =
 
 pub verdict-is : (cs : List Float) (ss ls : List ℕ) (is : List Float) (np f a n : ℕ) → n ≡ size (lists [] ss [] []) f
     → faceVerdict (lists cs ss ls is) np f a
-    ≡ verdictBy (sizeFit n) (inRange (lists [] [] ls []) np a n) (noPointTwice (lists [] [] ls []) a n) (sumsFit (lists [] ss [] is) f a)
-unfolding faceVerdict inRange noPointTwice apart
+    ≡ verdictBy (sizeFit n) (listedInRange (lists [] [] ls []) np a n) (noPointTwice (lists [] [] ls []) a n) (sumsFit (lists [] ss [] is) f a)
+unfolding faceVerdict listedInRange noPointTwice sumsApart
 verdict-is cs ss ls is np f a n e = rw e

@@ -5,7 +5,7 @@ use mathlib.Core.List.{List}
 use Prim.Native.Nat.{ℕ}
 use lib.Ieee.{Float}
 use Rattle.tables.specs.declared.Sizes.{Sizes}
-use Rattle.built_meshes.specs.Lists.{Lists, general, refine}
+use Rattle.built_meshes.specs.Lists.{Lists, generalLimits, refineLimits}
 use Rattle.building_tests.specs.declared.Bounds.{Bounds}
 use Rattle.building_tests.specs.declared.Bounds.the-variants.{General, Refine}
 
@@ -13,5 +13,5 @@ abbrev pub lists : List Float → List ℕ → List ℕ → List Float → Lists
 lists cs ss ls is = record { coordinates = cs; sides = ss; listed = ls; intervals = is }
 
 abbrev pub limitsOf : Bounds → Sizes
-limitsOf General = general
-limitsOf Refine = refine
+limitsOf General = generalLimits
+limitsOf Refine = refineLimits

@@ -8,7 +8,7 @@ ghost use lib.Ieee.{Float};
 ghost use lib.ListN.{length, getD};
 ghost use Rattle.audited_meshes.specs.Folds.{every};
 ghost use Rattle.built_meshes.specs.Lists.{size};
-ghost use Rattle.built_meshes.specs.Faces.{sizeFit, inRange, noPointTwice, sideSum, sumsFit, faceVerdict};
+ghost use Rattle.built_meshes.specs.Faces.{sizeFit, listedInRange, noPointTwice, sideSum, sumsFit, faceVerdict};
 ghost use Rattle.building_tests.specs.Lent.{lists};
 use built_meshes::Ground;
 use built_meshes::Verdict;
@@ -38,7 +38,7 @@ fn size_fits(n: usize) -> bool
 // Whether n listed points are below np.
 fn are_points(listed: &[u32], np: usize, a: usize, n: usize) -> bool
     requires { ⌜ a + n ≤ length (now listed) ⌝ }
-    ensures { λ r. ⌜ r ≡ inRange (lists [] [] (now (listed .entry)) []) np a n ⌝ }
+    ensures { λ r. ⌜ r ≡ listedInRange (lists [] [] (now (listed .entry)) []) np a n ⌝ }
 {
     let mut i = 0;
     while i < n {

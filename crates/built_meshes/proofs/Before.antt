@@ -17,12 +17,17 @@ use Rattle.tables.specs.declared.Sizes.{Sizes}
 use Rattle.positions.specs.Position.{small}
 use Rattle.tables.specs.Mesh.{Mesh}
 use Rattle.built_meshes.specs.Lists.{Lists, pointsOf, facesOf, size, offset}
-use Rattle.built_meshes.specs.Faces.{apart}
+use Rattle.built_meshes.specs.Faces.{sumsApart}
 use Rattle.built_meshes.specs.Places.{pointOf, IsPlace, Runs, Between, Differ, Earlier}
-use Rattle.built_meshes.specs.Answers.{numberOf}
-use Rattle.built_meshes.specs.Grounds.{Over-counts, Unfit-number, Few-rows, Missing-face, No-edge, Missed-edge, Where, lists, face, edge, whole, Met, over-counts, unfit-number, few-rows, face-size, out-of-range, point-twice, non-rectangular, triple-face, same-way, missing-face, no-edge, missed-edge, Less, turnOf, First-met}
+use Rattle.built_meshes.specs.Answers.{groundNumber}
+use Rattle.built_meshes.specs.Grounds.{Over-counts, Unfit-number, Few-rows, Missing-face, No-edge, Missed-edge}
+use Rattle.built_meshes.specs.Grounds.{Where, lists, face, edge, whole, Met, over-counts, unfit-number, few-rows}
+use Rattle.built_meshes.specs.Grounds.{face-size, out-of-range, point-twice, non-rectangular, triple-face}
+use Rattle.built_meshes.specs.Grounds.{same-way, missing-face, no-edge, missed-edge, Less, turnOf, First-met}
 use Rattle.built_meshes.specs.declared.Ground.{Ground}
-use Rattle.built_meshes.specs.declared.Ground.the-variants.{OverCounts, UnfitNumber, FewRows, FaceSize, OutOfRange, PointTwice, NonRectangularFace, EdgeTripleFace, SameWay, MissingFace, NoEdge, MissedEdge}
+use Rattle.built_meshes.specs.declared.Ground.the-variants.{OverCounts, UnfitNumber, FewRows, FaceSize, OutOfRange}
+use Rattle.built_meshes.specs.declared.Ground.the-variants.{PointTwice, NonRectangularFace, EdgeTripleFace}
+use Rattle.built_meshes.specs.declared.Ground.the-variants.{SameWay, MissingFace, NoEdge, MissedEdge}
 use Rattle.built_meshes.proofs.Made.{earlier-differs}
 use Rattle.built_meshes.proofs.Invariant.{FaceSound, One-way}
 
@@ -32,9 +37,9 @@ pub record Tests (l : Lists) (f n : ℕ) : Type 0 where
   pub sizes : 10 < n → (3 ≤ size l f) × (size l f ≤ 64)
   pub ranges : 11 < n → (i : ℕ) → i < size l f → pointOf l f i < pointsOf l
   pub once : 12 < n → (i j : ℕ) → i < size l f → j < size l f → pointOf l f i ≡ pointOf l f j → i ≡ j
-  pub sums : 13 < n → small (apart l f (offset l f)) ≡ true
+  pub sums : 13 < n → small (sumsApart l f (offset l f)) ≡ true
 
-pub tests-of : (l : Lists) (f n : ℕ) → FaceSound l f → small (apart l f (offset l f)) ≡ true → Tests l f n
+pub tests-of : (l : Lists) (f n : ℕ) → FaceSound l f → small (sumsApart l f (offset l f)) ≡ true → Tests l f n
 tests-of l f n s r =
     record { sizes = λ h. (s .at-least-3, s .at-most-64); ranges = λ h. s .in-range; once = λ h. s .distinct; sums = λ h. r }
 
@@ -165,7 +170,7 @@ module _ (c : Sizes) (l : Lists) (m : Mesh) where
           tested f k (inl h) = below f h (suc k)
           tested f k (inr h) = subst (λ f. Tests l f (suc k)) (sym (h .0)) (tests-fewer l F (suc k) n (h .1) tests)
 
-      pub first-face : (g : Ground) → numberOf g ≡ n → Met c l m (face F) g → First-met c l m (face F) g
+      pub first-face : (g : Ground) → groundNumber g ≡ n → Met c l m (face F) g → First-met c l m (face F) g
       first-face g is met =
           record {
             met = met;
@@ -214,7 +219,7 @@ module _ (c : Sizes) (l : Lists) (m : Mesh) where
           same f i is (inl h) = entered f i is h .1
           same f i is (inr h) = absurd (omega (arith, h .1))
 
-      pub first-edge : (g : Ground) → numberOf g ≡ n → Met c l m (edge F I) g → First-met c l m (edge F I) g
+      pub first-edge : (g : Ground) → groundNumber g ≡ n → Met c l m (edge F I) g → First-met c l m (edge F I) g
       first-edge g is met =
           record {
             met = met;
@@ -244,7 +249,7 @@ module _ (c : Sizes) (l : Lists) (m : Mesh) where
               missed = λ h. missed (sooner 22 h);
             }
 
-        pub first-whole : (g : Ground) → numberOf g ≡ n → Met c l m whole g → First-met c l m whole g
+        pub first-whole : (g : Ground) → groundNumber g ≡ n → Met c l m whole g → First-met c l m whole g
         first-whole g is met =
             record {
               met = met;
@@ -288,7 +293,7 @@ module _ (c : Sizes) (l : Lists) (m : Mesh) where
     list-not k ks (inl h) = absurd (omega arith)
     list-not k ks (inr (h, z)) = absurd (omega arith)
 
-    pub first-lists : (g : Ground) → numberOf g ≡ n → Met c l m lists g → First-met c l m lists g
+    pub first-lists : (g : Ground) → groundNumber g ≡ n → Met c l m lists g → First-met c l m lists g
     first-lists g is met =
         record {
           met = met;
@@ -325,7 +330,7 @@ groundOf n =
     (cond (eqb n 20) MissingFace
     (cond (eqb n 21) NoEdge MissedEdge))))))))))
 
-ground-of-number : (g : Ground) → groundOf (numberOf g) ≡ g
+ground-of-number : (g : Ground) → groundOf (groundNumber g) ≡ g
 unfolding groundOf
 ground-of-number OverCounts = refl
 ground-of-number UnfitNumber = refl
@@ -349,7 +354,7 @@ neither k n a b = go (decLt k n) (decLt n k)
     go (no h) (no d) = omega arith
 
 -- Checks of which none is before the other have one number.
-same-number : (w : Where) (g : Ground) (w' : Where) (h : Ground) → ¬ Less (turnOf w g) (turnOf w' h) → ¬ Less (turnOf w' h) (turnOf w g) → numberOf g ≡ numberOf h
+same-number : (w : Where) (g : Ground) (w' : Where) (h : Ground) → ¬ Less (turnOf w g) (turnOf w' h) → ¬ Less (turnOf w' h) (turnOf w g) → groundNumber g ≡ groundNumber h
 same-number lists g lists h a b = neither _ _ (λ z. a (inr (refl, inl z))) (λ z. b (inr (refl, inl z)))
 same-number lists g (face f) h a b = absurd (a (inl (omega arith)))
 same-number lists g (edge f i) h a b = absurd (a (inl (omega arith)))

@@ -20,14 +20,14 @@ use Rattle.closed_meshes.specs.Renumbering.{sumTo}
 use Rattle.audited_meshes.specs.Folds.{every}
 use Rattle.audited_meshes.specs.Audit.{intervalFit}
 use Rattle.audited_meshes.proofs.Tests.{and-is, eqb-is, leb-is, self-is, every-is}
-use Rattle.built_meshes.specs.Lists.{Lists, pointsOf, facesOf, rowsOf, offset, countsFit, numbersFit}
+use Rattle.built_meshes.specs.Lists.{Lists, pointsOf, facesOf, rowsOf, offset, countsFit, listedFit}
 use Rattle.tables.specs.declared.Sizes.{Sizes}
 use Rattle.tables.specs.Counted.{rowsFor, zeroedRows}
 use Rattle.built_meshes.specs.Beyond.{Within}
 use Rattle.built_meshes.specs.Claims.{zeroEdge}
 use Rattle.built_meshes.specs.Grounds.{Over-counts, many-points, many-faces, many-listed, point-cut}
-use Rattle.built_meshes.specs.Grounds.{face-cut, unlike, sum-unlike, Unfit-number, coordinate}
-use Rattle.built_meshes.specs.Grounds.{interval, Few-rows, few-points, few-faces, few-edges}
+use Rattle.built_meshes.specs.Grounds.{face-cut, unlike, sum-unlike, Unfit-number, coordinate-unfit}
+use Rattle.built_meshes.specs.Grounds.{interval-unfit, Few-rows, few-points, few-faces, few-edges}
 use Rattle.built_meshes.proofs.Rows.{row, edgeAt-words, ofWords-cong}
 use Rattle.built_meshes.proofs.Beyond.{behind-zeroed}
 use Rattle.built_meshes.proofs.Entering.{counted}
@@ -114,25 +114,25 @@ pub record Numbered (l : Lists) : Type 0 where
   pub coordinates-finite : (k : ℕ) → k < length (l .coordinates) → finite (getD (l .coordinates) k nan) ≡ true
   pub intervals-fit : (k : ℕ) → k < length (l .intervals) → intervalFit (getD (l .intervals) k nan) ≡ true
 
-pub numbers-is : (l : Lists) → numbersFit l ≡ true → Numbered l
-unfolding numbersFit
+pub numbers-is : (l : Lists) → listedFit l ≡ true → Numbered l
+unfolding listedFit
 numbers-is l h =
     let z =
     and-is (every-is (length (l .coordinates)) (λ k. self-is (finite (getD (l .coordinates) k nan))))
     (every-is (length (l .intervals)) (λ k. self-is (intervalFit (getD (l .intervals) k nan)))) .0 h in
     record { coordinates-finite = z .0; intervals-fit = z .1 }
 
-pub numbers-fail : (l : Lists) → numbersFit l ≡ false → Unfit-number l
-unfolding numbersFit
+pub numbers-fail : (l : Lists) → listedFit l ≡ false → Unfit-number l
+unfolding listedFit
 numbers-fail l h = go (and-false _ _ h)
   where
     go : (every (length (l .coordinates)) (λ k. finite (getD (l .coordinates) k nan)) ≡ false) ⊎ (every (length (l .intervals)) (λ k. intervalFit (getD (l .intervals) k nan)) ≡ false) → Unfit-number l
-    go (inl z) = let w = every-false _ (λ k. finite (getD (l .coordinates) k nan)) z in coordinate (w .0) (w .1) (w .2)
-    go (inr z) = let w = every-false _ (λ k. intervalFit (getD (l .intervals) k nan)) z in interval (w .0) (w .1) (w .2)
+    go (inl z) = let w = every-false _ (λ k. finite (getD (l .coordinates) k nan)) z in coordinate-unfit (w .0) (w .1) (w .2)
+    go (inr z) = let w = every-false _ (λ k. intervalFit (getD (l .intervals) k nan)) z in interval-unfit (w .0) (w .1) (w .2)
 
 pub numbered-fits : (l : Lists) → Numbered l → ¬ Unfit-number l
-numbered-fits l h (coordinate k b z) = let y : true ≡ false = sym (h .coordinates-finite k b) ∙ z in let n : _≡_ {A = ℕ} 0 1 = cc in omega arith
-numbered-fits l h (interval k b z) = let y : true ≡ false = sym (h .intervals-fit k b) ∙ z in let n : _≡_ {A = ℕ} 0 1 = cc in omega arith
+numbered-fits l h (coordinate-unfit k b z) = let y : true ≡ false = sym (h .coordinates-finite k b) ∙ z in let n : _≡_ {A = ℕ} 0 1 = cc in omega arith
+numbered-fits l h (interval-unfit k b z) = let y : true ≡ false = sym (h .intervals-fit k b) ∙ z in let n : _≡_ {A = ℕ} 0 1 = cc in omega arith
 
 -- ---- ground 4
 

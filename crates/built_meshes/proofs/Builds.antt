@@ -17,7 +17,7 @@ use Rattle.t_spline.specs.declared.TnurccFaceSide.{TnurccFaceSide}
 use Rattle.t_spline.specs.declared.TnurccFaceSide.the-variants.{Left, Right}
 use Rattle.tables.specs.Mesh.{Mesh, valence, mark, origin, dest, leftFace, rightFace}
 use Rattle.built_meshes.specs.Lists.{Lists, pointsOf, facesOf, size}
-use Rattle.built_meshes.specs.Perimeters.{State}
+use Rattle.built_meshes.specs.Perimeters.{BuildState}
 use Rattle.built_meshes.specs.Places.{pointOf, nextOf, IsPlace, Runs, Between, Earlier}
 use Rattle.built_meshes.specs.Whole.{finished}
 use Rattle.built_meshes.specs.Beyond.{Within}
@@ -115,7 +115,7 @@ module _ (l : Lists) (m : Mesh) (ne : ℕ) (v : Invariant l (Done l (facesOf l) 
           (λ z. absurd (sides-differ l m ne v right e b (z .0 ∙ sym face)))
           (λ z. absurd (maker e b .none-earlier f i (inl (h .is-place)) z (inr (sym first, sym second))))
 
-module _ (c : Sizes) (l : Lists) (m₀ : Mesh) (counted' : Counted c l) (roomy : Roomy l m₀) (s : State) (all : Faces l (facesOf l) s)
+module _ (c : Sizes) (l : Lists) (m₀ : Mesh) (counted' : Counted c l) (roomy : Roomy l m₀) (s : BuildState) (all : Faces l (facesOf l) s)
     (within : Within l m₀ (s .mesh)) (right : (e : ℕ) → e < s .edges → row (s .mesh) e .«face_right» ≢ none)
     (edged : (p : ℕ) → p < pointsOf l → valence (s .mesh) p ≢ 0) (sizes : (f : ℕ) → f < facesOf l → 3 ≤ size l f) where
   abbrev after : Mesh

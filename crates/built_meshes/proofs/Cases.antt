@@ -9,9 +9,9 @@ use lib.ListN.{length, replicate}
 use lib.Ieee.{Float, nan, inf, ofBits, neg, add, sub, le, lt, binary64}
 use Rattle.edge_links.specs.Connect.{linksOf}
 use Rattle.tables.specs.Mesh.{Mesh, none}
-use Rattle.built_meshes.specs.Lists.{Lists, general, refine, pointsOf, facesOf}
+use Rattle.built_meshes.specs.Lists.{Lists, generalLimits, refineLimits, pointsOf, facesOf}
 use Rattle.tables.specs.declared.Sizes.{Sizes}
-use Rattle.built_meshes.specs.Answers.{numbersOf}
+use Rattle.built_meshes.specs.Answers.{builtNumbers}
 use Rattle.built_meshes.specs.Building.{build}
 use Rattle.built_meshes.specs.Pieces.{unit, two, nought, backToBack}
 use Rattle.built_meshes.specs.declared.Ground.the-variants.{SameWay}
@@ -37,7 +37,7 @@ pub record Piece : Type 0 where
   pub answer : List ℕ
 
 abbrev pub piece : Lists → List ℕ → Piece
-piece l ns = record { limits = general; lists = l; tables = justEnough l; answer = ns }
+piece l ns = record { limits = generalLimits; lists = l; tables = justEnough l; answer = ns }
 
 abbrev pub sameNumbers : List ℕ → List ℕ → Bool
 sameNumbers [] [] = true
@@ -47,7 +47,7 @@ sameNumbers (k ∷ ks) (n ∷ ns) = eqb k n && sameNumbers ks ns
 
 unfoldable pub asExpected : Piece → Bool
 unfolding build
-asExpected x = sameNumbers (numbersOf (build (x .limits) (x .lists) (x .tables) .answer)) (x .answer)
+asExpected x = sameNumbers (builtNumbers (build (x .limits) (x .lists) (x .tables) .answer)) (x .answer)
 
 abbrev pub allOf : List Piece → Bool
 unfolding asExpected
@@ -97,15 +97,15 @@ orders =
     -- 2 before 3: a coordinate too few, and it is no number
     piece (withCoordinates (points 0) (nan ∷ [])) (2 ∷ [])
     -- within and over the limits
-    ∷ pieceIn refine (points 64) (justEnough (points 64)) (21 ∷ [])
-    ∷ pieceIn refine (points 65) (justEnough (points 65)) (2 ∷ [])
+    ∷ pieceIn refineLimits (points 64) (justEnough (points 64)) (21 ∷ [])
+    ∷ pieceIn refineLimits (points 65) (justEnough (points 65)) (2 ∷ [])
     -- 3 before 4: -0 as an interval, and no rows
-    ∷ pieceIn general (withIntervals (triangles 3 2 bothSides) (minusNought ∷ times 5 (unit ∷ []))) noTables (3 ∷ [])
+    ∷ pieceIn generalLimits (withIntervals (triangles 3 2 bothSides) (minusNought ∷ times 5 (unit ∷ []))) noTables (3 ∷ [])
     -- an infinite coordinate; -0 as a coordinate
     ∷ piece (withCoordinates (triangles 3 2 bothSides) (inf false ∷ replicate 8 nought)) (3 ∷ [])
     ∷ piece (withCoordinates (triangles 3 2 bothSides) (minusNought ∷ replicate 8 nought)) (3 ∷ 3 ∷ 2 ∷ [])
     -- 4 before 10
-    ∷ pieceIn general (backToBack 2 (1 ∷ 0 ∷ 1 ∷ 0 ∷ []) (unit ∷ unit ∷ [])) noTables (4 ∷ [])
+    ∷ pieceIn generalLimits (backToBack 2 (1 ∷ 0 ∷ 1 ∷ 0 ∷ []) (unit ∷ unit ∷ [])) noTables (4 ∷ [])
     -- 10 before 11: two points, both out of range
     ∷ piece (record { coordinates = []; sides = 1 ∷ 0 ∷ 1 ∷ 0 ∷ []; listed = 7 ∷ 7 ∷ []; intervals = unit ∷ unit ∷ [] }) (10 ∷ [])
     -- 11 before 12
@@ -143,7 +143,7 @@ roomy =
     }
 
 two-triangles :
-    build general (triangles 3 2 bothSides) roomy
+    build generalLimits (triangles 3 2 bothSides) roomy
     ≡ record {
       answer = Accepted (record { points = 3; edges = 3; faces = 2 });
       tables =
@@ -159,7 +159,7 @@ unfolding build ofBits neg add sub le lt linksOf
 two-triangles = refl
 
 same-way :
-    build general (triangles 3 2 (0 ∷ 1 ∷ 2 ∷ 0 ∷ 1 ∷ 2 ∷ [])) roomy
+    build generalLimits (triangles 3 2 (0 ∷ 1 ∷ 2 ∷ 0 ∷ 1 ∷ 2 ∷ [])) roomy
     ≡ record {
       answer = Refused SameWay;
       tables =

@@ -19,7 +19,7 @@ use borrow.Author.Tests.{eqb-true, eqb-false, eq-eqb, ne-eqb}
 use Rattle.t_spline.specs.Connection.{indexOf}
 use Rattle.t_spline.specs.Ends.{connectionAt, acwOnSide, cwOnSide, faceFromSide}
 use Rattle.t_spline.specs.Edge.{none, connectionOf, withConnection, sameFace}
-use Rattle.edge_links.specs.Connect.{linksOf, vertexState, linked, served, connected}
+use Rattle.edge_links.specs.Connect.{linksOf, vertexState, withLinks, served, connected}
 use Rattle.t_spline.specs.declared.TnurccEdge.{TnurccEdge}
 use Rattle.t_spline.specs.declared.TnurccConnection.{TnurccConnection}
 use Rattle.t_spline.specs.declared.TnurccFaceSide.{TnurccFaceSide}
@@ -172,7 +172,7 @@ module _ (i j : ℕ) (e o : TnurccEdge) where
 
   linked-wrote :
       (s t : TnurccFaceSide) (c d : TnurccConnection) (p : Pair) → length (p .first .connections) ≡ 4 → length (p .other .connections) ≡ 4 →
-      Right-links s t c d → Wrote p (linked i j (Both c d) p)
+      Right-links s t c d → Wrote p (withLinks i j (Both c d) p)
   linked-wrote s t c d p four four' r =
       record {
         kept-first = keeps-set (p .first) j c;
@@ -284,7 +284,7 @@ module _ (i j : ℕ) (e o : TnurccEdge) where
       Wrote p (served (sameFace (faceFromSide e s) (faceFromSide o t)) (stateOf s t) (vertexState e o) i j p)
   served-wrote s t p four four' = go (sameFace (faceFromSide e s) (faceFromSide o t)) refl
     where
-      by : (ls : Links) → Sets s t ls → Wrote p (linked i j ls p)
+      by : (ls : Links) → Sets s t ls → Wrote p (withLinks i j ls p)
       by ls (sets {c = c} {d = d} r) = linked-wrote s t c d p four four' r
       by ls nothing = wrote-none p
 

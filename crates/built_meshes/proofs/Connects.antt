@@ -27,7 +27,7 @@ use Rattle.closed_meshes.specs.Renumbering.{sumTo}
 use Rattle.built_meshes.specs.Lists.{Lists, pointsOf, facesOf, size, offset, rowsOf}
 use Rattle.built_meshes.specs.Faces.{faceVerdict}
 use Rattle.built_meshes.specs.Edges.{Entered, entered}
-use Rattle.built_meshes.specs.Perimeters.{State, Ring, Step, on, turn, places}
+use Rattle.built_meshes.specs.Perimeters.{BuildState, FaceState, Progress, on, turn, places}
 use Rattle.built_meshes.specs.Places.{pointOf, nextOf}
 use Rattle.built_meshes.specs.Building.{facePassed}
 use Rattle.built_meshes.specs.Connects.{turnConnects, placesConnect, closeConnects, begun, faceConnects, facesConnect, Always-connects}
@@ -37,7 +37,8 @@ use Rattle.built_meshes.proofs.Connecting.{firstOf, secondOf}
 use Rattle.built_meshes.proofs.Rows.{row}
 use Rattle.built_meshes.proofs.Invariant.{FaceSound, Sits}
 use Rattle.built_meshes.proofs.Entering.{Came, goes, stops}
-use Rattle.built_meshes.proofs.Perimeter.{Ready, ready-same, Done, Chained, Faces, Around, Round, round, halts, a-face, entering, turn-came, places-came, around-begun, last-place, offset-suc, wraps}
+use Rattle.built_meshes.proofs.Perimeter.{Ready, ready-same, Done, Chained, Faces, Around, Round, round, halts, a-face}
+use Rattle.built_meshes.proofs.Perimeter.{entering, turn-came, places-came, around-begun, last-place, offset-suc, wraps}
 use Rattle.built_meshes.proofs.Before.{Clear-lists}
 use Rattle.built_meshes.proofs.Faces.{Face-verdict, fit, unfit, verdict-is, So-far, Along, along, stopped-at, face-came, so-far-none}
 use Rattle.built_meshes.proofs.Begin.{counts-is, numbers-is, rows-is, ready, faces-none}
@@ -109,9 +110,9 @@ joinable-sits l m ne f i e o a x y =
 
 -- ---- one face
 
-module _ (l : Lists) (s : State) (k : ℕ) (kf : k < facesOf l) (sound : FaceSound l k) (ready : Ready l (s .mesh)) where
+module _ (l : Lists) (s : BuildState) (k : ℕ) (kf : k < facesOf l) (sound : FaceSound l k) (ready : Ready l (s .mesh)) where
   turn-connects :
-      (i : ℕ) (r : Ring) → Around l s k kf sound ready i r → i < size l k →
+      (i : ℕ) (r : FaceState) → Around l s k kf sound ready i r → i < size l k →
       turnConnects r i (entered (r .mesh) (r .edges) k (pointOf l k i) (nextOf l k i) (getD (l .intervals) (offset l k + i) nan)) ≡ true
   turn-connects i r a below =
       go i a below (entered (r .mesh) (r .edges) k (pointOf l k i) (nextOf l k i) (getD (l .intervals) (offset l k + i) nan))
@@ -127,7 +128,7 @@ module _ (l : Lists) (s : State) (k : ℕ) (kf : k < facesOf l) (sound : FaceSou
           (subst (λ j. Sits l m' ne' k j e) (sym (next-more (size l k) i below)) (t .sits))
 
   places-connect :
-      (c i : ℕ) (x : Step Ring) → i + c ≡ size l k → Round l s k kf sound ready i x → placesConnect c l k (offset l k) (size l k) i x ≡ true
+      (c i : ℕ) (x : Progress FaceState) → i + c ≡ size l k → Round l s k kf sound ready i x → placesConnect c l k (offset l k) (size l k) i x ≡ true
   unfolding placesConnect
   places-connect zero i x h r = refl
   places-connect (suc c) i x h (round {r = r} a) =
@@ -135,7 +136,7 @@ module _ (l : Lists) (s : State) (k : ℕ) (kf : k < facesOf l) (sound : FaceSou
       (places-connect c (suc i) (turn l k (offset l k) (size l k) i r) (omega arith) (turn-came l s k kf sound ready i r a (omega arith)))
   places-connect (suc c) i x h (halts j b w u o) = refl
 
-  close-connects : Faces l k s → (x : Step Ring) → Round l s k kf sound ready (size l k) x → closeConnects x ≡ true
+  close-connects : Faces l k s → (x : Progress FaceState) → Round l s k kf sound ready (size l k) x → closeConnects x ≡ true
   close-connects all x (round {r = r} a) =
       let j = last-place l s k kf sound ready in
       joinable-sits l (r .mesh) (r .edges) k (j .0) (r .first) (r .before) (a-face l s k kf sound ready) (a .before-sits (j .0) (j .1))
@@ -151,15 +152,15 @@ module _ (l : Lists) (s : State) (k : ℕ) (kf : k < facesOf l) (sound : FaceSou
 
 -- ---- all faces
 
-module _ (c : Sizes) (l : Lists) (m₀ : Mesh) (free : Clear-lists c l m₀) (s₀ : State) (ready' : Ready l (s₀ .mesh)) where
+module _ (c : Sizes) (l : Lists) (m₀ : Mesh) (free : Clear-lists c l m₀) (s₀ : BuildState) (ready' : Ready l (s₀ .mesh)) where
   verdict-connects :
-      (f : ℕ) (s : State) → f < facesOf l → So-far c l m₀ free s₀ ready' f s → (v : Verdict) → Face-verdict c l m₀ f v →
+      (f : ℕ) (s : BuildState) → f < facesOf l → So-far c l m₀ free s₀ ready' f s → (v : Verdict) → Face-verdict c l m₀ f v →
       faceConnects l f (offset l f) s v ≡ true
   unfolding faceConnects
   verdict-connects f s b a v (fit sound r) = face-connects l s f b sound (ready-same l (a .within) ready') (a .faces)
   verdict-connects f s b a v (unfit met tests n) = refl
 
-  faces-connect : (k f : ℕ) (x : Step State) → f + k ≡ facesOf l → Along c l m₀ free s₀ ready' f x → facesConnect k l f (offset l f) x ≡ true
+  faces-connect : (k f : ℕ) (x : Progress BuildState) → f + k ≡ facesOf l → Along c l m₀ free s₀ ready' f x → facesConnect k l f (offset l f) x ≡ true
   unfolding facesConnect
   faces-connect zero f x h a = refl
   faces-connect (suc k) f x h (stopped-at p w n o) = refl
@@ -175,6 +176,6 @@ always-connects c l m few hc hn hr =
     let numbered = numbers-is l hn in
     let roomy = rows-is l m hr in
     let free = clear c l m few counted numbered roomy in
-    let s₀ : State = record { mesh = zeroedRows (rowsOf l) m; edges = 0 } in
+    let s₀ : BuildState = record { mesh = zeroedRows (rowsOf l) m; edges = 0 } in
     let ready' = ready c l m counted numbered roomy few in
     faces-connect c l m free s₀ ready' (facesOf l) 0 (on s₀) (omega arith) (along (so-far-none c l m free s₀ ready' (faces-none c l m counted numbered roomy few)))

@@ -24,13 +24,13 @@ use Rattle.t_spline.specs.declared.TnurccFaceSide.the-variants.{Left, Right}
 use Rattle.tables.specs.Mesh.{Mesh, valence, start, origin, dest, rightFace}
 use Rattle.tables.specs.Records.{edgeWords}
 use Rattle.closed_meshes.specs.Renumbering.{sumTo}
-use Rattle.audited_meshes.specs.Folds.{one}
+use Rattle.audited_meshes.specs.Folds.{oneIf}
 use Rattle.audited_meshes.specs.Walks.{touches, Touches}
 use Rattle.audited_meshes.specs.Audit.{intervalFit}
 use Rattle.audited_meshes.proofs.Folds.{below-suc, sumTo-cong}
 use Rattle.audited_meshes.proofs.Tests.{Is, and-is, or-is, eqb-is}
 use Rattle.built_meshes.specs.Lists.{Lists, pointsOf, size, offset}
-use Rattle.built_meshes.specs.Edges.{joins, orLast, edgeBetween, edgeOf, touched, newEdge, filled, Entered, at, refused, enteredAt, enteredIf, entered}
+use Rattle.built_meshes.specs.Edges.{joins, orLast, edgeBetween, loneEdge, touched, newEdge, withRightFace, Entered, at, refused, enteredAt, enteredIf, entered}
 use Rattle.built_meshes.specs.Places.{pointOf, nextOf, Earlier}
 use Rattle.built_meshes.specs.Beyond.{Within}
 use Rattle.built_meshes.specs.declared.Ground.{Ground}
@@ -38,7 +38,9 @@ use Rattle.built_meshes.specs.declared.Ground.the-variants.{EdgeTripleFa
 use Rattle.built_meshes.specs.declared.Found.{Found}
 use Rattle.built_meshes.specs.declared.Found.the-variants as Founds
 use Rattle.built_meshes.proofs.Connecting.{firstOf, secondOf, acwOf, cwOf}
-use Rattle.built_meshes.proofs.Rows.{row, withRight, row-newEdge, row-newEdge-other, valence-newEdge-first, valence-newEdge-second, valence-newEdge-other, start-newEdge-first, start-newEdge-second, start-newEdge-other, row-filled, row-filled-other}
+use Rattle.built_meshes.proofs.Rows.{row, withRight, row-newEdge, row-newEdge-other, valence-newEdge-first}
+use Rattle.built_meshes.proofs.Rows.{valence-newEdge-second, valence-newEdge-other, start-newEdge-first}
+use Rattle.built_meshes.proofs.Rows.{start-newEdge-second, start-newEdge-other, row-filled, row-filled-other}
 use Rattle.built_meshes.proofs.Beyond.{behind-trans, behind-set, behind-putRow, behind-touched}
 use Rattle.built_meshes.proofs.Made.{Maker, Made, Meets, Alike, made-on, made-new, earlier-not, earlier-differs}
 use Rattle.built_meshes.proofs.Invariant.{Sits, Good, Invariant, Adds, Or-this, sits-added, sits-new, invariant-added}
@@ -71,7 +73,7 @@ found-is m (suc k) p q = go (edgeBetween m k p q) (found-is m k p q) (joins m p 
 -- ---- how many sides have a face
 
 abbrev sided : ℕ → ℕ
-sided f = suc (one (not (eqb f none)))
+sided f = suc (oneIf (not (eqb f none)))
 
 unfoldable pub counted : Mesh → ℕ → ℕ
 unfolding sumTo
@@ -149,16 +151,16 @@ module _ (l : Lists) (D C : ℕ → ℕ → Type 0) (m : Mesh) (ne : ℕ) (f₀ 
     -- ---- the edge is there: its other side
 
     module _ (e : ℕ) (b : e < ne) (free : row m e .«face_right» ≡ none) (from : row m e .origin ≡ q) (to : row m e .dest ≡ p) where
-      here : row (filled m e f₀) e ≡ withRight (row m e) f₀
+      here : row (withRightFace m e f₀) e ≡ withRight (row m e) f₀
       here = row-filled m e f₀ (omega arith)
 
       -- all that a filled side leaves
       record Left-alone (x : ℕ) : Type 0 where
-        origin-same : row (filled m e f₀) x .origin ≡ row m x .origin
-        dest-same : row (filled m e f₀) x .dest ≡ row m x .dest
-        left-same : row (filled m e f₀) x .«face_left» ≡ row m x .«face_left»
-        interval-same : row (filled m e f₀) x .«knot_interval» ≡ row m x .«knot_interval»
-        links-same : row (filled m e f₀) x .connections ≡ row m x .connections
+        origin-same : row (withRightFace m e f₀) x .origin ≡ row m x .origin
+        dest-same : row (withRightFace m e f₀) x .dest ≡ row m x .dest
+        left-same : row (withRightFace m e f₀) x .«face_left» ≡ row m x .«face_left»
+        interval-same : row (withRightFace m e f₀) x .«knot_interval» ≡ row m x .«knot_interval»
+        links-same : row (withRightFace m e f₀) x .connections ≡ row m x .connections
 
       left-alone : (x : ℕ) → Left-alone x
       left-alone x = go (ℕ-discrete x e)
@@ -183,22 +185,22 @@ module _ (l : Lists) (D C : ℕ → ℕ → Type 0) (m : Mesh) (ne : ℕ) (f₀ 
                 links-same = ap (λ (r : TnurccEdge). r .connections) same;
               }
 
-      first-alone : (s : TnurccFaceSide) (x : ℕ) → firstOf s (row (filled m e f₀) x) ≡ firstOf s (row m x)
+      first-alone : (s : TnurccFaceSide) (x : ℕ) → firstOf s (row (withRightFace m e f₀) x) ≡ firstOf s (row m x)
       first-alone Left x = left-alone x .origin-same
       first-alone Right x = left-alone x .dest-same
 
-      second-alone : (s : TnurccFaceSide) (x : ℕ) → secondOf s (row (filled m e f₀) x) ≡ secondOf s (row m x)
+      second-alone : (s : TnurccFaceSide) (x : ℕ) → secondOf s (row (withRightFace m e f₀) x) ≡ secondOf s (row m x)
       second-alone Left x = left-alone x .dest-same
       second-alone Right x = left-alone x .origin-same
 
-      links-alone : (s : TnurccFaceSide) (x : ℕ) → (acwOf s (row (filled m e f₀) x) ≡ acwOf s (row m x)) × (cwOf s (row (filled m e f₀) x) ≡ cwOf s (row m x))
+      links-alone : (s : TnurccFaceSide) (x : ℕ) → (acwOf s (row (withRightFace m e f₀) x) ≡ acwOf s (row m x)) × (cwOf s (row (withRightFace m e f₀) x) ≡ cwOf s (row m x))
       links-alone s x = (rw (left-alone x .links-same), rw (left-alone x .links-same))
 
-      face-alone : (s : TnurccFaceSide) (x : ℕ) → ¬ ((s ≡ Right) × (x ≡ e)) → faceFromSide (row (filled m e f₀) x) s ≡ faceFromSide (row m x) s
+      face-alone : (s : TnurccFaceSide) (x : ℕ) → ¬ ((s ≡ Right) × (x ≡ e)) → faceFromSide (row (withRightFace m e f₀) x) s ≡ faceFromSide (row m x) s
       face-alone Left x h = left-alone x .left-same
       face-alone Right x h = ap (λ (r : TnurccEdge). r .«face_right») (row-filled-other m e f₀ x (λ z. h (refl, z)))
 
-      adds-filled : Adds l m ne (filled m e f₀) ne f₀ i₀ Right e
+      adds-filled : Adds l m ne (withRightFace m e f₀) ne f₀ i₀ Right e
       adds-filled =
           record {
             grows = omega arith;
@@ -234,21 +236,21 @@ module _ (l : Lists) (D C : ℕ → ℕ → Type 0) (m : Mesh) (ne : ℕ) (f₀ 
           let same : (s ≡ Right) × (x ≡ e) = v .one-side s x Right e k b (first ∙ sym to) (second ∙ sym from) in
           ap₂ (λ s x. faceFromSide (row m x) s) (same .0) (same .1) ∙ free
 
-      made-filled : Made l (Or-this D f₀ i₀) (filled m e f₀) ne
-      unfolding filled
+      made-filled : Made l (Or-this D f₀ i₀) (withRightFace m e f₀) ne
+      unfolding withRightFace
       made-filled =
-          made-on l D (Or-this D f₀ i₀) (λ f i d. inl d) before-old m (filled m e f₀) ne (v .made)
+          made-on l D (Or-this D f₀ i₀) (λ f i d. inl d) before-old m (withRightFace m e f₀) ne (v .made)
           (λ x k.
           let same = left-alone x in
           record { origin = same .origin-same; dest = same .dest-same; left = same .left-same; interval = same .interval-same })
           (λ x. refl)
 
-      goes-filled : Goes (filled m e f₀) ne e
-      unfolding filled counted
+      goes-filled : Goes (withRightFace m e f₀) ne e
+      unfolding withRightFace counted
       goes-filled =
           record {
             invariant =
-                invariant-added l D C m ne v (filled m e f₀) ne f₀ i₀ Right e adds-filled g₀ none-runs-filled
+                invariant-added l D C m ne v (withRightFace m e f₀) ne f₀ i₀ Right e adds-filled g₀ none-runs-filled
                 (record {
                   left-face = λ x k z. v .left-face x k (sym (left-alone x .left-same) ∙ z);
                   origin-in = λ x k. subst (λ y. y < pointsOf l) (sym (left-alone x .origin-same)) (v .origin-in x k);
@@ -258,16 +260,16 @@ module _ (l : Lists) (D C : ℕ → ℕ → Type 0) (m : Mesh) (ne : ℕ) (f₀ 
                       v .one-side s x t y k k' (sym (first-alone s x) ∙ h ∙ first-alone t y) (sym (second-alone s x) ∙ h' ∙ second-alone t y);
                   valence-is = λ x k.
                       v .valence-is x k
-                      ∙ sumTo-cong ne (λ y. one (touches m x y)) (λ y. one (touches (filled m e f₀) x y))
-                      (λ y j. ap₂ (λ (i k : ℕ). one (eqb i x || eqb k x)) (sym (left-alone y .origin-same)) (sym (left-alone y .dest-same)));
+                      ∙ sumTo-cong ne (λ y. oneIf (touches m x y)) (λ y. oneIf (touches (withRightFace m e f₀) x y))
+                      (λ y j. ap₂ (λ (i k : ℕ). oneIf (eqb i x || eqb k x)) (sym (left-alone y .origin-same)) (sym (left-alone y .dest-same)));
                   start-is = λ x k h. (v .start-is x k h .0, touches-alone x (start m x) (v .start-is x k h .1));
                   interval-fit = λ x k. rw (left-alone x .interval-same) (v .interval-fit x k);
                   made = made-filled;
                 });
-            sits = sits-new l D C m ne v (filled m e f₀) ne f₀ i₀ Right e adds-filled g₀;
-            sits-still = sits-added l D C m ne v (filled m e f₀) ne f₀ i₀ Right e adds-filled g₀;
+            sits = sits-new l D C m ne v (withRightFace m e f₀) ne f₀ i₀ Right e adds-filled g₀;
+            sits-still = sits-added l D C m ne v (withRightFace m e f₀) ne f₀ i₀ Right e adds-filled g₀;
             counts =
-                sumTo-more ne e (λ x. sided (row m x .«face_right»)) (λ x. sided (row (filled m e f₀) x .«face_right»)) b
+                sumTo-more ne e (λ x. sided (row m x .«face_right»)) (λ x. sided (row (withRightFace m e f₀) x .«face_right»)) b
                 (ap sided (ap (λ (r : TnurccEdge). r .«face_right») here) ∙ sided-face f₀ (g₀ .a-face) ∙ ap suc (sym (ap sided free ∙ sided-none)))
                 (λ x k h. ap sided (ap (λ (r : TnurccEdge). r .«face_right») (row-filled-other m e f₀ x h)));
             within =
@@ -283,7 +285,7 @@ module _ (l : Lists) (D C : ℕ → ℕ → Type 0) (m : Mesh) (ne : ℕ) (f₀ 
             later = λ x h. row-filled-other m e f₀ x (λ z. omega arith);
           }
         where
-          touches-alone : (x y : ℕ) → Touches m x y → Touches (filled m e f₀) x y
+          touches-alone : (x y : ℕ) → Touches m x y → Touches (withRightFace m e f₀) x y
           touches-alone x y (inl h) = inl (left-alone y .origin-same ∙ h)
           touches-alone x y (inr h) = inr (left-alone y .dest-same ∙ h)
 
@@ -293,7 +295,7 @@ module _ (l : Lists) (D C : ℕ → ℕ → Type 0) (m : Mesh) (ne : ℕ) (f₀ 
       abbrev new : Mesh
       new = newEdge m ne f₀ p q value
 
-      here-new : row new ne ≡ edgeOf ne f₀ p q value
+      here-new : row new ne ≡ loneEdge ne f₀ p q value
       here-new = row-newEdge m ne f₀ p q value (omega arith) intervals-room
 
       there : (x : ℕ) → x < ne → row new x ≡ row m x
@@ -341,7 +343,7 @@ module _ (l : Lists) (D C : ℕ → ℕ → Type 0) (m : Mesh) (ne : ℕ) (f₀ 
       none-runs-new s x k first second = absurd (nowhere x k (joined-by s x first second))
 
       -- a fact of every edge is one of the old edges and of the new one
-      each : (A : TnurccEdge → Type 0) → ((x : ℕ) → x < ne → A (row m x)) → A (edgeOf ne f₀ p q value) → (x : ℕ) → x < suc ne → A (row new x)
+      each : (A : TnurccEdge → Type 0) → ((x : ℕ) → x < ne → A (row m x)) → A (loneEdge ne f₀ p q value) → (x : ℕ) → x < suc ne → A (row new x)
       each A old this x k =
           below-suc x ne k (λ lt. subst A (sym (there x lt)) (old x lt)) (λ same. subst (λ x. A (row new x)) (sym same) (subst A (sym here-new) this))
 
@@ -361,7 +363,7 @@ module _ (l : Lists) (D C : ℕ → ℕ → Type 0) (m : Mesh) (ne : ℕ) (f₀ 
       new-old s y t k h h' =
           nowhere y k (go s t (sym (ap (firstOf s) here-new) ∙ h ∙ ap (firstOf t) (there y k)) (sym (ap (secondOf s) here-new) ∙ h' ∙ ap (secondOf t) (there y k)))
         where
-          go : (s t : TnurccFaceSide) → firstOf s (edgeOf ne f₀ p q value) ≡ firstOf t (row m y) → secondOf s (edgeOf ne f₀ p q value) ≡ secondOf t (row m y) → Joins m p q y
+          go : (s t : TnurccFaceSide) → firstOf s (loneEdge ne f₀ p q value) ≡ firstOf t (row m y) → secondOf s (loneEdge ne f₀ p q value) ≡ secondOf t (row m y) → Joins m p q y
           go Left Left h k = inl (sym h, sym k)
           go Left Right h k = inr (sym k, sym h)
           go Right Left h k = inr (sym h, sym k)
@@ -384,37 +386,37 @@ module _ (l : Lists) (D C : ℕ → ℕ → Type 0) (m : Mesh) (ne : ℕ) (f₀ 
           (both .0, same ∙ sym same')))
 
       -- the valences
-      old-touches : (x : ℕ) → sumTo ne (λ y. one (touches new x y)) ≡ sumTo ne (λ y. one (touches m x y))
+      old-touches : (x : ℕ) → sumTo ne (λ y. oneIf (touches new x y)) ≡ sumTo ne (λ y. oneIf (touches m x y))
       old-touches x =
-          sumTo-cong ne (λ y. one (touches new x y)) (λ y. one (touches m x y))
-          (λ y k. ap (λ (r : TnurccEdge). one (eqb (r .origin) x || eqb (r .dest) x)) (there y k))
+          sumTo-cong ne (λ y. oneIf (touches new x y)) (λ y. oneIf (touches m x y))
+          (λ y k. ap (λ (r : TnurccEdge). oneIf (eqb (r .origin) x || eqb (r .dest) x)) (there y k))
 
-      new-touches : (x : ℕ) → one (touches new x ne) ≡ one (eqb p x || eqb q x)
-      new-touches x = ap (λ (r : TnurccEdge). one (eqb (r .origin) x || eqb (r .dest) x)) here-new
+      new-touches : (x : ℕ) → oneIf (touches new x ne) ≡ oneIf (eqb p x || eqb q x)
+      new-touches x = ap (λ (r : TnurccEdge). oneIf (eqb (r .origin) x || eqb (r .dest) x)) here-new
 
       or-true : (a : Bool) → a || true ≡ true
       or-true true = refl
       or-true false = refl
 
-      valence-new : (x : ℕ) → x < pointsOf l → valence new x ≡ sumTo (suc ne) (λ y. one (touches new x y))
+      valence-new : (x : ℕ) → x < pointsOf l → valence new x ≡ sumTo (suc ne) (λ y. oneIf (touches new x y))
       unfolding sumTo
       valence-new x k = go (ℕ-discrete x p) (ℕ-discrete x q)
         where
-          old : valence m x ≡ sumTo ne (λ y. one (touches m x y))
+          old : valence m x ≡ sumTo ne (λ y. oneIf (touches m x y))
           old = v .valence-is x k
 
-          go : Dec (x ≡ p) → Dec (x ≡ q) → valence new x ≡ sumTo ne (λ y. one (touches new x y)) + one (touches new x ne)
+          go : Dec (x ≡ p) → Dec (x ≡ q) → valence new x ≡ sumTo ne (λ y. oneIf (touches new x y)) + oneIf (touches new x ne)
           go (yes h) d =
               let up : valence new x ≡ suc (valence m x) = subst (λ x. valence new x ≡ suc (valence m x)) (sym h) (valence-newEdge-first m ne f₀ p q value differ p-fits q-fits) in
-              let touch : one (eqb p x || eqb q x) ≡ 1 = rw (eq-eqb p x (sym h)) refl in
+              let touch : oneIf (eqb p x || eqb q x) ≡ 1 = rw (eq-eqb p x (sym h)) refl in
               omega (arith, up, touch, old-touches x, new-touches x, old)
           go (no h) (yes j) =
               let up : valence new x ≡ suc (valence m x) = subst (λ x. valence new x ≡ suc (valence m x)) (sym j) (valence-newEdge-second m ne f₀ p q value differ p-fits q-fits) in
-              let touch : one (eqb p x || eqb q x) ≡ 1 = rw (eq-eqb q x (sym j), or-true) refl in
+              let touch : oneIf (eqb p x || eqb q x) ≡ 1 = rw (eq-eqb q x (sym j), or-true) refl in
               omega (arith, up, touch, old-touches x, new-touches x, old)
           go (no h) (no j) =
               let up : valence new x ≡ valence m x = valence-newEdge-other m ne f₀ p q value differ p-fits q-fits x h j in
-              let touch : one (eqb p x || eqb q x) ≡ 0 = rw (ne-eqb p x (λ z. h (sym z)), ne-eqb q x (λ z. j (sym z))) refl in
+              let touch : oneIf (eqb p x || eqb q x) ≡ 0 = rw (ne-eqb p x (λ z. h (sym z)), ne-eqb q x (λ z. j (sym z))) refl in
               omega (arith, up, touch, old-touches x, new-touches x, old)
 
       start-new : (x : ℕ) → x < pointsOf l → 0 < valence new x → (start new x < suc ne) × Touches new x (start new x)
@@ -545,7 +547,7 @@ module _ (l : Lists) (D C : ℕ → ℕ → Type 0) (m : Mesh) (ne : ℕ) (f₀ 
                   points =
                       behind-trans (pointsOf l * 3) (m .points) (touched (m .points) p ne) (touched (touched (m .points) p ne) q ne)
                       (behind-touched (pointsOf l) (m .points) p ne p-in) (behind-touched (pointsOf l) (touched (m .points) p ne) q ne q-in);
-                  edges = behind-putRow (length (l .listed) * 8) (edgeWords (edgeOf ne f₀ p q value)) (m .edges) (ne * 8) (omega arith);
+                  edges = behind-putRow (length (l .listed) * 8) (edgeWords (loneEdge ne f₀ p q value)) (m .edges) (ne * 8) (omega arith);
                   intervals = behind-set (length (l .listed)) (m .intervals) ne value listed-room;
                   faces = (refl, refl);
                 };

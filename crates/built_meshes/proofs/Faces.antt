@@ -20,10 +20,10 @@ use Rattle.audited_meshes.proofs.Folds.{below-suc}
 use Rattle.audited_meshes.proofs.Tests.{Is, and-is, not-is, eqb-is, ltb-is, leb-is, every-is}
 use Rattle.built_meshes.specs.Lists.{Lists, pointsOf, facesOf, size, offset}
 use Rattle.tables.specs.declared.Sizes.{Sizes}
-use Rattle.built_meshes.specs.Faces.{sizeFit, inRange, noPointTwice, apart, sumsFit, faceVerdict}
-use Rattle.built_meshes.specs.Perimeters.{State, Step, on, stopped, perimeter}
+use Rattle.built_meshes.specs.Faces.{sizeFit, listedInRange, noPointTwice, sumsApart, sumsFit, faceVerdict}
+use Rattle.built_meshes.specs.Perimeters.{BuildState, Progress, on, stopped, perimeter}
 use Rattle.built_meshes.specs.Places.{pointOf, nextOf, Runs, IsPlace, Between, Earlier}
-use Rattle.built_meshes.specs.Answers.{numberOf}
+use Rattle.built_meshes.specs.Answers.{groundNumber}
 use Rattle.built_meshes.specs.Building.{faceIf, facePassed, facesFrom}
 use Rattle.built_meshes.specs.Beyond.{Within}
 use Rattle.built_meshes.specs.Grounds.{Where, face, edge, Met, face-size, out-of-range, point-twice, non-rectangular, triple-face, same-way, First-met}
@@ -47,7 +47,7 @@ every-false (suc n) test h = go (every n test) refl (every-false n test) h
     go true e ih h = (n, omega arith, h)
     go false e ih h = let w = ih e in (w .0, omega (arith, w .1), w .2)
 
-why-number : {l : Lists} {D : ℕ → ℕ → Type 0} {p q : ℕ} {g : Ground} → Why l D p q g → 10 ≤ numberOf g
+why-number : {l : Lists} {D : ℕ → ℕ → Type 0} {p q : ℕ} {g : Ground} → Why l D p q g → 10 ≤ groundNumber g
 why-number (both-ways f i g j d a b d' a' b') = omega arith
 why-number (this-way f i d a b n) = omega arith
 
@@ -60,11 +60,11 @@ and-false false b h = inl refl
 
 module _ (c : Sizes) (l : Lists) (m₀ : Mesh) where
   pub data Face-verdict (f : ℕ) : Verdict → Type 0 where
-    fit : FaceSound l f → small (apart l f (offset l f)) ≡ true → Face-verdict f Fit
-    unfit : {g : Ground} → Met c l m₀ (face f) g → Tests l f (numberOf g) → 10 ≤ numberOf g → Face-verdict f (Unfit g)
+    fit : FaceSound l f → small (sumsApart l f (offset l f)) ≡ true → Face-verdict f Fit
+    unfit : {g : Ground} → Met c l m₀ (face f) g → Tests l f (groundNumber g) → 10 ≤ groundNumber g → Face-verdict f (Unfit g)
 
-  range-is : (f : ℕ) → Is (inRange l (pointsOf l) (offset l f) (size l f)) ((i : ℕ) → i < size l f → pointOf l f i < pointsOf l)
-  unfolding inRange
+  range-is : (f : ℕ) → Is (listedInRange l (pointsOf l) (offset l f) (size l f)) ((i : ℕ) → i < size l f → pointOf l f i < pointsOf l)
+  unfolding listedInRange
   range-is f = every-is (size l f) (λ i. ltb-is (pointOf l f i) (pointsOf l))
 
   twice-is : (f : ℕ) → Is (noPointTwice l (offset l f) (size l f)) ((i : ℕ) → i < size l f → (j : ℕ) → j < i → ¬ (pointOf l f i ≡ pointOf l f j))
@@ -85,8 +85,8 @@ module _ (c : Sizes) (l : Lists) (m₀ : Mesh) where
       face-size f b
       (⊎-elim (λ z. inl (leb-false 3 (size l f) z)) (λ z. inr (leb-false (size l f) 64 z)) (and-false (leb 3 (size l f)) (leb (size l f) 64) h))
 
-  range-met : (f : ℕ) → f < facesOf l → inRange l (pointsOf l) (offset l f) (size l f) ≡ false → Met c l m₀ (face f) OutOfRange
-  unfolding inRange
+  range-met : (f : ℕ) → f < facesOf l → listedInRange l (pointsOf l) (offset l f) (size l f) ≡ false → Met c l m₀ (face f) OutOfRange
+  unfolding listedInRange
   range-met f b h =
       let w = every-false (size l f) (λ i. ltb (pointOf l f i) (pointsOf l)) h in
       out-of-range f (w .0) (b, w .1) (ltb-false (pointOf l f (w .0)) (pointsOf l) (w .2))
@@ -122,7 +122,7 @@ module _ (c : Sizes) (l : Lists) (m₀ : Mesh) where
             sums = λ h. absurd (omega arith);
           }
 
-      tests-12 : sizeFit (size l f) ≡ true → inRange l (pointsOf l) (offset l f) (size l f) ≡ true → Tests l f 12
+      tests-12 : sizeFit (size l f) ≡ true → listedInRange l (pointsOf l) (offset l f) (size l f) ≡ true → Tests l f 12
       tests-12 hs hr =
           record { sizes = λ h. tests-11 hs .sizes (omega arith); ranges = λ h. range-is f .0 hr; once = λ h. absurd (omega arith); sums = λ h. absurd (omega arith) }
 
@@ -139,7 +139,7 @@ module _ (c : Sizes) (l : Lists) (m₀ : Mesh) where
       sums s true h = fit s h
       sums s false h = unfit {g = NonRectangularFace} (non-rectangular f b h) (tests s) (omega arith)
 
-      twice : sizeFit (size l f) ≡ true → inRange l (pointsOf l) (offset l f) (size l f) ≡ true → (t : Bool) → noPointTwice l (offset l f) (size l f) ≡ t →
+      twice : sizeFit (size l f) ≡ true → listedInRange l (pointsOf l) (offset l f) (size l f) ≡ true → (t : Bool) → noPointTwice l (offset l f) (size l f) ≡ t →
           Face-verdict f (cond (not t) (Unfit PointTwice) (cond (not (sumsFit l f (offset l f))) (Unfit NonRectangularFace) Fit))
       twice hs hr true h =
           let both = and-is (leb-is 3 (size l f)) (leb-is (size l f) 64) .0 hs in
@@ -147,22 +147,22 @@ module _ (c : Sizes) (l : Lists) (m₀ : Mesh) where
           (sumsFit l f (offset l f)) refl
       twice hs hr false h = unfit {g = PointTwice} (twice-met f b h) (tests-12 hs hr) (omega arith)
 
-      ranges : sizeFit (size l f) ≡ true → (t : Bool) → inRange l (pointsOf l) (offset l f) (size l f) ≡ t →
+      ranges : sizeFit (size l f) ≡ true → (t : Bool) → listedInRange l (pointsOf l) (offset l f) (size l f) ≡ t →
           Face-verdict f (cond (not t) (Unfit OutOfRange)
           (cond (not (noPointTwice l (offset l f) (size l f))) (Unfit PointTwice) (cond (not (sumsFit l f (offset l f))) (Unfit NonRectangularFace) Fit)))
       ranges hs true h = twice hs h (noPointTwice l (offset l f) (size l f)) refl
       ranges hs false h = unfit {g = OutOfRange} (range-met f b h) (tests-11 hs) (omega arith)
 
       sizes : (t : Bool) → sizeFit (size l f) ≡ t →
-          Face-verdict f (cond (not t) (Unfit FaceSize) (cond (not (inRange l (pointsOf l) (offset l f) (size l f))) (Unfit OutOfRange)
+          Face-verdict f (cond (not t) (Unfit FaceSize) (cond (not (listedInRange l (pointsOf l) (offset l f) (size l f))) (Unfit OutOfRange)
           (cond (not (noPointTwice l (offset l f) (size l f))) (Unfit PointTwice) (cond (not (sumsFit l f (offset l f))) (Unfit NonRectangularFace) Fit))))
-      sizes true h = ranges h (inRange l (pointsOf l) (offset l f) (size l f)) refl
+      sizes true h = ranges h (listedInRange l (pointsOf l) (offset l f) (size l f)) refl
       sizes false h = unfit {g = FaceSize} (size-met f b h) tests-10 (omega arith)
 
   -- nothing is held against the faces below k
   pub record Fit-faces (k : ℕ) : Type 0 where
     pub sound : (f : ℕ) → f < k → FaceSound l f
-    pub rectangular : (f : ℕ) → f < k → small (apart l f (offset l f)) ≡ true
+    pub rectangular : (f : ℕ) → f < k → small (sumsApart l f (offset l f)) ≡ true
 
   pub fit-tests : (k : ℕ) → Fit-faces k → (f : ℕ) → f < k → (n : ℕ) → Tests l f n
   fit-tests k a f b n = tests-of l f n (a .sound f b) (a .rectangular f b)
@@ -234,44 +234,44 @@ module _ (c : Sizes) (l : Lists) (m₀ : Mesh) where
 
   -- ---- all faces
 
-  pub data Faces-came (s₀ : State) : Step State → Type 0 where
-    stand : {t : State} → Faces l (facesOf l) t → Fit-faces (facesOf l) → Within l (s₀ .mesh) (t .mesh) →
+  pub data Faces-came (s₀ : BuildState) : Progress BuildState → Type 0 where
+    stand : {t : BuildState} → Faces l (facesOf l) t → Fit-faces (facesOf l) → Within l (s₀ .mesh) (t .mesh) →
         ((x : ℕ) → t .edges ≤ x → row (t .mesh) x ≡ row (s₀ .mesh) x) → Faces-came s₀ (on t)
-    stop : {g : Ground} {m : Mesh} (w : Where) → First-met c l m₀ w g → 10 ≤ numberOf g → Within l (s₀ .mesh) m → Faces-came s₀ (stopped g m)
+    stop : {g : Ground} {m : Mesh} (w : Where) → First-met c l m₀ w g → 10 ≤ groundNumber g → Within l (s₀ .mesh) m → Faces-came s₀ (stopped g m)
 
-  module _ (clear : Clear-lists c l m₀) (s₀ : State) (ready : Ready l (s₀ .mesh)) where
+  module _ (clear : Clear-lists c l m₀) (s₀ : BuildState) (ready : Ready l (s₀ .mesh)) where
     -- the state s, come from s₀, with the faces below f in
-    pub record So-far (f : ℕ) (s : State) : Type 0 where
+    pub record So-far (f : ℕ) (s : BuildState) : Type 0 where
       pub faces : Faces l f s
       pub fit-faces : Fit-faces f
       pub within : Within l (s₀ .mesh) (s .mesh)
       pub later : (x : ℕ) → s .edges ≤ x → row (s .mesh) x ≡ row (s₀ .mesh) x
 
-    pub data Along (f : ℕ) : Step State → Type 0 where
-      along : {s : State} → So-far f s → Along f (on s)
-      stopped-at : {g : Ground} {m : Mesh} (w : Where) → First-met c l m₀ w g → 10 ≤ numberOf g → Within l (s₀ .mesh) m → Along f (stopped g m)
+    pub data Along (f : ℕ) : Progress BuildState → Type 0 where
+      along : {s : BuildState} → So-far f s → Along f (on s)
+      stopped-at : {g : Ground} {m : Mesh} (w : Where) → First-met c l m₀ w g → 10 ≤ groundNumber g → Within l (s₀ .mesh) m → Along f (stopped g m)
 
-    fit-more : (f : ℕ) → Fit-faces f → FaceSound l f → small (apart l f (offset l f)) ≡ true → Fit-faces (suc f)
+    fit-more : (f : ℕ) → Fit-faces f → FaceSound l f → small (sumsApart l f (offset l f)) ≡ true → Fit-faces (suc f)
     fit-more f a s r =
         record {
           sound = λ x h. below-suc x f h (a .sound x) (λ same. subst (λ f. FaceSound l f) (sym same) s);
-          rectangular = λ x h. below-suc x f h (a .rectangular x) (λ same. subst (λ f. small (apart l f (offset l f)) ≡ true) (sym same) r);
+          rectangular = λ x h. below-suc x f h (a .rectangular x) (λ same. subst (λ f. small (sumsApart l f (offset l f)) ≡ true) (sym same) r);
         }
 
     -- a ground of face f is met first
-    face-first : (f : ℕ) (s : State) → f < facesOf l → So-far f s → {g : Ground} → Met c l m₀ (face f) g → Tests l f (numberOf g) → First-met c l m₀ (face f) g
+    face-first : (f : ℕ) (s : BuildState) → f < facesOf l → So-far f s → {g : Ground} → Met c l m₀ (face f) g → Tests l f (groundNumber g) → First-met c l m₀ (face f) g
     face-first f s b a {g} met tests =
-        first-face c l m₀ clear f (numberOf g) (fit-tests f (a .fit-faces)) tests
+        first-face c l m₀ clear f (groundNumber g) (fit-tests f (a .fit-faces)) tests
         (λ x i is h.
         let one-way = a .faces .invariant .one-way in
         (no-triple l (Done l f 0) (done-down f 0) one-way x i (inl (h, is .1)), no-same l (Done l f 0) (done-down f 0) one-way x i (inl (h, is .1))))
         g refl met
 
-    pub face-came : (f : ℕ) (s : State) → f < facesOf l → So-far f s → Along (suc f) (facePassed l f (offset l f) s)
+    pub face-came : (f : ℕ) (s : BuildState) → f < facesOf l → So-far f s → Along (suc f) (facePassed l f (offset l f) s)
     unfolding facePassed faceIf
     face-came f s b a = go (faceVerdict l (pointsOf l) f (offset l f)) (verdict-is f b)
       where
-        entered : (sound : FaceSound l f) → small (apart l f (offset l f)) ≡ true → (x : Step State) →
+        entered : (sound : FaceSound l f) → small (sumsApart l f (offset l f)) ≡ true → (x : Progress BuildState) →
             Perimeter-came l s f b sound (ready-same l (a .within) ready) x → Along (suc f) x
         entered sound r x (whole faces within grows later) =
             along (record {
@@ -287,7 +287,7 @@ module _ (c : Sizes) (l : Lists) (m₀ : Mesh) where
         go v (fit sound r) = entered sound r (perimeter l f (offset l f) s) (perimeter-came l s f b sound (ready-same l (a .within) ready) (a .faces))
         go v (unfit {g = g} h t n) = stopped-at {g = g} (face f) (face-first f s b a h t) n (a .within)
 
-    from-came : (k f : ℕ) (x : Step State) → f + k ≡ facesOf l → Along f x → Along (facesOf l) (facesFrom k l f (offset l f) x)
+    from-came : (k f : ℕ) (x : Progress BuildState) → f + k ≡ facesOf l → Along f x → Along (facesOf l) (facesFrom k l f (offset l f) x)
     unfolding facesFrom
     from-came zero f x h a = subst (λ n. Along n x) (let same : f ≡ facesOf l = omega arith in same) a
     from-came (suc k) f x h (along {s = s} a) =
@@ -308,6 +308,6 @@ module _ (c : Sizes) (l : Lists) (m₀ : Mesh) where
     unfolding offset sumTo
     faces-came all = go (facesFrom (facesOf l) l 0 0 (on s₀)) (from-came (facesOf l) 0 (on s₀) (omega arith) (along (so-far-none all)))
       where
-        go : (x : Step State) → Along (facesOf l) x → Faces-came s₀ x
+        go : (x : Progress BuildState) → Along (facesOf l) x → Faces-came s₀ x
         go x (along a) = stand (a .faces) (a .fit-faces) (a .within) (a .later)
         go x (stopped-at {g = g} p w n o) = stop {g = g} p w n o

@@ -26,7 +26,7 @@ use Rattle.audited_meshes.specs.Audited.{Audited}
 use Rattle.audited_meshes.proofs.Folds.{below-suc}
 use Rattle.built_meshes.specs.Lists.{Lists, pointsOf, facesOf}
 use Rattle.tables.specs.declared.Sizes.{Sizes}
-use Rattle.built_meshes.specs.Perimeters.{State}
+use Rattle.built_meshes.specs.Perimeters.{BuildState}
 use Rattle.built_meshes.specs.Whole.{markOf, marked, finished}
 use Rattle.built_meshes.specs.Beyond.{Behind, Within}
 use Rattle.built_meshes.proofs.Connecting.{Keeps}
@@ -126,7 +126,7 @@ module _ (l : Lists) (m : Mesh) where
   unfolding pointWalk finished
   walk-finished ne p = rw (valence-finished p, start-finished p)
 
-module _ (l : Lists) (k : ℕ) (s : State) (all : Faces l k s) where
+module _ (l : Lists) (k : ℕ) (s : BuildState) (all : Faces l k s) where
   pub faces-finished : Faces l k (record { mesh = finished l (s .mesh); edges = s .edges })
   unfolding finished counted
   faces-finished =
@@ -144,7 +144,7 @@ module _ (l : Lists) (k : ℕ) (s : State) (all : Faces l k s) where
 -- ---- the audit's clauses
 
 module _ (c : Sizes) (l : Lists) (m₀ : Mesh) (counted' : Counted c l) (numbered : Numbered l) (roomy : Roomy l m₀) (few : c .faces ≤ none)
-    (s : State) (all : Faces l (facesOf l) s) (fit : Fit-faces c l m₀ (facesOf l)) (within : Within l m₀ (s .mesh))
+    (s : BuildState) (all : Faces l (facesOf l) s) (fit : Fit-faces c l m₀ (facesOf l)) (within : Within l m₀ (s .mesh))
     (right : (e : ℕ) → e < s .edges → row (s .mesh) e .«face_right» ≢ none) (edged : (p : ℕ) → p < pointsOf l → valence (s .mesh) p ≢ 0)
     (walked : (p : ℕ) → p < pointsOf l → valence (s .mesh) p ≤ passed (pointWalk (s .mesh) (s .edges) (valence (s .mesh) p) p)) where
   abbrev after : Mesh

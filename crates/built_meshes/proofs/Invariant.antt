@@ -19,7 +19,7 @@ use Rattle.t_spline.specs.Ends.{faceFromSide}
 use Rattle.t_spline.specs.declared.TnurccFaceSide.{TnurccFaceSide}
 use Rattle.tables.specs.Mesh.{Mesh, valence, start, origin, dest, interval}
 use Rattle.closed_meshes.specs.Renumbering.{sumTo}
-use Rattle.audited_meshes.specs.Folds.{one}
+use Rattle.audited_meshes.specs.Folds.{oneIf}
 use Rattle.audited_meshes.specs.Walks.{touches, Touches}
 use Rattle.audited_meshes.specs.Audit.{intervalFit}
 use Rattle.audited_meshes.proofs.Folds.{sumTo-cong}
@@ -68,7 +68,7 @@ pub record Invariant (l : Lists) (D C : ℕ → ℕ → Type 0) (m : Mesh) (ne :
   pub one-side :
       (s : TnurccFaceSide) (e : ℕ) (t : TnurccFaceSide) (o : ℕ) → e < ne → o < ne →
       firstOf s (row m e) ≡ firstOf t (row m o) → secondOf s (row m e) ≡ secondOf t (row m o) → (s ≡ t) × (e ≡ o)
-  pub valence-is : (p : ℕ) → p < pointsOf l → valence m p ≡ sumTo ne (λ e. one (touches m p e))
+  pub valence-is : (p : ℕ) → p < pointsOf l → valence m p ≡ sumTo ne (λ e. oneIf (touches m p e))
   pub start-is : (p : ℕ) → p < pointsOf l → 0 < valence m p → (start m p < ne) × Touches m p (start m p)
   pub interval-fit : (e : ℕ) → e < ne → intervalFit (row m e .«knot_interval») ≡ true
   pub made : Made l D m ne
@@ -175,7 +175,7 @@ module _ (l : Lists) (D C : ℕ → ℕ → Type 0) (m : Mesh) (ne : ℕ) (v : I
           one-side = λ s e t o b b' h k.
               v .one-side s e t o b b' (sym (first-kept s (keeps e b)) ∙ h ∙ first-kept t (keeps o b')) (sym (second-kept s (keeps e b)) ∙ k ∙ second-kept t (keeps o b'));
           valence-is = λ p b.
-              valence-same p ∙ v .valence-is p b ∙ sumTo-cong ne (λ e. one (touches m p e)) (λ e. one (touches m' p e)) (λ e k. ap one (sym (touches-kept p e k)));
+              valence-same p ∙ v .valence-is p b ∙ sumTo-cong ne (λ e. oneIf (touches m p e)) (λ e. oneIf (touches m' p e)) (λ e k. ap oneIf (sym (touches-kept p e k)));
           start-is = λ p b h.
               let at = v .start-is p b (subst (λ n. 0 < n) (valence-same p) h) in (
                 subst (λ x. x < ne) (sym (start-same p)) (at .0),
@@ -339,7 +339,7 @@ module _ (l : Lists) (D C : ℕ → ℕ → Type 0) (m : Mesh) (ne : ℕ) (v : I
         pub one-side :
             (s : TnurccFaceSide) (e : ℕ) (t : TnurccFaceSide) (o : ℕ) → e < ne' → o < ne' →
             firstOf s (row m' e) ≡ firstOf t (row m' o) → secondOf s (row m' e) ≡ secondOf t (row m' o) → (s ≡ t) × (e ≡ o)
-        pub valence-is : (p : ℕ) → p < pointsOf l → valence m' p ≡ sumTo ne' (λ e. one (touches m' p e))
+        pub valence-is : (p : ℕ) → p < pointsOf l → valence m' p ≡ sumTo ne' (λ e. oneIf (touches m' p e))
         pub start-is : (p : ℕ) → p < pointsOf l → 0 < valence m' p → (start m' p < ne') × Touches m' p (start m' p)
         pub interval-fit : (e : ℕ) → e < ne' → intervalFit (row m' e .«knot_interval») ≡ true
         pub made : Made l (Or-this D f₀ i₀) m' ne'

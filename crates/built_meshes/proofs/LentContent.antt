@@ -20,18 +20,22 @@ use Rattle.t_spline.specs.declared.TnurccEdge.{TnurccEdge}
 use Rattle.tables.specs.Mesh.{Mesh, none, valence, start, mark, origin, dest, leftFace, rightFace, leftCw, leftAcw, rightCw, rightAcw, interval}
 use Rattle.tables.specs.Rows.{zeroed}
 use Rattle.tables.specs.declared.Counts.{Counts}
-use Rattle.audited_meshes.specs.Folds.{one}
+use Rattle.audited_meshes.specs.Folds.{oneIf}
 use Rattle.audited_meshes.specs.Walks.{touches, Touches}
 use Rattle.audited_meshes.proofs.Folds.{below-suc, sumTo-cong}
 use Rattle.built_meshes.specs.Lists.{Lists, pointsOf, facesOf, size, offset, rowsOf}
 use Rattle.built_meshes.specs.Places.{pointOf, nextOf, Runs, Between, Earlier}
 use Rattle.built_meshes.specs.Building.{build}
 use Rattle.built_meshes.specs.Builds.{Edge-of, Builds}
-use Rattle.built_meshes.specs.Answers.{numberOf}
-use Rattle.built_meshes.specs.Grounds.{Few-rows, few-points, few-faces, few-edges, Where, Met, over-counts, unfit-number, few-rows, face-size, out-of-range, point-twice, non-rectangular, triple-face, same-way, missing-face, no-edge, missed-edge, edge}
+use Rattle.built_meshes.specs.Answers.{groundNumber}
+use Rattle.built_meshes.specs.Grounds.{Few-rows, few-points, few-faces, few-edges, Where, Met, over-counts}
+use Rattle.built_meshes.specs.Grounds.{unfit-number, few-rows, face-size, out-of-range, point-twice, non-rectangular}
+use Rattle.built_meshes.specs.Grounds.{triple-face, same-way, missing-face, no-edge, missed-edge, edge}
 use Rattle.built_meshes.specs.LentContent.{Same-numbers, Same-counted, Shows-nothing, Lent-content}
 use Rattle.built_meshes.specs.declared.Ground.{Ground}
-use Rattle.built_meshes.specs.declared.Ground.the-variants.{OverCounts, UnfitNumber, FewRows, FaceSize, OutOfRange, PointTwice, NonRectangularFace, EdgeTripleFace, SameWay, MissingFace, NoEdge, MissedEdge}
+use Rattle.built_meshes.specs.declared.Ground.the-variants.{OverCounts, UnfitNumber, FewRows, FaceSize, OutOfRange}
+use Rattle.built_meshes.specs.declared.Ground.the-variants.{PointTwice, NonRectangularFace, EdgeTripleFace}
+use Rattle.built_meshes.specs.declared.Ground.the-variants.{SameWay, MissingFace, NoEdge, MissedEdge}
 use Rattle.built_meshes.specs.declared.Built.{Built}
 use Rattle.built_meshes.specs.declared.Built.the-variants.{Accepted, Refused}
 use Rattle.built_meshes.proofs.Rows.{row}
@@ -189,12 +193,12 @@ module _ (l : Lists) (t t' : Mesh) (ne : ℕ) (b : Builds l t ne) (b' : Builds l
 
   -- ---- points
 
-  touches-same : (p e : ℕ) → e < ne → one (touches t' p e) ≡ one (touches t p e)
-  touches-same p e k = ap₂ (λ (i j : ℕ). one (eqb i p || eqb j p)) (origins e k) (dests e k)
+  touches-same : (p e : ℕ) → e < ne → oneIf (touches t' p e) ≡ oneIf (touches t p e)
+  touches-same p e k = ap₂ (λ (i j : ℕ). oneIf (eqb i p || eqb j p)) (origins e k) (dests e k)
 
   valence-same : (p : ℕ) → p < pointsOf l → valence t' p ≡ valence t p
   valence-same p h =
-      b' .valence-is p h ∙ sumTo-cong ne (λ e. one (touches t' p e)) (λ e. one (touches t p e)) (touches-same p) ∙ sym (b .valence-is p h)
+      b' .valence-is p h ∙ sumTo-cong ne (λ e. oneIf (touches t' p e)) (λ e. oneIf (touches t p e)) (touches-same p) ∙ sym (b .valence-is p h)
 
   touches-there : (p e : ℕ) → e < ne → Touches t p e → Touches t' p e
   touches-there p e k (inl h) = inl (origins e k ∙ h)
@@ -332,7 +336,7 @@ numbers-back : {m m' : Mesh} → Same-numbers m m' → Same-numbers m' m
 numbers-back s = record { points = sym (s .points); edges = sym (s .edges); faces = sym (s .faces) }
 
 -- a ground from 10 on
-late : (g : Ground) → Refused g ≢ Refused OverCounts → Refused g ≢ Refused UnfitNumber → Refused g ≢ Refused FewRows → 10 ≤ numberOf g
+late : (g : Ground) → Refused g ≢ Refused OverCounts → Refused g ≢ Refused UnfitNumber → Refused g ≢ Refused FewRows → 10 ≤ groundNumber g
 late OverCounts a b c = absurd (a refl)
 late UnfitNumber a b c = absurd (b refl)
 late FewRows a b c = absurd (c refl)

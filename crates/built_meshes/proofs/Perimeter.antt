@@ -20,11 +20,11 @@ use Rattle.tables.specs.Mesh.{Mesh, faceStart, corner}
 use Rattle.tables.specs.Records.{faceWords}
 use Rattle.closed_meshes.specs.Renumbering.{sumTo}
 use Rattle.audited_meshes.specs.Audit.{intervalFit}
-use Rattle.audited_meshes.specs.Folds.{one}
+use Rattle.audited_meshes.specs.Folds.{oneIf}
 use Rattle.audited_meshes.proofs.Folds.{below-suc, sumTo-cong}
 use Rattle.built_meshes.specs.Lists.{Lists, pointsOf, facesOf, size, offset}
 use Rattle.built_meshes.specs.Edges.{Entered, at, entered, joined}
-use Rattle.built_meshes.specs.Perimeters.{State, Ring, Step, on, stopped, chained, turned, turn, places, faceOf, withFace, closedUp, perimeter}
+use Rattle.built_meshes.specs.Perimeters.{BuildState, FaceState, Progress, on, stopped, chained, turned, turn, places, faceOf, withFace, closedUp, perimeter}
 use Rattle.built_meshes.specs.Places.{pointOf, nextOf, Earlier}
 use Rattle.built_meshes.specs.Beyond.{Within}
 use Rattle.built_meshes.specs.declared.Ground.{Ground}
@@ -79,7 +79,7 @@ counted-above m (suc k) = omega (arith, counted-above m k)
 
 counted-same : (m m' : Mesh) (k : ℕ) → ((x : ℕ) → row m' x .«face_right» ≡ row m x .«face_right») → counted m' k ≡ counted m k
 unfolding counted
-counted-same m m' k h = sumTo-cong k _ _ (λ x l. ap (λ f. suc (one (not (eqb f none)))) (h x))
+counted-same m m' k h = sumTo-cong k _ _ (λ x l. ap (λ f. suc (oneIf (not (eqb f none)))) (h x))
 
 -- ---- places done
 
@@ -108,17 +108,17 @@ done-whole l k f j (inl h) = below-suc f k (h .0) (λ lt. inl (lt, h .1)) (λ sa
 done-whole l k f j (inr h) = absurd (omega (arith, h .1))
 
 -- the state s, with all places of the faces below k in
-pub record Faces (l : Lists) (k : ℕ) (s : State) : Type 0 where
+pub record Faces (l : Lists) (k : ℕ) (s : BuildState) : Type 0 where
   pub invariant : Invariant l (Done l k 0) (Chained l k 0) (s .mesh) (s .edges)
   pub counts : counted (s .mesh) (s .edges) ≡ offset l k
   pub starts : (f : ℕ) → f < k → Sits l (s .mesh) (s .edges) f 0 (faceStart (s .mesh) f)
   pub corners : (f c : ℕ) → f < k → c < 4 → corner (s .mesh) f c ≡ none
 
-module _ (l : Lists) (s : State) (k : ℕ) (kf : k < facesOf l) (sound : FaceSound l k) (ready : Ready l (s .mesh)) where
+module _ (l : Lists) (s : BuildState) (k : ℕ) (kf : k < facesOf l) (sound : FaceSound l k) (ready : Ready l (s .mesh)) where
   pub a-face : k ≢ none
   a-face h = omega (arith, ready .faces-few)
 
-  pub record Around (i : ℕ) (r : Ring) : Type 0 where
+  pub record Around (i : ℕ) (r : FaceState) : Type 0 where
     pub invariant : Invariant l (Done l k i) (Chained l k i) (r .mesh) (r .edges)
     pub counts : counted (r .mesh) (r .edges) ≡ offset l k + i
     pub within : Within l (s .mesh) (r .mesh)
@@ -130,14 +130,14 @@ module _ (l : Lists) (s : State) (k : ℕ) (kf : k < facesOf l) (sound : FaceSou
     pub sits-still : (f j x : ℕ) → f ≢ none → Sits l (s .mesh) (s .edges) f j x → Sits l (r .mesh) (r .edges) f j x
 
   -- the face goes on, or it stopped at a place
-  pub data Round (i : ℕ) : Step Ring → Type 0 where
-    round : {r : Ring} → Around i r → Round i (on r)
+  pub data Round (i : ℕ) : Progress FaceState → Type 0 where
+    round : {r : FaceState} → Around i r → Round i (on r)
     halts : {g : Ground} {m : Mesh} (j : ℕ) → j < size l k → Why l (Done l k j) (pointOf l k j) (nextOf l k j) g → One-way l (Done l k j) → Within l (s .mesh) m → Round i (stopped g m)
 
   good : (i : ℕ) → i < size l k → Good l k i
   good i h = record { sound = sound; is-below = h; a-face = a-face }
 
-  module _ (i : ℕ) (below : i < size l k) (r : Ring) (a : Around i r) where
+  module _ (i : ℕ) (below : i < size l k) (r : FaceState) (a : Around i r) where
     room : r .edges < length (l .listed)
     room = omega (arith, counted-above (r .mesh) (r .edges), a .counts, place-listed l k i kf below, ready .all-listed)
 
@@ -176,7 +176,7 @@ module _ (l : Lists) (s : State) (k : ℕ) (kf : k < facesOf l) (sound : FaceSou
       at-place : (j : ℕ) → j ≡ i → Sits l m' ne' k j e
       at-place j h = subst (λ j. Sits l m' ne' k j e) (sym h) (t .sits)
 
-  turn-first : (r : Ring) (a : Around 0 r) (below : 0 < size l k) {m' : Mesh} {ne' e : ℕ} → Goes l (Done l k 0) (Chained l k 0) (r .mesh) (r .edges) k 0 m' ne' e →
+  turn-first : (r : FaceState) (a : Around 0 r) (below : 0 < size l k) {m' : Mesh} {ne' e : ℕ} → Goes l (Done l k 0) (Chained l k 0) (r .mesh) (r .edges) k 0 m' ne' e →
       Around 1 (record { mesh = m'; edges = ne'; first = e; before = e })
   turn-first r a below {m'} {ne'} {e} t =
       record {
@@ -196,7 +196,7 @@ module _ (l : Lists) (s : State) (k : ℕ) (kf : k < facesOf l) (sound : FaceSou
       chain f j (inl h) = inl h
       chain f j (inr h) = absurd (omega (arith, h .1))
 
-  turn-next : (i : ℕ) (r : Ring) (a : Around (suc i) r) (below : suc i < size l k) {m' : Mesh} {ne' e : ℕ} →
+  turn-next : (i : ℕ) (r : FaceState) (a : Around (suc i) r) (below : suc i < size l k) {m' : Mesh} {ne' e : ℕ} →
       Goes l (Done l k (suc i)) (Chained l k (suc i)) (r .mesh) (r .edges) k (suc i) m' ne' e →
       Around (suc (suc i)) (record { mesh = joined m' e (r .before); edges = ne'; first = r .first; before = e })
   unfolding joined
@@ -256,7 +256,7 @@ module _ (l : Lists) (s : State) (k : ℕ) (kf : k < facesOf l) (sound : FaceSou
       chain f j (inl h) = inl (inl h)
       chain f j (inr h) = below-suc j i (omega (arith, h .1)) (λ lt. inl (inr (h .0, omega arith))) (λ same. inr (h .0, same))
 
-  pub turn-came : (i : ℕ) (r : Ring) → Around i r → (below : i < size l k) → Round (suc i) (turn l k (offset l k) (size l k) i r)
+  pub turn-came : (i : ℕ) (r : FaceState) → Around i r → (below : i < size l k) → Round (suc i) (turn l k (offset l k) (size l k) i r)
   unfolding turn turned
   turn-came i r a below = go i a below (entered (r .mesh) (r .edges) k (pointOf l k i) (nextOf l k i) (getD (l .intervals) (offset l k + i) nan)) (entering i below r a)
     where
@@ -265,7 +265,7 @@ module _ (l : Lists) (s : State) (k : ℕ) (kf : k < facesOf l) (sound : FaceSou
       go (suc i) a below x (goes t) = round (turn-next i r a below t)
       go i a below x (stops w) = halts i below w (a .invariant .one-way) (a .within)
 
-  pub places-came : (c i : ℕ) (x : Step Ring) → i + c ≡ size l k → Round i x → Round (size l k) (places c l k (offset l k) (size l k) i x)
+  pub places-came : (c i : ℕ) (x : Progress FaceState) → i + c ≡ size l k → Round i x → Round (size l k) (places c l k (offset l k) (size l k) i x)
   unfolding places
   places-came zero i x h r = subst (λ n. Round n x) (let same : i ≡ size l k = omega arith in same) r
   places-came (suc c) i x h (round {r = r} a) =
@@ -273,15 +273,15 @@ module _ (l : Lists) (s : State) (k : ℕ) (kf : k < facesOf l) (sound : FaceSou
   places-came (suc c) i x h (halts j b w u o) = halts j b w u o
 
   -- the face is in, or it stopped at a place
-  pub data Perimeter-came : Step State → Type 0 where
+  pub data Perimeter-came : Progress BuildState → Type 0 where
     whole :
-        {t : State} → Faces l (suc k) t → Within l (s .mesh) (t .mesh) → s .edges ≤ t .edges →
+        {t : BuildState} → Faces l (suc k) t → Within l (s .mesh) (t .mesh) → s .edges ≤ t .edges →
         ((x : ℕ) → t .edges ≤ x → row (t .mesh) x ≡ row (s .mesh) x) → Perimeter-came (on t)
     halted :
         {g : Ground} {m : Mesh} (j : ℕ) → j < size l k → Why l (Done l k j) (pointOf l k j) (nextOf l k j) g → One-way l (Done l k j) → Within l (s .mesh) m →
         Perimeter-came (stopped g m)
 
-  module _ (all : Faces l k s) (r : Ring) (a : Around (size l k) r) (j : ℕ) (last : suc j ≡ size l k) where
+  module _ (all : Faces l k s) (r : FaceState) (a : Around (size l k) r) (j : ℕ) (last : suc j ≡ size l k) where
     ready-r : Ready l (r .mesh)
     ready-r = ready-same l (a .within) ready
 
@@ -391,7 +391,7 @@ module _ (l : Lists) (s : State) (k : ℕ) (kf : k < facesOf l) (sound : FaceSou
         row-joined-rest (r .mesh) (r .first) (r .before) x (λ z. omega (arith, sits-first .below)) (λ z. omega (arith, sits-last .below)) ∙ a .later x h
 
   -- no place is in yet
-  abbrev pub begin : Ring
+  abbrev pub begin : FaceState
   begin = record { mesh = s .mesh; edges = s .edges; first = 0; before = 0 }
 
   pub around-begun : Faces l k s → Around 0 begin
@@ -423,7 +423,7 @@ module _ (l : Lists) (s : State) (k : ℕ) (kf : k < facesOf l) (sound : FaceSou
       last : (j : ℕ) × (suc j ≡ size l k)
       last = last-place
 
-      go : (x : Step Ring) → Round (size l k) x → Perimeter-came (closedUp k x)
+      go : (x : Progress FaceState) → Round (size l k) x → Perimeter-came (closedUp k x)
       go x (round {r = r} a) =
           whole (faces-closed all r a (last .0) (last .1)) (within-closed all r a (last .0) (last .1)) (a .grows) (later-closed all r a (last .0) (last .1))
       go x (halts j b w u o) = halted j b w u o

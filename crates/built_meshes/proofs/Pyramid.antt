@@ -8,7 +8,7 @@ use lib.ListN.{replicate}
 use lib.Ieee.{Float, ofBits, neg, add, sub, le, lt, binary64}
 use Rattle.edge_links.specs.Connect.{linksOf}
 use Rattle.tables.specs.Mesh.{none}
-use Rattle.built_meshes.specs.Lists.{Lists, general}
+use Rattle.built_meshes.specs.Lists.{Lists, generalLimits}
 use Rattle.built_meshes.specs.Building.{build}
 use Rattle.built_meshes.specs.Pieces.{unit, two, nought, backToBack}
 use Rattle.built_meshes.proofs.Cases.{justEnough, Piece, piece, asExpected, allOf}
@@ -30,7 +30,7 @@ pyramid =
     }
 
 pyramid-built :
-    build general pyramid (justEnough pyramid)
+    build generalLimits pyramid (justEnough pyramid)
     ≡ record {
       answer = Accepted (record { points = 5; edges = 8; faces = 5 });
       tables =

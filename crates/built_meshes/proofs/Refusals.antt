@@ -13,16 +13,16 @@ use Rattle.t_spline.specs.declared.TnurccFaceSide.{TnurccFaceSide}
 use Rattle.t_spline.specs.declared.TnurccFaceSide.the-variants.{Left, Right}
 use Rattle.tables.specs.Mesh.{Mesh, valence, start, origin, dest, rightFace}
 use Rattle.closed_meshes.specs.Renumbering.{sumTo}
-use Rattle.audited_meshes.specs.Folds.{one}
+use Rattle.audited_meshes.specs.Folds.{oneIf}
 use Rattle.audited_meshes.specs.Walks.{passed, touches, pointWalk, Touches}
 use Rattle.audited_meshes.proofs.Folds.{below-suc}
 use Rattle.audited_meshes.proofs.Tests.{not-is, eqb-is, ltb-is, every-is}
 use Rattle.audited_meshes.proofs.Audited.{touches-is}
 use Rattle.built_meshes.specs.Lists.{Lists, pointsOf, facesOf}
 use Rattle.tables.specs.declared.Sizes.{Sizes}
-use Rattle.built_meshes.specs.Perimeters.{State}
+use Rattle.built_meshes.specs.Perimeters.{BuildState}
 use Rattle.built_meshes.specs.Places.{IsPlace, Runs}
-use Rattle.built_meshes.specs.Answers.{numberOf}
+use Rattle.built_meshes.specs.Answers.{groundNumber}
 use Rattle.built_meshes.specs.Whole.{noMissingFace, everyEdged, noMissedEdge, wholeVerdict}
 use Rattle.built_meshes.specs.Grounds.{Missing-face, No-edge, Missed-edge, Where, whole, Met, missing-face, no-edge, missed-edge, First-met}
 use Rattle.built_meshes.specs.declared.Ground.{Ground}
@@ -45,7 +45,7 @@ sumTo-above zero k a h = absurd (omega arith)
 sumTo-above (suc n) k a h =
     below-suc k n h (λ lt. omega (arith, sumTo-above n k a lt)) (λ same. subst (λ k. a k ≤ sumTo n a + a n) (sym same) (omega arith))
 
-module _ (c : Sizes) (l : Lists) (m₀ : Mesh) (s : State) (all : Faces l (facesOf l) s) where
+module _ (c : Sizes) (l : Lists) (m₀ : Mesh) (s : BuildState) (all : Faces l (facesOf l) s) where
   abbrev m : Mesh
   m = s .mesh
 
@@ -105,11 +105,11 @@ module _ (c : Sizes) (l : Lists) (m₀ : Mesh) (s : State) (all : Faces l (faces
         is-point = w .1;
         none-begins = λ f i is begins.
             let t = v .entered f i (place-done f i is) in
-            let touch : one (touches m (w .0) (t .0)) ≡ 1 =
-            ap one (touches-is m (w .0) (t .0) .1 (touches-first (t .1 .on-side) (t .0) (w .0) (t .1 .first-is ∙ begins))) in
-            let least : one (touches m (w .0) (t .0)) ≤ sumTo ne (λ e. one (touches m (w .0) e)) =
-            sumTo-above ne (t .0) (λ e. one (touches m (w .0) e)) (t .1 .below) in
-            let sum : valence m (w .0) ≡ sumTo ne (λ e. one (touches m (w .0) e)) = v .valence-is (w .0) (w .1) in
+            let touch : oneIf (touches m (w .0) (t .0)) ≡ 1 =
+            ap oneIf (touches-is m (w .0) (t .0) .1 (touches-first (t .1 .on-side) (t .0) (w .0) (t .1 .first-is ∙ begins))) in
+            let least : oneIf (touches m (w .0) (t .0)) ≤ sumTo ne (λ e. oneIf (touches m (w .0) e)) =
+            sumTo-above ne (t .0) (λ e. oneIf (touches m (w .0) e)) (t .1 .below) in
+            let sum : valence m (w .0) ≡ sumTo ne (λ e. oneIf (touches m (w .0) e)) = v .valence-is (w .0) (w .1) in
             absurd (never _ _ touch least (sym sum ∙ bare));
       }
     where
@@ -170,7 +170,7 @@ module _ (c : Sizes) (l : Lists) (m₀ : Mesh) (s : State) (all : Faces l (faces
 
   pub data Whole-verdict : Verdict → Type 0 where
     whole-fit : Whole-fit → ((w : Where) (g : Ground) → ¬ Met c l m₀ w g) → Whole-verdict Fit
-    whole-unfit : {g : Ground} → First-met c l m₀ whole g → 20 ≤ numberOf g → Whole-verdict (Unfit g)
+    whole-unfit : {g : Ground} → First-met c l m₀ whole g → 20 ≤ groundNumber g → Whole-verdict (Unfit g)
 
   module _ (clear : Clear-lists c l m₀) (fit : Fit-faces c l m₀ (facesOf l)) where
     entered-fit : (f i : ℕ) → IsPlace l f i → (¬ Triple l f i) × (¬ Same l f i)
@@ -180,7 +180,7 @@ module _ (c : Sizes) (l : Lists) (m₀ : Mesh) (s : State) (all : Faces l (faces
     )
 
     first : (n : ℕ) → (20 < n → ¬ Missing-face l) → (21 < n → ¬ No-edge l) → (22 < n → ¬ Missed-edge l) →
-        (g : Ground) → numberOf g ≡ n → Met c l m₀ whole g → First-met c l m₀ whole g
+        (g : Ground) → groundNumber g ≡ n → Met c l m₀ whole g → First-met c l m₀ whole g
     first = first-whole c l m₀ clear (fit-tests c l m₀ (facesOf l) fit) entered-fit
 
     pub whole-verdict-is : Whole-verdict (wholeVerdict m (pointsOf l) ne)

@@ -17,7 +17,7 @@ use Rattle.tables.specs.Rows.{putRow}
 use Rattle.tables.specs.Records.{edgeAt, edgeWords, faceWords}
 use Rattle.tables.proofs.Laws.{length-putRow, getD-putRow, getD-putRow-other}
 use Rattle.t_nurcc_edge.specs.Connected.{pairOf, connectedRows}
-use Rattle.built_meshes.specs.Edges.{edgeOf, touched, newEdge, filled, joined}
+use Rattle.built_meshes.specs.Edges.{loneEdge, touched, newEdge, withRightFace, joined}
 use Rattle.built_meshes.specs.Perimeters.{faceOf, withFace}
 
 abbrev pub row : Mesh → ℕ → TnurccEdge
@@ -77,15 +77,15 @@ row-put-other es is e x o h =
 -- ---- a new edge
 
 module _ (m : Mesh) (k f p q : ℕ) (v : Float) where
-  pub row-newEdge : k * 8 + 8 ≤ length (m .edges) → k < length (m .intervals) → row (newEdge m k f p q v) k ≡ edgeOf k f p q v
+  pub row-newEdge : k * 8 + 8 ≤ length (m .edges) → k < length (m .intervals) → row (newEdge m k f p q v) k ≡ loneEdge k f p q v
   unfolding newEdge
   row-newEdge fits l =
-      row-put (m .edges) (set (m .intervals) k v) k (edgeOf k f p q v) refl fits (getD-set-same (m .intervals) k v nan l)
+      row-put (m .edges) (set (m .intervals) k v) k (loneEdge k f p q v) refl fits (getD-set-same (m .intervals) k v nan l)
 
   pub row-newEdge-other : (e : ℕ) → e ≢ k → row (newEdge m k f p q v) e ≡ row m e
   unfolding newEdge
   row-newEdge-other e h =
-      row-put-other (m .edges) (set (m .intervals) k v) k e (edgeOf k f p q v) h
+      row-put-other (m .edges) (set (m .intervals) k v) k e (loneEdge k f p q v) h
       ∙ row-cong (m .edges) (m .edges) (m .intervals) (set (m .intervals) k v) e (λ j l. refl) (getD-set-other (m .intervals) k e v nan h)
 
 -- the words of a point after it was touched, and of the others
@@ -155,8 +155,8 @@ withRight e f =
     }
 
 module _ (m : Mesh) (e f : ℕ) where
-  pub row-filled : e * 8 + 8 ≤ length (m .edges) → row (filled m e f) e ≡ withRight (row m e) f
-  unfolding filled
+  pub row-filled : e * 8 + 8 ≤ length (m .edges) → row (withRightFace m e f) e ≡ withRight (row m e) f
+  unfolding withRightFace
   row-filled fits =
       rw (
         getD-set-same (m .edges) (e * 8 + 3) f 0 (omega arith),
@@ -169,8 +169,8 @@ module _ (m : Mesh) (e f : ℕ) where
         getD-set-other (m .edges) (e * 8 + 3) (e * 8 + 7) f 0 (λ z. omega arith),
       )
 
-  pub row-filled-other : (x : ℕ) → x ≢ e → row (filled m e f) x ≡ row m x
-  unfolding filled
+  pub row-filled-other : (x : ℕ) → x ≢ e → row (withRightFace m e f) x ≡ row m x
+  unfolding withRightFace
   row-filled-other x h =
       row-cong (m .edges) (set (m .edges) (e * 8 + 3) f) (m .intervals) (m .intervals) x
       (λ j l. getD-set-other (m .edges) (e * 8 + 3) (x * 8 + j) f 0 (λ z. h (omega arith))) refl

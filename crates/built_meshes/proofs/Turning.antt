@@ -22,7 +22,7 @@ use Rattle.t_spline.specs.declared.TnurccFaceSide.{TnurccFaceSide}
 use Rattle.t_spline.specs.declared.TnurccFaceSide.the-variants.{Left, Right}
 use Rattle.tables.specs.Mesh.{Mesh, valence, start, origin}
 use Rattle.closed_meshes.specs.Renumbering.{sumTo}
-use Rattle.audited_meshes.specs.Folds.{one, occurrences}
+use Rattle.audited_meshes.specs.Folds.{oneIf, occurrences}
 use Rattle.audited_meshes.specs.Walks.{Walk, back, lost, pass, walk, passed, touches, acwOfPoint, pointWalk, Touches}
 use Rattle.audited_meshes.specs.Audited.{Passes, last, more, PointWalked}
 use Rattle.audited_meshes.proofs.Folds.{sumTo-cong, sumTo-tight, length-sumTo}
@@ -89,7 +89,7 @@ module _ (step : ℕ → ℕ) (On : ℕ → Type 0) (s : ℕ) where
       (goes : (e : ℕ) → On e → On (step e)) (shares : (x y : ℕ) → On x → On y → step x ≡ step y → x ≡ y) where
     -- the edges es were passed before e
     record Trail (es : List ℕ) (e : ℕ) : Type 0 where
-      once : (x : ℕ) → occurrences x es ≤ one (on x)
+      once : (x : ℕ) → occurrences x es ≤ oneIf (on x)
       is-on : On e
       fresh : occurrences e es ≡ 0
       comes : (x : ℕ) → 0 < occurrences x (e ∷ es) → (x ≡ s) ⊎ ((y : ℕ) × (0 < occurrences y es) × (step y ≡ x))
@@ -97,7 +97,7 @@ module _ (step : ℕ → ℕ) (On : ℕ → Type 0) (s : ℕ) where
     was-on : (es : List ℕ) (e : ℕ) → Trail es e → (x : ℕ) → 0 < occurrences x es → On x
     was-on es e t x h = on-is x .0 (go (on x) (t .once x))
       where
-        go : (b : Bool) → occurrences x es ≤ one b → b ≡ true
+        go : (b : Bool) → occurrences x es ≤ oneIf b → b ≡ true
         go true z = refl
         go false z = absurd (omega arith)
 
@@ -111,12 +111,12 @@ module _ (step : ℕ → ℕ) (On : ℕ → Type 0) (s : ℕ) where
           comes = λ x h. in-longer x (step e) (e ∷ es) h (λ same. inr (e, omega (arith, occurrences-here e es), same)) (λ h. before x (t .comes x h));
         }
       where
-        once' : (x : ℕ) → occurrences x (e ∷ es) ≤ one (on x)
+        once' : (x : ℕ) → occurrences x (e ∷ es) ≤ oneIf (on x)
         once' x = go (ℕ-discrete e x)
           where
-            go : Dec (e ≡ x) → occurrences x (e ∷ es) ≤ one (on x)
+            go : Dec (e ≡ x) → occurrences x (e ∷ es) ≤ oneIf (on x)
             go (yes h) =
-                subst (λ x. occurrences x (e ∷ es) ≤ one (on x)) h (omega (arith, occurrences-here e es, t .fresh, ap one (on-is e .1 (t .is-on))))
+                subst (λ x. occurrences x (e ∷ es) ≤ oneIf (on x)) h (omega (arith, occurrences-here e es, t .fresh, ap oneIf (on-is e .1 (t .is-on))))
             go (no h) = omega (arith, occurrences-there x e es h, t .once x)
 
         before : (x : ℕ) → (x ≡ s) ⊎ ((y : ℕ) × (0 < occurrences y es) × (step y ≡ x)) → (x ≡ s) ⊎ ((y : ℕ) × (0 < occurrences y (e ∷ es)) × (step y ≡ x))
@@ -134,13 +134,13 @@ module _ (step : ℕ → ℕ) (On : ℕ → Type 0) (s : ℕ) where
         fresh' (yes h) = absurd (again (t .comes (step e) h))
         fresh' (no h) = omega arith
 
-    never-lost : (k : ℕ) (es : List ℕ) (e : ℕ) → Trail es e → length es + k ≡ sumTo n (λ x. one (on x)) → walk step on s k false (on e) e ≢ lost
+    never-lost : (k : ℕ) (es : List ℕ) (e : ℕ) → Trail es e → length es + k ≡ sumTo n (λ x. oneIf (on x)) → walk step on s k false (on e) e ≢ lost
     unfolding walk
     never-lost zero es e t many h =
         let sum : length es ≡ sumTo n (λ x. occurrences x es) = length-sumTo n es (λ x z. below x (was-on es e t x z)) in
-        let tight : occurrences e es ≡ one (on e) =
-        sumTo-tight n (λ x. occurrences x es) (λ x. one (on x)) (λ x b. t .once x) (omega arith) e (below e (t .is-on)) in
-        let here' : one (on e) ≡ 1 = ap one (on-is e .1 (t .is-on)) in
+        let tight : occurrences e es ≡ oneIf (on e) =
+        sumTo-tight n (λ x. occurrences x es) (λ x. oneIf (on x)) (λ x b. t .once x) (omega arith) e (below e (t .is-on)) in
+        let here' : oneIf (on e) ≡ 1 = ap oneIf (on-is e .1 (t .is-on)) in
         omega (arith, t .fresh)
     never-lost (suc k) es e t many h =
         go (on e) (on-is e .1 (t .is-on)) (λ away. never-lost k (e ∷ es) (step e) (trail-on es e t away) (omega arith)) h
@@ -229,10 +229,10 @@ module _ (l : Lists) (m : Mesh) (ne : ℕ) (v : Invariant l (Done l (facesOf l) 
         let t = side-at y (o' .1) in
         let a = prev-side l m ne v right (s .0) x (o .0) in
         let b = prev-side l m ne v right (t .0) y (o' .0) in
-        let one : a .other ≡ b .other = sym (a .cw-is) ∙ sym (step-on (s .0) x (o .0) (s .1)) ∙ same ∙ step-on (t .0) y (o' .0) (t .1) ∙ b .cw-is in
-        let ends : secondOf (b .side) (row m (a .other)) ≡ p = ap (λ e. secondOf (b .side) (row m e)) one ∙ b .meets ∙ t .1 in
+        let oneIf : a .other ≡ b .other = sym (a .cw-is) ∙ sym (step-on (s .0) x (o .0) (s .1)) ∙ same ∙ step-on (t .0) y (o' .0) (t .1) ∙ b .cw-is in
+        let ends : secondOf (b .side) (row m (a .other)) ≡ p = ap (λ e. secondOf (b .side) (row m e)) oneIf ∙ b .meets ∙ t .1 in
         let sides : a .side ≡ b .side = one-ends (a .side) (b .side) (a .other) (a .below) (a .meets ∙ s .1) ends in
-        sym (a .links-back) ∙ ap (λ s. acwOf s (row m (a .other))) sides ∙ ap (λ e. acwOf (b .side) (row m e)) one ∙ b .links-back
+        sym (a .links-back) ∙ ap (λ s. acwOf s (row m (a .other))) sides ∙ ap (λ e. acwOf (b .side) (row m e)) oneIf ∙ b .links-back
 
     -- the place of an edge that begins at the point
     record Place-at (e : ℕ) : Type 0 where
@@ -351,7 +351,7 @@ module _ (l : Lists) (m : Mesh) (ne : ℕ) (v : Invariant l (Done l (facesOf l) 
       on-is : (e : ℕ) → Is (on e) (On e)
       on-is e = and-is (ltb-is e ne) (touches-is m p e)
 
-      on-touches : (e : ℕ) → e < ne → one (on e) ≡ one (touches m p e)
+      on-touches : (e : ℕ) → e < ne → oneIf (on e) ≡ oneIf (touches m p e)
       on-touches e b = rw (ltb-is e ne .1 b)
 
       comes-back : pointWalk m ne (valence m p) p ≢ lost
@@ -359,7 +359,7 @@ module _ (l : Lists) (m : Mesh) (ne : ℕ) (v : Invariant l (Done l (facesOf l) 
       comes-back =
           never-lost (acwOfPoint m p) On (start m p) on on-is ne (λ e o. o .0) step-goes step-shares (valence m p) [] (start m p)
           (record { once = λ x. omega arith; is-on = starts; fresh = refl; comes = λ x h. in-longer x (start m p) [] h (λ same. inl (sym same)) (λ h. absurd (none' x h)) })
-          (nought (valence m p) ∙ v .valence-is p pb ∙ sym (sumTo-cong ne (λ e. one (on e)) (λ e. one (touches m p e)) on-touches))
+          (nought (valence m p) ∙ v .valence-is p pb ∙ sym (sumTo-cong ne (λ e. oneIf (on e)) (λ e. oneIf (touches m p e)) on-touches))
         where
           nought : (n : ℕ) → 0 + n ≡ n
           nought n = omega arith
@@ -376,8 +376,8 @@ module _ (l : Lists) (m : Mesh) (ne : ℕ) (v : Invariant l (Done l (facesOf l) 
               let walk' = pointWalk-is m ne p (valence m p) es .0 h .0 in
               let sum : length es ≡ sumTo ne (λ e. occurrences e es) =
               length-sumTo ne es (λ e y. passes-on (acwOfPoint m p) On (start m p) (start m p) es walk' e y .0) in
-              let all' : valence m p ≡ sumTo ne (λ e. one (touches m p e)) = v .valence-is p pb in
-              let u = sumTo-less ne (λ e. occurrences e es) (λ e. one (touches m p e)) (omega arith) in
+              let all' : valence m p ≡ sumTo ne (λ e. oneIf (touches m p e)) = v .valence-is p pb in
+              let u = sumTo-less ne (λ e. occurrences e es) (λ e. oneIf (touches m p e)) (omega arith) in
               let hit = one-above (touches m p (u .0)) (occurrences (u .0) es) (u .2) in
               let a = place-at (start m p) starts in
               let b = place-at (u .0) (u .1, touches-is m p (u .0) .0 (hit .0)) in
@@ -396,7 +396,7 @@ module _ (l : Lists) (m : Mesh) (ne : ℕ) (v : Invariant l (Done l (facesOf l) 
                     omega (arith, hit .1);
               }
             where
-              one-above : (b : Bool) (n : ℕ) → n < one b → (b ≡ true) × (n ≡ 0)
+              one-above : (b : Bool) (n : ℕ) → n < oneIf b → (b ≡ true) × (n ≡ 0)
               one-above true n h = (refl, omega arith)
               one-above false n h = absurd (omega arith)
 

@@ -19,7 +19,7 @@ use Rattle.t_spline.specs.Ends.{faceFromSide}
 use Rattle.t_spline.specs.declared.TnurccFaceSide.{TnurccFaceSide}
 use Rattle.t_spline.specs.declared.TnurccFaceSide.the-variants.{Left, Right}
 use Rattle.tables.specs.Mesh.{Mesh, valence, start, origin, dest, leftFace, rightFace, faceStart}
-use Rattle.audited_meshes.specs.Folds.{one, occurrences}
+use Rattle.audited_meshes.specs.Folds.{oneIf, occurrences}
 use Rattle.audited_meshes.specs.Walks.{Walk, back, lost, passed, touches, acwOfFace, cwOfFace, acwOfPoint, firstPoint, pointWalk, Touches}
 use Rattle.audited_meshes.specs.Audited.{Borders, SameEnds, Passes, last, more, AcwLinks, CwLinks, FaceWalked, PointWalked}
 use Rattle.audited_meshes.proofs.Folds.{below-suc, sumTo-tight, length-sumTo}
@@ -323,7 +323,7 @@ module _ (l : Lists) (m : Mesh) (ne : ℕ) (v : Invariant l (Done l (facesOf l) 
 
   -- ---- the walk about a point
 
-  one-at-most : (b : Bool) (n : ℕ) → n ≤ 1 → (0 < n → b ≡ true) → n ≤ one b
+  one-at-most : (b : Bool) (n : ℕ) → n ≤ 1 → (0 < n → b ≡ true) → n ≤ oneIf b
   one-at-most true n h k = h
   one-at-most false n h k = go (decLt 0 n)
     where
@@ -372,7 +372,7 @@ module _ (l : Lists) (m : Mesh) (ne : ℕ) (v : Invariant l (Done l (facesOf l) 
             record {
               edges = es;
               passes = walk;
-              each-once = λ e b t. once e b ∙ ap one (touches-is m p e .1 t);
+              each-once = λ e b t. once e b ∙ ap oneIf (touches-is m p e .1 t);
               at-least-2 = two es walk;
               is-valence = many;
             }
@@ -386,8 +386,8 @@ module _ (l : Lists) (m : Mesh) (ne : ℕ) (v : Invariant l (Done l (facesOf l) 
             many : length es ≡ valence m p
             many = omega (arith, both .1)
 
-            once : (e : ℕ) → e < ne → occurrences e es ≡ one (touches m p e)
+            once : (e : ℕ) → e < ne → occurrences e es ≡ oneIf (touches m p e)
             once e b =
-                sumTo-tight ne (λ e. occurrences e es) (λ e. one (touches m p e))
+                sumTo-tight ne (λ e. occurrences e es) (λ e. oneIf (touches m p e))
                 (λ e b. one-at-most (touches m p e) (occurrences e es) (passes-once _ _ _ _ es walk e) (λ z. touches-is m p e .1 (passes-on _ _ _ _ es walk e z .1)))
                 (sym (length-sumTo ne es (λ e z. passes-on _ _ _ _ es walk e z .0)) ∙ many ∙ v .valence-is p pb) e b

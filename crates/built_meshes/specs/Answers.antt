@@ -1,6 +1,6 @@
 -- The answers of building in document 01's numbers.
---     numberOf g              the number of a ground
---     numbersOf a             the numbers of an answer: points, edges and faces, or that of the ground
+--     groundNumber g          the number of a ground
+--     builtNumbers a          the numbers of an answer: points, edges and faces, or that of the ground
 use mathlib.Core.List.{List, [], _∷_}
 use Prim.Native.Nat.{ℕ}
 use Rattle.built_meshes.specs.declared.Ground.{Ground}
@@ -8,20 +8,20 @@ use Rattle.built_meshes.specs.declared.Ground.the-variants.{OverCounts, 
 use Rattle.built_meshes.specs.declared.Built.{Built}
 use Rattle.built_meshes.specs.declared.Built.the-variants.{Accepted, Refused}
 
-abbrev pub numberOf : Ground → ℕ
-numberOf OverCounts = 2
-numberOf UnfitNumber = 3
-numberOf FewRows = 4
-numberOf FaceSize = 10
-numberOf OutOfRange = 11
-numberOf PointTwice = 12
-numberOf NonRectangularFace = 13
-numberOf EdgeTripleFace = 14
-numberOf SameWay = 15
-numberOf MissingFace = 20
-numberOf NoEdge = 21
-numberOf MissedEdge = 22
+abbrev pub groundNumber : Ground → ℕ
+groundNumber OverCounts = 2
+groundNumber UnfitNumber = 3
+groundNumber FewRows = 4
+groundNumber FaceSize = 10
+groundNumber OutOfRange = 11
+groundNumber PointTwice = 12
+groundNumber NonRectangularFace = 13
+groundNumber EdgeTripleFace = 14
+groundNumber SameWay = 15
+groundNumber MissingFace = 20
+groundNumber NoEdge = 21
+groundNumber MissedEdge = 22
 
-abbrev pub numbersOf : Built → List ℕ
-numbersOf (Accepted k) = k .points ∷ k .edges ∷ k .faces ∷ []
-numbersOf (Refused g) = numberOf g ∷ []
+abbrev pub builtNumbers : Built → List ℕ
+builtNumbers (Accepted k) = k .points ∷ k .edges ∷ k .faces ∷ []
+builtNumbers (Refused g) = groundNumber g ∷ []

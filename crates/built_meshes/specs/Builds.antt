@@ -15,7 +15,7 @@ use Rattle.tables.specs.declared.Sizes.{Sizes}
 use Rattle.tables.specs.Mesh.{Mesh, none, valence, start, mark, origin, dest, leftFace, rightFace, leftCw, leftAcw, rightCw, rightAcw, interval, faceStart, corner}
 use Rattle.tables.specs.declared.Counts.{Counts}
 use Rattle.closed_meshes.specs.Renumbering.{sumTo}
-use Rattle.audited_meshes.specs.Folds.{one}
+use Rattle.audited_meshes.specs.Folds.{oneIf}
 use Rattle.audited_meshes.specs.Walks.{touches, Touches}
 use Rattle.built_meshes.specs.Lists.{Lists, pointsOf, facesOf, size, offset}
 use Rattle.built_meshes.specs.Places.{pointOf, nextOf, IsPlace, Runs, Between, Earlier}
@@ -37,7 +37,7 @@ pub record Builds (l : Lists) (t : Mesh) (ne : ℕ) : Type 0 where
   -- Positions are the coordinates.
   pub position : (k : ℕ) → k < length (l .coordinates) → getD (t .positions) k nan ≡ getD (l .coordinates) k nan
   -- A point's valence is the number of edges that touch it, and its start edge the highest-numbered of them.
-  pub valence-is : (p : ℕ) → p < pointsOf l → valence t p ≡ sumTo ne (λ e. one (touches t p e))
+  pub valence-is : (p : ℕ) → p < pointsOf l → valence t p ≡ sumTo ne (λ e. oneIf (touches t p e))
   pub start-touches : (p : ℕ) → p < pointsOf l → (start t p < ne) × Touches t p (start t p)
   pub start-highest : (p e : ℕ) → p < pointsOf l → e < ne → Touches t p e → e ≤ start t p
   -- The mark is 0 exactly at valence 4, else 1.

@@ -20,7 +20,7 @@ use Rattle.tables.specs.declared.Counts.{Counts}
 use Rattle.audited_meshes.specs.Audit.{audit}
 use Rattle.built_meshes.specs.Lists.{Lists, pointsOf, facesOf, rowsOf}
 use Rattle.tables.specs.declared.Sizes.{Sizes}
-use Rattle.built_meshes.specs.Answers.{numberOf}
+use Rattle.built_meshes.specs.Answers.{groundNumber}
 use Rattle.built_meshes.specs.Building.{build}
 use Rattle.built_meshes.specs.Beyond.{Within}
 use Rattle.built_meshes.specs.Grounds.{Where, First-met, Holds}
@@ -34,8 +34,8 @@ First-ground =
 
 pub record Refused-by (c : Sizes) (l : Lists) (m : Mesh) (g : Ground) : Type 0 where
   pub holds : Holds c l m g
-  pub untouched : numberOf g < 10 → build c l m .tables ≡ m
-  pub zeroed : 10 ≤ numberOf g → build c l m .tables ≡ zeroedRows (rowsOf l) m
+  pub untouched : groundNumber g < 10 → build c l m .tables ≡ m
+  pub zeroed : 10 ≤ groundNumber g → build c l m .tables ≡ zeroedRows (rowsOf l) m
 
 abbrev pub Refusals-hold : Type 0
 Refusals-hold = (c : Sizes) (l : Lists) (m : Mesh) → c .faces ≤ none → (g : Ground) → build c l m .answer ≡ Refused g → Refused-by c l m g

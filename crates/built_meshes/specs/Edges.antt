@@ -1,7 +1,7 @@
 -- One edge in the tables, and one place entered: face f has a place from p to q. Grounds 14 and 15.
 --     edgeBetween m k p q     the first edge below k that joins the points p and q, in either direction
 --     newEdge m k f p q v     the tables with a new edge k from p to q, with face f on its left and the interval v
---     filled m e f            the tables with face f on the right of edge e
+--     withRightFace m e f     the tables with face f on the right of edge e
 --     Entered, entered        a place entered: the tables, how many edges they hold and the place's edge; or a ground
 --     joined m e o            the tables with the edges e and o connected
 -- An edge that exists keeps its interval. Under building the none mark on the right of an edge says that there is no face yet. The
@@ -39,8 +39,8 @@ edgeBetween m zero p q = Nothing
 edgeBetween m (suc k) p q = orLast (edgeBetween m k p q) (joins m p q k) k
 
 -- a new edge: its neighbours are all itself, and there is no face on its right
-abbrev pub edgeOf : ℕ → ℕ → ℕ → ℕ → Float → TnurccEdge
-edgeOf k f p q v =
+abbrev pub loneEdge : ℕ → ℕ → ℕ → ℕ → Float → TnurccEdge
+loneEdge k f p q v =
     record {
       connections = k ∷ k ∷ k ∷ k ∷ [];
       «face_left» = f;
@@ -56,14 +56,14 @@ touched ws p e = set (set ws (p * pointWidth) (getD ws (p * pointWidth) 0 + 1)) 
 
 unfoldable pub newEdge : Mesh → ℕ → ℕ → ℕ → ℕ → Float → Mesh
 newEdge m k f p q v =
-    meshOf (m .positions) (touched (touched (m .points) p k) q k) (putRow (m .edges) (k * edgeWidth) (edgeWords (edgeOf k f p q v)))
+    meshOf (m .positions) (touched (touched (m .points) p k) q k) (putRow (m .edges) (k * edgeWidth) (edgeWords (loneEdge k f p q v)))
     (set (m .intervals) k v) (m .faces)
 
 abbrev pub withEdges : Mesh → List ℕ → Mesh
 withEdges m es = meshOf (m .positions) (m .points) es (m .intervals) (m .faces)
 
-unfoldable pub filled : Mesh → ℕ → ℕ → Mesh
-filled m e f = withEdges m (set (m .edges) (e * edgeWidth + rightFaceWord) f)
+unfoldable pub withRightFace : Mesh → ℕ → ℕ → Mesh
+withRightFace m e f = withEdges m (set (m .edges) (e * edgeWidth + rightFaceWord) f)
 
 -- ---- a place
 
@@ -74,10 +74,10 @@ pub data Entered : Type 0 where
 -- face f at the edge e that joins the points: `alone` says that there is no face on its right, `same` that it runs from the
 -- place's first point too
 unfoldable pub enteredAt : Mesh → ℕ → ℕ → ℕ → Bool → Bool → Entered
-unfolding filled
+unfolding withRightFace
 enteredAt m k f e false same = refused EdgeTripleFace
 enteredAt m k f e true true = refused SameWay
-enteredAt m k f e true false = at (filled m e f) k e
+enteredAt m k f e true false = at (withRightFace m e f) k e
 
 unfoldable pub enteredIf : Mesh → ℕ → ℕ → ℕ → ℕ → Float → Found → Entered
 unfolding enteredAt newEdge

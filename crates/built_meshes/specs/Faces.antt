@@ -1,7 +1,7 @@
 -- The tests of one face: grounds 10 to 13. The listed points of face f stand from the place a on.
 --     listedAt l a i          the listed point i of the face whose points stand from a on
 --     sizeFit n               3 to 64 points: else ground 10
---     inRange                 all listed points are point numbers: else 11
+--     listedInRange           all listed points are point numbers: else 11
 --     noPointTwice            no point is listed twice: else 12
 --     sideSum is a k          the sum of the k intervals from place a on, from +0 in listed order
 --     sumsFit                 the side sums s0 - s2 + s1 - s3 are small: else 13
@@ -15,7 +15,7 @@ use lib.Ieee.{Float, nan, add, sub, ofBits, binary64}
 use Rattle.positions.specs.Position.{small}
 use Rattle.tables.specs.Layout.{longestPerimeter}
 use Rattle.audited_meshes.specs.Folds.{every}
-use Rattle.built_meshes.specs.Lists.{Lists, side, size}
+use Rattle.built_meshes.specs.Lists.{Lists, sideLength, size}
 use Rattle.built_meshes.specs.declared.Verdict.{Verdict}
 use Rattle.built_meshes.specs.declared.Verdict.the-variants.{Fit, Unfit}
 use Rattle.built_meshes.specs.declared.Ground.the-variants.{FaceSize, OutOfRange, PointTwice, NonRectangularFace}
@@ -26,9 +26,9 @@ listedAt l a i = getD (l .listed) (a + i) 0
 abbrev pub sizeFit : ℕ → Bool
 sizeFit n = leb 3 n && leb n longestPerimeter
 
-unfoldable pub inRange : Lists → ℕ → ℕ → ℕ → Bool
+unfoldable pub listedInRange : Lists → ℕ → ℕ → ℕ → Bool
 unfolding every
-inRange l np a n = every n (λ i. ltb (listedAt l a i) np)
+listedInRange l np a n = every n (λ i. ltb (listedAt l a i) np)
 
 unfoldable pub noPointTwice : Lists → ℕ → ℕ → Bool
 unfolding every
@@ -39,22 +39,22 @@ sideSum is a zero = ofBits binary64 0
 sideSum is a (suc k) = add binary64 (sideSum is a k) (getD is (a + k) nan)
 
 -- how far the side sums are apart: ((s0 - s2) + s1) - s3, each operation rounded
-unfoldable pub apart : Lists → ℕ → ℕ → Float
+unfoldable pub sumsApart : Lists → ℕ → ℕ → Float
 unfolding sideSum
-apart l f a =
-    let s0 = sideSum (l .intervals) a (side l f 0) in
-    let s1 = sideSum (l .intervals) (a + side l f 0) (side l f 1) in
-    let s2 = sideSum (l .intervals) (a + side l f 0 + side l f 1) (side l f 2) in
-    let s3 = sideSum (l .intervals) (a + side l f 0 + side l f 1 + side l f 2) (side l f 3) in
+sumsApart l f a =
+    let s0 = sideSum (l .intervals) a (sideLength l f 0) in
+    let s1 = sideSum (l .intervals) (a + sideLength l f 0) (sideLength l f 1) in
+    let s2 = sideSum (l .intervals) (a + sideLength l f 0 + sideLength l f 1) (sideLength l f 2) in
+    let s3 = sideSum (l .intervals) (a + sideLength l f 0 + sideLength l f 1 + sideLength l f 2) (sideLength l f 3) in
     sub binary64 (add binary64 (sub binary64 s0 s2) s1) s3
 
 abbrev pub sumsFit : Lists → ℕ → ℕ → Bool
-sumsFit l f a = small (apart l f a)
+sumsFit l f a = small (sumsApart l f a)
 
 unfoldable pub faceVerdict : Lists → ℕ → ℕ → ℕ → Verdict
-unfolding inRange noPointTwice apart
+unfolding listedInRange noPointTwice sumsApart
 faceVerdict l np f a =
     cond (not (sizeFit (size l f))) (Unfit FaceSize)
-    (cond (not (inRange l np a (size l f))) (Unfit OutOfRange)
+    (cond (not (listedInRange l np a (size l f))) (Unfit OutOfRange)
     (cond (not (noPointTwice l a (size l f))) (Unfit PointTwice)
     (cond (not (sumsFit l f a)) (Unfit NonRectangularFace) Fit)))

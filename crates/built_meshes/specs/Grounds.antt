@@ -24,9 +24,9 @@ use Rattle.audited_meshes.specs.Walks.{Touches}
 use Rattle.audited_meshes.specs.Audit.{intervalFit}
 use Rattle.built_meshes.specs.Lists.{Lists, pointsOf, facesOf, size, offset}
 use Rattle.tables.specs.declared.Sizes.{Sizes}
-use Rattle.built_meshes.specs.Faces.{apart}
+use Rattle.built_meshes.specs.Faces.{sumsApart}
 use Rattle.built_meshes.specs.Places.{pointOf, IsPlace, Runs, Between, Differ, Earlier}
-use Rattle.built_meshes.specs.Answers.{numberOf}
+use Rattle.built_meshes.specs.Answers.{groundNumber}
 use Rattle.built_meshes.specs.declared.Ground.{Ground}
 use Rattle.built_meshes.specs.declared.Ground.the-variants.{OverCounts, UnfitNumber, FewRows, FaceSize, OutOfRange, PointTwice, NonRectangularFace, EdgeTripleFace, SameWay, MissingFace, NoEdge, MissedEdge}
 
@@ -42,8 +42,8 @@ pub data Over-counts (c : Sizes) (l : Lists) : Type 0 where
 
 -- 3: not finite, or an interval's sign bit set
 pub data Unfit-number (l : Lists) : Type 0 where
-  coordinate : (k : ℕ) → k < length (l .coordinates) → finite (getD (l .coordinates) k nan) ≡ false → Unfit-number l
-  interval : (k : ℕ) → k < length (l .intervals) → intervalFit (getD (l .intervals) k nan) ≡ false → Unfit-number l
+  coordinate-unfit : (k : ℕ) → k < length (l .coordinates) → finite (getD (l .coordinates) k nan) ≡ false → Unfit-number l
+  interval-unfit : (k : ℕ) → k < length (l .intervals) → intervalFit (getD (l .intervals) k nan) ≡ false → Unfit-number l
 
 -- 4: fewer rows than points, faces, or listed points for edges
 pub data Few-rows (l : Lists) (m : Mesh) : Type 0 where
@@ -102,7 +102,7 @@ pub data Met (c : Sizes) (l : Lists) (m : Mesh) : Where → Ground → Type 0 wh
   -- 12: a point twice
   point-twice : (f i j : ℕ) → IsPlace l f i → j < i → pointOf l f i ≡ pointOf l f j → Met c l m (face f) PointTwice
   -- 13: side sums s0-s2+s1-s3 not small
-  non-rectangular : (f : ℕ) → f < facesOf l → small (apart l f (offset l f)) ≡ false → Met c l m (face f) NonRectangularFace
+  non-rectangular : (f : ℕ) → f < facesOf l → small (sumsApart l f (offset l f)) ≡ false → Met c l m (face f) NonRectangularFace
   -- 14: has two faces already: two earlier places join its points
   triple-face :
       (f i g j h k p q : ℕ) → Runs l f i p q → Between l g j p q → Between l h k p q → Earlier g j f i → Earlier h k f i → Differ g j h k →
@@ -120,10 +120,10 @@ Less (k ∷ ks) [] = ⊥
 Less (k ∷ ks) (n ∷ ns) = (k < n) ⊎ ((k ≡ n) × Less ks ns)
 
 abbrev pub turnOf : Where → Ground → List ℕ
-turnOf lists g = 0 ∷ numberOf g ∷ []
-turnOf (face f) g = 1 ∷ f ∷ 0 ∷ numberOf g ∷ []
-turnOf (edge f i) g = 1 ∷ f ∷ suc i ∷ numberOf g ∷ []
-turnOf whole g = 2 ∷ numberOf g ∷ []
+turnOf lists g = 0 ∷ groundNumber g ∷ []
+turnOf (face f) g = 1 ∷ f ∷ 0 ∷ groundNumber g ∷ []
+turnOf (edge f i) g = 1 ∷ f ∷ suc i ∷ groundNumber g ∷ []
+turnOf whole g = 2 ∷ groundNumber g ∷ []
 
 abbrev pub Before : Where → Ground → Where → Ground → Type 0
 Before w g w' g' = Less (turnOf w g) (turnOf w' g')

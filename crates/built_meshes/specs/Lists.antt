@@ -1,13 +1,13 @@
 -- What is handed to building, and its grounds 2 and 3.
 --     Lists                   coordinates, 3 a point; side lengths, 4 a face; listed points; the interval beside each
---     general, refine         the most points, faces and listed points of building, and of the program refine
+--     generalLimits, refineLimits  the most points, faces and listed points of building, and of the program refine
 --     pointsOf, facesOf       how many points and faces the lists give
 --     rowsOf l                the rows that ground 4 counts: for the points, the faces, and for as many edges as points are listed
---     side l f k              the length of side k of face f, from 0
+--     sideLength l f k        the length of side k of face f, from 0
 --     size l f                the number of listed points of all four sides of face f
 --     offset l f              where the listed points of face f begin: the sides are joined in their order
 --     countsFit               within the limits, and the lengths of the lists agree: else ground 2
---     numbersFit              all numbers finite, intervals with sign bit clear: else ground 3
+--     listedFit               all numbers finite, intervals with sign bit clear: else ground 3
 -- A listed point past the end of its list reads as 0, a number as a NaN.
 use mathlib.Core.Bool.{Bool, _&&_}
 use mathlib.Core.List.{List}
@@ -29,11 +29,11 @@ pub record Lists : Type 0 where
   pub listed : List ℕ
   pub intervals : List Float
 
-abbrev pub general : Sizes
-general = record { points = 4096; faces = 4096; listed = 16384 }
+abbrev pub generalLimits : Sizes
+generalLimits = record { points = 4096; faces = 4096; listed = 16384 }
 
-abbrev pub refine : Sizes
-refine = record { points = 64; faces = 64; listed = 256 }
+abbrev pub refineLimits : Sizes
+refineLimits = record { points = 64; faces = 64; listed = 256 }
 
 abbrev pub pointsOf : Lists → ℕ
 pointsOf l = length (l .coordinates) / positionWidth
@@ -44,11 +44,11 @@ facesOf l = length (l .sides) / 4
 abbrev pub rowsOf : Lists → Counts
 rowsOf l = record { points = pointsOf l; edges = length (l .listed); faces = facesOf l }
 
-abbrev pub side : Lists → ℕ → ℕ → ℕ
-side l f k = getD (l .sides) (f * 4 + k) 0
+abbrev pub sideLength : Lists → ℕ → ℕ → ℕ
+sideLength l f k = getD (l .sides) (f * 4 + k) 0
 
 abbrev pub size : Lists → ℕ → ℕ
-size l f = side l f 0 + side l f 1 + side l f 2 + side l f 3
+size l f = sideLength l f 0 + sideLength l f 1 + sideLength l f 2 + sideLength l f 3
 
 unfoldable pub offset : Lists → ℕ → ℕ
 unfolding sumTo
@@ -62,8 +62,8 @@ countsFit c l =
     && eqb (length (l .listed)) (length (l .intervals))
     && eqb (sumTo (length (l .sides)) (λ k. getD (l .sides) k 0)) (length (l .listed))
 
-unfoldable pub numbersFit : Lists → Bool
+unfoldable pub listedFit : Lists → Bool
 unfolding every
-numbersFit l =
+listedFit l =
     every (length (l .coordinates)) (λ k. finite (getD (l .coordinates) k nan))
     && every (length (l .intervals)) (λ k. intervalFit (getD (l .intervals) k nan))

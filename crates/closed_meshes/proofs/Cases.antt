@@ -3,12 +3,12 @@ use mathlib.Core.Path.{_≡_, refl, sym, _∙_, ap}
 use mathlib.Core.Option.{none}
 use Prim.Native.Nat.{ℕ, suc}
 use native.Mathlib.Omega.{arith}
-use Rattle.closed_meshes.specs.Mesh.{Mesh, Dart, lft, rgt, edge, flip, first, second, face}
+use Rattle.closed_meshes.specs.Mesh.{MeshOver, Dart, lft, rgt, edge, flip, first, second, face}
 use Rattle.closed_meshes.specs.Cycles.{Cycles}
 use Rattle.closed_meshes.specs.Closed.{Closed}
 use Rattle.closed_meshes.specs.Refinement.{refined}
 use Rattle.closed_meshes.specs.Shared.{Stage}
-use Rattle.closed_meshes.specs.Runs.{given, Run, begin, then}
+use Rattle.closed_meshes.specs.Runs.{firstStage, StepsTo, begin, then}
 use Rattle.closed_meshes.proofs.Groupoid.{isomorphism-refl}
 use Rattle.closed_meshes.proofs.Isomorphisms.{touching-of-closed}
 use Rattle.closed_meshes.proofs.Refinement.{stays-closed}
@@ -51,7 +51,7 @@ on-on-moves one h = let z : _≡_ {A = ℕ} 0 1 = cc in omega arith
 on-on-moves two h = let z : _≡_ {A = ℕ} 0 1 = cc in omega arith
 on-on-moves three h = let z : _≡_ {A = ℕ} 0 1 = cc in omega arith
 
-abbrev triangles : Mesh Three Three Two
+abbrev triangles : MeshOver Three Three Two
 triangles =
     record {
       valence = λ p. 2;
@@ -167,13 +167,13 @@ triangles-closed =
     }
 
 -- One more step, the rows being the kinds themselves.
-onward : (k : ℕ) (s s' : Stage Three Three Two) → Run s k s' → (t : Stage Three Three Two) × Run s (suc k) t
+onward : (k : ℕ) (s s' : Stage Three Three Two) → StepsTo s k s' → (t : Stage Three Three Two) × StepsTo s (suc k) t
 onward k s s' r =
     let c = stays-closed _ _ _ (s' .mesh) (s' .closed) in
     let i = isomorphism-refl (refined (s' .mesh) (s' .closed)) in
     (after (suc k) s' i (touching-of-closed c), then r (step-after (suc k) s' i (touching-of-closed c)))
 
-two-steps : (t : Stage Three Three Two) × Run (given triangles triangles-closed) 2 t
+two-steps : (t : Stage Three Three Two) × StepsTo (firstStage triangles triangles-closed) 2 t
 two-steps =
-    let first = onward 0 (given triangles triangles-closed) _ begin in
-    onward 1 (given triangles triangles-closed) (first .0) (first .1)
+    let first = onward 0 (firstStage triangles triangles-closed) _ begin in
+    onward 1 (firstStage triangles triangles-closed) (first .0) (first .1)

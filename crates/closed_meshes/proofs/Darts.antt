@@ -1,6 +1,6 @@
 -- The laws of darts in a closed mesh: what settles a dart. Assumes nothing.
 use mathlib.Core.Path.{_≡_, refl, sym, _∙_, ap}
-use Rattle.closed_meshes.specs.Mesh.{Mesh, Dart, lft, rgt, edge, flip, first, second, face}
+use Rattle.closed_meshes.specs.Mesh.{MeshOver, Dart, lft, rgt, edge, flip, first, second, face}
 use Rattle.closed_meshes.specs.Closed.{Closed}
 
 -- The other side of the other side is the side itself.
@@ -13,13 +13,13 @@ pub edge-flip : {E : Type 0} (d : Dart E) → edge (flip d) ≡ edge d
 edge-flip (lft e) = refl
 edge-flip (rgt e) = refl
 
-module _ {P E F : Type 0} (m : Mesh P E F) where
+module _ {P E F : Type 0} (m : MeshOver P E F) where
   -- A side ends where the other side begins.
   pub first-flip : (d : Dart E) → first m (flip d) ≡ second m d
   first-flip (lft e) = refl
   first-flip (rgt e) = refl
 
-module _ {P E F : Type 0} {m : Mesh P E F} (c : Closed m) where
+module _ {P E F : Type 0} {m : MeshOver P E F} (c : Closed m) where
   -- The ends of a dart differ.
   pub first-differs : (d : Dart E) → ¬ (first m d ≡ second m d)
   first-differs (lft e) h = c .ends-differ e h

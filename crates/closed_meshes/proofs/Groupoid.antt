@@ -1,7 +1,7 @@
 -- A mesh is isomorphic to itself, and isomorphisms can be turned round and composed. Assumes nothing.
 use mathlib.Core.Path.{_≡_, refl, sym, _∙_, ap}
 use mathlib.Core.Option.{Option, some, none, Option·map}
-use Rattle.closed_meshes.specs.Mesh.{Mesh}
+use Rattle.closed_meshes.specs.Mesh.{MeshOver}
 use Rattle.closed_meshes.specs.Renumbering.{Bijection, Isomorphism}
 use Rattle.closed_meshes.proofs.Isomorphisms.{inverse}
 
@@ -35,7 +35,7 @@ pub field-back :
     ((x : A) → g' (b .to x) ≡ k .to (g x)) → (y : A') → g (b .from y) ≡ k .from (g' y)
 field-back b k g g' h y = sym (k .from-to _) ∙ ap (k .from) (sym (h (b .from y)) ∙ ap g' (b .to-from y))
 
-unfoldable pub isomorphism-refl : {P E F : Type 0} (m : Mesh P E F) → Isomorphism m m
+unfoldable pub isomorphism-refl : {P E F : Type 0} (m : MeshOver P E F) → Isomorphism m m
 isomorphism-refl {P} {E} {F} m =
     record {
       points = identity P;
@@ -54,7 +54,7 @@ isomorphism-refl {P} {E} {F} m =
     }
 
 unfoldable pub isomorphism-sym :
-    {P E F P' E' F' : Type 0} {m : Mesh P E F} {m' : Mesh P' E' F'} → Isomorphism m m' → Isomorphism m' m
+    {P E F P' E' F' : Type 0} {m : MeshOver P E F} {m' : MeshOver P' E' F'} → Isomorphism m m' → Isomorphism m' m
 isomorphism-sym {m} {m'} i =
     record {
       points = inverse (i .points);
@@ -76,7 +76,7 @@ isomorphism-sym {m} {m'} i =
     }
 
 unfoldable pub isomorphism-trans :
-    {P E F P' E' F' P'' E'' F'' : Type 0} {m : Mesh P E F} {m' : Mesh P' E' F'} {m'' : Mesh P'' E'' F''} →
+    {P E F P' E' F' P'' E'' F'' : Type 0} {m : MeshOver P E F} {m' : MeshOver P' E' F'} {m'' : MeshOver P'' E'' F''} →
     Isomorphism m m' → Isomorphism m' m'' → Isomorphism m m''
 isomorphism-trans {m} {m'} {m''} i j =
     record {

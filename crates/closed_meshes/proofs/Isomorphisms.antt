@@ -1,7 +1,7 @@
 -- Closed carries over an isomorphism of meshes, with any start edges that touch their rows. Assumes nothing.
 use mathlib.Core.Path.{_≡_, refl, sym, _∙_, ap, subst}
 use Prim.Native.Nat.{ℕ, suc, _≤_, _<_}
-use Rattle.closed_meshes.specs.Mesh.{Mesh, Dart, lft, rgt, edge, flip, first, second, face, acw, cw}
+use Rattle.closed_meshes.specs.Mesh.{MeshOver, Dart, lft, rgt, edge, flip, first, second, face, acw, cw}
 use Rattle.closed_meshes.specs.Cycles.{Cycles}
 use Rattle.closed_meshes.specs.Closed.{Closed}
 use Rattle.closed_meshes.specs.Renumbering.{Bijection, Isomorphism, Touching, CarriesOver}
@@ -76,7 +76,7 @@ pub flip-mapDart : {E E' : Type 0} (g : E → E') (d : Dart E) → flip (mapDart
 flip-mapDart g (lft e) = refl
 flip-mapDart g (rgt e) = refl
 
-module _ {P E F P' E' F' : Type 0} {m : Mesh P E F} {m' : Mesh P' E' F'} (i : Isomorphism m m') where
+module _ {P E F P' E' F' : Type 0} {m : MeshOver P E F} {m' : MeshOver P' E' F'} (i : Isomorphism m m') where
   -- the dart of m' that corresponds to d
   abbrev pub dartTo : Dart E → Dart E'
   dartTo d = mapDart (i .edges .to) d
@@ -199,7 +199,7 @@ pub carries-over : CarriesOver
 carries-over P E F P' E' F' m m' i t c = closed-carried i c t
 
 -- In a closed mesh the start edges touch.
-pub touching-of-closed : {P E F : Type 0} {m : Mesh P E F} → Closed m → Touching m
+pub touching-of-closed : {P E F : Type 0} {m : MeshOver P E F} → Closed m → Touching m
 touching-of-closed c =
     record {
       start = λ p. (c .pointDart p, c .edge-pointDart p, c .about-points .cls-start p);

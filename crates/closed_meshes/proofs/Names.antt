@@ -4,12 +4,12 @@
 use mathlib.Core.Path.{_≡_, sym, _∙_, ap}
 use Prim.Native.Nat.{ℕ, suc, _≤_}
 use native.Mathlib.Omega.{arith}
-use Rattle.closed_meshes.specs.Mesh.{Mesh, Dart}
+use Rattle.closed_meshes.specs.Mesh.{MeshOver, Dart}
 use Rattle.closed_meshes.specs.Closed.{Closed}
 use Rattle.closed_meshes.specs.Refinement.{NewPoint, old, mid, facePoint, NewEdge, org, dst, join}
 use Rattle.closed_meshes.specs.Renumbering.{Injective, Bijection}
 use Rattle.closed_meshes.specs.Names.{PointName, EdgeName, FaceName, givenPoint, midpointOf, facePointOf, givenEdge, destinationHalfOf, joiningEdgeOf, givenFace, newFaceOf}
-use Rattle.closed_meshes.specs.Runs.{newPointName, newEdgeName, newFaceName, given, Step, Run, begin, then, RunsNameApart}
+use Rattle.closed_meshes.specs.Runs.{newPointName, newEdgeName, newFaceName, firstStage, NamedStep, StepsTo, begin, then, RunsNameApart}
 use Rattle.closed_meshes.specs.Shared.{Stage, NamesDiffer}
 use Rattle.closed_meshes.proofs.Darts.{dart-of-face}
 use Rattle.closed_meshes.proofs.Isomorphisms.{onto}
@@ -97,7 +97,7 @@ module _ {P E F : Type 0} where
     unfolding faceStep
     new-face-step d = omega arith
 
-    named-step : (t : Stage P E F) → Step (suc k) s t → Named (suc k) t
+    named-step : (t : Stage P E F) → NamedStep (suc k) s t → Named (suc k) t
     named-step t b =
         record {
           differ =
@@ -123,7 +123,7 @@ module _ {P E F : Type 0} where
               (λ x. rw (b .face-name x) (new-face-step x));
         }
 
-  pub named-run : {m : Mesh P E F} {c : Closed m} {k : ℕ} {s : Stage P E F} → Run (given m c) k s → Named k s
+  pub named-run : {m : MeshOver P E F} {c : Closed m} {k : ℕ} {s : Stage P E F} → StepsTo (firstStage m c) k s → Named k s
   unfolding pointStep edgeStep faceStep
   named-run begin =
       record {

@@ -2,8 +2,8 @@
 use mathlib.Core.Path.{_≡_, _∙_, ap}
 use mathlib.Core.List.{[], _∷_, map}
 use mathlib.Core.Option.{some}
-use Rattle.closed_meshes.specs.Mesh.{Mesh, place0, place1, place2, place3, Dart, edge, first}
-use Rattle.closed_meshes.specs.Cycles.{walk}
+use Rattle.closed_meshes.specs.Mesh.{MeshOver, place0, place1, place2, place3, Dart, edge, first}
+use Rattle.closed_meshes.specs.Cycles.{orbit}
 use Rattle.closed_meshes.specs.Borders.{steps, newBorder, NewBorders, NewCorners}
 use Rattle.closed_meshes.specs.Closed.{Closed}
 use Rattle.closed_meshes.specs.Refinement.{NewEdge, refined, newCorner}
@@ -13,7 +13,7 @@ use Rattle.closed_meshes.proofs.Unique.{next-unique, size-unique, faceD
 use Rattle.closed_meshes.proofs.Refinement.{refined-closed, next-closed, size-closed, faceDart-closed}
 
 -- Whatever closes the refined mesh, its walks about new faces are these.
-module _ {P E F : Type 0} (m : Mesh P E F) (c : Closed m) (c' : Closed (refined m c)) where
+module _ {P E F : Type 0} (m : MeshOver P E F) (c : Closed m) (c' : Closed (refined m c)) where
   next-refined : (x : Dart (NewEdge E)) → c' .next x ≡ next' m c x
   next-refined x = next-unique c' (refined-closed m c) x ∙ next-closed m c x
 
@@ -39,16 +39,16 @@ module _ {P E F : Type 0} (m : Mesh P E F) (c : Closed m) (c' : Closed (refined 
 
   walk-from-start :
       (d : Dart E) →
-      walk (c' .next) (c' .size d) (c' .faceDart d) ≡ start-half d ∷ inward d ∷ outward (c .prev d) ∷ end-half (c .prev d) ∷ []
-  unfolding walk
+      orbit (c' .next) (c' .size d) (c' .faceDart d) ≡ start-half d ∷ inward d ∷ outward (c .prev d) ∷ end-half (c .prev d) ∷ []
+  unfolding orbit
   walk-from-start d =
       rw (size-refined d, faceDart-refined d, from-start-half d, from-inward d, from-outward (c .prev d))
 
   walk-from-face-point :
       (d : Dart E) →
-      walk (c' .next) (c' .size d) (steps (c' .next) 2 (c' .faceDart d))
+      orbit (c' .next) (c' .size d) (steps (c' .next) 2 (c' .faceDart d))
       ≡ outward (c .prev d) ∷ end-half (c .prev d) ∷ start-half d ∷ inward d ∷ []
-  unfolding walk steps
+  unfolding orbit steps
   walk-from-face-point d =
       rw (
         size-refined d,
@@ -61,7 +61,7 @@ module _ {P E F : Type 0} (m : Mesh P E F) (c : Closed m) (c' : Closed (refined 
       )
 
   border-refined :
-      (d : Dart E) → map (λ x. (edge x, first (refined m c) x)) (walk (c' .next) (c' .size d) (c' .faceDart d)) ≡ newBorder m c d
+      (d : Dart E) → map (λ x. (edge x, first (refined m c) x)) (orbit (c' .next) (c' .size d) (c' .faceDart d)) ≡ newBorder m c d
   border-refined d =
       let p = c .prev d in
       rw (walk-from-start d)
@@ -69,7 +69,7 @@ module _ {P E F : Type 0} (m : Mesh P E F) (c : Closed m) (c' : Closed (refined 
 
   corners-refined :
       (d : Dart E) →
-      map (λ x. some (first (refined m c) x)) (walk (c' .next) (c' .size d) (steps (c' .next) 2 (c' .faceDart d)))
+      map (λ x. some (first (refined m c) x)) (orbit (c' .next) (c' .size d) (steps (c' .next) 2 (c' .faceDart d)))
       ≡ newCorner m c d place0 ∷ newCorner m c d place1 ∷ newCorner m c d place2 ∷ newCorner m c d place3 ∷ []
   corners-refined d =
       rw (walk-from-face-point d) (rw (first-end-half m c (c .prev d), first-start-half m c d, face-prev c d))

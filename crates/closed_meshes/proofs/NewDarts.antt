@@ -1,7 +1,7 @@
 -- The darts of a refined mesh. Each old dart d gives four: its two halves, and the joining edge seen from its right, which runs
 -- inwards, and from its left, which runs outwards. Here is the table of the refinement by these four kinds. Assumes nothing.
 use mathlib.Core.Path.{_≡_, refl}
-use Rattle.closed_meshes.specs.Mesh.{Mesh, Dart, lft, rgt, edge, flip, first, second, face}
+use Rattle.closed_meshes.specs.Mesh.{MeshOver, Dart, lft, rgt, edge, flip, first, second, face}
 use Rattle.closed_meshes.specs.Closed.{Closed}
 use Rattle.closed_meshes.specs.Refinement.{NewEdge, org, dst, join, old, mid, firstHalf, secondHalf, refined}
 
@@ -51,7 +51,7 @@ pub flip-end-half : {E : Type 0} (d : Dart E) → flip (end-half d) ≡ start-ha
 flip-end-half (lft e) = refl
 flip-end-half (rgt e) = refl
 
-module _ {P E F : Type 0} (m : Mesh P E F) (c : Closed m) where
+module _ {P E F : Type 0} (m : MeshOver P E F) (c : Closed m) where
   unfoldable pub next' : Dart (NewEdge E) → Dart (NewEdge E)
   next' (lft (org e)) = inward (lft e)
   next' (lft (dst e)) = start-half (c .next (lft e))

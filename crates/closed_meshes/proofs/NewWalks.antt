@@ -2,7 +2,7 @@
 use mathlib.Core.Path.{_≡_, refl, sym, _∙_, ap}
 use Prim.Native.Nat.{ℕ, suc, _<_}
 use native.Mathlib.Omega.{arith}
-use Rattle.closed_meshes.specs.Mesh.{Mesh, Dart, lft, rgt, edge, flip, first, face}
+use Rattle.closed_meshes.specs.Mesh.{MeshOver, Dart, lft, rgt, edge, flip, first, face}
 use Rattle.closed_meshes.specs.Cycles.{Cycles}
 use Rattle.closed_meshes.specs.Closed.{Closed}
 use Rattle.closed_meshes.specs.Refinement.{NewPoint, old, mid, facePoint, NewEdge, org, dst, join, refined}
@@ -12,7 +12,7 @@ use Rattle.closed_meshes.proofs.NewDarts.{edge-start-half, first-start-
 use Rattle.closed_meshes.proofs.NewDarts.{face-start-half, face-end-half, next-start-half, next-end-half}
 use Rattle.closed_meshes.proofs.NewDarts.{prev-start-half, prev-end-half, flip-start-half, flip-end-half}
 
-module _ {P E F : Type 0} (m : Mesh P E F) (c : Closed m) where
+module _ {P E F : Type 0} (m : MeshOver P E F) (c : Closed m) where
   -- Walks about the new faces: ranks 0 to 3.
   face-next' : (x : Dart (NewEdge E)) → face (refined m c) (next' m c x) ≡ face (refined m c) x
   unfolding next'

@@ -2,7 +2,7 @@
 use mathlib.Core.Path.{_≡_, refl, sym, _∙_, ap}
 use Prim.Native.Nat.{ℕ, _≤_}
 use native.Mathlib.Omega.{arith}
-use Rattle.closed_meshes.specs.Mesh.{Mesh, Dart, lft, rgt, edge, first, second, face, acw, cw}
+use Rattle.closed_meshes.specs.Mesh.{MeshOver, Dart, lft, rgt, edge, first, second, face, acw, cw}
 use Rattle.closed_meshes.specs.Closed.{Closed}
 use Rattle.closed_meshes.specs.Refinement.{NewPoint, old, mid, facePoint, NewEdge, org, dst, join, refined, StaysClosed}
 use Rattle.closed_meshes.proofs.Darts.{dart-of-first, dart-of-second, dart-of-face, face-prev, edge-moves}
@@ -12,7 +12,7 @@ use Rattle.closed_meshes.proofs.NewDarts.{first-end-half, second-end-ha
 use Rattle.closed_meshes.proofs.NewDarts.{next-start-half, next-end-half, prev-start-half, prev-end-half}
 use Rattle.closed_meshes.proofs.NewWalks.{about-faces', about-points', pointDart', edge-pointDart'}
 
-module _ {P E F : Type 0} (m : Mesh P E F) (c : Closed m) where
+module _ {P E F : Type 0} (m : MeshOver P E F) (c : Closed m) where
   edge-next' : (x : Dart (NewEdge E)) → edge (next' m c x) ≡ acw (refined m c) x
   unfolding next'
   edge-next' (lft (org e)) = refl

@@ -2,7 +2,7 @@
 -- refinements. Assumes nothing.
 use mathlib.Core.Path.{_≡_, refl, sym, _∙_, ap}
 use mathlib.Core.Option.{some}
-use Rattle.closed_meshes.specs.Mesh.{Mesh, place0, place1, place2, place3, Dart, lft, rgt, edge}
+use Rattle.closed_meshes.specs.Mesh.{MeshOver, place0, place1, place2, place3, Dart, lft, rgt, edge}
 use Rattle.closed_meshes.specs.Closed.{Closed}
 use Rattle.closed_meshes.specs.Refinement.{NewPoint, old, mid, facePoint, NewEdge, org, dst, join, firstHalf, secondHalf, refined}
 use Rattle.closed_meshes.specs.Renumbering.{Bijection, Isomorphism}
@@ -10,7 +10,7 @@ use Rattle.closed_meshes.proofs.Cycles.{len-unique}
 use Rattle.closed_meshes.proofs.Darts.{dart-of-face, face-next}
 use Rattle.closed_meshes.proofs.Isomorphisms.{mapDart, mapDart-inverse, darts, dartTo, edge-mapDart, first-to, face-to, acw-to, cycles-carried, inverse}
 
-module _ {P E F P' E' F' : Type 0} {m : Mesh P E F} {m' : Mesh P' E' F'} (c : Closed m) (c' : Closed m') (i : Isomorphism m m') where
+module _ {P E F P' E' F' : Type 0} {m : MeshOver P E F} {m' : MeshOver P' E' F'} (c : Closed m) (c' : Closed m') (i : Isomorphism m m') where
   pub next-to : (d : Dart E) → c' .next (dartTo i d) ≡ dartTo i (c .next d)
   next-to d =
       dart-of-face c' (c' .next (dartTo i d)) (dartTo i (c .next d))
@@ -60,7 +60,7 @@ pub secondHalf-to : {E E' : Type 0} (g : E → E') (d : Dart E) → secondHalf (
 secondHalf-to g (lft e) = refl
 secondHalf-to g (rgt e) = refl
 
-module _ {P E F P' E' F' : Type 0} {m : Mesh P E F} {m' : Mesh P' E' F'} (c : Closed m) (c' : Closed m') (i : Isomorphism m m') where
+module _ {P E F P' E' F' : Type 0} {m : MeshOver P E F} {m' : MeshOver P' E' F'} (c : Closed m) (c' : Closed m') (i : Isomorphism m m') where
   pub firstHalf-next : (d : Dart E) → firstHalf (c' .next (dartTo i d)) ≡ mapEdge (i .edges .to) (firstHalf (c .next d))
   firstHalf-next d = ap firstHalf (next-to c c' i d) ∙ firstHalf-to (i .edges .to) (c .next d)
 

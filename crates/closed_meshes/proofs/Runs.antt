@@ -1,12 +1,12 @@
 -- Two runs from one closed mesh match: they are one but for their numbering. Assumes nothing.
 use mathlib.Core.Path.{_≡_, refl, sym, _∙_, ap, ap₂}
 use Prim.Native.Nat.{ℕ}
-use Rattle.closed_meshes.specs.Mesh.{Mesh, Dart, edge, face}
+use Rattle.closed_meshes.specs.Mesh.{MeshOver, Dart, edge, face}
 use Rattle.closed_meshes.specs.Closed.{Closed}
 use Rattle.closed_meshes.specs.Refinement.{NewPoint, old, mid, facePoint, NewEdge, org, dst, join, refined}
 use Rattle.closed_meshes.specs.Renumbering.{Isomorphism, Touching}
 use Rattle.closed_meshes.specs.Names.{joiningEdgeOf, newFaceOf}
-use Rattle.closed_meshes.specs.Runs.{newPointName, newEdgeName, newFaceName, given, Step, Run, begin, then}
+use Rattle.closed_meshes.specs.Runs.{newPointName, newEdgeName, newFaceName, firstStage, NamedStep, StepsTo, begin, then}
 use Rattle.closed_meshes.specs.Shared.{Stage}
 use Rattle.closed_meshes.proofs.Groupoid.{isomorphism-refl, isomorphism-sym, isomorphism-trans}
 use Rattle.closed_meshes.proofs.Isomorphisms.{edge-mapDart, first-to, face-to, carries-over}
@@ -55,12 +55,12 @@ module _ {P E F : Type 0} where
         (ap (s' .names .point) (first-to (a .isomorphism) d) ∙ a .point _)
 
   -- The first mesh matches itself, however it is shown to be closed.
-  unfoldable pub matching-given : (m : Mesh P E F) (c c' : Closed m) → Matching (given m c) (given m c')
+  unfoldable pub matching-given : (m : MeshOver P E F) (c c' : Closed m) → Matching (firstStage m c) (firstStage m c')
   unfolding isomorphism-refl
   matching-given m c c' = record { isomorphism = isomorphism-refl m; point = λ p. refl; edge = λ e. refl; face = λ f. refl }
 
   -- One step of each keeps the match, whatever the numberings.
-  matching-step : (k : ℕ) (s s' t t' : Stage P E F) → Matching s s' → Step k s t → Step k s' t' → Matching t t'
+  matching-step : (k : ℕ) (s s' t t' : Stage P E F) → Matching s s' → NamedStep k s t → NamedStep k s' t' → Matching t t'
   unfolding isomorphism-sym isomorphism-trans
   matching-step k s s' t t' a b b' =
       record {
@@ -79,18 +79,18 @@ module _ {P E F : Type 0} where
       }
 
   -- Equally many steps keep the match.
-  pub matching-run : {s s' : Stage P E F} {k : ℕ} {t t' : Stage P E F} → Matching s s' → Run s k t → Run s' k t' → Matching t t'
+  pub matching-run : {s s' : Stage P E F} {k : ℕ} {t t' : Stage P E F} → Matching s s' → StepsTo s k t → StepsTo s' k t' → Matching t t'
   matching-run a begin begin = a
   matching-run a (then r b) (then r' b') = matching-step _ _ _ _ _ (matching-run a r r') b b'
 
   -- Two runs of one length from one mesh match.
   pub runs-match :
-      (m : Mesh P E F) (c c' : Closed m) {k : ℕ} {t t' : Stage P E F} → Run (given m c) k t → Run (given m c') k t' → Matching t t'
+      (m : MeshOver P E F) (c c' : Closed m) {k : ℕ} {t t' : Stage P E F} → StepsTo (firstStage m c) k t → StepsTo (firstStage m c') k t' → Matching t t'
   runs-match m c c' r r' = matching-run (matching-given m c c') r r'
 
   -- Any numbering of the kinds, with start edges that touch, makes a step: the mesh is closed again and its rows have names.
   module _
-      (k : ℕ) (s : Stage P E F) {P' E' F' : Type 0} {m : Mesh P' E' F'} (i : Isomorphism (refined (s .mesh) (s .closed)) m)
+      (k : ℕ) (s : Stage P E F) {P' E' F' : Type 0} {m : MeshOver P' E' F'} (i : Isomorphism (refined (s .mesh) (s .closed)) m)
       (t : Touching m)
     where
       unfoldable pub after : Stage P E F
@@ -109,7 +109,7 @@ module _ {P E F : Type 0} where
                 };
           }
 
-      pub step-after : Step k s after
+      pub step-after : NamedStep k s after
       unfolding after
       step-after =
           record {

@@ -5,9 +5,9 @@ use mathlib.Core.List.{_∷_, map}
 use mathlib.Core.Option.{Option, none, some, Option·map}
 use Prim.Native.Nat.{ℕ, zero, suc}
 use Rattle.closed_meshes.specs.Mesh.{Dart, face}
-use Rattle.closed_meshes.specs.Cycles.{walk}
-use Rattle.closed_meshes.specs.Shared.{Stage, passed, border, SharedEdge, Shared, NamesDiffer}
-use Rattle.closed_meshes.specs.Runs.{TwoRuns}
+use Rattle.closed_meshes.specs.Cycles.{orbit}
+use Rattle.closed_meshes.specs.Shared.{Stage, namedDart, namedBorder, SharedEdge, Shared, NamesDiffer}
+use Rattle.closed_meshes.specs.Runs.{RunsShare}
 use Rattle.closed_meshes.proofs.Isomorphisms.{dartTo, edge-mapDart, first-to, face-to}
 use Rattle.closed_meshes.proofs.RefinementLifts.{next-to, size-to}
 use Rattle.closed_meshes.proofs.Names.{names-differ}
@@ -38,7 +38,7 @@ module _ {P E F : Type 0} {s s' : Stage P E F} (a : Matching s s') (n : NamesDif
       }
 
   -- The walk from the corresponding dart passes the same names.
-  passed-to : (d : Dart (s .Edge)) → passed s d ≡ passed s' (dartTo (a .isomorphism) d)
+  passed-to : (d : Dart (s .Edge)) → namedDart s d ≡ namedDart s' (dartTo (a .isomorphism) d)
   passed-to d =
       ap₂ (λ x y. (x, y))
       (sym (ap (s' .names .edge) (edge-mapDart (a .isomorphism .edges .to) d) ∙ a .edge _))
@@ -46,18 +46,18 @@ module _ {P E F : Type 0} {s s' : Stage P E F} (a : Matching s s') (n : NamesDif
 
   walk-to :
       (k : ℕ) (d : Dart (s .Edge)) →
-      map (passed s) (walk (s .closed .next) k d) ≡ map (passed s') (walk (s' .closed .next) k (dartTo (a .isomorphism) d))
-  unfolding walk
+      map (namedDart s) (orbit (s .closed .next) k d) ≡ map (namedDart s') (orbit (s' .closed .next) k (dartTo (a .isomorphism) d))
+  unfolding orbit
   walk-to zero d = refl
   walk-to (suc k) d =
       ap₂ _∷_ (passed-to d)
       (walk-to k (s .closed .next d)
-      ∙ ap (λ x. map (passed s') (walk (s' .closed .next) k x)) (sym (next-to (s .closed) (s' .closed) (a .isomorphism) d)))
+      ∙ ap (λ x. map (namedDart s') (orbit (s' .closed .next) k x)) (sym (next-to (s .closed) (s' .closed) (a .isomorphism) d)))
 
-  border-to : (d : Dart (s .Edge)) → border s d ≡ border s' (dartTo (a .isomorphism) d)
+  border-to : (d : Dart (s .Edge)) → namedBorder s d ≡ namedBorder s' (dartTo (a .isomorphism) d)
   border-to d =
       walk-to (s .closed .size (face (s .mesh) d)) d
-      ∙ ap (λ k. map (passed s') (walk (s' .closed .next) k (dartTo (a .isomorphism) d)))
+      ∙ ap (λ k. map (namedDart s') (orbit (s' .closed .next) k (dartTo (a .isomorphism) d)))
       (sym (ap (s' .closed .size) (face-to (a .isomorphism) d) ∙ size-to (s .closed) (s' .closed) (a .isomorphism) (face (s .mesh) d)))
 
   named-option :
@@ -87,5 +87,5 @@ module _ {P E F : Type 0} {s s' : Stage P E F} (a : Matching s s') (n : NamesDif
       }
 
 -- Two runs from one closed mesh with equally many steps are shared.
-pub theorem : TwoRuns
+pub theorem : RunsShare
 theorem P E F m c c' k s s' r r' = shared-of-matching (runs-match m c c' r r') (names-differ P E F m c' k s' r')

@@ -8,8 +8,8 @@ use mathlib.Core.Path.{_≡_}
 use mathlib.Core.List.{List, [], _∷_, map}
 use mathlib.Core.Option.{some}
 use Prim.Native.Nat.{ℕ, zero, suc, _<_}
-use Rattle.closed_meshes.specs.Mesh.{Mesh, place0, place1, place2, place3, Dart, edge, first, face}
-use Rattle.closed_meshes.specs.Cycles.{walk}
+use Rattle.closed_meshes.specs.Mesh.{MeshOver, place0, place1, place2, place3, Dart, edge, first, face}
+use Rattle.closed_meshes.specs.Cycles.{orbit}
 use Rattle.closed_meshes.specs.Closed.{Closed}
 use Rattle.closed_meshes.specs.Refinement.{NewPoint, old, mid, facePoint, NewEdge, join, firstHalf, secondHalf, newCorner, refined}
 
@@ -23,7 +23,7 @@ pub record PassedOnce {D C : Type 0} (step : D → D) (start : C → D) (len : C
   pub passed : steps step after (start c) ≡ d
   pub only-then : (n : ℕ) → n < len c → steps step n (start c) ≡ d → n ≡ after
 
-module _ {P E F : Type 0} (m : Mesh P E F) (c : Closed m) where
+module _ {P E F : Type 0} (m : MeshOver P E F) (c : Closed m) where
   abbrev pub newBorder : Dart E → List (NewEdge E × NewPoint P E F)
   newBorder d =
       (firstHalf d, old (first m d))
@@ -34,11 +34,11 @@ module _ {P E F : Type 0} (m : Mesh P E F) (c : Closed m) where
 
 abbrev pub NewBorders : Type 1
 NewBorders =
-    (P E F : Type 0) (m : Mesh P E F) (c : Closed m) (c' : Closed (refined m c)) (d : Dart E) →
-    map (λ x. (edge x, first (refined m c) x)) (walk (c' .next) (c' .size d) (c' .faceDart d)) ≡ newBorder m c d
+    (P E F : Type 0) (m : MeshOver P E F) (c : Closed m) (c' : Closed (refined m c)) (d : Dart E) →
+    map (λ x. (edge x, first (refined m c) x)) (orbit (c' .next) (c' .size d) (c' .faceDart d)) ≡ newBorder m c d
 
 abbrev pub NewCorners : Type 1
 NewCorners =
-    (P E F : Type 0) (m : Mesh P E F) (c : Closed m) (c' : Closed (refined m c)) (d : Dart E) →
-    map (λ x. some (first (refined m c) x)) (walk (c' .next) (c' .size d) (steps (c' .next) 2 (c' .faceDart d)))
+    (P E F : Type 0) (m : MeshOver P E F) (c : Closed m) (c' : Closed (refined m c)) (d : Dart E) →
+    map (λ x. some (first (refined m c) x)) (orbit (c' .next) (c' .size d) (steps (c' .next) 2 (c' .faceDart d)))
     ≡ newCorner m c d place0 ∷ newCorner m c d place1 ∷ newCorner m c d place2 ∷ newCorner m c d place3 ∷ []

@@ -4,10 +4,10 @@
 -- begin; the laws settle them all but for the side from which a start edge is seen, and that is settled by what it touches.
 use mathlib.Core.Path.{_≡_}
 use Prim.Native.Nat.{ℕ, _≤_}
-use Rattle.closed_meshes.specs.Mesh.{Mesh, Dart, edge, flip, first, second, face, acw, cw}
+use Rattle.closed_meshes.specs.Mesh.{MeshOver, Dart, edge, flip, first, second, face, acw, cw}
 use Rattle.closed_meshes.specs.Cycles.{Cycles}
 
-pub record Closed {P E F : Type 0} (m : Mesh P E F) : Type 0 where
+pub record Closed {P E F : Type 0} (m : MeshOver P E F) : Type 0 where
   -- The anticlockwise neighbour of d's edge on d's side, seen from the side of the same face, is the next dart; the clockwise
   -- neighbour is the previous one. They undo each other.
   pub next : Dart E → Dart E

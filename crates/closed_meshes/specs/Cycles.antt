@@ -1,6 +1,6 @@
 -- Walks that come round. A step takes each dart to a dart of the same class, and each class is one cycle.
 --     Cycles step cls start len         each class c is one cycle of len c darts, counted from start c
---     walk step n d                     the n darts that a walk passes from d on
+--     orbit step n d                    the n darts that a walk passes from d on
 -- One record serves the walks about faces and the walks about points. Nothing in it iterates: a dart has a rank, the number of
 -- steps from its class's start, and the laws are about one step each. With a step that can be undone they make the walk
 -- from the start pass each dart of its class exactly once.
@@ -20,6 +20,6 @@ pub record Cycles {D C : Type 0} (step : D → D) (cls : D → C) (start : C →
   pub rank-step : (d : D) → suc (rank d) < len (cls d) → rank (step d) ≡ suc (rank d)
   pub step-last : (d : D) → suc (rank d) ≡ len (cls d) → step d ≡ start (cls d)
 
-unfoldable pub walk : {D : Type 0} → (D → D) → ℕ → D → List D
-walk step zero d = []
-walk step (suc n) d = d ∷ walk step n (step d)
+unfoldable pub orbit : {D : Type 0} → (D → D) → ℕ → D → List D
+orbit step zero d = []
+orbit step (suc n) d = d ∷ orbit step n (step d)

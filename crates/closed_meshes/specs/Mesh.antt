@@ -1,5 +1,5 @@
 -- A mesh over any types of points, edges and faces, and its darts. A dart is an edge seen from one of its sides.
---     Mesh P E F                        the fields of all rows, each a function of the row
+--     MeshOver P E F                    the fields of all rows, each a function of the row
 --     Place                             the four places of a face's corners
 --     Dart E, lft e, rgt e              edge e seen from its left, from its right
 --     edge d, flip d                    the edge of d; the same edge from its other side
@@ -12,7 +12,7 @@ use Prim.Native.Nat.{ℕ}
 pub data Place : Type 0 where
   place0 place1 place2 place3 : Place
 
-pub record Mesh (P E F : Type 0) : Type 0 where
+pub record MeshOver (P E F : Type 0) : Type 0 where
   pub valence : P → ℕ
   -- the point's start edge
   pub start : P → E
@@ -41,7 +41,7 @@ abbrev pub flip : {E : Type 0} → Dart E → Dart E
 flip (lft e) = rgt e
 flip (rgt e) = lft e
 
-module _ {P E F : Type 0} (m : Mesh P E F) where
+module _ {P E F : Type 0} (m : MeshOver P E F) where
   abbrev pub first : Dart E → P
   first (lft e) = m .origin e
   first (rgt e) = m .dest e

@@ -10,7 +10,7 @@
 --     StaysClosed           the claim: a refined closed mesh is closed
 use mathlib.Core.Option.{Option, some}
 use Prim.Native.Nat.{ℕ}
-use Rattle.closed_meshes.specs.Mesh.{Mesh, Place, place0, place1, place2, place3, Dart, lft, rgt, edge, first, face}
+use Rattle.closed_meshes.specs.Mesh.{MeshOver, Place, place0, place1, place2, place3, Dart, lft, rgt, edge, first, face}
 use Rattle.closed_meshes.specs.Closed.{Closed}
 
 pub data NewPoint (P E F : Type 0) : Type 0 where
@@ -46,7 +46,7 @@ pub record EdgeRow (P E F : Type 0) : Type 0 where
   pub rightCw : E
   pub rightAcw : E
 
-module _ {P E F : Type 0} (m : Mesh P E F) (c : Closed m) where
+module _ {P E F : Type 0} (m : MeshOver P E F) (c : Closed m) where
   abbrev pub pointRow : NewPoint P E F → PointRow (NewEdge E)
   pointRow (old p) = record { valence = m .valence p; start = firstHalf (c .pointDart p) }
   pointRow (mid e) = record { valence = 4; start = org e }
@@ -93,7 +93,7 @@ module _ {P E F : Type 0} (m : Mesh P E F) (c : Closed m) where
   newCorner d place2 = some (old (first m d))
   newCorner d place3 = some (mid (edge d))
 
-  abbrev pub refined : Mesh (NewPoint P E F) (NewEdge E) (Dart E)
+  abbrev pub refined : MeshOver (NewPoint P E F) (NewEdge E) (Dart E)
   refined =
       record {
         valence = λ p. pointRow p .valence;
@@ -111,4 +111,4 @@ module _ {P E F : Type 0} (m : Mesh P E F) (c : Closed m) where
       }
 
 abbrev pub StaysClosed : Type 1
-StaysClosed = (P E F : Type 0) (m : Mesh P E F) (c : Closed m) → Closed (refined m c)
+StaysClosed = (P E F : Type 0) (m : MeshOver P E F) (c : Closed m) → Closed (refined m c)

@@ -9,7 +9,7 @@
 use mathlib.Core.Path.{_≡_}
 use mathlib.Core.Option.{Option·map}
 use Prim.Native.Nat.{ℕ, zero, suc, _+_, _<_}
-use Rattle.closed_meshes.specs.Mesh.{Mesh, Place, Dart, edge, first, face}
+use Rattle.closed_meshes.specs.Mesh.{MeshOver, Place, Dart, edge, first, face}
 use Rattle.closed_meshes.specs.Closed.{Closed}
 
 abbrev pub Injective : {A B : Type 0} → (A → B) → Type 0
@@ -21,7 +21,7 @@ pub record Bijection (A B : Type 0) : Type 0 where
   pub from-to : (a : A) → from (to a) ≡ a
   pub to-from : (b : B) → to (from b) ≡ b
 
-pub record Isomorphism {P E F P' E' F' : Type 0} (m : Mesh P E F) (m' : Mesh P' E' F') : Type 0 where
+pub record Isomorphism {P E F P' E' F' : Type 0} (m : MeshOver P E F) (m' : MeshOver P' E' F') : Type 0 where
   pub points : Bijection P P'
   pub edges : Bijection E E'
   pub faces : Bijection F F'
@@ -36,13 +36,13 @@ pub record Isomorphism {P E F P' E' F' : Type 0} (m : Mesh P E F) (m' : Mesh P' 
   pub rightAcw : (e : E) → m' .rightAcw (edges .to e) ≡ edges .to (m .rightAcw e)
   pub corner : (f : F) (k : Place) → m' .corner (faces .to f) k ≡ Option·map (points .to) (m .corner f k)
 
-pub record Touching {P E F : Type 0} (m : Mesh P E F) : Type 0 where
+pub record Touching {P E F : Type 0} (m : MeshOver P E F) : Type 0 where
   pub start : (p : P) → (d : Dart E) × (edge d ≡ m .start p) × (first m d ≡ p)
   pub faceStart : (f : F) → (d : Dart E) × (edge d ≡ m .faceStart f) × (face m d ≡ f)
 
 abbrev pub CarriesOver : Type 1
 CarriesOver =
-    (P E F P' E' F' : Type 0) (m : Mesh P E F) (m' : Mesh P' E' F') → Isomorphism m m' → Touching m' → Closed m → Closed m'
+    (P E F P' E' F' : Type 0) (m : MeshOver P E F) (m' : MeshOver P' E' F') → Isomorphism m m' → Touching m' → Closed m → Closed m'
 
 abbrev pub Row : ℕ → Type 0
 Row n = (k : ℕ) × (k < n)

@@ -1,24 +1,24 @@
 -- Runs of refinements from one closed mesh.
---     given m c             the first mesh, each row named by itself
+--     firstStage m c        the first mesh, each row named by itself
 --     newPointName newEdgeName newFaceName k m n     the names after step number k, by kind, of the refinement of m with the names n
---     Step k s s'           s' is the refinement of s on kinds under some numbering, and its rows have the names of step number k
---     Run s k s'            k steps lead from s to s', numbered from 1
+--     NamedStep k s s'      s' is the refinement of s on kinds under some numbering, and its rows have the names of step number k
+--     StepsTo s k s'        k steps lead from s to s', numbered from 1
 --     RunsNameApart         the claim: names differ after every step of a run
---     TwoRuns               the claim: two runs from one closed mesh with equally many steps are shared
+--     RunsShare             the claim: two runs from one closed mesh with equally many steps are shared
 --     SharedIsAll           the claim: meshes that are shared are one but for the numbers of their rows and their start edges
 use mathlib.Core.Path.{_≡_}
 use Prim.Native.Nat.{ℕ, zero, suc}
-use Rattle.closed_meshes.specs.Mesh.{Mesh, Dart, edge, first, face}
+use Rattle.closed_meshes.specs.Mesh.{MeshOver, Dart, edge, first, face}
 use Rattle.closed_meshes.specs.Closed.{Closed}
 use Rattle.closed_meshes.specs.Refinement.{NewPoint, old, mid, facePoint, NewEdge, org, dst, join, refined}
 use Rattle.closed_meshes.specs.Renumbering.{Isomorphism}
 use Rattle.closed_meshes.specs.Names.{PointName, EdgeName, FaceName, Names, midpointOf, facePointOf, destinationHalfOf, joiningEdgeOf, newFaceOf, givenNames}
 use Rattle.closed_meshes.specs.Shared.{Stage, Shared, NamesDiffer}
 
-abbrev pub given : {P E F : Type 0} (m : Mesh P E F) → Closed m → Stage P E F
-given {P} {E} {F} m c = record { Point = P; Edge = E; Face = F; mesh = m; closed = c; names = givenNames }
+abbrev pub firstStage : {P E F : Type 0} (m : MeshOver P E F) → Closed m → Stage P E F
+firstStage {P} {E} {F} m c = record { Point = P; Edge = E; Face = F; mesh = m; closed = c; names = givenNames }
 
-module _ {P E F P' E' F' : Type 0} (k : ℕ) (m : Mesh P' E' F') (n : Names P E F P' E' F') where
+module _ {P E F P' E' F' : Type 0} (k : ℕ) (m : MeshOver P' E' F') (n : Names P E F P' E' F') where
   -- Old points keep their names; a midpoint is named by its old edge, a face point by its face.
   abbrev pub newPointName : NewPoint P' E' F' → PointName P E F
   newPointName (old p) = n .point p
@@ -38,7 +38,7 @@ module _ {P E F P' E' F' : Type 0} (k : ℕ) (m : Mesh P' E' F') (n : Names P E 
 module _ {P E F : Type 0} where
   -- The numbering is any bijection of the kinds of rows onto the rows of s'. Start edges are free: they are no part of an
   -- isomorphism.
-  pub record Step (k : ℕ) (s s' : Stage P E F) : Type 0 where
+  pub record NamedStep (k : ℕ) (s s' : Stage P E F) : Type 0 where
     pub numbering : Isomorphism (refined (s .mesh) (s .closed)) (s' .mesh)
     pub point-name :
         (p : NewPoint (s .Point) (s .Edge) (s .Face)) →
@@ -48,18 +48,18 @@ module _ {P E F : Type 0} where
     pub face-name :
         (d : Dart (s .Edge)) → s' .names .face (numbering .faces .to d) ≡ newFaceName k (s .mesh) (s .names) d
 
-  pub data Run (s : Stage P E F) : ℕ → Stage P E F → Type 1 where
-    begin : Run s zero s
-    then : {k : ℕ} {s' s'' : Stage P E F} → Run s k s' → Step (suc k) s' s'' → Run s (suc k) s''
+  pub data StepsTo (s : Stage P E F) : ℕ → Stage P E F → Type 1 where
+    begin : StepsTo s zero s
+    then : {k : ℕ} {s' s'' : Stage P E F} → StepsTo s k s' → NamedStep (suc k) s' s'' → StepsTo s (suc k) s''
 
 abbrev pub RunsNameApart : Type 1
 RunsNameApart =
-    (P E F : Type 0) (m : Mesh P E F) (c : Closed m) (k : ℕ) (s : Stage P E F) → Run (given m c) k s → NamesDiffer s
+    (P E F : Type 0) (m : MeshOver P E F) (c : Closed m) (k : ℕ) (s : Stage P E F) → StepsTo (firstStage m c) k s → NamesDiffer s
 
-abbrev pub TwoRuns : Type 1
-TwoRuns =
-    (P E F : Type 0) (m : Mesh P E F) (c c' : Closed m) (k : ℕ) (s s' : Stage P E F) →
-    Run (given m c) k s → Run (given m c') k s' → Shared s s'
+abbrev pub RunsShare : Type 1
+RunsShare =
+    (P E F : Type 0) (m : MeshOver P E F) (c c' : Closed m) (k : ℕ) (s s' : Stage P E F) →
+    StepsTo (firstStage m c) k s → StepsTo (firstStage m c') k s' → Shared s s'
 
 abbrev pub SharedIsAll : Type 1
 SharedIsAll =

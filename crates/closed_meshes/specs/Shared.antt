@@ -1,15 +1,15 @@
 -- What two meshes with names share (document 01, "Shared means").
 --     Stage P E F           a closed mesh with names, reached from a first mesh over P E F
---     passed s d            the names of d's edge and of the point from which it leaves
---     border s d            the names of the edges and points that the walk about d's face passes in turn, begun at d
+--     namedDart s d         the names of d's edge and of the point from which it leaves
+--     namedBorder s d       the names of the edges and points that the walk about d's face passes in turn, begun at d
 --     SharedEdge s s' e e'  the edges e and e' agree, every reference read as a name
 --     Shared s s'           the same names occur in both meshes and, every reference read as a name, rows of one name agree
 --     NamesDiffer s         no two rows of a kind share a name
 use mathlib.Core.Path.{_≡_}
 use mathlib.Core.List.{List, map}
 use mathlib.Core.Option.{Option·map}
-use Rattle.closed_meshes.specs.Mesh.{Mesh, Place, Dart, edge, first, face}
-use Rattle.closed_meshes.specs.Cycles.{walk}
+use Rattle.closed_meshes.specs.Mesh.{MeshOver, Place, Dart, edge, first, face}
+use Rattle.closed_meshes.specs.Cycles.{orbit}
 use Rattle.closed_meshes.specs.Closed.{Closed}
 use Rattle.closed_meshes.specs.Renumbering.{Injective}
 use Rattle.closed_meshes.specs.Names.{PointName, EdgeName, Names}
@@ -18,17 +18,17 @@ pub record Stage (P E F : Type 0) : Type 1 where
   pub Point : Type 0
   pub Edge : Type 0
   pub Face : Type 0
-  pub mesh : Mesh Point Edge Face
+  pub mesh : MeshOver Point Edge Face
   pub closed : Closed mesh
   pub names : Names P E F Point Edge Face
 
 module _ {P E F : Type 0} where
   -- the names of d's edge and of the point from which the walk leaves along it
-  abbrev pub passed : (s : Stage P E F) → Dart (s .Edge) → EdgeName P E F × PointName P E F
-  passed s d = (s .names .edge (edge d), s .names .point (first (s .mesh) d))
+  abbrev pub namedDart : (s : Stage P E F) → Dart (s .Edge) → EdgeName P E F × PointName P E F
+  namedDart s d = (s .names .edge (edge d), s .names .point (first (s .mesh) d))
 
-  abbrev pub border : (s : Stage P E F) → Dart (s .Edge) → List (EdgeName P E F × PointName P E F)
-  border s d = map (passed s) (walk (s .closed .next) (s .closed .size (face (s .mesh) d)) d)
+  abbrev pub namedBorder : (s : Stage P E F) → Dart (s .Edge) → List (EdgeName P E F × PointName P E F)
+  namedBorder s d = map (namedDart s) (orbit (s .closed .next) (s .closed .size (face (s .mesh) d)) d)
 
   -- Direction, sides, and the four neighbours each in its place.
   pub record SharedEdge (s s' : Stage P E F) (e : s .Edge) (e' : s' .Edge) : Type 0 where
@@ -58,7 +58,7 @@ module _ {P E F : Type 0} where
     -- same edges and points are passed in turn.
     pub borders :
         (f : s .Face) (f' : s' .Face) → s .names .face f ≡ s' .names .face f' → (d : Dart (s .Edge)) → face (s .mesh) d ≡ f →
-        (d' : Dart (s' .Edge)) × (face (s' .mesh) d' ≡ f') × (border s d ≡ border s' d')
+        (d' : Dart (s' .Edge)) × (face (s' .mesh) d' ≡ f') × (namedBorder s d ≡ namedBorder s' d')
     -- They agree in the four corners.
     pub corners :
         (f : s .Face) (f' : s' .Face) → s .names .face f ≡ s' .names .face f' → (k : Place) →

@@ -2,7 +2,7 @@
 --     agreeing              the eight agreeing pairs of states: the Rust's comment table
 --     linksOf f v           the links that a face state and a vertex state set, or that the states mismatch
 --     vertexState e o       the first vertex state that holds of two edges; 4 where they share no point
---     linked i j ls p       the pair of edges, of rows i and j, with the links set
+--     withLinks i j ls p    the pair of edges, of rows i and j, with the links set
 --     served b f v i j p    the same for one face state, if b says that it holds
 --     connected i e j o     both edges after all face states were served, in the Rust's order
 -- Face states: 0 left of both, 1 right of both, 2 left of the first and right of the other, 3 the other way round.
@@ -55,12 +55,12 @@ vertexState e o =
     (cond (eqb (e .origin) (o .origin)) 2
     (cond (eqb (e .dest) (o .dest)) 3 4)))
 
-abbrev pub linked : ℕ → ℕ → Links → Pair → Pair
-linked i j (Both c d) p = record { first = withConnection (p .first) j c; other = withConnection (p .other) i d }
-linked i j Mismatch p = p
+abbrev pub withLinks : ℕ → ℕ → Links → Pair → Pair
+withLinks i j (Both c d) p = record { first = withConnection (p .first) j c; other = withConnection (p .other) i d }
+withLinks i j Mismatch p = p
 
 abbrev pub served : Bool → ℕ → ℕ → ℕ → ℕ → Pair → Pair
-served true f v i j p = linked i j (linksOf f v) p
+served true f v i j p = withLinks i j (linksOf f v) p
 served false f v i j p = p
 
 abbrev pub connected : ℕ → TnurccEdge → ℕ → TnurccEdge → Pair

@@ -3,7 +3,7 @@
 // Not here: connecting two rows of a table (`t_nurcc_edge`).
 // Contracts cite `specs/Connect.antt` and `specs/Joinable.antt`. Laws of the table: `proofs/LinkTable.antt`.
 ghost use mathlib.Core.Path.{_≡_};
-ghost use Rattle.edge_links.specs.Connect.{linksOf, vertexState, linked, served, connected};
+ghost use Rattle.edge_links.specs.Connect.{linksOf, vertexState, withLinks, served, connected};
 ghost use Rattle.edge_links.specs.Joinable.{shareFace, joinable};
 use t_spline::TnurccConnection;
 use t_spline::TnurccEdge;
@@ -130,7 +130,7 @@ impl Pair {
 
     // The pair, of the rows `i` and `j`, with the links set.
     fn with_links(self, links: Links, i: u32, j: u32) -> Pair
-        ensures { λ r. ⌜ r ≡ linked i j links self ⌝ }
+        ensures { λ r. ⌜ r ≡ withLinks i j links self ⌝ }
     {
         match links {
             Links::Both(own, other) => Pair {

@@ -104,12 +104,12 @@ pub fn edge_point(
     positions: &[f64],
     edges: &[u32],
     intervals: &[f64],
-    places: &[f64],
-    quads: &[u32],
+    newpositions: &[f64],
+    newfaces: &[u32],
     e: usize,
 ) -> Placed
-    requires { ⌜ EdgePointFits (now positions) (now edges) (now intervals) (now places) (now quads) e ⌝ }
-    ensures { λ r. ⌜ r ≡ placedAt (edgePoint (now (positions .entry)) (now (edges .entry)) (now (intervals .entry)) (facePointAt (now (places .entry)) (now (quads .entry))) e) ⌝ }
+    requires { ⌜ EdgePointFits (now positions) (now edges) (now intervals) (now newpositions) (now newfaces) e ⌝ }
+    ensures { λ r. ⌜ r ≡ placedAt (edgePoint (now (positions .entry)) (now (edges .entry)) (now (intervals .entry)) (facePointAt (now (newpositions .entry)) (now (newfaces .entry))) e) ⌝ }
 {
     let edge = load_edge(edges, intervals, e);
     let m = edge_middle(
@@ -120,7 +120,7 @@ pub fn edge_point(
         index(edge.dest),
         e,
     );
-    let left = load_face_point(places, quads, index(edge.face_left));
-    let right = load_face_point(places, quads, index(edge.face_right));
+    let left = load_face_point(newpositions, newfaces, index(edge.face_left));
+    let right = load_face_point(newpositions, newfaces, index(edge.face_right));
     blend(m, shares(intervals, edge), left, right).placed()
 }

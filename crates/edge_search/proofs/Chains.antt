@@ -27,9 +27,9 @@ use Rattle.audited_meshes.specs.Walks.{touches}
 use Rattle.built_meshes.specs.declared.Found.{Found}
 use Rattle.built_meshes.specs.declared.Found.the-variants.{At, Nothing}
 use Rattle.built_meshes.specs.declared.Ground.the-variants.{EdgeTripleFace, SameWay}
-use Rattle.built_meshes.specs.Edges.{joins, orLast, edgeBetween, newEdge, enteredAt, enteredIf, entered, filled}
+use Rattle.built_meshes.specs.Edges.{joins, orLast, edgeBetween, newEdge, enteredAt, enteredIf, entered, withRightFace}
 use Rattle.built_meshes.proofs.Entering.{Finds, finds, finds-none, found-is}
-use Rattle.edge_search.specs.Chains.{linkTo, SameEnds, Newest, olderLink, Chained, Standing}
+use Rattle.edge_search.specs.Chains.{linkTo, EndsKept, Newest, olderLink, Chained, Standing}
 use Rattle.edge_search.specs.Places.{edgesAfter, EnteredBy, FilledBy}
 use Rattle.edge_search.specs.declared.Entry.{Entry}
 use Rattle.edge_search.specs.declared.Entry.the-variants.{Made, Refused}
@@ -130,25 +130,25 @@ older-newest np es ch k p e h l t = go (eqb (origin (edgeTable es) e) p) (eqb (d
 
 -- ---- tables in which every edge has the same ends
 
-pub ends-refl : (es : List ℕ) → SameEnds es es
+pub ends-refl : (es : List ℕ) → EndsKept es es
 ends-refl es = record { origins = λ e. refl; dests = λ e. refl }
 
-pub ends-trans : (es mid new : List ℕ) → SameEnds es mid → SameEnds mid new → SameEnds es new
+pub ends-trans : (es mid new : List ℕ) → EndsKept es mid → EndsKept mid new → EndsKept es new
 ends-trans es mid new h g =
     record { origins = λ e. g .origins e ∙ h .origins e; dests = λ e. g .dests e ∙ h .dests e }
 
 -- a face is stored on the right of an edge
-pub set-ends : (es : List ℕ) (e f : ℕ) → SameEnds es (set es (e * 8 + 3) f)
+pub set-ends : (es : List ℕ) (e f : ℕ) → EndsKept es (set es (e * 8 + 3) f)
 set-ends es e f =
     record {
       origins = λ i. getD-set-other es (e * 8 + 3) (i * 8) f 0 (λ h. omega arith);
       dests = λ i. getD-set-other es (e * 8 + 3) (i * 8 + 1) f 0 (λ h. omega arith);
     }
 
-touches-ends : (es new : List ℕ) (p e : ℕ) → SameEnds es new → touches (edgeTable new) p e ≡ touches (edgeTable es) p e
+touches-ends : (es new : List ℕ) (p e : ℕ) → EndsKept es new → touches (edgeTable new) p e ≡ touches (edgeTable es) p e
 touches-ends es new p e h = rw (h .origins e, h .dests e)
 
-pub standing-ends : (np : ℕ) (pts es new ch : List ℕ) (k : ℕ) → SameEnds es new → length new ≡ length es
+pub standing-ends : (np : ℕ) (pts es new ch : List ℕ) (k : ℕ) → EndsKept es new → length new ≡ length es
     → Standing np pts es ch k → Standing np pts new ch k
 standing-ends np pts es new ch k s n h =
     record {
@@ -201,7 +201,7 @@ module _ (es : List ℕ) (k f e p : ℕ) where
 
   pub filled-made : getD es (e * 8 + 3) 0 ≡ none → (getD es (e * 8) 0 ≡ p → ⊥)
       → FilledBy es k f e p (Made k e) (set es (e * 8 + 3) f)
-  unfolding enteredAt filled
+  unfolding enteredAt withRightFace
   filled-made a b =
       record {
         filled = λ m s. rw (s, eq-eqb (getD es (e * 8 + 3) 0) none a, ne-eqb (getD es (e * 8) 0) p b);

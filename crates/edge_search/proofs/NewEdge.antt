@@ -20,8 +20,8 @@ use Rattle.tables.specs.Rows.{putRow}
 use Rattle.tables.specs.Records.{edgeWords}
 use Rattle.tables.proofs.Laws.{length-putRow, getD-putRow, getD-putRow-before}
 use Rattle.audited_meshes.specs.Walks.{touches}
-use Rattle.built_meshes.specs.Edges.{edgeOf, touched, newEdge}
-use Rattle.edge_search.specs.Chains.{Newest, chainedEdge, Standing, Room}
+use Rattle.built_meshes.specs.Edges.{loneEdge, touched, newEdge}
+use Rattle.edge_search.specs.Chains.{Newest, chainedEdge, Standing, EdgeRoom}
 use Rattle.edge_search.proofs.Chains.{newest-kept, newest-more, newest-top}
 
 pub length-touched : (ws : List ℕ) (p e : ℕ) → length (touched ws p e) ≡ length ws
@@ -87,22 +87,22 @@ module _ (np : ℕ) (ch : List ℕ) (k p q : ℕ) (pin : p < np) (qin : q < np) 
 -- the table of edges
 module _ (es : List ℕ) (k f p q : ℕ) (v : Float) (room : k * 8 + 8 ≤ length es) where
   abbrev more : List ℕ
-  more = putRow es (k * 8) (edgeWords (edgeOf k f p q v))
+  more = putRow es (k * 8) (edgeWords (loneEdge k f p q v))
 
   old-origin : (e : ℕ) → e < k → origin (edgeTable more) e ≡ origin (edgeTable es) e
-  old-origin e l = getD-putRow-before (edgeWords (edgeOf k f p q v)) es (k * 8) (e * 8) 0 (omega arith)
+  old-origin e l = getD-putRow-before (edgeWords (loneEdge k f p q v)) es (k * 8) (e * 8) 0 (omega arith)
 
   old-dest : (e : ℕ) → e < k → dest (edgeTable more) e ≡ dest (edgeTable es) e
-  old-dest e l = getD-putRow-before (edgeWords (edgeOf k f p q v)) es (k * 8) (e * 8 + 1) 0 (omega arith)
+  old-dest e l = getD-putRow-before (edgeWords (loneEdge k f p q v)) es (k * 8) (e * 8 + 1) 0 (omega arith)
 
   old-touches : (i e : ℕ) → e < k → touches (edgeTable more) i e ≡ touches (edgeTable es) i e
   old-touches i e l = rw (old-origin e l, old-dest e l)
 
   new-origin : origin (edgeTable more) k ≡ p
-  new-origin = ap (λ (i : ℕ). getD more i 0) (sym (add-zero (k * 8))) ∙ getD-putRow (edgeWords (edgeOf k f p q v)) es (k * 8) 0 0 (omega arith) room
+  new-origin = ap (λ (i : ℕ). getD more i 0) (sym (add-zero (k * 8))) ∙ getD-putRow (edgeWords (loneEdge k f p q v)) es (k * 8) 0 0 (omega arith) room
 
   new-dest : dest (edgeTable more) k ≡ q
-  new-dest = getD-putRow (edgeWords (edgeOf k f p q v)) es (k * 8) 1 0 (omega arith) room
+  new-dest = getD-putRow (edgeWords (loneEdge k f p q v)) es (k * 8) 1 0 (omega arith) room
 
   kept : (i b l : ℕ) → b ≤ k → Newest es i b l → Newest more i b l
   kept i b l h n = newest-kept es more i b l n (λ e g. old-touches i e (omega arith))
@@ -121,30 +121,30 @@ module _ (es : List ℕ) (k f p q : ℕ) (v : Float) (room : k * 8 + 8 ≤ lengt
   touches-none i a b = rw (new-origin, new-dest, ne-eqb p i (λ h. a (sym h)), ne-eqb q i (λ h. b (sym h)))
 
 module _ (np : ℕ) (pts es : List ℕ) (is : List Float) (ch : List ℕ) (k f p q : ℕ) (v : Float) (pin : p < np) (qin : q < np)
-    (h : Standing np pts es ch k) (room : Room np es is ch k) where
-  newest-new : (i : ℕ) → i < np → Newest (putRow es (k * 8) (edgeWords (edgeOf k f p q v))) i (k + 1) (getD (chainedEdge np ch k p q) i 0)
+    (h : Standing np pts es ch k) (room : EdgeRoom np es is ch k) where
+  newest-new : (i : ℕ) → i < np → Newest (putRow es (k * 8) (edgeWords (loneEdge k f p q v))) i (k + 1) (getD (chainedEdge np ch k p q) i 0)
   newest-new i l = go (ℕ-discrete i p) (ℕ-discrete i q)
     where
       go : Dec (i ≡ p) → Dec (i ≡ q)
-          → Newest (putRow es (k * 8) (edgeWords (edgeOf k f p q v))) i (k + 1) (getD (chainedEdge np ch k p q) i 0)
+          → Newest (putRow es (k * 8) (edgeWords (loneEdge k f p q v))) i (k + 1) (getD (chainedEdge np ch k p q) i 0)
       go (yes s) d =
           rw (s, link-at-p np ch k p q pin qin (room .links-row))
-          (newest-top (putRow es (k * 8) (edgeWords (edgeOf k f p q v))) p k (touches-origin es k f p q v (room .edge-row)))
+          (newest-top (putRow es (k * 8) (edgeWords (loneEdge k f p q v))) p k (touches-origin es k f p q v (room .edge-row)))
       go (no a) (yes s) =
           rw (s, link-at-q np ch k p q pin qin (room .links-row))
-          (newest-top (putRow es (k * 8) (edgeWords (edgeOf k f p q v))) q k (touches-dest es k f p q v (room .edge-row)))
+          (newest-top (putRow es (k * 8) (edgeWords (loneEdge k f p q v))) q k (touches-dest es k f p q v (room .edge-row)))
       go (no a) (no b) =
           rw (link-other np ch k p q pin qin (room .links-row) i a b (omega arith))
-          (newest-more (putRow es (k * 8) (edgeWords (edgeOf k f p q v))) i k (getD ch i 0)
+          (newest-more (putRow es (k * 8) (edgeWords (loneEdge k f p q v))) i k (getD ch i 0)
           (kept es k f p q v (room .edge-row) i k (getD ch i 0) (omega arith) (h .newest i l))
           (touches-none es k f p q v (room .edge-row) i a b))
 
   older-origin-new : (e : ℕ) → e < k + 1
-      → Newest (putRow es (k * 8) (edgeWords (edgeOf k f p q v))) (origin (edgeTable (putRow es (k * 8) (edgeWords (edgeOf k f p q v)))) e) e (getD (chainedEdge np ch k p q) (np + e * 2) 0)
+      → Newest (putRow es (k * 8) (edgeWords (loneEdge k f p q v))) (origin (edgeTable (putRow es (k * 8) (edgeWords (loneEdge k f p q v)))) e) e (getD (chainedEdge np ch k p q) (np + e * 2) 0)
   older-origin-new e l = go (decLe (suc e) k)
     where
       go : Dec (suc e ≤ k)
-          → Newest (putRow es (k * 8) (edgeWords (edgeOf k f p q v))) (origin (edgeTable (putRow es (k * 8) (edgeWords (edgeOf k f p q v)))) e) e (getD (chainedEdge np ch k p q) (np + e * 2) 0)
+          → Newest (putRow es (k * 8) (edgeWords (loneEdge k f p q v))) (origin (edgeTable (putRow es (k * 8) (edgeWords (loneEdge k f p q v)))) e) e (getD (chainedEdge np ch k p q) (np + e * 2) 0)
       go (yes g) =
           rw (
             old-origin es k f p q v (room .edge-row) e g,
@@ -157,11 +157,11 @@ module _ (np : ℕ) (pts es : List ℕ) (is : List Float) (ch : List ℕ) (k f p
           (kept es k f p q v (room .edge-row) p k (getD ch p 0) (omega arith) (h .newest p pin))
 
   older-dest-new : (e : ℕ) → e < k + 1
-      → Newest (putRow es (k * 8) (edgeWords (edgeOf k f p q v))) (dest (edgeTable (putRow es (k * 8) (edgeWords (edgeOf k f p q v)))) e) e (getD (chainedEdge np ch k p q) (np + e * 2 + 1) 0)
+      → Newest (putRow es (k * 8) (edgeWords (loneEdge k f p q v))) (dest (edgeTable (putRow es (k * 8) (edgeWords (loneEdge k f p q v)))) e) e (getD (chainedEdge np ch k p q) (np + e * 2 + 1) 0)
   older-dest-new e l = go (decLe (suc e) k)
     where
       go : Dec (suc e ≤ k)
-          → Newest (putRow es (k * 8) (edgeWords (edgeOf k f p q v))) (dest (edgeTable (putRow es (k * 8) (edgeWords (edgeOf k f p q v)))) e) e (getD (chainedEdge np ch k p q) (np + e * 2 + 1) 0)
+          → Newest (putRow es (k * 8) (edgeWords (loneEdge k f p q v))) (dest (edgeTable (putRow es (k * 8) (edgeWords (loneEdge k f p q v)))) e) e (getD (chainedEdge np ch k p q) (np + e * 2 + 1) 0)
       go (yes g) =
           rw (
             old-dest es k f p q v (room .edge-row) e g,
@@ -173,12 +173,12 @@ module _ (np : ℕ) (pts es : List ℕ) (is : List Float) (ch : List ℕ) (k f p
           rw (s, new-dest es k f p q v (room .edge-row), link-dest np ch k p q pin qin (room .links-row))
           (kept es k f p q v (room .edge-row) q k (getD ch q 0) (omega arith) (h .newest q qin))
 
-  pub standing-new : Standing np (touched (touched pts p k) q k) (putRow es (k * 8) (edgeWords (edgeOf k f p q v))) (chainedEdge np ch k p q) (k + 1)
+  pub standing-new : Standing np (touched (touched pts p k) q k) (putRow es (k * 8) (edgeWords (loneEdge k f p q v))) (chainedEdge np ch k p q) (k + 1)
   standing-new =
       let fit = h .points-fit in
       record {
         points-fit = simp (length-touched, length-set) (h .points-fit);
-        edges-fit = rw (length-putRow (edgeWords (edgeOf k f p q v)) es (k * 8)) (let r = room .edge-row in omega arith);
+        edges-fit = rw (length-putRow (edgeWords (loneEdge k f p q v)) es (k * 8)) (let r = room .edge-row in omega arith);
         links-fit = rw (length-chained np ch k p q pin qin (room .links-row)) (let r = room .links-row in omega arith);
         valences = λ i l.
             omega (arith, h .valences i l, getD-touched pts p k i (omega arith), getD-touched (touched pts p k) q k i (simp length-set (omega arith)));
@@ -199,7 +199,7 @@ module _ (np : ℕ) (pts es : List ℕ) (is : List Float) (ch : List ℕ) (k f p
 
   -- the tables after the code's steps: one and two are the tables of points, row the index of the new edge
   module _ (one two new : List ℕ) (row : ℕ) (beside : List Float) (links : List ℕ) (a : one ≡ touched pts p k) (b : two ≡ touched one q k)
-      (s : row ≡ k) (c : new ≡ putRow es (row * 8) (edgeWords (edgeOf k f p q v))) (d : beside ≡ set is row v)
+      (s : row ≡ k) (c : new ≡ putRow es (row * 8) (edgeWords (loneEdge k f p q v))) (d : beside ≡ set is row v)
       (e : links ≡ chainedEdge np ch k p q) where
     pub made-mesh : (ps : List Float) (fs : List ℕ) → _≡_ {A = Mesh} (meshOf ps two new beside fs) (newEdge (meshOf ps pts es is fs) k f p q v)
     unfolding newEdge

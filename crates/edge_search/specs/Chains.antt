@@ -3,14 +3,14 @@
 --     at p                    the link to the newest edge that touches point p
 --     at np + e * 2           the link to the newest edge before e that touches the origin of e
 --     at np + e * 2 + 1       the link to the newest edge before e that touches the destination of e
---     SameEnds                every edge has the same ends in two tables
+--     EndsKept                every edge has the same ends in two tables
 --     linkTo l                the edge of a link
 --     Newest es p b l         the link l goes to the newest of the edges below b that touch point p
 --     olderLink np es ch p e  the next link of the chain of point p, behind its edge e
 --     chainedEdge np ch k p q the links with a new edge k from p to q
 --     Chained                 the links behind each of k edges
 --     Standing                what holds of the tables of points and edges and of the links while k edges stand
---     Room                    there is a row and links for an edge k
+--     EdgeRoom                there is a row and links for an edge k
 use mathlib.Core.Path.{_≡_}
 use mathlib.Core.Bool.{true, false, cond}
 use mathlib.Core.List.{List, []}
@@ -25,7 +25,7 @@ use Rattle.built_meshes.specs.declared.Found.{Found}
 use Rattle.built_meshes.specs.declared.Found.the-variants.{At, Nothing}
 
 -- every edge has the same ends in both tables
-pub record SameEnds (es new : List ℕ) : Type 0 where
+pub record EndsKept (es new : List ℕ) : Type 0 where
   pub origins : (e : ℕ) → origin (edgeTable new) e ≡ origin (edgeTable es) e
   pub dests : (e : ℕ) → dest (edgeTable new) e ≡ dest (edgeTable es) e
 
@@ -58,7 +58,7 @@ pub record Standing (np : ℕ) (pts es ch : List ℕ) (k : ℕ) : Type 0 where
   pub newest : (p : ℕ) → p < np → Newest es p k (getD ch p 0)
   pub chained : Chained np es ch k
 
-pub record Room (np : ℕ) (es : List ℕ) (is : List Float) (ch : List ℕ) (k : ℕ) : Type 0 where
+pub record EdgeRoom (np : ℕ) (es : List ℕ) (is : List Float) (ch : List ℕ) (k : ℕ) : Type 0 where
   pub edge-row : k * edgeWidth + edgeWidth ≤ length es
   pub interval-row : k < length is
   pub links-row : np + k * 2 + 2 ≤ length ch

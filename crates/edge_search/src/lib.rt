@@ -14,7 +14,7 @@ ghost use lib.ListN.{length, getD};
 ghost use Rattle.tables.specs.Layout.{pointWidth, edgeWidth};
 ghost use Rattle.tables.specs.Mesh.{Mesh, meshOf, none, edgeTable};
 ghost use Rattle.built_meshes.specs.Edges.{joins, edgeBetween, touched, newEdge};
-ghost use Rattle.edge_search.specs.Chains.{linkTo, Newest, olderLink, chainedEdge, Chained, Standing, Room};
+ghost use Rattle.edge_search.specs.Chains.{linkTo, Newest, olderLink, chainedEdge, Chained, Standing, EdgeRoom};
 ghost use Rattle.edge_search.specs.Places.{edgesAfter, EnteredBy, FilledBy};
 use built_meshes::Found;
 use built_meshes::Ground;
@@ -173,7 +173,7 @@ fn make_edge(
     v: f64,
 )
     requires { ⌜ Standing np (now points) (now edges) (now chain) k ⌝ }
-    requires { ⌜ Room np (now edges) (now intervals) (now chain) k ⌝ }
+    requires { ⌜ EdgeRoom np (now edges) (now intervals) (now chain) k ⌝ }
     requires { ⌜ p < np ⌝ }
     requires { ⌜ q < np ⌝ }
     ensures { λ _. ⌜ ((ps : List Float) (fs : List ℕ) → _≡_ {A = Mesh} (meshOf ps (now (points .exit)) (now (edges .exit)) (now (intervals .exit)) fs) (newEdge (meshOf ps (now (points .entry)) (now (edges .entry)) (now (intervals .entry)) fs) k f p q v)) ⌝ }
@@ -227,7 +227,7 @@ pub fn enter(
     v: f64,
 ) -> Entry
     requires { ⌜ Standing np (now points) (now edges) (now chain) k ⌝ }
-    requires { ⌜ Room np (now edges) (now intervals) (now chain) k ⌝ }
+    requires { ⌜ EdgeRoom np (now edges) (now intervals) (now chain) k ⌝ }
     requires { ⌜ p < np ⌝ }
     requires { ⌜ q < np ⌝ }
     ensures { λ r. ⌜ ((ps : List Float) (fs : List ℕ) → EnteredBy r (meshOf ps (now (points .entry)) (now (edges .entry)) (now (intervals .entry)) fs) (meshOf ps (now (points .exit)) (now (edges .exit)) (now (intervals .exit)) fs) k f p q v) ⌝ }

@@ -9,7 +9,7 @@ ghost use lib.ListN.{getD};
 ghost use Rattle.perimeters.specs.Places.{around};
 ghost use Rattle.tables.specs.Layout.{longestPerimeter};
 ghost use Rattle.positions.specs.Position.{placedAt};
-ghost use Rattle.position_rules.specs.FacePoint.{windowSum, facePointOf};
+ghost use Rattle.position_rules.specs.FacePoint.{windowSum, facePointIn};
 ghost use Rattle.tables.specs.Parts.{withoutPoints};
 ghost use Rattle.position_rules.specs.Fits.{EdgeFits, BorderFits, PointsFit, FacePointFits};
 ghost use Rattle.face_points.specs.Terms.{termsAbout, six};
@@ -116,7 +116,7 @@ pub fn face_point(
     f: usize,
 ) -> Placed
     requires { ⌜ FacePointFits (now positions) (now edges) (now intervals) (now faces) ne f ⌝ }
-    ensures { λ r. ⌜ r ≡ placedAt (facePointOf (withoutPoints (now (positions .entry)) (now (edges .entry)) (now (intervals .entry)) (now (faces .entry))) ne f) ⌝ }
+    ensures { λ r. ⌜ r ≡ placedAt (facePointIn (withoutPoints (now (positions .entry)) (now (edges .entry)) (now (intervals .entry)) (now (faces .entry))) ne f) ⌝ }
 {
     let mut perimeter = [0u32; LONGEST_PERIMETER];
     let mut points = [0u32; LONGEST_BORDER];

@@ -11,13 +11,13 @@ use lib.ListN.{replicate}
 use Rattle.tables.specs.Layout.{positionWidth, pointWidth, edgeWidth, faceWidth}
 use Rattle.tables.specs.Mesh.{Mesh, meshOf}
 use Rattle.tables.specs.declared.Counts.{Counts}
-use Rattle.built_meshes.specs.Lists.{Lists, general, rowsOf}
-use Rattle.built_meshes.specs.Answers.{numbersOf}
-use Rattle.built_meshes.specs.Building.{Outcome, build}
+use Rattle.built_meshes.specs.Lists.{Lists, generalLimits, rowsOf}
+use Rattle.built_meshes.specs.Answers.{builtNumbers}
+use Rattle.built_meshes.specs.Building.{BuildOutcome, build}
 use Rattle.built_meshes.specs.Pieces.{unit, two, nought, tiny, aboveTiny, cube, backToBack, even}
 use Rattle.built_meshes.specs.declared.Built.{Built}
 use Rattle.built_meshes.specs.declared.Built.the-variants.{Accepted, Refused}
-use Rattle.steps.specs.Step.{numbersOf as stepNumbers, refinedCounts, step}
+use Rattle.steps.specs.Step.{stepNumbers, refinedCounts, step}
 use Rattle.runs.specs.Runs.{numbered}
 
 -- ---- pieces
@@ -37,26 +37,26 @@ used c =
     meshOf (replicate (c .points * positionWidth) two) (replicate (c .points * pointWidth) 7) (replicate (c .edges * edgeWidth) 7)
     (replicate (c .edges) two) (replicate (c .faces * faceWidth) 7)
 
-abbrev pub stepped : Outcome → Mesh → List (List ℕ)
-stepped o t = steppedIf (o .answer) (o .tables) t
+abbrev pub stepAnswers : BuildOutcome → Mesh → List (List ℕ)
+stepAnswers o t = steppedIf (o .answer) (o .tables) t
   where
     steppedIf : Built → Mesh → Mesh → List (List ℕ)
-    steppedIf (Accepted c) m t = numbersOf (Accepted c) ∷ stepNumbers (step m c (numbered (c .faces)) t .answer) ∷ []
-    steppedIf (Refused g) m t = numbersOf (Refused g) ∷ []
+    steppedIf (Accepted c) m t = builtNumbers (Accepted c) ∷ stepNumbers (step m c (numbered (c .faces)) t .answer) ∷ []
+    steppedIf (Refused g) m t = builtNumbers (Refused g) ∷ []
 
 -- The rows that ground 4 counts are twice the edges of an accepted mesh, so that a step from as many has room too.
 unfoldable pub answersTo : Asked → Lists → List (List ℕ)
-answersTo toBuild l = numbersOf (build general l (used (rowsOf l)) .answer) ∷ []
-answersTo toRefine l = stepped (build general l (used (refinedCounts (rowsOf l)))) (used (refinedCounts (rowsOf l)))
+answersTo toBuild l = builtNumbers (build generalLimits l (used (rowsOf l)) .answer) ∷ []
+answersTo toRefine l = stepAnswers (build generalLimits l (used (refinedCounts (rowsOf l)))) (used (refinedCounts (rowsOf l)))
 
 abbrev pub answers : Piece → List (List ℕ)
 answers x = answersTo (x .asked) (x .lists)
 
-abbrev pub built : Lists → List ℕ → Piece
-built l ns = record { lists = l; asked = toBuild; expected = ns ∷ [] }
+abbrev pub buildPiece : Lists → List ℕ → Piece
+buildPiece l ns = record { lists = l; asked = toBuild; expected = ns ∷ [] }
 
-abbrev pub refined : Lists → List ℕ → List ℕ → Piece
-refined l ns ks = record { lists = l; asked = toRefine; expected = ns ∷ ks ∷ [] }
+abbrev pub refinePiece : Lists → List ℕ → List ℕ → Piece
+refinePiece l ns ks = record { lists = l; asked = toRefine; expected = ns ∷ ks ∷ [] }
 
 -- two triangles, side sums 1, 1, 2, 0 each
 abbrev pub triangles : Lists
@@ -69,26 +69,26 @@ cubeOfNoughts =
 unfoldable pub pieces : List Piece
 pieces =
     -- no points, no faces: accepted
-    built (record { coordinates = []; sides = []; listed = []; intervals = [] }) (0 ∷ 0 ∷ 0 ∷ [])
+    buildPiece (record { coordinates = []; sides = []; listed = []; intervals = [] }) (0 ∷ 0 ∷ 0 ∷ [])
     -- n = 2: 10
-    ∷ built (backToBack 2 (1 ∷ 0 ∷ 1 ∷ 0 ∷ []) (unit ∷ unit ∷ [])) (10 ∷ [])
+    ∷ buildPiece (backToBack 2 (1 ∷ 0 ∷ 1 ∷ 0 ∷ []) (unit ∷ unit ∷ [])) (10 ∷ [])
     -- n = 3 and 64: pass
-    ∷ built triangles (3 ∷ 3 ∷ 2 ∷ [])
-    ∷ built (even 32) (64 ∷ 64 ∷ 2 ∷ [])
+    ∷ buildPiece triangles (3 ∷ 3 ∷ 2 ∷ [])
+    ∷ buildPiece (even 32) (64 ∷ 64 ∷ 2 ∷ [])
     -- 65: 10
-    ∷ built (backToBack 65 (33 ∷ 0 ∷ 32 ∷ 0 ∷ []) (nought ∷ replicate 64 unit)) (10 ∷ [])
+    ∷ buildPiece (backToBack 65 (33 ∷ 0 ∷ 32 ∷ 0 ∷ []) (nought ∷ replicate 64 unit)) (10 ∷ [])
     -- sums 1, 2, 2, 1 pass 13
-    ∷ built (backToBack 4 (1 ∷ 1 ∷ 1 ∷ 1 ∷ []) (unit ∷ two ∷ two ∷ unit ∷ [])) (4 ∷ 4 ∷ 2 ∷ [])
+    ∷ buildPiece (backToBack 4 (1 ∷ 1 ∷ 1 ∷ 1 ∷ []) (unit ∷ two ∷ two ∷ unit ∷ [])) (4 ∷ 4 ∷ 2 ∷ [])
     -- sums t, 0, 0, 0 pass
-    ∷ built (backToBack 4 (1 ∷ 1 ∷ 1 ∷ 1 ∷ []) (tiny ∷ nought ∷ nought ∷ nought ∷ [])) (4 ∷ 4 ∷ 2 ∷ [])
+    ∷ buildPiece (backToBack 4 (1 ∷ 1 ∷ 1 ∷ 1 ∷ []) (tiny ∷ nought ∷ nought ∷ nought ∷ [])) (4 ∷ 4 ∷ 2 ∷ [])
     -- the next binary64 above t: 13
-    ∷ built (backToBack 4 (1 ∷ 1 ∷ 1 ∷ 1 ∷ []) (aboveTiny ∷ nought ∷ nought ∷ nought ∷ [])) (13 ∷ [])
+    ∷ buildPiece (backToBack 4 (1 ∷ 1 ∷ 1 ∷ 1 ∷ []) (aboveTiny ∷ nought ∷ nought ∷ nought ∷ [])) (13 ∷ [])
     -- two triangles back to back: 3, 3, 2 become 8, 12, 6
-    ∷ refined triangles (3 ∷ 3 ∷ 2 ∷ []) (8 ∷ 12 ∷ 6 ∷ [])
+    ∷ refinePiece triangles (3 ∷ 3 ∷ 2 ∷ []) (8 ∷ 12 ∷ 6 ∷ [])
     -- the cube's counts
-    ∷ refined cube (8 ∷ 12 ∷ 6 ∷ []) (26 ∷ 48 ∷ 24 ∷ [])
+    ∷ refinePiece cube (8 ∷ 12 ∷ 6 ∷ []) (26 ∷ 48 ∷ 24 ∷ [])
     -- the cube with all intervals 0: 33
-    ∷ refined cubeOfNoughts (8 ∷ 12 ∷ 6 ∷ []) (33 ∷ [])
+    ∷ refinePiece cubeOfNoughts (8 ∷ 12 ∷ 6 ∷ []) (33 ∷ [])
     ∷ []
 
 abbrev pub AsFiled : Type 0

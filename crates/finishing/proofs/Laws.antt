@@ -13,7 +13,7 @@ use Rattle.tables.specs.Mesh.{Mesh}
 use Rattle.tables.specs.Rows.{over}
 use Rattle.tables.specs.declared.Counts.{Counts}
 use Rattle.steps.specs.declared.Stepped.the-variants.{Refined, NotFinite}
-use Rattle.steps.specs.Step.{Made, whole, notFinite, Outcome, ended}
+use Rattle.steps.specs.Step.{Made, whole, notFinite, StepOutcome, ended}
 use Rattle.tables.specs.Counted.{firstRows, zeroedRows, overRows}
 use Rattle.steps.specs.Rows.{Room}
 
@@ -37,12 +37,12 @@ over-first-rows c new t =
 
 module _ (m : Mesh) (c : Counts) (t t₁ : Mesh) (d : Made) (zeros : zeroedRows c t₁ ≡ zeroedRows c t) where
   pub ended-whole : {m₂ t₂ : Mesh} → d ≡ whole (firstRows c t₁) → m₂ ≡ overRows c t₁ m → t₂ ≡ zeroedRows c t₁
-      → _≡_ {A = Outcome} (record { answer = Refined c; tables = m₂; scratch = t₂ }) (ended m c t d)
+      → _≡_ {A = StepOutcome} (record { answer = Refined c; tables = m₂; scratch = t₂ }) (ended m c t d)
   unfolding ended
   ended-whole e copied zeroed = rw (e, copied, zeroed, zeros, over-first-rows c t₁ m)
 
   pub ended-not-finite : {t₂ : Mesh} → d ≡ notFinite → t₂ ≡ zeroedRows c t₁
-      → _≡_ {A = Outcome} (record { answer = NotFinite; tables = m; scratch = t₂ }) (ended m c t d)
+      → _≡_ {A = StepOutcome} (record { answer = NotFinite; tables = m; scratch = t₂ }) (ended m c t d)
   unfolding ended
   ended-not-finite e zeroed = rw (e, zeroed, zeros)
 

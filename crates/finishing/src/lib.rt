@@ -4,7 +4,7 @@
 // Contract: `finish`. Definition: `steps`, specs/Step.antt, `step`. Laws: `proofs/Laws.antt`.
 ghost use mathlib.Core.Path.{_≡_};
 ghost use Rattle.tables.specs.Mesh.{meshOf};
-ghost use Rattle.steps.specs.Step.{step, Outcome};
+ghost use Rattle.steps.specs.Step.{step, StepOutcome};
 ghost use Rattle.step_parts.specs.Passed.{Passed};
 use row_copies::zero_rows;
 use step_parts::commit;
@@ -33,7 +33,7 @@ pub fn finish(
         Passed (meshOf (now positions) (now points) (now edges) (now intervals) (now faces)) counts (now order)
         (meshOf (now places) (now rows) (now halves) (now lengths) (now quads)) c ⌝ }
     ensures { λ r. ⌜
-        _≡_ {A = Outcome}
+        _≡_ {A = StepOutcome}
         (record { answer = r; tables = meshOf (now (positions .exit)) (now (points .exit)) (now (edges .exit)) (now (intervals .exit)) (now (faces .exit)); scratch = meshOf (now (places .exit)) (now (rows .exit)) (now (halves .exit)) (now (lengths .exit)) (now (quads .exit)) })
         (step (meshOf (now (positions .entry)) (now (points .entry)) (now (edges .entry)) (now (intervals .entry)) (now (faces .entry)))
         counts (now (order .entry))

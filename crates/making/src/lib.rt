@@ -1,5 +1,5 @@
 // The refined mesh made whole in the scratch tables: its rows by the visits of the faces, then its positions.
-// Names: `places`, `rows`, `halves`, `lengths` and `quads` are the scratch tables of positions, points, edges, intervals, faces.
+// Names: `newpositions`, `newpoints`, `newedges`, `newintervals` and `newfaces` are the scratch tables of positions, points, edges, intervals, faces.
 // Not here: whether a step may be made (`step_grounds`), and the tables written back (`refining`).
 // Definitions: `steps`, specs/Step.antt, `made`; what must hold: specs/Making.antt.
 ghost use mathlib.Core.Path.{_≡_};
@@ -25,32 +25,32 @@ fn make(
     faces: &[u32],
     counts: Counts,
     order: &[u32],
-    places: &mut [f64],
-    rows: &mut [u32],
-    halves: &mut [u32],
-    lengths: &mut [f64],
-    quads: &mut [u32],
+    newpositions: &mut [f64],
+    newpoints: &mut [u32],
+    newedges: &mut [u32],
+    newintervals: &mut [f64],
+    newfaces: &mut [u32],
 ) -> bool
     requires { ⌜
         Ready (meshOf (now positions) (now points) (now edges) (now intervals) (now faces)) counts (now order)
-        (meshOf (now places) (now rows) (now halves) (now lengths) (now quads)) ⌝ }
+        (meshOf (now newpositions) (now newpoints) (now newedges) (now newintervals) (now newfaces)) ⌝ }
     ensures { λ r. ⌜
         made
         (meshOf (now (positions .entry)) (now (points .entry)) (now (edges .entry)) (now (intervals .entry)) (now (faces .entry)))
         counts
         (now (order .entry))
-        (meshOf (now (places .entry)) (now (rows .entry)) (now (halves .entry)) (now (lengths .entry)) (now (quads .entry)))
-        ≡ madeAs r (meshOf (now (places .exit)) (now (rows .exit)) (now (halves .exit)) (now (lengths .exit)) (now (quads .exit))) ⌝ }
+        (meshOf (now (newpositions .entry)) (now (newpoints .entry)) (now (newedges .entry)) (now (newintervals .entry)) (now (newfaces .entry)))
+        ≡ madeAs r (meshOf (now (newpositions .exit)) (now (newpoints .exit)) (now (newedges .exit)) (now (newintervals .exit)) (now (newfaces .exit))) ⌝ }
 {
     refined_rows(
         points,
         edges,
         intervals,
         faces,
-        rows,
-        halves,
-        lengths,
-        quads,
+        newpoints,
+        newedges,
+        newintervals,
+        newfaces,
         counts,
         order,
     );
@@ -61,9 +61,9 @@ fn make(
         intervals,
         faces,
         counts,
-        halves,
-        quads,
-        places,
+        newedges,
+        newfaces,
+        newpositions,
     )
 }
 
@@ -78,26 +78,26 @@ pub fn make_in_rows(
     counts: Counts,
     order: &[u32],
     c: Counts,
-    places: &mut [f64],
-    rows: &mut [u32],
-    halves: &mut [u32],
-    lengths: &mut [f64],
-    quads: &mut [u32],
+    newpositions: &mut [f64],
+    newpoints: &mut [u32],
+    newedges: &mut [u32],
+    newintervals: &mut [f64],
+    newfaces: &mut [u32],
 ) -> bool
-    requires { ⌜ Room c (meshOf (now places) (now rows) (now halves) (now lengths) (now quads)) ⌝ }
+    requires { ⌜ Room c (meshOf (now newpositions) (now newpoints) (now newedges) (now newintervals) (now newfaces)) ⌝ }
     requires { ⌜
         Ready (meshOf (now positions) (now points) (now edges) (now intervals) (now faces)) counts (now order)
-        (firstRows c (meshOf (now places) (now rows) (now halves) (now lengths) (now quads))) ⌝ }
+        (firstRows c (meshOf (now newpositions) (now newpoints) (now newedges) (now newintervals) (now newfaces))) ⌝ }
     ensures { λ r. ⌜
         made
         (meshOf (now (positions .entry)) (now (points .entry)) (now (edges .entry)) (now (intervals .entry)) (now (faces .entry)))
         counts
         (now (order .entry))
-        (firstRows c (meshOf (now (places .entry)) (now (rows .entry)) (now (halves .entry)) (now (lengths .entry)) (now (quads .entry))))
-        ≡ madeAs r (firstRows c (meshOf (now (places .exit)) (now (rows .exit)) (now (halves .exit)) (now (lengths .exit)) (now (quads .exit)))) ⌝ }
+        (firstRows c (meshOf (now (newpositions .entry)) (now (newpoints .entry)) (now (newedges .entry)) (now (newintervals .entry)) (now (newfaces .entry))))
+        ≡ madeAs r (firstRows c (meshOf (now (newpositions .exit)) (now (newpoints .exit)) (now (newedges .exit)) (now (newintervals .exit)) (now (newfaces .exit)))) ⌝ }
     ensures { λ _. ⌜
-        zeroedRows c (meshOf (now (places .exit)) (now (rows .exit)) (now (halves .exit)) (now (lengths .exit)) (now (quads .exit)))
-        ≡ zeroedRows c (meshOf (now (places .entry)) (now (rows .entry)) (now (halves .entry)) (now (lengths .entry)) (now (quads .entry))) ⌝ }
+        zeroedRows c (meshOf (now (newpositions .exit)) (now (newpoints .exit)) (now (newedges .exit)) (now (newintervals .exit)) (now (newfaces .exit)))
+        ≡ zeroedRows c (meshOf (now (newpositions .entry)) (now (newpoints .entry)) (now (newedges .entry)) (now (newintervals .entry)) (now (newfaces .entry))) ⌝ }
 {
     let p = c.points * POINT_WIDTH;
     let e = c.edges * EDGE_WIDTH;
@@ -111,10 +111,10 @@ pub fn make_in_rows(
         faces,
         counts,
         order,
-        &mut places[..p],
-        &mut rows[..p],
-        &mut halves[..e],
-        &mut lengths[..i],
-        &mut quads[..f],
+        &mut newpositions[..p],
+        &mut newpoints[..p],
+        &mut newedges[..e],
+        &mut newintervals[..i],
+        &mut newfaces[..f],
     )
 }

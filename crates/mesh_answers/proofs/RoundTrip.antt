@@ -9,8 +9,8 @@ use native.Mathlib.Omega.{arith}
 use lib.ListN.{length, getD}
 use lib.Dec.{ltb, eqb}
 use borrow.Author.Tests.{lt-ltb, le-ltb, eqb-true, ltb-true, ltb-false, ne-eqb}
-use Rattle.text_numbers.specs.Form.{found, times, stands}
-use Rattle.text_numbers.specs.Numbers.{digitValue, value, digit, bits, digits, decimalFrom, decimal}
+use Rattle.text_numbers.specs.Form.{parsed, times, stands}
+use Rattle.text_numbers.specs.Numbers.{digitValue, value, digit, bits, digitsFrom, decimalFrom, decimal}
 use Rattle.text_numbers.proofs.Laws.{and-both, digit-inside}
 use Rattle.text_numbers.proofs.Turns.{times-found, digit-found, digits-turn, digits-stop}
 use Rattle.mesh_answers.specs.Lines.{decimalDigits, decimalBytes, hexByte, hexBytes}
@@ -63,7 +63,7 @@ hex-value (suc k) n h =
     value-append 16 0 (hexBytes k (n / 16)) (hexByte (n % 16)) ∙ (rw (r, d) (omega arith))
 
 module _ (s : List ℕ) where
-  times-digits : (xs : List ℕ) (at : ℕ) → Digits 16 xs → stands s at xs ≡ true → times (length xs) (digit s 16) at ≡ found (map digitValue xs) (at + length xs)
+  times-digits : (xs : List ℕ) (at : ℕ) → Digits 16 xs → stands s at xs ≡ true → times (length xs) (digit s 16) at ≡ parsed (map digitValue xs) (at + length xs)
   unfolding times stands
   times-digits [] at d e = rw (add-zero at)
   times-digits (b ∷ xs) at d e =
@@ -75,7 +75,7 @@ module _ (s : List ℕ) where
       t ∙ (rw (r, eb, en))
 
   -- 16 digits that were written are read back as the number
-  pub bits-of-hexBytes : (at n : ℕ) → n < 2 ^ 64 → stands s at (hexBytes 16 n) ≡ true → bits s at ≡ found n (at + 16)
+  pub bits-of-hexBytes : (at n : ℕ) → n < 2 ^ 64 → stands s at (hexBytes 16 n) ≡ true → bits s at ≡ parsed n (at + 16)
   unfolding bits
   bits-of-hexBytes at n h e =
       let t = times-digits (hexBytes 16 n) at (hex-digits 16 n) e in
@@ -148,7 +148,7 @@ module _ (s : List ℕ) where
       omega arith
 
   digits-read : (xs : List ℕ) (at v k : ℕ) → Digits 10 xs → stands s at xs ≡ true
-      → digits s (length xs + k) v at ≡ digits s k (value 10 v (map digitValue xs)) (at + length xs)
+      → digitsFrom s (length xs + k) v at ≡ digitsFrom s k (value 10 v (map digitValue xs)) (at + length xs)
   unfolding stands value
   digits-read [] at v k d e = let z : 0 + k ≡ k = omega arith in rw (z, add-zero at)
   digits-read (b ∷ xs) at v k d e =
@@ -158,12 +158,12 @@ module _ (s : List ℕ) where
       let t = digits-turn s v at (length xs + k) (rw eb (d .0)) in
       let r = digits-read xs (at + 1) (v * 10 + digitValue b) k (d .1) g in
       let en : at + 1 + length xs ≡ at + suc (length xs) = omega arith in
-      ap (λ (j : ℕ). digits s j v at) n ∙ t ∙ ap (λ (c : ℕ). digits s (length xs + k) (v * 10 + digitValue c) (at + 1)) eb ∙ r
-      ∙ ap (λ (j : ℕ). digits s k (value 10 (v * 10 + digitValue b) (map digitValue xs)) j) en
+      ap (λ (j : ℕ). digitsFrom s j v at) n ∙ t ∙ ap (λ (c : ℕ). digitsFrom s (length xs + k) (v * 10 + digitValue c) (at + 1)) eb ∙ r
+      ∙ ap (λ (j : ℕ). digitsFrom s k (value 10 (v * 10 + digitValue b) (map digitValue xs)) j) en
 
   decimal-read : (at b : ℕ) (xs : List ℕ) (n : ℕ) → at ≤ length s → n < 4294967296 → Digits 10 (b ∷ xs) → (digitValue b ≡ 0 → ⊥)
       → value 10 0 (map digitValue (b ∷ xs)) ≡ n → stands s at (b ∷ xs) ≡ true → 10 ≤ digitValue (getD s (at + suc (length xs)) 0)
-      → decimal s at ≡ found n (at + suc (length xs))
+      → decimal s at ≡ parsed n (at + suc (length xs))
   unfolding decimal decimalFrom stands value
   decimal-read at b xs n h hn d nz ev e g =
       let (f, es) = and-both (eqb (getD s at 0) b) (stands s (at + 1) xs) e in
@@ -175,16 +175,16 @@ module _ (s : List ℕ) where
       let fuel : length s ≡ length xs + k = omega arith in
       let z : 0 * 10 + digitValue b ≡ digitValue b = omega arith in
       let en : at + 1 + length xs ≡ at + suc (length xs) = omega arith in
-      let all : digits s (length s) (digitValue b) (at + 1) ≡ found n (at + suc (length xs)) =
-      ap (λ (m : ℕ). digits s m (digitValue b) (at + 1)) fuel
+      let all : digitsFrom s (length s) (digitValue b) (at + 1) ≡ parsed n (at + suc (length xs)) =
+      ap (λ (m : ℕ). digitsFrom s m (digitValue b) (at + 1)) fuel
       ∙ digits-read xs (at + 1) (digitValue b) k (d .1) es
-      ∙ ap (λ (w : ℕ). digits s k (value 10 w (map digitValue xs)) (at + 1 + length xs)) (sym z)
-      ∙ ap (λ (w : ℕ). digits s k w (at + 1 + length xs)) ev
-      ∙ ap (λ (m : ℕ). digits s k n m) en
+      ∙ ap (λ (w : ℕ). digitsFrom s k (value 10 w (map digitValue xs)) (at + 1 + length xs)) (sym z)
+      ∙ ap (λ (w : ℕ). digitsFrom s k w (at + 1 + length xs)) ev
+      ∙ ap (λ (m : ℕ). digitsFrom s k n m) en
       ∙ digits-stop s n (at + suc (length xs)) k g in
       rw (digit-found s 10 at db, eb, ne-eqb (digitValue b) 0 nz, all, lt-ltb n 4294967296 hn)
 
-  zero-read : (at : ℕ) → stands s at (48 ∷ []) ≡ true → decimal s at ≡ found 0 (at + 1)
+  zero-read : (at : ℕ) → stands s at (48 ∷ []) ≡ true → decimal s at ≡ parsed 0 (at + 1)
   unfolding decimal stands digitValue
   zero-read at e =
       let eb : getD s at 0 ≡ 48 = eqb-true (getD s at 0) 48 (and-both (eqb (getD s at 0) 48) true e .0) in
@@ -193,7 +193,7 @@ module _ (s : List ℕ) where
 
   -- a number that was written is read back, if no digit stands after it
   pub decimal-of-decimalBytes : (at n : ℕ) → at ≤ length s → n < 4294967296 → stands s at (decimalBytes n) ≡ true
-      → 10 ≤ digitValue (getD s (at + length (decimalBytes n)) 0) → decimal s at ≡ found n (at + length (decimalBytes n))
+      → 10 ≤ digitValue (getD s (at + length (decimalBytes n)) 0) → decimal s at ≡ parsed n (at + length (decimalBytes n))
   unfolding decimalDigits
   decimal-of-decimalBytes at zero h hn e g = zero-read at e
   decimal-of-decimalBytes at (suc m) h hn e g =

@@ -1,5 +1,5 @@
 -- The lines of mesh text 1 (document 01, "Mesh text"), as forms on the bytes s of a text.
---     point listed side face s       the parts of the lines
+--     pointForm listedForm sideForm faceForm s  the parts of the lines
 --     flat f l                       the lists of l's elements joined
 --     sidePoints sideIntervals ps    the numbers that a side lists
 use mathlib.Core.List.{List, [], _∷_, _++_, map}
@@ -15,19 +15,19 @@ pub record Listed : Type 0 where
   pub interval : ℕ
 
 module _ (s : List ℕ) where
-  unfoldable pub coordinate : Form ℕ
-  coordinate = literal s (bytes " ") >> bits s
+  unfoldable pub coordinateForm : Form ℕ
+  coordinateForm = literal s (bytes " ") >> bits s
 
   -- after `[point`
-  unfoldable pub point : Form (List ℕ)
-  point = do
-    xyz ← times 3 coordinate
+  unfoldable pub pointForm : Form (List ℕ)
+  pointForm = do
+    xyz ← times 3 coordinateForm
     literal s (bytes "]\n")
     pure xyz
 
   -- after ` [`
-  unfoldable pub listed : Form Listed
-  listed = do
+  unfoldable pub listedForm : Form Listed
+  listedForm = do
     p ← decimal s
     literal s (bytes " ")
     d ← bits s
@@ -35,18 +35,18 @@ module _ (s : List ℕ) where
     pure (record { point = p; interval = d })
 
   -- its first point, which is not looked at, and its listed points
-  unfoldable pub side : Form (List Listed)
-  side = do
+  unfoldable pub sideForm : Form (List Listed)
+  sideForm = do
     literal s (bytes " [")
     decimal s
-    ps ← many s (bytes " [") listed (length s)
+    ps ← many s (bytes " [") listedForm (length s)
     literal s (bytes "]")
     pure ps
 
   -- after `[face`
-  unfoldable pub face : Form (List (List Listed))
-  face = do
-    sides ← times 4 side
+  unfoldable pub faceForm : Form (List (List Listed))
+  faceForm = do
+    sides ← times 4 sideForm
     literal s (bytes "]\n")
     pure sides
 

@@ -1,14 +1,14 @@
 -- How the parts of the reader answer, and what they leave in the lent lists. The contract of the whole reader names none of this.
 --     lengthWord ps                how many points a side lists, as a word of 32 bits
 --     listedIn sides               how many points the sides of a face list
---     place run listing linesOf x  the answers to what was found
+--     placeAnswer runAnswer listedAnswer linesAnswer x  the answers to what was found
 --     stored f l i x               the list that is left where something was found
 --     AtPlace AtRun AtLines        what is promised where something was found
 use mathlib.Core.List.{List, []}
 use Prim.Native.Nat.{ℕ, _%_}
 use lib.ListN.{length}
 use lib.Seq.{sets}
-use Rattle.text_numbers.specs.Form.{Found, given}
+use Rattle.text_numbers.specs.Form.{Parsed, ifParsed}
 use Rattle.mesh_lines.specs.Grammar.{Listed, flat, sidePoints}
 use Rattle.mesh_lines.specs.declared.Place.{Place}
 use Rattle.mesh_lines.specs.declared.Place.the-variants as Place
@@ -26,21 +26,21 @@ lengthWord ps = length ps % 4294967296
 abbrev pub listedIn : List (List Listed) → ℕ
 listedIn sides = length (flat sidePoints sides)
 
-abbrev pub place : {A : Type 0} → Found A → Place
-place x = given (λ a n. Place.At n) Place.None x
+abbrev pub placeAnswer : {A : Type 0} → Parsed A → Place
+placeAnswer x = ifParsed (λ a n. Place.At n) Place.None x
 
-abbrev pub run : {A : Type 0} → (A → ℕ) → Found A → Run
-run f x = given (λ a n. Run.Of (f a) n) Run.None x
+abbrev pub runAnswer : {A : Type 0} → (A → ℕ) → Parsed A → Run
+runAnswer f x = ifParsed (λ a n. Run.Of (f a) n) Run.None x
 
-abbrev pub listing : Found Listed → ListedPoint
-listing x = given (λ p n. ListedPoint.Is (p .point) (p .interval) n) ListedPoint.None x
+abbrev pub listedAnswer : Parsed Listed → ListedPoint
+listedAnswer x = ifParsed (λ p n. ListedPoint.Is (p .point) (p .interval) n) ListedPoint.None x
 
-abbrev pub linesOf : Found (List (List (List Listed))) → Lines
-linesOf x = given (λ fs n. Lines.Are (length fs) (length (flat (flat sidePoints) fs)) n) Lines.None x
+abbrev pub linesAnswer : Parsed (List (List (List Listed))) → Lines
+linesAnswer x = ifParsed (λ fs n. Lines.Are (length fs) (length (flat (flat sidePoints) fs)) n) Lines.None x
 
 -- the list l with the numbers f of what was found stored in it from i on
-abbrev pub stored : {A B : Type 0} → (A → List B) → List B → ℕ → Found A → List B
-stored f l i x = given (λ a n. sets l i (f a)) [] x
+abbrev pub stored : {A B : Type 0} → (A → List B) → List B → ℕ → Parsed A → List B
+stored f l i x = ifParsed (λ a n. sets l i (f a)) [] x
 
 abbrev pub AtPlace : Place → Type 0 → Type 0
 AtPlace (Place.At n) P = P

@@ -9,8 +9,8 @@ ghost use lib.ListN.{length, set};
 ghost use Rattle.text_numbers.specs.Form.{bytes, times, many};
 ghost use Rattle.text_numbers.specs.Numbers.{float};
 ghost use Rattle.text_numbers.specs.Answers.{number};
-ghost use Rattle.mesh_lines.specs.Grammar.{coordinate, point, listed, side, face, flat, sidePoints, sideIntervals};
-ghost use Rattle.mesh_lines.specs.Parts.{lengthWord, listedIn, place, run, listing, linesOf, stored, AtPlace, AtRun, AtLines};
+ghost use Rattle.mesh_lines.specs.Grammar.{coordinateForm, pointForm, listedForm, sideForm, faceForm, flat, sidePoints, sideIntervals};
+ghost use Rattle.mesh_lines.specs.Parts.{lengthWord, listedIn, placeAnswer, runAnswer, listedAnswer, linesAnswer, stored, AtPlace, AtRun, AtLines};
 use text_numbers::Number;
 use text_numbers::bits;
 use text_numbers::decimal;
@@ -62,7 +62,7 @@ fn put_word(xs: &mut [u32], i: usize, x: u32)
 // A space and a coordinate.
 fn coordinate(s: &[u8], at: usize) -> Number
     requires { ⌜ at ≤ length (now s) ⌝ }
-    ensures { λ r. ⌜ r ≡ number (coordinate (now (s .entry)) at) ⌝ }
+    ensures { λ r. ⌜ r ≡ number (coordinateForm (now (s .entry)) at) ⌝ }
 {
     if !stands(s, at, b" ") {
         return Number::None;
@@ -73,8 +73,8 @@ fn coordinate(s: &[u8], at: usize) -> Number
 // The three coordinates of a point, stored from n on.
 fn coordinates(s: &[u8], at: usize, xs: &mut [f64], n: usize) -> Place
     requires { ⌜ (at ≤ length (now s)) × (n ≤ at) ⌝ }
-    ensures place { λ r. ⌜ r ≡ place (times 3 (coordinate (now (s .entry))) at) ⌝ }
-    ensures list { λ r. ⌜ AtPlace r (now (xs .exit) ≡ stored (map float) (now (xs .entry)) n (times 3 (coordinate (now (s .entry))) at)) ⌝ }
+    ensures place { λ r. ⌜ r ≡ placeAnswer (times 3 (coordinateForm (now (s .entry))) at) ⌝ }
+    ensures list { λ r. ⌜ AtPlace r (now (xs .exit) ≡ stored (map float) (now (xs .entry)) n (times 3 (coordinateForm (now (s .entry))) at)) ⌝ }
 {
     let mut i = at;
     let mut k: usize = 0;
@@ -92,8 +92,8 @@ fn coordinates(s: &[u8], at: usize, xs: &mut [f64], n: usize) -> Place
 // A point line after `[point`.
 fn point(s: &[u8], at: usize, xs: &mut [f64], n: usize) -> Place
     requires { ⌜ (at ≤ length (now s)) × (n ≤ at) ⌝ }
-    ensures place { λ r. ⌜ r ≡ place (point (now (s .entry)) at) ⌝ }
-    ensures list { λ r. ⌜ AtPlace r (now (xs .exit) ≡ stored (map float) (now (xs .entry)) n (point (now (s .entry)) at)) ⌝ }
+    ensures place { λ r. ⌜ r ≡ placeAnswer (pointForm (now (s .entry)) at) ⌝ }
+    ensures list { λ r. ⌜ AtPlace r (now (xs .exit) ≡ stored (map float) (now (xs .entry)) n (pointForm (now (s .entry)) at)) ⌝ }
 {
     let Place::At(i) = coordinates(s, at, xs, n) else {
         return Place::None;
@@ -108,8 +108,8 @@ fn point(s: &[u8], at: usize, xs: &mut [f64], n: usize) -> Place
 // text stores nothing for its caller before it has scanned it once.
 pub fn points(s: &[u8], at: usize, xs: &mut [f64]) -> Run
     requires { ⌜ at ≤ length (now s) ⌝ }
-    ensures run { λ r. ⌜ r ≡ run length (many (now (s .entry)) (bytes "[point") (point (now (s .entry))) (length (now (s .entry))) at) ⌝ }
-    ensures list { λ r. ⌜ AtRun r (now (xs .exit) ≡ stored (flat (map float)) (now (xs .entry)) 0 (many (now (s .entry)) (bytes "[point") (point (now (s .entry))) (length (now (s .entry))) at)) ⌝ }
+    ensures run { λ r. ⌜ r ≡ runAnswer length (many (now (s .entry)) (bytes "[point") (pointForm (now (s .entry))) (length (now (s .entry))) at) ⌝ }
+    ensures list { λ r. ⌜ AtRun r (now (xs .exit) ≡ stored (flat (map float)) (now (xs .entry)) 0 (many (now (s .entry)) (bytes "[point") (pointForm (now (s .entry))) (length (now (s .entry))) at)) ⌝ }
 {
     let mut i = at;
     let mut k: usize = 0;
@@ -126,7 +126,7 @@ pub fn points(s: &[u8], at: usize, xs: &mut [f64]) -> Run
 // A listed point after ` [`.
 fn listed(s: &[u8], at: usize) -> ListedPoint
     requires { ⌜ at ≤ length (now s) ⌝ }
-    ensures { λ r. ⌜ r ≡ listing (listed (now (s .entry)) at) ⌝ }
+    ensures { λ r. ⌜ r ≡ listedAnswer (listedForm (now (s .entry)) at) ⌝ }
 {
     let Number::Is(p, i) = decimal(s, at) else {
         return ListedPoint::None;
@@ -146,9 +146,9 @@ fn listed(s: &[u8], at: usize) -> ListedPoint
 // The listed points of a side, stored from n on, and how many they are.
 fn listed_points(s: &[u8], at: usize, ps: &mut [u32], ds: &mut [f64], n: usize) -> Run
     requires { ⌜ (at ≤ length (now s)) × (n ≤ at) ⌝ }
-    ensures run { λ r. ⌜ r ≡ run length (many (now (s .entry)) (bytes " [") (listed (now (s .entry))) (length (now (s .entry))) at) ⌝ }
-    ensures points { λ r. ⌜ AtRun r (now (ps .exit) ≡ stored sidePoints (now (ps .entry)) n (many (now (s .entry)) (bytes " [") (listed (now (s .entry))) (length (now (s .entry))) at)) ⌝ }
-    ensures intervals { λ r. ⌜ AtRun r (now (ds .exit) ≡ stored sideIntervals (now (ds .entry)) n (many (now (s .entry)) (bytes " [") (listed (now (s .entry))) (length (now (s .entry))) at)) ⌝ }
+    ensures run { λ r. ⌜ r ≡ runAnswer length (many (now (s .entry)) (bytes " [") (listedForm (now (s .entry))) (length (now (s .entry))) at) ⌝ }
+    ensures points { λ r. ⌜ AtRun r (now (ps .exit) ≡ stored sidePoints (now (ps .entry)) n (many (now (s .entry)) (bytes " [") (listedForm (now (s .entry))) (length (now (s .entry))) at)) ⌝ }
+    ensures intervals { λ r. ⌜ AtRun r (now (ds .exit) ≡ stored sideIntervals (now (ds .entry)) n (many (now (s .entry)) (bytes " [") (listedForm (now (s .entry))) (length (now (s .entry))) at)) ⌝ }
 {
     let mut i = at;
     let mut k: usize = 0;
@@ -167,9 +167,9 @@ fn listed_points(s: &[u8], at: usize, ps: &mut [u32], ds: &mut [f64], n: usize) 
 // A side: a space, its first point, which is not looked at, and its listed points, stored from n on.
 fn side(s: &[u8], at: usize, ps: &mut [u32], ds: &mut [f64], n: usize) -> Run
     requires { ⌜ (at ≤ length (now s)) × (n ≤ at) ⌝ }
-    ensures run { λ r. ⌜ r ≡ run length (side (now (s .entry)) at) ⌝ }
-    ensures points { λ r. ⌜ AtRun r (now (ps .exit) ≡ stored sidePoints (now (ps .entry)) n (side (now (s .entry)) at)) ⌝ }
-    ensures intervals { λ r. ⌜ AtRun r (now (ds .exit) ≡ stored sideIntervals (now (ds .entry)) n (side (now (s .entry)) at)) ⌝ }
+    ensures run { λ r. ⌜ r ≡ runAnswer length (sideForm (now (s .entry)) at) ⌝ }
+    ensures points { λ r. ⌜ AtRun r (now (ps .exit) ≡ stored sidePoints (now (ps .entry)) n (sideForm (now (s .entry)) at)) ⌝ }
+    ensures intervals { λ r. ⌜ AtRun r (now (ds .exit) ≡ stored sideIntervals (now (ds .entry)) n (sideForm (now (s .entry)) at)) ⌝ }
 {
     if !stands(s, at, b" [") {
         return Run::None;
@@ -197,10 +197,10 @@ fn sides(
     n: usize,
 ) -> Run
     requires { ⌜ (at ≤ length (now s)) × ((f ≤ at) × (n ≤ at)) ⌝ }
-    ensures run { λ r. ⌜ r ≡ run listedIn (times 4 (side (now (s .entry))) at) ⌝ }
-    ensures lengths { λ r. ⌜ AtRun r (now (ls .exit) ≡ stored (map lengthWord) (now (ls .entry)) f (times 4 (side (now (s .entry))) at)) ⌝ }
-    ensures points { λ r. ⌜ AtRun r (now (ps .exit) ≡ stored (flat sidePoints) (now (ps .entry)) n (times 4 (side (now (s .entry))) at)) ⌝ }
-    ensures intervals { λ r. ⌜ AtRun r (now (ds .exit) ≡ stored (flat sideIntervals) (now (ds .entry)) n (times 4 (side (now (s .entry))) at)) ⌝ }
+    ensures run { λ r. ⌜ r ≡ runAnswer listedIn (times 4 (sideForm (now (s .entry))) at) ⌝ }
+    ensures lengths { λ r. ⌜ AtRun r (now (ls .exit) ≡ stored (map lengthWord) (now (ls .entry)) f (times 4 (sideForm (now (s .entry))) at)) ⌝ }
+    ensures points { λ r. ⌜ AtRun r (now (ps .exit) ≡ stored (flat sidePoints) (now (ps .entry)) n (times 4 (sideForm (now (s .entry))) at)) ⌝ }
+    ensures intervals { λ r. ⌜ AtRun r (now (ds .exit) ≡ stored (flat sideIntervals) (now (ds .entry)) n (times 4 (sideForm (now (s .entry))) at)) ⌝ }
 {
     let mut i = at;
     let mut c: usize = 0;
@@ -228,10 +228,10 @@ fn face(
     n: usize,
 ) -> Run
     requires { ⌜ (at ≤ length (now s)) × ((f ≤ at) × (n ≤ at)) ⌝ }
-    ensures run { λ r. ⌜ r ≡ run listedIn (face (now (s .entry)) at) ⌝ }
-    ensures lengths { λ r. ⌜ AtRun r (now (ls .exit) ≡ stored (map lengthWord) (now (ls .entry)) f (face (now (s .entry)) at)) ⌝ }
-    ensures points { λ r. ⌜ AtRun r (now (ps .exit) ≡ stored (flat sidePoints) (now (ps .entry)) n (face (now (s .entry)) at)) ⌝ }
-    ensures intervals { λ r. ⌜ AtRun r (now (ds .exit) ≡ stored (flat sideIntervals) (now (ds .entry)) n (face (now (s .entry)) at)) ⌝ }
+    ensures run { λ r. ⌜ r ≡ runAnswer listedIn (faceForm (now (s .entry)) at) ⌝ }
+    ensures lengths { λ r. ⌜ AtRun r (now (ls .exit) ≡ stored (map lengthWord) (now (ls .entry)) f (faceForm (now (s .entry)) at)) ⌝ }
+    ensures points { λ r. ⌜ AtRun r (now (ps .exit) ≡ stored (flat sidePoints) (now (ps .entry)) n (faceForm (now (s .entry)) at)) ⌝ }
+    ensures intervals { λ r. ⌜ AtRun r (now (ds .exit) ≡ stored (flat sideIntervals) (now (ds .entry)) n (faceForm (now (s .entry)) at)) ⌝ }
 {
     let Run::Of(c, i) = sides(s, at, ls, f, ps, ds, n) else {
         return Run::None;
@@ -245,10 +245,10 @@ fn face(
 // The face lines, how many they are, and how many points they list. Where one is not of the form, the lists are left free.
 pub fn faces(s: &[u8], at: usize, ls: &mut [u32], ps: &mut [u32], ds: &mut [f64]) -> Lines
     requires { ⌜ at ≤ length (now s) ⌝ }
-    ensures faces { λ r. ⌜ r ≡ linesOf (many (now (s .entry)) (bytes "[face") (face (now (s .entry))) (length (now (s .entry))) at) ⌝ }
-    ensures lengths { λ r. ⌜ AtLines r (now (ls .exit) ≡ stored (flat (map lengthWord)) (now (ls .entry)) 0 (many (now (s .entry)) (bytes "[face") (face (now (s .entry))) (length (now (s .entry))) at)) ⌝ }
-    ensures points { λ r. ⌜ AtLines r (now (ps .exit) ≡ stored (flat (flat sidePoints)) (now (ps .entry)) 0 (many (now (s .entry)) (bytes "[face") (face (now (s .entry))) (length (now (s .entry))) at)) ⌝ }
-    ensures intervals { λ r. ⌜ AtLines r (now (ds .exit) ≡ stored (flat (flat sideIntervals)) (now (ds .entry)) 0 (many (now (s .entry)) (bytes "[face") (face (now (s .entry))) (length (now (s .entry))) at)) ⌝ }
+    ensures faces { λ r. ⌜ r ≡ linesAnswer (many (now (s .entry)) (bytes "[face") (faceForm (now (s .entry))) (length (now (s .entry))) at) ⌝ }
+    ensures lengths { λ r. ⌜ AtLines r (now (ls .exit) ≡ stored (flat (map lengthWord)) (now (ls .entry)) 0 (many (now (s .entry)) (bytes "[face") (faceForm (now (s .entry))) (length (now (s .entry))) at)) ⌝ }
+    ensures points { λ r. ⌜ AtLines r (now (ps .exit) ≡ stored (flat (flat sidePoints)) (now (ps .entry)) 0 (many (now (s .entry)) (bytes "[face") (faceForm (now (s .entry))) (length (now (s .entry))) at)) ⌝ }
+    ensures intervals { λ r. ⌜ AtLines r (now (ds .exit) ≡ stored (flat (flat sideIntervals)) (now (ds .entry)) 0 (many (now (s .entry)) (bytes "[face") (faceForm (now (s .entry))) (length (now (s .entry))) at)) ⌝ }
 {
     let mut i = at;
     let mut k: usize = 0;

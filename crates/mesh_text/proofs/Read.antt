@@ -10,34 +10,34 @@ use mathlib.Core.Bool.{Bool, true, false}
 use Prim.Native.Nat.{ℕ, zero, suc, _+_, _*_}
 use native.Mathlib.Omega.{arith}
 use lib.ListN.{length, length-append, length-map}
-use Rattle.text_numbers.specs.Form.{Found, found, none, Form, _>>=_, pure, choose, stands, literal, many, bytes}
+use Rattle.text_numbers.specs.Form.{Parsed, parsed, unparsed, Form, _>>=_, pure, choose, stands, literal, many, bytes}
 use Rattle.text_numbers.specs.Numbers.{float}
 use Rattle.text_numbers.proofs.Laws.{total, onward-found}
-use Rattle.mesh_lines.specs.Grammar.{Listed, point, face, flat, sidePoints, sideIntervals}
-use Rattle.mesh_text.specs.Text.{Mesh, ends, mesh, text}
-use Rattle.mesh_text.specs.Reading.{counts, Lists, filled, within, readInto}
+use Rattle.mesh_lines.specs.Grammar.{Listed, pointForm, faceForm, flat, sidePoints, sideIntervals}
+use Rattle.mesh_text.specs.Text.{TextMesh, ends, mesh, text}
+use Rattle.mesh_text.specs.Reading.{counts, TextLists, withText, within, readInto}
 use Rattle.mesh_text.specs.Lists.{coordinates, lengths, listedPoints, intervals}
 use Rattle.tables.specs.declared.Sizes.{Sizes}
 use Rattle.mesh_text.specs.declared.Reading.{Reading}
 use Rattle.mesh_text.specs.declared.Reading.the-variants as Reading
 use Rattle.mesh_lines.proofs.Laws.{same-count, length-point, length-face}
 
-pub record ReadText (s : List ℕ) (limits : Sizes) (l : Lists) (c : Sizes) : Type 0 where
-  pub what : Mesh
+pub record ReadText (s : List ℕ) (limits : Sizes) (l : TextLists) (c : Sizes) : Type 0 where
+  pub what : TextMesh
   pub place : ℕ
-  pub form : text s ≡ found what place
+  pub form : text s ≡ parsed what place
   pub counted : counts what ≡ c
   pub fits : within c limits (length (l .coordinates)) (length (l .lengths)) (length (l .listed)) (length (l .intervals)) ≡ true
-  pub lists : readInto s limits l .lists ≡ filled what l
+  pub lists : readInto s limits l .lists ≡ withText what l
 
-pub read-means : (s : List ℕ) (limits : Sizes) (l : Lists) (c : Sizes) → readInto s limits l .reading ≡ Reading.Read c → ReadText s limits l c
+pub read-means : (s : List ℕ) (limits : Sizes) (l : TextLists) (c : Sizes) → readInto s limits l .reading ≡ Reading.Read c → ReadText s limits l c
 unfolding readInto
 read-means s limits l c e = go (text s) refl
   where
-    room : Mesh → Bool
+    room : TextMesh → Bool
     room m = within (counts m) limits (length (l .coordinates)) (length (l .lengths)) (length (l .listed)) (length (l .intervals))
 
-    test : (m : Mesh) (n : ℕ) → text s ≡ found m n → (b : Bool) → room m ≡ b → ReadText s limits l c
+    test : (m : TextMesh) (n : ℕ) → text s ≡ parsed m n → (b : Bool) → room m ≡ b → ReadText s limits l c
     test m n et true eb =
         let e′ = rw (et, eb) at e in
         let ec : counts m ≡ c = cc in
@@ -47,9 +47,9 @@ read-means s limits l c e = go (text s) refl
         let z : _≡_ {A = ℕ} 0 1 = cc in
         absurd (omega arith)
 
-    go : (x : Found Mesh) → text s ≡ x → ReadText s limits l c
-    go (found m n) et = test m n et (room m) refl
-    go none et =
+    go : (x : Parsed TextMesh) → text s ≡ x → ReadText s limits l c
+    go (parsed m n) et = test m n et (room m) refl
+    go unparsed et =
         let e′ = rw et at e in
         let z : _≡_ {A = ℕ} 0 1 = cc in
         absurd (omega arith)
@@ -59,14 +59,14 @@ abbrev Each : {A : Type 0} → (A → Type 0) → List A → Type 0
 Each P [] = Unit {0}
 Each P (a ∷ l) = P a × Each P l
 
-many-each : {A : Type 0} (s t : List ℕ) (p : Form A) (P : A → Type 0) → ((at : ℕ) (a : A) (n : ℕ) → p at ≡ found a n → P a)
-    → (k at : ℕ) (l : List A) (n : ℕ) → many s t p k at ≡ found l n → Each P l
+many-each : {A : Type 0} (s t : List ℕ) (p : Form A) (P : A → Type 0) → ((at : ℕ) (a : A) (n : ℕ) → p at ≡ parsed a n → P a)
+    → (k at : ℕ) (l : List A) (n : ℕ) → many s t p k at ≡ parsed l n → Each P l
 unfolding many
 many-each {A} s t p P h zero at l n e = let el : [] ≡ l = cc in subst (λ (x : List A). Each P x) el tt
 many-each {A} s t p P h (suc k) at l n e = go (stands s at t) e (many-each s t p P h k)
   where
-    go : (b : Bool) → choose b (literal s t >>= λ z. p >>= λ a. many s t p k >>= λ r. pure (a ∷ r)) (pure []) at ≡ found l n
-        → ((at′ : ℕ) (l′ : List A) (n′ : ℕ) → many s t p k at′ ≡ found l′ n′ → Each P l′) → Each P l
+    go : (b : Bool) → choose b (literal s t >>= λ z. p >>= λ a. many s t p k >>= λ r. pure (a ∷ r)) (pure []) at ≡ parsed l n
+        → ((at′ : ℕ) (l′ : List A) (n′ : ℕ) → many s t p k at′ ≡ parsed l′ n′ → Each P l′) → Each P l
     go true e′ ih =
         let (z, m1, ez, e1) = onward-found _ (literal s t at) e′ in
         let (a, m2, ea, e2) = onward-found _ (p m1) e1 in
@@ -85,38 +85,38 @@ length-flat f c (a ∷ l) h =
     omega arith
 
 -- where the lines of a text stand
-lines : (s : List ℕ) (m : Mesh) (n : ℕ) → text s ≡ found m n
-    → (a i j : ℕ) × (many s (bytes "[point") (point s) (length s) a ≡ found (m .points) i) × (many s (bytes "[face") (face s) (length s) i ≡ found (m .faces) j)
+lines : (s : List ℕ) (m : TextMesh) (n : ℕ) → text s ≡ parsed m n
+    → (a i j : ℕ) × (many s (bytes "[point") (pointForm s) (length s) a ≡ parsed (m .points) i) × (many s (bytes "[face") (faceForm s) (length s) i ≡ parsed (m .faces) j)
 unfolding mesh text
 lines s m n e =
     let (z, a, ez, e1) = onward-found _ (literal s (bytes "[mesh 1]\n") 0) e in
-    let (ps, i, ep, e2) = onward-found _ (many s (bytes "[point") (point s) (length s) a) e1 in
-    let (fs, j, ef, e3) = onward-found _ (many s (bytes "[face") (face s) (length s) i) e2 in
+    let (ps, i, ep, e2) = onward-found _ (many s (bytes "[point") (pointForm s) (length s) a) e1 in
+    let (fs, j, ef, e3) = onward-found _ (many s (bytes "[face") (faceForm s) (length s) i) e2 in
     go a i j ps fs ep ef (ends s j) e3
   where
-    go : (a i j : ℕ) (ps : List (List ℕ)) (fs : List (List (List Listed))) → many s (bytes "[point") (point s) (length s) a ≡ found ps i
-        → many s (bytes "[face") (face s) (length s) i ≡ found fs j → (b : Bool) → choose b (pure (record { points = ps; faces = fs })) (λ k. none) j ≡ found m n
-        → (a i j : ℕ) × (many s (bytes "[point") (point s) (length s) a ≡ found (m .points) i) × (many s (bytes "[face") (face s) (length s) i ≡ found (m .faces) j)
+    go : (a i j : ℕ) (ps : List (List ℕ)) (fs : List (List (List Listed))) → many s (bytes "[point") (pointForm s) (length s) a ≡ parsed ps i
+        → many s (bytes "[face") (faceForm s) (length s) i ≡ parsed fs j → (b : Bool) → choose b (pure (record { points = ps; faces = fs })) (λ k. unparsed) j ≡ parsed m n
+        → (a i j : ℕ) × (many s (bytes "[point") (pointForm s) (length s) a ≡ parsed (m .points) i) × (many s (bytes "[face") (faceForm s) (length s) i ≡ parsed (m .faces) j)
     go a i j ps fs ep ef true e′ =
-        let em : _≡_ {A = Mesh} (record { points = ps; faces = fs }) m = cc in
-        (a, i, j, ep ∙ ap (λ (x : Mesh). found (x .points) i) em, ef ∙ ap (λ (x : Mesh). found (x .faces) j) em)
+        let em : _≡_ {A = TextMesh} (record { points = ps; faces = fs }) m = cc in
+        (a, i, j, ep ∙ ap (λ (x : TextMesh). parsed (x .points) i) em, ef ∙ ap (λ (x : TextMesh). parsed (x .faces) j) em)
     go a i j ps fs ep ef false e′ = let z : _≡_ {A = ℕ} 0 1 = cc in absurd (omega arith)
 
-module _ (s : List ℕ) (m : Mesh) (n : ℕ) (e : text s ≡ found m n) where
+module _ (s : List ℕ) (m : TextMesh) (n : ℕ) (e : text s ≡ parsed m n) where
   pub length-coordinates : length (coordinates m) ≡ 3 * length (m .points)
   length-coordinates =
       let (a, i, j, ep, ef) = lines s m n e in
       length-flat (map float) 3 (m .points)
-      (many-each s (bytes "[point") (point s) (λ (xyz : List ℕ). length (map float xyz) ≡ 3) (λ at xyz k h. length-map xyz float ∙ length-point s at xyz k h) (length s) a (m .points) i ep)
+      (many-each s (bytes "[point") (pointForm s) (λ (xyz : List ℕ). length (map float xyz) ≡ 3) (λ at xyz k h. length-map xyz float ∙ length-point s at xyz k h) (length s) a (m .points) i ep)
 
   pub length-lengths : length (lengths m) ≡ 4 * length (m .faces)
   length-lengths =
       let (a, i, j, ep, ef) = lines s m n e in
       length-flat (map length) 4 (m .faces)
-      (many-each s (bytes "[face") (face s) (λ (sides : List (List Listed)). length (map length sides) ≡ 4)
+      (many-each s (bytes "[face") (faceForm s) (λ (sides : List (List Listed)). length (map length sides) ≡ 4)
       (λ at sides k h. length-map sides length ∙ length-face s at sides k h) (length s) i (m .faces) j ef)
 
-pub length-intervals : (m : Mesh) → length (intervals m) ≡ length (listedPoints m)
+pub length-intervals : (m : TextMesh) → length (intervals m) ≡ length (listedPoints m)
 unfolding flat
 length-intervals m = go (m .faces)
   where
@@ -143,7 +143,7 @@ total-sides (ps ∷ sides) =
     let r = total-sides sides in
     omega arith
 
-pub total-lengths : (m : Mesh) → total (λ (k : ℕ). k) (lengths m) ≡ length (listedPoints m)
+pub total-lengths : (m : TextMesh) → total (λ (k : ℕ). k) (lengths m) ≡ length (listedPoints m)
 unfolding flat total
 total-lengths m = go (m .faces)
   where

@@ -9,16 +9,16 @@ use lib.ListN.{length}
 use lib.Ieee.{Float}
 use Rattle.text_numbers.specs.Numbers.{float}
 use Rattle.mesh_lines.specs.Grammar.{flat, sidePoints, sideIntervals}
-use Rattle.mesh_text.specs.Text.{Mesh}
+use Rattle.mesh_text.specs.Text.{TextMesh}
 
-abbrev pub coordinates : Mesh → List Float
+abbrev pub coordinates : TextMesh → List Float
 coordinates m = flat (map float) (m .points)
 
-abbrev pub lengths : Mesh → List ℕ
+abbrev pub lengths : TextMesh → List ℕ
 lengths m = flat (map length) (m .faces)
 
-abbrev pub listedPoints : Mesh → List ℕ
+abbrev pub listedPoints : TextMesh → List ℕ
 listedPoints m = flat (flat sidePoints) (m .faces)
 
-abbrev pub intervals : Mesh → List Float
+abbrev pub intervals : TextMesh → List Float
 intervals m = flat (flat sideIntervals) (m .faces)

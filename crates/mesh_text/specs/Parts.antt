@@ -5,19 +5,19 @@
 use mathlib.Core.List.{List, map}
 use Prim.Native.Nat.{ℕ}
 use lib.ListN.{length}
-use Rattle.text_numbers.specs.Form.{Found, given}
+use Rattle.text_numbers.specs.Form.{Parsed, ifParsed}
 use Rattle.mesh_lines.specs.Grammar.{flat}
 use Rattle.mesh_lines.specs.Parts.{lengthWord}
-use Rattle.mesh_text.specs.Text.{Mesh}
+use Rattle.mesh_text.specs.Text.{TextMesh}
 use Rattle.mesh_text.specs.Lists.{listedPoints}
 use Rattle.mesh_text.specs.declared.Total.{Total}
 use Rattle.mesh_text.specs.declared.Total.the-variants as Total
 
-abbrev pub lengthWords : Mesh → List ℕ
+abbrev pub lengthWords : TextMesh → List ℕ
 lengthWords m = flat (map lengthWord) (m .faces)
 
-abbrev pub totalOf : Found Mesh → Total
-totalOf x = given (λ m n. Total.Of (length (m .points)) (length (m .faces)) (length (listedPoints m))) Total.None x
+abbrev pub totalOf : Parsed TextMesh → Total
+totalOf x = ifParsed (λ m n. Total.Of (length (m .points)) (length (m .faces)) (length (listedPoints m))) Total.None x
 
 abbrev pub AtTotal : Total → Type 0 → Type 0
 AtTotal (Total.Of p f c) P = P

@@ -1,6 +1,6 @@
 -- What reading a text answers, and what it leaves in the lent lists.
 --     counts m                     how many points, faces and listed points
---     Lists                        the four lent lists
+--     TextLists                    the four lent lists
 --     within c limits xs ls ps ds  the counts are within the limits and the rooms of the lists
 --     readInto s limits l          the answer, and the lists after it
 use mathlib.Core.List.{List}
@@ -10,25 +10,25 @@ use lib.ListN.{length}
 use lib.Seq.{sets}
 use lib.Dec.{leb}
 use lib.Ieee.{Float}
-use Rattle.text_numbers.specs.Form.{given}
-use Rattle.mesh_text.specs.Text.{Mesh, text}
+use Rattle.text_numbers.specs.Form.{ifParsed}
+use Rattle.mesh_text.specs.Text.{TextMesh, text}
 use Rattle.mesh_text.specs.Lists.{coordinates, lengths, listedPoints, intervals}
 use Rattle.tables.specs.declared.Sizes.{Sizes}
 use Rattle.mesh_text.specs.declared.Reading.{Reading}
 use Rattle.mesh_text.specs.declared.Reading.the-variants as Reading
 
-abbrev pub counts : Mesh → Sizes
+abbrev pub counts : TextMesh → Sizes
 counts m = record { points = length (m .points); faces = length (m .faces); listed = length (listedPoints m) }
 
-pub record Lists : Type 0 where
+pub record TextLists : Type 0 where
   pub coordinates : List Float
   pub lengths : List ℕ
   pub listed : List ℕ
   pub intervals : List Float
 
 -- each list with what the text stands for at its front
-abbrev pub filled : Mesh → Lists → Lists
-filled m l = record {
+abbrev pub withText : TextMesh → TextLists → TextLists
+withText m l = record {
   coordinates = sets (l .coordinates) 0 (coordinates m);
   lengths = sets (l .lengths) 0 (lengths m);
   listed = sets (l .listed) 0 (listedPoints m);
@@ -41,16 +41,16 @@ within c limits xs ls ps ds =
     leb (c .points) (limits .points) && (leb (c .faces) (limits .faces) && (leb (c .listed) (limits .listed) && (leb (c .listed) 4294967295
     && (leb (3 * c .points) xs && (leb (4 * c .faces) ls && (leb (c .listed) ps && leb (c .listed) ds))))))
 
-pub record Answer : Type 0 where
+pub record ReadOutcome : Type 0 where
   pub reading : Reading
-  pub lists : Lists
+  pub lists : TextLists
 
 -- the form of the whole text is tested before anything is counted; a text that is not read leaves the lists as they are
-unfoldable pub readInto : List ℕ → Sizes → Lists → Answer
+unfoldable pub readInto : List ℕ → Sizes → TextLists → ReadOutcome
 readInto s limits l =
-    given (λ m n.
+    ifParsed (λ m n.
     cond (within (counts m) limits (length (l .coordinates)) (length (l .lengths)) (length (l .listed)) (length (l .intervals)))
-    (record { reading = Reading.Read (counts m); lists = filled m l })
+    (record { reading = Reading.Read (counts m); lists = withText m l })
     (record { reading = Reading.OverLimits; lists = l }))
     (record { reading = Reading.NotText; lists = l })
     (text s)

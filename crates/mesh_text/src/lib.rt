@@ -8,7 +8,7 @@ ghost use Prim.Native.Nat.{_≤_};
 ghost use lib.ListN.{length};
 ghost use Rattle.mesh_lines.specs.Parts.{stored};
 ghost use Rattle.mesh_text.specs.Text.{ends, text};
-ghost use Rattle.mesh_text.specs.Reading.{within, Answer, readInto};
+ghost use Rattle.mesh_text.specs.Reading.{within, ReadOutcome, readInto};
 ghost use Rattle.mesh_text.specs.Lists.{coordinates, listedPoints, intervals};
 ghost use Rattle.mesh_text.specs.Parts.{lengthWords, totalOf, AtTotal};
 use mesh_lines::Lines;
@@ -117,7 +117,7 @@ pub fn read_text(
     ps: &mut [u32],
     ds: &mut [f64],
 ) -> Reading
-    ensures { λ r. ⌜ _≡_ {A = Answer}
+    ensures { λ r. ⌜ _≡_ {A = ReadOutcome}
         (record { reading = r; lists = record { coordinates = now (xs .exit); lengths = now (ls .exit); listed = now (ps .exit); intervals = now (ds .exit) } })
         (readInto (now (s .entry)) limits
         (record { coordinates = now (xs .entry); lengths = now (ls .entry); listed = now (ps .entry); intervals = now (ds .entry) })) ⌝ }

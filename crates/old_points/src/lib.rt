@@ -58,24 +58,24 @@ fn face_between(edges: &[u32], intervals: &[f64], r: usize, next: usize) -> usiz
 fn radial_terms(
     edges: &[u32],
     intervals: &[f64],
-    places: &[f64],
-    halves: &[u32],
-    quads: &[u32],
+    newpositions: &[f64],
+    newedges: &[u32],
+    newfaces: &[u32],
     p: usize,
     r: usize,
     s: WeightedSum,
 ) -> WeightedSum
-    requires { ⌜ RadialFits (now edges) (now intervals) r (now places) (now halves) (now quads) ⌝ }
-    ensures { λ t. ⌜ t ≡ radialTerms (now (edges .entry)) (now (intervals .entry)) (edgePointAt (now (places .entry)) (now (halves .entry))) (facePointAt (now (places .entry)) (now (quads .entry))) p r s ⌝ }
+    requires { ⌜ RadialFits (now edges) (now intervals) r (now newpositions) (now newedges) (now newfaces) ⌝ }
+    ensures { λ t. ⌜ t ≡ radialTerms (now (edges .entry)) (now (intervals .entry)) (edgePointAt (now (newpositions .entry)) (now (newedges .entry))) (facePointAt (now (newpositions .entry)) (now (newfaces .entry))) p r s ⌝ }
 {
     let next = acw_about(edges, p, r);
     let f = face_between(edges, intervals, r, next);
     let edge_term = s.with_term(
-        load_edge_point(places, halves, r),
+        load_edge_point(newpositions, newedges, r),
         edge_weight(edges, intervals, p, r),
     );
     edge_term.with_term(
-        load_face_point(places, quads, f),
+        load_face_point(newpositions, newfaces, f),
         face_weight(edges, intervals, p, r, next),
     )
 }
@@ -84,15 +84,15 @@ fn radial_terms(
 fn radial_sum(
     edges: &[u32],
     intervals: &[f64],
-    places: &[f64],
-    halves: &[u32],
-    quads: &[u32],
+    newpositions: &[f64],
+    newedges: &[u32],
+    newfaces: &[u32],
     p: usize,
     start: usize,
     n: usize,
 ) -> WeightedSum
-    requires { ⌜ RadialFits (now edges) (now intervals) start (now places) (now halves) (now quads) ⌝ }
-    ensures { λ t. ⌜ t ≡ radialSum (now (edges .entry)) (now (intervals .entry)) (edgePointAt (now (places .entry)) (now (halves .entry))) (facePointAt (now (places .entry)) (now (quads .entry))) p start n ⌝ }
+    requires { ⌜ RadialFits (now edges) (now intervals) start (now newpositions) (now newedges) (now newfaces) ⌝ }
+    ensures { λ t. ⌜ t ≡ radialSum (now (edges .entry)) (now (intervals .entry)) (edgePointAt (now (newpositions .entry)) (now (newedges .entry))) (facePointAt (now (newpositions .entry)) (now (newfaces .entry))) p start n ⌝ }
 {
     let mut s = WeightedSum {
         sum: Position::origin(),
@@ -101,7 +101,7 @@ fn radial_sum(
     let mut r = start;
     let mut i = 0;
     while i < n {
-        s = radial_terms(edges, intervals, places, halves, quads, p, r, s);
+        s = radial_terms(edges, intervals, newpositions, newedges, newfaces, p, r, s);
         r = acw_about(edges, p, r);
         i += 1;
     }
@@ -133,22 +133,22 @@ pub fn old_point(
     points: &[u32],
     edges: &[u32],
     intervals: &[f64],
-    places: &[f64],
-    halves: &[u32],
-    quads: &[u32],
+    newpositions: &[f64],
+    newedges: &[u32],
+    newfaces: &[u32],
     p: usize,
 ) -> Placed
-    requires { ⌜ OldPointFits (now positions) (now points) (now edges) (now intervals) (now places) (now halves) (now quads) p ⌝ }
-    ensures { λ r. ⌜ r ≡ placedAt (oldPoint (now (positions .entry)) (now (points .entry)) (now (edges .entry)) (now (intervals .entry)) (edgePointAt (now (places .entry)) (now (halves .entry))) (facePointAt (now (places .entry)) (now (quads .entry))) p) ⌝ }
+    requires { ⌜ OldPointFits (now positions) (now points) (now edges) (now intervals) (now newpositions) (now newedges) (now newfaces) p ⌝ }
+    ensures { λ r. ⌜ r ≡ placedAt (oldPoint (now (positions .entry)) (now (points .entry)) (now (edges .entry)) (now (intervals .entry)) (edgePointAt (now (newpositions .entry)) (now (newedges .entry))) (facePointAt (now (newpositions .entry)) (now (newfaces .entry))) p) ⌝ }
 {
     let point = load_point(positions, points, p);
     let start = index(point.incoming_edge);
     let s = radial_sum(
         edges,
         intervals,
-        places,
-        halves,
-        quads,
+        newpositions,
+        newedges,
+        newfaces,
         p,
         start,
         index(point.valence),

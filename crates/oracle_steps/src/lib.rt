@@ -86,22 +86,22 @@ fn step_lent(
     edges: &mut [u32],
     intervals: &mut [f64],
     faces: &mut [u32],
-    places: &mut [f64],
-    rows: &mut [u32],
-    halves: &mut [u32],
-    lengths: &mut [f64],
-    quads: &mut [u32],
+    newpositions: &mut [f64],
+    newpoints: &mut [u32],
+    newedges: &mut [u32],
+    newintervals: &mut [f64],
+    newfaces: &mut [u32],
 ) -> Stepped {
     let a = least(held.positions, positions.len());
     let b = least(held.points, points.len());
     let c = least(held.edges, edges.len());
     let d = least(held.intervals, intervals.len());
     let e = least(held.faces, faces.len());
-    let f = least(scratch.positions, places.len());
-    let g = least(scratch.points, rows.len());
-    let h = least(scratch.edges, halves.len());
-    let i = least(scratch.intervals, lengths.len());
-    let j = least(scratch.faces, quads.len());
+    let f = least(scratch.positions, newpositions.len());
+    let g = least(scratch.points, newpoints.len());
+    let h = least(scratch.edges, newedges.len());
+    let i = least(scratch.intervals, newintervals.len());
+    let j = least(scratch.faces, newfaces.len());
     step(
         &mut positions[..a],
         &mut points[..b],
@@ -110,11 +110,11 @@ fn step_lent(
         &mut faces[..e],
         counts,
         order,
-        &mut places[..f],
-        &mut rows[..g],
-        &mut halves[..h],
-        &mut lengths[..i],
-        &mut quads[..j],
+        &mut newpositions[..f],
+        &mut newpoints[..g],
+        &mut newedges[..h],
+        &mut newintervals[..i],
+        &mut newfaces[..j],
     )
 }
 
@@ -125,11 +125,11 @@ fn make(t: Tables, s: Tables, counts: Counts, order: &[u32], held: Lent, scratch
     let mut edges = t.edges;
     let mut intervals = t.intervals;
     let mut faces = t.faces;
-    let mut places = s.positions;
-    let mut rows = s.points;
-    let mut halves = s.edges;
-    let mut lengths = s.intervals;
-    let mut quads = s.faces;
+    let mut newpositions = s.positions;
+    let mut newpoints = s.points;
+    let mut newedges = s.edges;
+    let mut newintervals = s.intervals;
+    let mut newfaces = s.faces;
     let answer = step_lent(
         held,
         scratch,
@@ -140,11 +140,11 @@ fn make(t: Tables, s: Tables, counts: Counts, order: &[u32], held: Lent, scratch
         &mut edges,
         &mut intervals,
         &mut faces,
-        &mut places,
-        &mut rows,
-        &mut halves,
-        &mut lengths,
-        &mut quads,
+        &mut newpositions,
+        &mut newpoints,
+        &mut newedges,
+        &mut newintervals,
+        &mut newfaces,
     );
     let tables = Tables {
         positions,
@@ -154,11 +154,11 @@ fn make(t: Tables, s: Tables, counts: Counts, order: &[u32], held: Lent, scratch
         faces,
     };
     let scratch = Tables {
-        positions: places,
-        points: rows,
-        edges: halves,
-        intervals: lengths,
-        faces: quads,
+        positions: newpositions,
+        points: newpoints,
+        edges: newedges,
+        intervals: newintervals,
+        faces: newfaces,
     };
     Made {
         answer,

@@ -15,41 +15,41 @@ use Rattle.tables.specs.Rows.{putRow}
 use Rattle.tables.specs.Mesh.{Mesh}
 use Rattle.tables.specs.declared.Counts.{Counts}
 use Rattle.refined_meshes.specs.State.{State}
-use Rattle.position_rules.specs.FacePoint.{facePointOf}
+use Rattle.position_rules.specs.FacePoint.{facePointIn}
 use Rattle.tables.specs.Parts.{withoutPoints}
 use Rattle.position_rules.proofs.Claims.{facePoint-tables}
-use Rattle.placing.specs.Placing.{EdgesFit, PointsFit}
-use Rattle.steps.specs.Positions.{Placing, on, stopped, put, putNext, placed, placedAll, facePointRow, edgePointRow, facePointRule, edgePointRule, oldPointRule}
+use Rattle.placing.specs.Placing.{EdgePointsFit, OldPointsFit}
+use Rattle.steps.specs.Positions.{Placing, so-far, not-finite, put, putNext, placedBy, placedAll, facePointRow, edgePointRow, facePointRule, edgePointRule, oldPointRule}
 
 module _ (row : ℕ → ℕ) (rule : ℕ → List Float → Position) (r : Placing) where
   -- one position more
-  pub placed-more : (i : ℕ) (ps : List Float) {x y z : Float} → placed i row rule r ≡ on ps → placedAt (rule i ps) ≡ At x y z
-      → placed (i + 1) row rule r ≡ on (putRow ps (row i * 3) (x ∷ y ∷ z ∷ []))
-  unfolding placed
+  pub placed-more : (i : ℕ) (ps : List Float) {x y z : Float} → placedBy i row rule r ≡ so-far ps → placedAt (rule i ps) ≡ At x y z
+      → placedBy (i + 1) row rule r ≡ so-far (putRow ps (row i * 3) (x ∷ y ∷ z ∷ []))
+  unfolding placedBy
   placed-more i ps h a = rw (add-one i) (ap (putNext (row i) (rule i)) h ∙ ap (λ p. put (row i) p ps) a)
 
   -- one that is not finite
-  placed-stop : (i : ℕ) (ps : List Float) → placed i row rule r ≡ on ps → placedAt (rule i ps) ≡ NotFinite → placed (suc i) row rule r ≡ stopped
-  unfolding placed
+  placed-stop : (i : ℕ) (ps : List Float) → placedBy i row rule r ≡ so-far ps → placedAt (rule i ps) ≡ NotFinite → placedBy (suc i) row rule r ≡ not-finite
+  unfolding placedBy
   placed-stop i ps h a = ap (putNext (row i) (rule i)) h ∙ ap (λ p. put (row i) p ps) a
 
   -- nothing follows it
-  stays-stopped : (n i : ℕ) → placed i row rule r ≡ stopped → i ≤ n → placed n row rule r ≡ stopped
-  unfolding placed
-  stays-stopped zero i h l = let e : 0 ≡ i = omega arith in ap (λ (k : ℕ). placed k row rule r) e ∙ h
+  stays-stopped : (n i : ℕ) → placedBy i row rule r ≡ not-finite → i ≤ n → placedBy n row rule r ≡ not-finite
+  unfolding placedBy
+  stays-stopped zero i h l = let e : 0 ≡ i = omega arith in ap (λ (k : ℕ). placedBy k row rule r) e ∙ h
   stays-stopped (suc n) i h l = go (decLt n i) (λ (k : i ≤ n). stays-stopped n i h k)
     where
-      go : Dec (n < i) → (i ≤ n → placed n row rule r ≡ stopped) → placed (suc n) row rule r ≡ stopped
-      go (yes lt) before = let e : suc n ≡ i = omega arith in ap (λ (k : ℕ). placed k row rule r) e ∙ h
+      go : Dec (n < i) → (i ≤ n → placedBy n row rule r ≡ not-finite) → placedBy (suc n) row rule r ≡ not-finite
+      go (yes lt) before = let e : suc n ≡ i = omega arith in ap (λ (k : ℕ). placedBy k row rule r) e ∙ h
       go (no g) before = ap (putNext (row n) (rule n)) (before (omega arith))
 
-  pub placed-ends : (n i : ℕ) (ps : List Float) → i < n → placed i row rule r ≡ on ps → placedAt (rule i ps) ≡ NotFinite
-      → placed n row rule r ≡ stopped
+  pub placed-ends : (n i : ℕ) (ps : List Float) → i < n → placedBy i row rule r ≡ so-far ps → placedAt (rule i ps) ≡ NotFinite
+      → placedBy n row rule r ≡ not-finite
   placed-ends n i ps l h a = stays-stopped n (suc i) (placed-stop i ps h a) l
 
 -- nothing is put after a position that was not finite
-pub placed-stopped : (n : ℕ) (row : ℕ → ℕ) (rule : ℕ → List Float → Position) → placed n row rule stopped ≡ stopped
-unfolding placed
+pub placed-stopped : (n : ℕ) (row : ℕ → ℕ) (rule : ℕ → List Float → Position) → placedBy n row rule not-finite ≡ not-finite
+unfolding placedBy
 placed-stopped zero row rule = refl
 placed-stopped (suc n) row rule = ap (putNext (row n) (rule n)) (placed-stopped n row rule)
 
@@ -57,45 +57,45 @@ placed-stopped (suc n) row rule = ap (putNext (row n) (rule n)) (placed-stopped 
 
 module _ (m : Mesh) (c : Counts) (s : State) where
   faces-same :
-      _≡_ {A = ℕ → Position} (λ f. facePointOf (withoutPoints (m .positions) (m .edges) (m .intervals) (m .faces)) (c .edges) f)
-      (λ f. facePointOf m (c .edges) f)
+      _≡_ {A = ℕ → Position} (λ f. facePointIn (withoutPoints (m .positions) (m .edges) (m .intervals) (m .faces)) (c .edges) f)
+      (λ f. facePointIn m (c .edges) f)
   faces-same = fun-ext (λ f. facePoint-tables m (c .edges) f)
 
   -- what the loop over the faces leaves, by the rule over the whole mesh
   pub faces-placed : (r : Placing) {q : Placing}
-      → placed (c .faces) (facePointRow s) (λ f ps. facePointOf (withoutPoints (m .positions) (m .edges) (m .intervals) (m .faces)) (c .edges) f) r ≡ q
-      → placed (c .faces) (facePointRow s) (facePointRule m c) r ≡ q
-  faces-placed r h = ap (λ (g : ℕ → Position). placed (c .faces) (facePointRow s) (λ f ps. g f) r) (sym faces-same) ∙ h
+      → placedBy (c .faces) (facePointRow s) (λ f ps. facePointIn (withoutPoints (m .positions) (m .edges) (m .intervals) (m .faces)) (c .edges) f) r ≡ q
+      → placedBy (c .faces) (facePointRow s) (facePointRule m c) r ≡ q
+  faces-placed r h = ap (λ (g : ℕ → Position). placedBy (c .faces) (facePointRow s) (λ f ps. g f) r) (sym faces-same) ∙ h
 
   module _ (ps : List Float) where
-    pub stopped-at-faces : placed (c .faces) (facePointRow s) (facePointRule m c) (on ps) ≡ stopped → placedAll m c s ps ≡ stopped
+    pub stopped-at-faces : placedBy (c .faces) (facePointRow s) (facePointRule m c) (so-far ps) ≡ not-finite → placedAll m c s ps ≡ not-finite
     unfolding placedAll
     stopped-at-faces h =
-        ap (λ (r : Placing). placed (c .points) (λ p. p) (oldPointRule m s) (placed (c .edges) (edgePointRow s) (edgePointRule m s) r)) h
-        ∙ ap (placed (c .points) (λ p. p) (oldPointRule m s)) (placed-stopped (c .edges) (edgePointRow s) (edgePointRule m s))
+        ap (λ (r : Placing). placedBy (c .points) (λ p. p) (oldPointRule m s) (placedBy (c .edges) (edgePointRow s) (edgePointRule m s) r)) h
+        ∙ ap (placedBy (c .points) (λ p. p) (oldPointRule m s)) (placed-stopped (c .edges) (edgePointRow s) (edgePointRule m s))
         ∙ placed-stopped (c .points) (λ p. p) (oldPointRule m s)
 
-    pub stopped-at-edges : (ps₁ : List Float) → placed (c .faces) (facePointRow s) (facePointRule m c) (on ps) ≡ on ps₁
-        → placed (c .edges) (edgePointRow s) (edgePointRule m s) (on ps₁) ≡ stopped → placedAll m c s ps ≡ stopped
+    pub stopped-at-edges : (ps₁ : List Float) → placedBy (c .faces) (facePointRow s) (facePointRule m c) (so-far ps) ≡ so-far ps₁
+        → placedBy (c .edges) (edgePointRow s) (edgePointRule m s) (so-far ps₁) ≡ not-finite → placedAll m c s ps ≡ not-finite
     unfolding placedAll
     stopped-at-edges ps₁ h k =
-        ap (λ (r : Placing). placed (c .points) (λ p. p) (oldPointRule m s) (placed (c .edges) (edgePointRow s) (edgePointRule m s) r)) h
-        ∙ ap (placed (c .points) (λ p. p) (oldPointRule m s)) k
+        ap (λ (r : Placing). placedBy (c .points) (λ p. p) (oldPointRule m s) (placedBy (c .edges) (edgePointRow s) (edgePointRule m s) r)) h
+        ∙ ap (placedBy (c .points) (λ p. p) (oldPointRule m s)) k
         ∙ placed-stopped (c .points) (λ p. p) (oldPointRule m s)
 
-    pub all-placed : (ps₁ ps₂ : List Float) (r : Placing) → placed (c .faces) (facePointRow s) (facePointRule m c) (on ps) ≡ on ps₁
-        → placed (c .edges) (edgePointRow s) (edgePointRule m s) (on ps₁) ≡ on ps₂
-        → placed (c .points) (λ p. p) (oldPointRule m s) (on ps₂) ≡ r → placedAll m c s ps ≡ r
+    pub all-placed : (ps₁ ps₂ : List Float) (r : Placing) → placedBy (c .faces) (facePointRow s) (facePointRule m c) (so-far ps) ≡ so-far ps₁
+        → placedBy (c .edges) (edgePointRow s) (edgePointRule m s) (so-far ps₁) ≡ so-far ps₂
+        → placedBy (c .points) (λ p. p) (oldPointRule m s) (so-far ps₂) ≡ r → placedAll m c s ps ≡ r
     unfolding placedAll
     all-placed ps₁ ps₂ r h k l =
-        ap (λ (q : Placing). placed (c .points) (λ p. p) (oldPointRule m s) (placed (c .edges) (edgePointRow s) (edgePointRule m s) q)) h
-        ∙ ap (placed (c .points) (λ p. p) (oldPointRule m s)) k
+        ap (λ (q : Placing). placedBy (c .points) (λ p. p) (oldPointRule m s) (placedBy (c .edges) (edgePointRow s) (edgePointRule m s) q)) h
+        ∙ ap (placedBy (c .points) (λ p. p) (oldPointRule m s)) k
         ∙ l
 
 -- ---- only the length of the table of new positions counts
 
-pub edges-fit-length : {ps is : List Float} {es halves quads : List ℕ} {ne : ℕ} {places new : List Float} → length new ≡ length places
-    → EdgesFit ps es is ne halves quads places → EdgesFit ps es is ne halves quads new
+pub edges-fit-length : {ps is : List Float} {es newedges newfaces : List ℕ} {ne : ℕ} {newpositions new : List Float} → length new ≡ length newpositions
+    → EdgePointsFit ps es is ne newedges newfaces newpositions → EdgePointsFit ps es is ne newedges newfaces new
 edges-fit-length same fit =
     record {
       rule-fits = λ other e. fit .rule-fits other (e ∙ same);
@@ -103,8 +103,8 @@ edges-fit-length same fit =
       place-there = λ e l. rw same (fit .place-there e l);
     }
 
-pub points-fit-length : {ps is : List Float} {ws es halves quads : List ℕ} {np : ℕ} {places new : List Float} → length new ≡ length places
-    → PointsFit ps ws es is np halves quads places → PointsFit ps ws es is np halves quads new
+pub points-fit-length : {ps is : List Float} {ws es newedges newfaces : List ℕ} {np : ℕ} {newpositions new : List Float} → length new ≡ length newpositions
+    → OldPointsFit ps ws es is np newedges newfaces newpositions → OldPointsFit ps ws es is np newedges newfaces new
 points-fit-length same fit =
     record {
       rule-fits = λ other e. fit .rule-fits other (e ∙ same);

@@ -1,6 +1,6 @@
 // The positions of the points after a step, put into their rows of the scratch tables: the face points, then the edge points,
 // then the old points. Each loop ends at the first position that is not finite.
-// Names: `halves` and `quads` are the tables of edges and faces of the refined mesh, `places` its table of positions.
+// Names: `newedges` and `newfaces` are the tables of edges and faces of the refined mesh, `newpositions` its table of positions.
 // Not here: the rules (`face_points`, `edge_points`, `old_points`), the rows (`visiting`).
 // Definitions: `steps`, specs/Positions.antt; what the loops ask: specs/Placing.antt.
 ghost use mathlib.Core.Path.{_≡_};
@@ -8,13 +8,13 @@ ghost use Prim.Native.Nat.{_+_, _*_};
 ghost use lib.ListN.{getD};
 ghost use Rattle.tables.specs.Layout.{edgeWidth, destWord, faceWidth, firstCornerWord};
 ghost use Rattle.tables.specs.Mesh.{meshOf};
-ghost use Rattle.position_rules.specs.FacePoint.{facePointOf};
+ghost use Rattle.position_rules.specs.FacePoint.{facePointIn};
 ghost use Rattle.tables.specs.Parts.{withoutPoints};
 ghost use Rattle.position_rules.specs.EdgePoint.{edgePoint};
 ghost use Rattle.position_rules.specs.OldPoint.{oldPoint};
 ghost use Rattle.position_rules.specs.Places.{edgePointAt, facePointAt};
-ghost use Rattle.steps.specs.Positions.{on, placed, placedAll};
-ghost use Rattle.placing.specs.Placing.{came, FacesFit, EdgesFit, PointsFit, rowsOf};
+ghost use Rattle.steps.specs.Positions.{so-far, placedBy, placedAll};
+ghost use Rattle.placing.specs.Placing.{came, FacePointsFit, EdgePointsFit, OldPointsFit, refinedTables};
 use edge_points::edge_point;
 use face_points::face_point;
 use old_points::old_point;
@@ -36,15 +36,15 @@ fn place_face_points(
     faces: &[u32],
     ne: usize,
     nf: usize,
-    quads: &[u32],
-    places: &mut [f64],
+    newfaces: &[u32],
+    newpositions: &mut [f64],
 ) -> bool
-    requires { ⌜ FacesFit (now positions) (now edges) (now intervals) (now faces) ne nf (now quads) (now places) ⌝ }
+    requires { ⌜ FacePointsFit (now positions) (now edges) (now intervals) (now faces) ne nf (now newfaces) (now newpositions) ⌝ }
     ensures { λ r. ⌜
-        placed nf (λ f. getD (now (quads .entry)) (f * faceWidth + firstCornerWord) 0)
-        (λ f ps. facePointOf (withoutPoints (now (positions .entry)) (now (edges .entry)) (now (intervals .entry)) (now (faces .entry))) ne f)
-        (on (now (places .entry)))
-        ≡ came r (now (places .exit)) ⌝ }
+        placedBy nf (λ f. getD (now (newfaces .entry)) (f * faceWidth + firstCornerWord) 0)
+        (λ f ps. facePointIn (withoutPoints (now (positions .entry)) (now (edges .entry)) (now (intervals .entry)) (now (faces .entry))) ne f)
+        (so-far (now (newpositions .entry)))
+        ≡ came r (now (newpositions .exit)) ⌝ }
 {
     let mut f = 0;
     while f < nf {
@@ -52,8 +52,8 @@ fn place_face_points(
             return false;
         };
         store_position(
-            places,
-            index(quads[f * FACE_WIDTH + FIRST_CORNER_WORD]),
+            newpositions,
+            index(newfaces[f * FACE_WIDTH + FIRST_CORNER_WORD]),
             Position { x, y, z },
         );
         f += 1;
@@ -67,25 +67,25 @@ fn place_edge_points(
     edges: &[u32],
     intervals: &[f64],
     ne: usize,
-    halves: &[u32],
-    quads: &[u32],
-    places: &mut [f64],
+    newedges: &[u32],
+    newfaces: &[u32],
+    newpositions: &mut [f64],
 ) -> bool
-    requires { ⌜ EdgesFit (now positions) (now edges) (now intervals) ne (now halves) (now quads) (now places) ⌝ }
+    requires { ⌜ EdgePointsFit (now positions) (now edges) (now intervals) ne (now newedges) (now newfaces) (now newpositions) ⌝ }
     ensures { λ r. ⌜
-        placed ne (λ e. getD (now (halves .entry)) (e * edgeWidth + destWord) 0)
-        (λ e ps. edgePoint (now (positions .entry)) (now (edges .entry)) (now (intervals .entry)) (facePointAt ps (now (quads .entry))) e)
-        (on (now (places .entry)))
-        ≡ came r (now (places .exit)) ⌝ }
+        placedBy ne (λ e. getD (now (newedges .entry)) (e * edgeWidth + destWord) 0)
+        (λ e ps. edgePoint (now (positions .entry)) (now (edges .entry)) (now (intervals .entry)) (facePointAt ps (now (newfaces .entry))) e)
+        (so-far (now (newpositions .entry)))
+        ≡ came r (now (newpositions .exit)) ⌝ }
 {
     let mut e = 0;
     while e < ne {
-        let Placed::At(x, y, z) = edge_point(positions, edges, intervals, places, quads, e) else {
+        let Placed::At(x, y, z) = edge_point(positions, edges, intervals, newpositions, newfaces, e) else {
             return false;
         };
         store_position(
-            places,
-            index(halves[e * EDGE_WIDTH + DEST_WORD]),
+            newpositions,
+            index(newedges[e * EDGE_WIDTH + DEST_WORD]),
             Position { x, y, z },
         );
         e += 1;
@@ -100,16 +100,16 @@ fn place_old_points(
     edges: &[u32],
     intervals: &[f64],
     np: usize,
-    halves: &[u32],
-    quads: &[u32],
-    places: &mut [f64],
+    newedges: &[u32],
+    newfaces: &[u32],
+    newpositions: &mut [f64],
 ) -> bool
-    requires { ⌜ PointsFit (now positions) (now points) (now edges) (now intervals) np (now halves) (now quads) (now places) ⌝ }
+    requires { ⌜ OldPointsFit (now positions) (now points) (now edges) (now intervals) np (now newedges) (now newfaces) (now newpositions) ⌝ }
     ensures { λ r. ⌜
-        placed np (λ p. p)
-        (λ p ps. oldPoint (now (positions .entry)) (now (points .entry)) (now (edges .entry)) (now (intervals .entry)) (edgePointAt ps (now (halves .entry))) (facePointAt ps (now (quads .entry))) p)
-        (on (now (places .entry)))
-        ≡ came r (now (places .exit)) ⌝ }
+        placedBy np (λ p. p)
+        (λ p ps. oldPoint (now (positions .entry)) (now (points .entry)) (now (edges .entry)) (now (intervals .entry)) (edgePointAt ps (now (newedges .entry))) (facePointAt ps (now (newfaces .entry))) p)
+        (so-far (now (newpositions .entry)))
+        ≡ came r (now (newpositions .exit)) ⌝ }
 {
     let mut p = 0;
     while p < np {
@@ -118,14 +118,14 @@ fn place_old_points(
             points,
             edges,
             intervals,
-            places,
-            halves,
-            quads,
+            newpositions,
+            newedges,
+            newfaces,
             p,
         ) else {
             return false;
         };
-        store_position(places, p, Position { x, y, z });
+        store_position(newpositions, p, Position { x, y, z });
         p += 1;
     }
     true
@@ -139,20 +139,20 @@ pub fn place_all(
     intervals: &[f64],
     faces: &[u32],
     counts: Counts,
-    halves: &[u32],
-    quads: &[u32],
-    places: &mut [f64],
+    newedges: &[u32],
+    newfaces: &[u32],
+    newpositions: &mut [f64],
 ) -> bool
-    requires { ⌜ FacesFit (now positions) (now edges) (now intervals) (now faces) (counts .edges) (counts .faces) (now quads) (now places) ⌝ }
-    requires { ⌜ EdgesFit (now positions) (now edges) (now intervals) (counts .edges) (now halves) (now quads) (now places) ⌝ }
-    requires { ⌜ PointsFit (now positions) (now points) (now edges) (now intervals) (counts .points) (now halves) (now quads) (now places) ⌝ }
+    requires { ⌜ FacePointsFit (now positions) (now edges) (now intervals) (now faces) (counts .edges) (counts .faces) (now newfaces) (now newpositions) ⌝ }
+    requires { ⌜ EdgePointsFit (now positions) (now edges) (now intervals) (counts .edges) (now newedges) (now newfaces) (now newpositions) ⌝ }
+    requires { ⌜ OldPointsFit (now positions) (now points) (now edges) (now intervals) (counts .points) (now newedges) (now newfaces) (now newpositions) ⌝ }
     ensures { λ r. ⌜
         placedAll
         (meshOf (now (positions .entry)) (now (points .entry)) (now (edges .entry)) (now (intervals .entry)) (now (faces .entry)))
         counts
-        (rowsOf (now (halves .entry)) (now (quads .entry)))
-        (now (places .entry))
-        ≡ came r (now (places .exit)) ⌝ }
+        (refinedTables (now (newedges .entry)) (now (newfaces .entry)))
+        (now (newpositions .entry))
+        ≡ came r (now (newpositions .exit)) ⌝ }
 {
     if !place_face_points(
         positions,
@@ -161,8 +161,8 @@ pub fn place_all(
         faces,
         counts.edges,
         counts.faces,
-        quads,
-        places,
+        newfaces,
+        newpositions,
     ) {
         return false;
     }
@@ -171,9 +171,9 @@ pub fn place_all(
         edges,
         intervals,
         counts.edges,
-        halves,
-        quads,
-        places,
+        newedges,
+        newfaces,
+        newpositions,
     ) {
         return false;
     }
@@ -183,8 +183,8 @@ pub fn place_all(
         edges,
         intervals,
         counts.points,
-        halves,
-        quads,
-        places,
+        newedges,
+        newfaces,
+        newpositions,
     )
 }

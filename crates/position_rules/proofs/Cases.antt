@@ -16,10 +16,10 @@ use Rattle.audited_meshes.specs.Walks.{faceWalk}
 use Rattle.audited_meshes.specs.Folds.{again}
 use Rattle.position_rules.specs.Intervals.{acwAbout, cwAbout, threeTerms}
 use Rattle.refined_meshes.specs.Turns.{turns}
-use Rattle.position_rules.specs.FacePoint.{sixTerms, windowWeight, windowSum, facePoint, facePointAbout, facePointOf}
+use Rattle.position_rules.specs.FacePoint.{sixTerms, windowWeight, windowSum, facePointOver, facePointAbout, facePointIn}
 use Rattle.position_rules.specs.EdgePoint.{shares, edgeMiddle, edgePoint}
 use Rattle.position_rules.specs.OldPoint.{radialEdge, edgeWeight, faceWeight, radialTerms, radialSum, oldPoint}
-use Rattle.position_rules.specs.Rules.{edgePointOf, oldPointOf}
+use Rattle.position_rules.specs.Rules.{edgePointIn, oldPointIn}
 
 -- numbers by their bits
 abbrev numbers : List ℕ → List Float
@@ -117,8 +117,8 @@ cube-oldPoints =
     ∷ at 0x3fdc71c71c71c71c 0x3fdc71c71c71c71c 0x3fdc71c71c71c71c
     ∷ []
 
-cube-faces : answers (facePointOf cube 12) 0 6 ≡ cube-facePoints
-unfolding facePointOf facePointAbout facePoint windowSum windowWeight sixTerms threeTerms acwAbout cwAbout turns again faceWalk add sub mul div neg ofBits
+cube-faces : answers (facePointIn cube 12) 0 6 ≡ cube-facePoints
+unfolding facePointIn facePointAbout facePointOver windowSum windowWeight sixTerms threeTerms acwAbout cwAbout turns again faceWalk add sub mul div neg ofBits
 cube-faces = refl
 
 cube-edges : answers (edgeRule cube cube-facePoints) 0 12 ≡ cube-edgePoints
@@ -130,9 +130,9 @@ unfolding oldPoint radialSum radialTerms radialEdge edgeWeight faceWeight acwAbo
 cube-olds = refl
 
 -- all of it at once
-cube-point-0 : placedAt (oldPointOf cube 12 0) ≡ at 0xbfdc71c71c71c71c 0xbfdc71c71c71c71c 0xbfdc71c71c71c71c
-unfolding oldPointOf edgePointOf oldPoint radialSum radialTerms radialEdge edgeWeight faceWeight edgePoint edgeMiddle
-    shares facePointOf facePointAbout facePoint windowSum windowWeight sixTerms threeTerms acwAbout cwAbout turns again
+cube-point-0 : placedAt (oldPointIn cube 12 0) ≡ at 0xbfdc71c71c71c71c 0xbfdc71c71c71c71c 0xbfdc71c71c71c71c
+unfolding oldPointIn edgePointIn oldPoint radialSum radialTerms radialEdge edgeWeight faceWeight edgePoint edgeMiddle
+    shares facePointIn facePointAbout facePointOver windowSum windowWeight sixTerms threeTerms acwAbout cwAbout turns again
     faceWalk add sub mul div neg ofBits le ofInt
 cube-point-0 = refl
 
@@ -147,8 +147,8 @@ zeroCube =
       faces = cube .faces;
     }
 
-zeroCube-faces : answers (facePointOf zeroCube 12) 0 6 ≡ replicate 6 NotFinite
-unfolding facePointOf facePointAbout facePoint windowSum windowWeight sixTerms threeTerms acwAbout cwAbout turns again faceWalk add sub mul div neg ofBits
+zeroCube-faces : answers (facePointIn zeroCube 12) 0 6 ≡ replicate 6 NotFinite
+unfolding facePointIn facePointAbout facePointOver windowSum windowWeight sixTerms threeTerms acwAbout cwAbout turns again faceWalk add sub mul div neg ofBits
 zeroCube-faces = refl
 
 -- ---- the cube, random intervals
@@ -204,8 +204,8 @@ uneven-oldPoints =
     ∷ at 0x3fe1a78a1690cb78 0x3fd833eda83e0d02 0x3fdfefb039444f30
     ∷ []
 
-uneven-faces : answers (facePointOf uneven 12) 0 6 ≡ uneven-facePoints
-unfolding facePointOf facePointAbout facePoint windowSum windowWeight sixTerms threeTerms acwAbout cwAbout turns again faceWalk add sub mul div neg ofBits
+uneven-faces : answers (facePointIn uneven 12) 0 6 ≡ uneven-facePoints
+unfolding facePointIn facePointAbout facePointOver windowSum windowWeight sixTerms threeTerms acwAbout cwAbout turns again faceWalk add sub mul div neg ofBits
 uneven-faces = refl
 
 uneven-edges : answers (edgeRule uneven uneven-facePoints) 0 12 ≡ uneven-edgePoints
@@ -257,8 +257,8 @@ triangles-oldPoints =
     ∷ at 0x3fda492492492493 0x3fc6db6db6db6db4 0x0000000000000000
     ∷ []
 
-triangles-faces : answers (facePointOf triangles 3) 0 2 ≡ triangles-facePoints
-unfolding facePointOf facePointAbout facePoint windowSum windowWeight sixTerms threeTerms acwAbout cwAbout turns again faceWalk add sub mul div neg ofBits
+triangles-faces : answers (facePointIn triangles 3) 0 2 ≡ triangles-facePoints
+unfolding facePointIn facePointAbout facePointOver windowSum windowWeight sixTerms threeTerms acwAbout cwAbout turns again faceWalk add sub mul div neg ofBits
 triangles-faces = refl
 
 triangles-edges : answers (edgeRule triangles triangles-facePoints) 0 3 ≡ triangles-edgePoints
@@ -337,8 +337,8 @@ small-oldPoints =
     ∷ at 0x3ff0000000000000 0x3ff0000000000000 0x3ff0000000000000
     ∷ []
 
-small-faces : answers (facePointOf small 12) 0 6 ≡ small-facePoints
-unfolding facePointOf facePointAbout facePoint windowSum windowWeight sixTerms threeTerms acwAbout cwAbout turns again faceWalk add sub mul div neg ofBits
+small-faces : answers (facePointIn small 12) 0 6 ≡ small-facePoints
+unfolding facePointIn facePointAbout facePointOver windowSum windowWeight sixTerms threeTerms acwAbout cwAbout turns again faceWalk add sub mul div neg ofBits
 small-faces = refl
 
 small-edges : answers (edgeRule small small-facePoints) 0 12 ≡ small-edgePoints

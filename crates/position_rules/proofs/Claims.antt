@@ -16,10 +16,10 @@ use Rattle.tables.specs.Records.{edgeAt}
 use Rattle.audited_meshes.specs.Walks.{touches, acwOfPoint, faceWalk, pointWalk}
 use Rattle.walks.proofs.Back.{back-first, back-next}
 use Rattle.position_rules.specs.Intervals.{acwAbout}
-use Rattle.position_rules.specs.FacePoint.{facePointAbout, facePointOf}
+use Rattle.position_rules.specs.FacePoint.{facePointAbout, facePointIn}
 use Rattle.position_rules.specs.EdgePoint.{edgePoint}
 use Rattle.position_rules.specs.OldPoint.{radialEdge, radialTerms, radialSum, oldPoint}
-use Rattle.position_rules.specs.Rules.{edgePointOf, oldPointOf}
+use Rattle.position_rules.specs.Rules.{edgePointIn, oldPointIn}
 use Rattle.position_rules.specs.Fits.{EdgesFit}
 use Rattle.position_rules.specs.Claims.{FacePointTables, EdgePointStands, OldPointStands, RadialRound}
 use Rattle.position_rules.proofs.Fits.{acw-below}
@@ -27,11 +27,11 @@ use Rattle.position_rules.proofs.Sums.{radialEdge-none, radialEdge-more
 use Rattle.position_rules.proofs.Audited.{edges-fit, common-below}
 
 pub facePoint-tables : FacePointTables
-unfolding facePointOf facePointAbout faceWalk
+unfolding facePointIn facePointAbout faceWalk
 facePoint-tables m ne f = refl
 
 pub edgePoint-stands : EdgePointStands
-unfolding edgePointOf edgePoint
+unfolding edgePointIn edgePoint
 edgePoint-stands m np ne nf new fs′ a h e l =
     rw (← h _ (a .edge-in-range e l .leftFace-in-range), ← h _ (a .edge-in-range e l .rightFace-in-range))
 
@@ -54,7 +54,7 @@ module _ (es : List ℕ) (is : List Float) (ne nf p s : ℕ) (fit : EdgesFit es 
       (terms-same (radialEdge es p s n) (radial-below l n) _)
 
 pub oldPoint-stands : OldPointStands
-unfolding oldPointOf oldPoint
+unfolding oldPointIn oldPoint
 oldPoint-stands m np ne nf new es′ fs′ a h hf he p l =
     rw (sum-same (m .edges) (m .intervals) ne nf p (start m p) (edges-fit m np ne nf a) (common-below m np ne nf a h p) _ _ _ _ he hf
     (a .start-in-range p l) (valence m p))

@@ -20,7 +20,7 @@ use Rattle.audited_meshes.specs.Folds.{again}
 use Rattle.walks.specs.declared.FaceBorder.{FaceBorder}
 use Rattle.walks.proofs.Laws.{getD-padded, border-walk, border-point, border-point-again}
 use Rattle.position_rules.specs.declared.WeightedSum.{WeightedSum}
-use Rattle.position_rules.specs.FacePoint.{windowSum, overWeight, facePoint, facePointAbout, facePointOf}
+use Rattle.position_rules.specs.FacePoint.{windowSum, overWeight, facePointOver, facePointAbout, facePointIn}
 use Rattle.position_rules.specs.Fits.{BorderFits, PointsFit, FacePointFits}
 
 cond-there : (b : Bool) (i j n : ℕ) → i * 3 + 3 ≤ n → j * 3 + 3 ≤ n → cond b i j * 3 + 3 ≤ n
@@ -77,8 +77,8 @@ module _ (ps : List Float) (es : List ℕ) (is : List Float) (fs : List ℕ) (ne
   unfolding faceWalk
   walked-mesh = h .walked
 
-  about : facePointOf (withoutPoints ps es is fs) ne f ≡ facePointAbout (withoutPoints ps es is fs) f (h .border)
-  unfolding facePointOf
+  about : facePointIn (withoutPoints ps es is fs) ne f ≡ facePointAbout (withoutPoints ps es is fs) f (h .border)
+  unfolding facePointIn
   about = ap (λ w. facePointAbout (withoutPoints ps es is fs) f (edgesOf w)) walked-mesh
 
   -- what is read from the arrays is read from the lists that they hold
@@ -94,8 +94,8 @@ module _ (ps : List Float) (es : List ℕ) (is : List Float) (fs : List ℕ) (ne
 
   pub facePoint-of-border : (b : FaceBorder) (s : WeightedSum) → b ≡ border (faceTables es fs) ne f
       → s ≡ windowSum ps es is (λ j. getD (b .points) j 0) (λ j. getD (b .edges) (around (b .n) j) 0) (b .n)
-      → overWeight s ≡ facePointOf (withoutPoints ps es is fs) ne f
-  unfolding facePointAbout facePoint
+      → overWeight s ≡ facePointIn (withoutPoints ps es is fs) ne f
+  unfolding facePointAbout facePointOver
   facePoint-of-border b s e q =
       let Sum : FaceBorder → WeightedSum = λ x. windowSum ps es is (λ j. getD (x .points) j 0) (λ j. getD (x .edges) (around (x .n) j) 0) (x .n) in
       let arrays : s ≡ Sum (borderOf (faceTables es fs) f (back (h .border))) =

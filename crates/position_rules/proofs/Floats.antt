@@ -289,7 +289,7 @@ module _ (d a c b x y : Float) (hd : intervalFit d ≡ true) (fd : T (fits binar
       go true f = second f (finite (add binary64 (add binary64 d a) c)) refl
       go false f = add-lost (add binary64 (add binary64 d a) c) b (add-lost (add binary64 d a) c f)
 
--- ---- halves
+-- ---- newedges
 
 abbrev pub half : Float → Float
 half d = mul binary64 d (ofBits binary64 0x3fe0000000000000)

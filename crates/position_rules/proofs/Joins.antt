@@ -20,9 +20,9 @@ use Rattle.audited_meshes.specs.Walks.{edgesOf, firstPoint}
 use Rattle.audited_meshes.specs.Audit.{intervalFit}
 use Rattle.audited_meshes.specs.Folds.{again}
 use Rattle.position_rules.specs.Intervals.{A2, C2, threeTerms}
-use Rattle.position_rules.specs.FacePoint.{sixTerms, windowWeight, windowSum, overWeight, facePoint, facePointAbout, facePointOf}
+use Rattle.position_rules.specs.FacePoint.{sixTerms, windowWeight, windowSum, overWeight, facePointOver, facePointAbout, facePointIn}
 use Rattle.position_rules.specs.Fits.{EdgesFit}
-use Rattle.position_rules.specs.Claims.{Found, JoiningFits}
+use Rattle.position_rules.specs.Claims.{WholeOrHalf, JoiningFits}
 use Rattle.position_rules.proofs.Audited.{edges-fit, border-of}
 use Rattle.position_rules.proofs.Fits.{acw-below, cw-below}
 use Rattle.position_rules.proofs.Floats.{AtMost, add-fit, add-lost, add-lost-right, mul-lost, mul-lost-right, div-lost, sum-lost, half-fit}
@@ -33,13 +33,13 @@ record FoundFit (d x : Float) : Type 0 where
   found-fit : intervalFit x ≡ true
   found-at-most : AtMost x d
 
-found-is : (d x : Float) → intervalFit d ≡ true → T (fits binary64 d) → Found d x → FoundFit d x
+found-is : (d x : Float) → intervalFit d ≡ true → T (fits binary64 d) → WholeOrHalf d x → FoundFit d x
 found-is d x h k (inl e) = rw e (record { found-fit = h; found-at-most = le-refl (num d * den d) })
 found-is d x h k (inr e) = rw e (record { found-fit = half-fit d h k .is-fit; found-at-most = half-fit d h k .at-most })
 
 module _ (es : List ℕ) (is : List Float) (ne : ℕ) (fit : EdgesFit es is ne) (clear : (e : ℕ) → e < ne → intervalFit (getD is e nan) ≡ true)
     (held : (e : ℕ) → T (fits binary64 (getD is e nan))) where
-  six-lost : (p e q g : ℕ) (next previous : Float) → e < ne → g < ne → Found (getD is e nan) next → Found (getD is g nan) previous
+  six-lost : (p e q g : ℕ) (next previous : Float) → e < ne → g < ne → WholeOrHalf (getD is e nan) next → WholeOrHalf (getD is g nan) previous
       → finite (add binary64 next previous) ≡ false → finite (sixTerms es is p e q g) ≡ false
   unfolding sixTerms threeTerms
   six-lost p e q g next previous l k x y lost =
@@ -67,8 +67,8 @@ module _ (ps : List Float) (es : List ℕ) (is : List Float) (pt ed : ℕ → �
       rw (windowSum-more ps es is pt ed (w + suc k))
       (add-lost _ _ (subst (λ i. finite (windowSum ps es is pt ed i .sum .x) ≡ false) (omega arith) (sum-x-lost k)))
 
-  point-lost : (n : ℕ) → w < n → finitePosition (facePoint ps es is pt ed n) ≡ false
-  unfolding facePoint
+  point-lost : (n : ℕ) → w < n → finitePosition (facePointOver ps es is pt ed n) ≡ false
+  unfolding facePointOver
   point-lost n l =
       let k : ℕ = n - (w + 1) in
       let all : w + k + 1 ≡ n = omega arith in
@@ -76,7 +76,7 @@ module _ (ps : List Float) (es : List ℕ) (is : List Float) (pt ed : ℕ → �
       (rw (div-lost _ _ (sum-x-lost k) (weight-lost k)))
 
 pub joining-fits : JoiningFits
-unfolding windowWeight facePointOf facePointAbout
+unfolding windowWeight facePointIn facePointAbout
 joining-fits m np ne nf f es w next previous a held l came b x y whole =
     add-fit next previous
     (found-is _ next (a .interval-fit _ (below (w + 2))) (held _) x .found-fit)
@@ -99,9 +99,9 @@ joining-fits m np ne nf f es w next previous a held l came b x y whole =
         mul-lost _ _
         (six-lost (m .edges) (m .intervals) ne (edges-fit m np ne nf a) (a .interval-fit) held (pt (w + 3)) (ed (w + 2)) (pt w) (ed w) next previous
         (below (w + 2)) (below w) x
-        (subst (λ j. Found (interval m (getD es j 0)) previous) (sym (around-same (length es) w b)) y) e)
+        (subst (λ j. WholeOrHalf (interval m (getD es j 0)) previous) (sym (around-same (length es) w b)) y) e)
 
-    at-walk : facePointOf m ne f ≡ facePoint (m .positions) (m .edges) (m .intervals) pt ed (length es)
+    at-walk : facePointIn m ne f ≡ facePointOver (m .positions) (m .edges) (m .intervals) pt ed (length es)
     at-walk = ap (λ z. facePointAbout m f (edgesOf z)) came
 
     -- the sum is finite, since otherwise the face point would not be

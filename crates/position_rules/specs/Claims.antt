@@ -2,8 +2,8 @@
 --     FacePointTables      the face point looks at the tables of positions, edges, intervals and faces alone
 --     WindowEdges          the edges of a face point's windows are the ones between their points: of all edges, the border's own edge
 --                          alone touches two consecutive points
---     EdgePointStands      where the face points stand in their places, the rule for edges gives the edge points
---     OldPointStands       where face points and edge points stand in their places, the rule for old points gives the old points
+--     EdgePointStands      where the face points stand in their newpositions, the rule for edges gives the edge points
+--     OldPointStands       where face points and edge points stand in their newpositions, the rule for old points gives the old points
 --     JoiningFits          where the face point is finite, every joining interval of the face is finite with the sign bit clear: it is
 --                          the sum of the intervals next to an edge of the border, each whole or halved
 --     RadialRound          the edges of the rule for old points are those that the walk about the point passes, once round
@@ -21,17 +21,17 @@ use Rattle.tables.specs.Mesh.{Mesh, none, start, interval}
 use Rattle.audited_meshes.specs.Walks.{back, faceWalk, pointWalk, firstPoint, Touches}
 use Rattle.audited_meshes.specs.Audit.{intervalFit}
 use Rattle.audited_meshes.specs.Audited.{Audited}
-use Rattle.position_rules.specs.FacePoint.{facePointOf}
+use Rattle.position_rules.specs.FacePoint.{facePointIn}
 use Rattle.audited_meshes.specs.Folds.{again}
 use Rattle.tables.specs.Parts.{withoutPoints}
 use Rattle.position_rules.specs.EdgePoint.{edgePoint}
 use Rattle.position_rules.specs.OldPoint.{radialEdge, oldPoint}
-use Rattle.position_rules.specs.Rules.{edgePointOf, oldPointOf}
+use Rattle.position_rules.specs.Rules.{edgePointIn, oldPointIn}
 use Rattle.position_rules.specs.Places.{edgePointAt, facePointAt}
 
 abbrev pub FacePointTables : Type 0
 FacePointTables =
-    (m : Mesh) (ne f : ℕ) → facePointOf (withoutPoints (m .positions) (m .edges) (m .intervals) (m .faces)) ne f ≡ facePointOf m ne f
+    (m : Mesh) (ne f : ℕ) → facePointIn (withoutPoints (m .positions) (m .edges) (m .intervals) (m .faces)) ne f ≡ facePointIn m ne f
 
 abbrev pub borderPoint : Mesh → ℕ → List ℕ → ℕ → ℕ
 borderPoint m f es j = getD (again 4 (map (firstPoint m f) es)) j 0
@@ -45,22 +45,22 @@ WindowEdges =
 
 -- the points of all faces and of all edges stand in the tables of the refined mesh
 abbrev pub FacePointsStand : Mesh → ℕ → ℕ → List Float → List ℕ → Type 0
-FacePointsStand m ne nf new fs′ = (f : ℕ) → f < nf → facePointAt new fs′ f ≡ facePointOf m ne f
+FacePointsStand m ne nf new fs′ = (f : ℕ) → f < nf → facePointAt new fs′ f ≡ facePointIn m ne f
 
 abbrev pub EdgePointsStand : Mesh → ℕ → List Float → List ℕ → Type 0
-EdgePointsStand m ne new es′ = (e : ℕ) → e < ne → edgePointAt new es′ e ≡ edgePointOf m ne e
+EdgePointsStand m ne new es′ = (e : ℕ) → e < ne → edgePointAt new es′ e ≡ edgePointIn m ne e
 
 abbrev pub EdgePointStands : Type 0
 EdgePointStands =
     (m : Mesh) (np ne nf : ℕ) (new : List Float) (fs′ : List ℕ) → Audited m np ne nf → FacePointsStand m ne nf new fs′
-    → (e : ℕ) → e < ne → edgePoint (m .positions) (m .edges) (m .intervals) (facePointAt new fs′) e ≡ edgePointOf m ne e
+    → (e : ℕ) → e < ne → edgePoint (m .positions) (m .edges) (m .intervals) (facePointAt new fs′) e ≡ edgePointIn m ne e
 
 abbrev pub OldPointStands : Type 0
 OldPointStands =
     (m : Mesh) (np ne nf : ℕ) (new : List Float) (es′ fs′ : List ℕ) → Audited m np ne nf → nf ≤ none
     → FacePointsStand m ne nf new fs′ → EdgePointsStand m ne new es′
     → (p : ℕ) → p < np
-    → oldPoint (m .positions) (m .points) (m .edges) (m .intervals) (edgePointAt new es′) (facePointAt new fs′) p ≡ oldPointOf m ne p
+    → oldPoint (m .positions) (m .points) (m .edges) (m .intervals) (edgePointAt new es′) (facePointAt new fs′) p ≡ oldPointIn m ne p
 
 abbrev pub RadialRound : Type 0
 RadialRound =
@@ -69,13 +69,13 @@ RadialRound =
     × (radialEdge (m .edges) p (start m p) (length es) ≡ start m p)
 
 -- whole, or halved by an earlier visit
-abbrev pub Found : Float → Float → Type 0
-Found d x = (x ≡ d) ⊎ (x ≡ mul binary64 d (ofBits binary64 0x3fe0000000000000))
+abbrev pub WholeOrHalf : Float → Float → Type 0
+WholeOrHalf d x = (x ≡ d) ⊎ (x ≡ mul binary64 d (ofBits binary64 0x3fe0000000000000))
 
 -- The edge between them is the one at the place after w. The tables hold binary64 numbers: of others it is not true.
 abbrev pub JoiningFits : Type 0
 JoiningFits =
     (m : Mesh) (np ne nf f : ℕ) (es : List ℕ) (w : ℕ) (next previous : Float) → Audited m np ne nf
     → ((e : ℕ) → T (fits binary64 (interval m e))) → f < nf → faceWalk m ne f ≡ back es → w < length es
-    → Found (interval m (getD es (around (length es) (w + 2)) 0)) next → Found (interval m (getD es w 0)) previous
-    → finitePosition (facePointOf m ne f) ≡ true → intervalFit (add binary64 next previous) ≡ true
+    → WholeOrHalf (interval m (getD es (around (length es) (w + 2)) 0)) next → WholeOrHalf (interval m (getD es w 0)) previous
+    → finitePosition (facePointIn m ne f) ≡ true → intervalFit (add binary64 next previous) ≡ true

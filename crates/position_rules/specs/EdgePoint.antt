@@ -12,7 +12,7 @@ use Prim.Native.Nat.{ℕ}
 use lib.ListN.{getD}
 use lib.Ieee.{Float, nan, add, sub, mul, div, ofBits, binary64}
 use Rattle.positions.specs.declared.Position.{Position}
-use Rattle.positions.specs.Position.{sum, product, quotient, small}
+use Rattle.positions.specs.Position.{plus, product, quotient, small}
 use Rattle.t_spline.specs.declared.TnurccEdge.{TnurccEdge}
 use Rattle.t_spline.specs.declared.TnurccConnection.{TnurccConnection}
 use Rattle.t_spline.specs.declared.TnurccConnection.the-variants.{LeftCw, LeftAcw, RightCw, RightAcw}
@@ -44,15 +44,15 @@ shares is edge =
 -- o at the weight wo and t at the weight wt
 abbrev pub middle : Position → Float → Position → Float → Position
 middle o wo t wt =
-    cond (small (add binary64 wo wt)) (product (sum o t) (ofBits binary64 0x3fe0000000000000))
-    (quotient (sum (product o wo) (product t wt)) (add binary64 wo wt))
+    cond (small (add binary64 wo wt)) (product (plus o t) (ofBits binary64 0x3fe0000000000000))
+    (quotient (plus (product o wo) (product t wt)) (add binary64 wo wt))
 
 unfoldable pub edgeMiddle : List Float → List ℕ → List Float → ℕ → ℕ → ℕ → Position
 edgeMiddle ps es is o t e = middle (positionAt ps o) (threeTerms es is o e) (positionAt ps t) (threeTerms es is t e)
 
 abbrev pub blend : Position → Shares → Position → Position → Position
 blend m a left right =
-    sum (sum (product m (sub binary64 (sub binary64 (ofBits binary64 0x3ff0000000000000) (a .right)) (a .left))) (product left (a .left)))
+    plus (plus (product m (sub binary64 (sub binary64 (ofBits binary64 0x3ff0000000000000) (a .right)) (a .left))) (product left (a .left)))
     (product right (a .right))
 
 unfoldable pub edgePoint : List Float → List ℕ → List Float → (ℕ → Position) → ℕ → Position

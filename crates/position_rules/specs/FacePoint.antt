@@ -4,9 +4,9 @@
 --     sixTerms             d, A2, C2 of one edge about a point, then of another edge about another point
 --     windowWeight         the weight of the window p0 .. p4 that begins at place i
 --     windowSum            the sums over the first windows
---     facePoint            the weighted sum of the middle points p2 over the sum of the weights, of n windows
+--     facePointOver        the weighted sum of the middle points p2 over the sum of the weights, of n windows
 --     facePointAbout       the face point of the face that a walk went about
---     facePointOf m ne f   the face point of face f, by the walk about it along the edges below ne
+--     facePointIn m ne f   the face point of face f, by the walk about it along the edges below ne
 use mathlib.Core.List.{List, map}
 use Prim.Native.Nat.{ℕ, _+_}
 use lib.ListN.{getD, length}
@@ -44,14 +44,14 @@ windowSum ps es is pt ed n = turns n (λ i s. withTerm s (positionAt ps (pt (i +
 abbrev pub overWeight : WeightedSum → Position
 overWeight s = quotient (s .sum) (s .weight)
 
-unfoldable pub facePoint : List Float → List ℕ → List Float → (ℕ → ℕ) → (ℕ → ℕ) → ℕ → Position
-facePoint ps es is pt ed n = overWeight (windowSum ps es is pt ed n)
+unfoldable pub facePointOver : List Float → List ℕ → List Float → (ℕ → ℕ) → (ℕ → ℕ) → ℕ → Position
+facePointOver ps es is pt ed n = overWeight (windowSum ps es is pt ed n)
 
 -- the points of the border followed by the first four again, and its edges round to the start
 unfoldable pub facePointAbout : Mesh → ℕ → List ℕ → Position
 facePointAbout m f es =
     let bp : List ℕ = again 4 (map (firstPoint m f) es) in
-    facePoint (m .positions) (m .edges) (m .intervals) (λ j. getD bp j 0) (λ j. getD es (around (length es) j) 0) (length es)
+    facePointOver (m .positions) (m .edges) (m .intervals) (λ j. getD bp j 0) (λ j. getD es (around (length es) j) 0) (length es)
 
-unfoldable pub facePointOf : Mesh → ℕ → ℕ → Position
-facePointOf m ne f = facePointAbout m f (edgesOf (faceWalk m ne f))
+unfoldable pub facePointIn : Mesh → ℕ → ℕ → Position
+facePointIn m ne f = facePointAbout m f (edgesOf (faceWalk m ne f))

@@ -13,7 +13,7 @@ use lib.IntN.{pos}
 use lib.ListN.{getD}
 use lib.Ieee.{Float, add, sub, mul, div, ofBits, ofInt, binary64}
 use Rattle.positions.specs.declared.Position.{Position}
-use Rattle.positions.specs.Position.{zeros, sum, product, quotient, small}
+use Rattle.positions.specs.Position.{zeros, plus, product, quotient, small}
 use Rattle.t_spline.specs.Edge.{commonFace}
 use Rattle.tables.specs.Layout.{pointWidth, startWord}
 use Rattle.tables.specs.Records.{positionAt, edgeAt}
@@ -50,7 +50,7 @@ radialSum es is ep fp p start n = turns n (λ i s. radialTerms es is ep fp p (ra
 abbrev pub moved : Position → Float → WeightedSum → Position
 moved place v s =
     cond (small (s .weight)) place
-    (sum (product place (div binary64 (sub binary64 v (ofBits binary64 0x4008000000000000)) v))
+    (plus (product place (div binary64 (sub binary64 v (ofBits binary64 0x4008000000000000)) v))
     (quotient (product (s .sum) (ofBits binary64 0x4008000000000000)) (mul binary64 v (s .weight))))
 
 -- ps and ws are the tables of positions and of points

@@ -1,6 +1,6 @@
 -- Positions.
 --     zeros                     the origin
---     sum p q                   coordinate by coordinate, as product p w and quotient p w by a number
+--     plus p q                  coordinate by coordinate, as product p w and quotient p w by a number
 --     tolerance, small v        document 01's t, and what it calls small
 --     finitePosition p          all three coordinates are finite
 --     placedAt p                the answer of a position rule: the three coordinates, or the word that one is not finite
@@ -14,8 +14,8 @@ use Rattle.positions.specs.declared.Placed.the-variants.{At, NotFinite}
 abbrev pub zeros : Position
 zeros = record { x = ofBits binary64 0; y = ofBits binary64 0; z = ofBits binary64 0 }
 
-abbrev pub sum : Position → Position → Position
-sum p q = record { x = add binary64 (p .x) (q .x); y = add binary64 (p .y) (q .y); z = add binary64 (p .z) (q .z) }
+abbrev pub plus : Position → Position → Position
+plus p q = record { x = add binary64 (p .x) (q .x); y = add binary64 (p .y) (q .y); z = add binary64 (p .z) (q .z) }
 
 abbrev pub product : Position → Float → Position
 product p w = record { x = mul binary64 (p .x) w; y = mul binary64 (p .y) w; z = mul binary64 (p .z) w }

@@ -1,7 +1,7 @@
 // Positions: three binary64 coordinates by value (document 01, "A position is three binary64 coordinates x, y, z").
 ghost use mathlib.Core.Path.{_≡_};
 ghost use lib.Ieee.Scale.{finite};
-ghost use Rattle.positions.specs.Position.{sum, product, quotient, zeros, small, finitePosition, placedAt};
+ghost use Rattle.positions.specs.Position.{plus, product, quotient, zeros, small, finitePosition, placedAt};
 
 // A position: its coordinates x, y and z.
 pub struct Position {
@@ -29,7 +29,7 @@ impl Position {
     }
 
     pub fn plus(self, q: Position) -> Self
-        ensures { λ r. ⌜ r ≡ sum self q ⌝ }
+        ensures { λ r. ⌜ r ≡ plus self q ⌝ }
     {
         Position {
             x: self.x + q.x,

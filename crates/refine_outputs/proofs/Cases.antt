@@ -5,8 +5,8 @@ use mathlib.Core.Path.{_≡_, refl}
 use mathlib.Core.List.{[], _∷_, _++_, map}
 use lib.Ieee.{add, div, le, lt, mul, neg, ofBits, ofInt, sub, toBits}
 use Rattle.text_numbers.specs.Form.{bytes, literal, many, stands, times}
-use Rattle.text_numbers.specs.Numbers.{bits, decimal, decimalFrom, digit, digitValue, digits, value}
-use Rattle.mesh_lines.specs.Grammar.{coordinate, face, listed, point, side, flat}
+use Rattle.text_numbers.specs.Numbers.{bits, decimal, decimalFrom, digit, digitValue, digitsFrom, value}
+use Rattle.mesh_lines.specs.Grammar.{coordinateForm, faceForm, listedForm, pointForm, sideForm, flat}
 use Rattle.mesh_text.specs.Text.{ends, mesh, text}
 use Rattle.mesh_answers.specs.Lines.{decimalDigits, hexByte, hexBytes}
 use Rattle.refine_outputs.specs.Output.{output}
@@ -15,11 +15,11 @@ use Rattle.audited_meshes.specs.Walks.{faceWalk}
 use Rattle.audited_meshes.specs.Folds.{again}
 use Rattle.refined_meshes.specs.Turns.{filled, turns}
 use Rattle.refined_meshes.specs.State.{copied, putEdge, putFace, putPoint, putStart}
-use Rattle.refined_meshes.specs.Split.{split, splitWhole}
+use Rattle.refined_meshes.specs.Split.{splitEdge, splitWhole}
 use Rattle.refined_meshes.specs.Ring.{putFacePoint, putFirst, putJoin, putNewFace, putSecond}
 use Rattle.refined_meshes.specs.Visits.{putRing, refinedRows, ringOf, splitAll, visit, visitAlong, visits}
 use Rattle.position_rules.specs.Intervals.{acwAbout, cwAbout, threeTerms}
-use Rattle.position_rules.specs.FacePoint.{facePoint, facePointAbout, facePointOf, sixTerms, windowSum, windowWeight}
+use Rattle.position_rules.specs.FacePoint.{facePointOver, facePointAbout, facePointIn, sixTerms, windowSum, windowWeight}
 use Rattle.position_rules.specs.EdgePoint.{edgeMiddle, edgePoint, shares}
 use Rattle.position_rules.specs.OldPoint.{edgeWeight, faceWeight, oldPoint, radialEdge, radialSum, radialTerms}
 use Rattle.edge_links.specs.Connect.{linksOf}
@@ -44,10 +44,10 @@ pub cube : output (bytes "[mesh 1]\n" ++
     bytes "[face [1 [3 3ff0000000000000]] [3 [7 3ff0000000000000]] [7 [5 3ff0000000000000]] [5 [1 3ff0000000000000]]]\n" ++
     bytes "[end]\n")
     ≡ bytes "[mesh 8 12 6]\n[step 26 48 24]\n[at 0 bfdc71c71c71c71c bfdc71c71c71c71c bfdc71c71c71c71c]\n"
-unfolding output digitValue value stands literal digit bits digits decimalFrom decimal many coordinate point listed side
-    face ends mesh text times flat toBits decimalDigits hexByte hexBytes build step numbered linksOf lt over zeroed
-    refinedRows copied visits visit faceWalk turns filled visitAlong splitAll splitWhole split ringOf putRing putJoin
-    putFirst putSecond putNewFace putFacePoint putEdge putPoint putStart putFace facePointOf facePointAbout facePoint
+unfolding output digitValue value stands literal digit bits digitsFrom decimalFrom decimal many coordinateForm pointForm listedForm sideForm
+    faceForm ends mesh text times flat toBits decimalDigits hexByte hexBytes build step numbered linksOf lt over zeroed
+    refinedRows copied visits visit faceWalk turns filled visitAlong splitAll splitWhole splitEdge ringOf putRing putJoin
+    putFirst putSecond putNewFace putFacePoint putEdge putPoint putStart putFace facePointIn facePointAbout facePointOver
     windowSum windowWeight sixTerms threeTerms acwAbout cwAbout again edgePoint edgeMiddle shares oldPoint radialSum
     radialTerms radialEdge edgeWeight faceWeight add sub mul div neg le ofBits ofInt
 cube = refl
@@ -70,10 +70,10 @@ zero-cube : output (bytes "[mesh 1]\n" ++
     bytes "[face [1 [3 0000000000000000]] [3 [7 0000000000000000]] [7 [5 0000000000000000]] [5 [1 0000000000000000]]]\n" ++
     bytes "[end]\n")
     ≡ bytes "[mesh 8 12 6]\n[refused 33]\n"
-unfolding output digitValue value stands literal digit bits digits decimalFrom decimal many coordinate point listed side
-    face ends mesh text times flat toBits decimalDigits hexByte hexBytes build step numbered linksOf lt over zeroed
-    refinedRows copied visits visit faceWalk turns filled visitAlong splitAll splitWhole split ringOf putRing putJoin
-    putFirst putSecond putNewFace putFacePoint putEdge putPoint putStart putFace facePointOf facePointAbout facePoint
+unfolding output digitValue value stands literal digit bits digitsFrom decimalFrom decimal many coordinateForm pointForm listedForm sideForm
+    faceForm ends mesh text times flat toBits decimalDigits hexByte hexBytes build step numbered linksOf lt over zeroed
+    refinedRows copied visits visit faceWalk turns filled visitAlong splitAll splitWhole splitEdge ringOf putRing putJoin
+    putFirst putSecond putNewFace putFacePoint putEdge putPoint putStart putFace facePointIn facePointAbout facePointOver
     windowSum windowWeight sixTerms threeTerms acwAbout cwAbout again edgePoint edgeMiddle shares oldPoint radialSum
     radialTerms radialEdge edgeWeight faceWeight add sub mul div neg le ofBits ofInt
 zero-cube = refl
@@ -83,5 +83,6 @@ texts : map (λ t. output (bytes t)) (
     "" ∷
     "[mesh 1]\n[point 7ff0000000000000 0000000000000000 0000000000000000]\n[end]\n" ∷ [])
     ≡ bytes "[mesh 0 0 0]\n[step 0 0 0]\n" ∷ bytes "[refused 1]\n" ∷ bytes "[refused 3]\n" ∷ []
-unfolding output digitValue value stands literal digit bits digits decimalFrom decimal many coordinate point listed side face ends mesh text times flat ofBits toBits decimalDigits
+unfolding output digitValue value stands literal digit bits digitsFrom decimalFrom decimal many coordinateForm pointForm
+    listedForm sideForm faceForm ends mesh text times flat ofBits toBits decimalDigits
 texts = refl

@@ -16,7 +16,7 @@ use Rattle.tables.specs.Records.{positionAt}
 use Rattle.tables.specs.declared.Counts.{Counts}
 use Rattle.tables.proofs.Laws.{length-over}
 use Rattle.refined_meshes.specs.State.{State}
-use Rattle.steps.specs.Positions.{on, placed, placedAll, facePointRow, edgePointRow, facePointRule, edgePointRule, oldPointRule}
+use Rattle.steps.specs.Positions.{so-far, placedBy, placedAll, facePointRow, edgePointRow, facePointRule, edgePointRule, oldPointRule}
 use Rattle.steps.specs.Step.{refinedCounts, step}
 use Rattle.tables.specs.Counted.{firstRows, overRows}
 use Rattle.steps.specs.declared.Stepped.{Stepped}
@@ -33,14 +33,14 @@ record Placed-first (qs : List Float) (n : ℕ) : Type 0 where
   is-finite : finitePosition (positionAt qs 0) ≡ true
 
 placed-first : (m : Mesh) (c : Counts) (s : State) (ps qs : List Float) → 0 < c .points → c .points * 3 ≤ length ps
-    → placedAll m c s ps ≡ on qs → Placed-first qs (length ps)
+    → placedAll m c s ps ≡ so-far qs → Placed-first qs (length ps)
 unfolding placedAll
 placed-first m c s ps qs some room e =
     let (ps2, e2) = placed-begun (λ p. p) (oldPointRule m s) (c .points) _ qs e in
     let (ps1, e1) = placed-begun (edgePointRow s) (edgePointRule m s) (c .edges) _ ps2 e2 in
     let l1 = length-placed (facePointRow s) (facePointRule m c) (c .faces) ps ps1 e1 in
-    let l2 = length-placed (edgePointRow s) (edgePointRule m s) (c .edges) ps1 ps2 (sym (ap (placed (c .edges) (edgePointRow s) (edgePointRule m s)) e1) ∙ e2) in
-    let e0 : placed (c .points) (λ p. p) (oldPointRule m s) (on ps2) ≡ on qs = sym (ap (placed (c .points) (λ p. p) (oldPointRule m s)) e2) ∙ e in
+    let l2 = length-placed (edgePointRow s) (edgePointRule m s) (c .edges) ps1 ps2 (sym (ap (placedBy (c .edges) (edgePointRow s) (edgePointRule m s)) e1) ∙ e2) in
+    let e0 : placedBy (c .points) (λ p. p) (oldPointRule m s) (so-far ps2) ≡ so-far qs = sym (ap (placedBy (c .points) (λ p. p) (oldPointRule m s)) e2) ∙ e in
     let l0 = length-placed (λ p. p) (oldPointRule m s) (c .points) ps2 qs e0 in
     let x = placed-at (λ p. p) (oldPointRule m s) (c .points) ps2 qs e0 (λ i j hi hj h. h) (λ i h. omega arith) 0 some in
     record { long = l0 ∙ l2 ∙ l1; is-finite = ap finitePosition (x .stands) ∙ x .is-finite }

@@ -19,7 +19,7 @@ use Rattle.audited_meshes.proofs.Tests.{and-is, leb-is, self-is}
 use Rattle.text_numbers.specs.Form.{bytes}
 use Rattle.mesh_answers.specs.Lines.{meshLine, stepLine}
 use Rattle.mesh_answers.proofs.Laws.{length-counts, length-at, length-refused}
-use Rattle.built_meshes.specs.Answers.{numberOf}
+use Rattle.built_meshes.specs.Answers.{groundNumber}
 use Rattle.building_tests.specs.declared.Bounds.the-variants.{Refine}
 use Rattle.text_meshes.specs.TextBuilding.{buildText}
 use Rattle.text_meshes.specs.Within.{AsLong, Within-limits}
@@ -32,9 +32,9 @@ use Rattle.steps.specs.declared.Stepped.{Stepped}
 use Rattle.steps.specs.declared.Stepped.the-variants.{Refined, NotClosed, NotEachFaceOnce, NoRoom, NotFinite}
 use Rattle.steps.proofs.Grounds.{step-is}
 use Rattle.runs.specs.Runs.{numbered}
-use Rattle.refine_outputs.specs.Output.{lent, pointLines, stepLines, linesOf, numberedStep, outputIf, output, Writing, writingIf, refine}
+use Rattle.refine_outputs.specs.Output.{zeroTables, pointLines, stepLines, linesOf, numberedStep, outputIf, output, Writing, writingIf, refine}
 use Rattle.refine_outputs.specs.Claims.{Two-answers}
-use Rattle.refine_outputs.specs.Bytes.{Long-text, Fits}
+use Rattle.refine_outputs.specs.Bytes.{Long-text, Output-fits}
 use Rattle.refine_outputs.proofs.Orders.{numbered-once}
 
 pub long-text : Long-text
@@ -43,8 +43,8 @@ long-text s h = rw (lt-ltb 16384 (length s) h)
 
 -- ---- the tables have room for the mesh after the step
 
-long-lent : (t : Mesh) → AsLong lent t → (256 ≤ pointRows t) × (512 ≤ edgeRows t) × (256 ≤ faceRows t)
-unfolding lent
+long-lent : (t : Mesh) → AsLong zeroTables t → (256 ≤ pointRows t) × (512 ≤ edgeRows t) × (256 ≤ faceRows t)
+unfolding zeroTables
 long-lent t h =
     let z = ofBits binary64 0 in
     let lp = h .positions ∙ length-replicate 768 z in
@@ -54,27 +54,27 @@ long-lent t h =
     let lf = h .faces ∙ length-replicate {A = ℕ} 1280 0 in
     (omega arith, omega arith, omega arith)
 
-rows-there : (c : Counts) (t : Mesh) → c .points ≤ 256 → c .edges ≤ 512 → c .faces ≤ 256 → AsLong lent t → rowsFor c t ≡ true
+rows-there : (c : Counts) (t : Mesh) → c .points ≤ 256 → c .edges ≤ 512 → c .faces ≤ 256 → AsLong zeroTables t → rowsFor c t ≡ true
 unfolding rowsFor
 rows-there c t hp he hf h =
     let (kp, ke, kf) = long-lent t h in
     and-is (and-is (leb-is (c .points) (pointRows t)) (leb-is (c .edges) (edgeRows t))) (leb-is (c .faces) (faceRows t)) .1
     ((omega arith, omega arith), omega arith)
 
-room-there : (c : Counts) (m : Mesh) → c .points ≤ 256 → c .edges ≤ 512 → c .faces ≤ 256 → AsLong lent m → roomFor c m lent ≡ true
+room-there : (c : Counts) (m : Mesh) → c .points ≤ 256 → c .edges ≤ 512 → c .faces ≤ 256 → AsLong zeroTables m → roomFor c m zeroTables ≡ true
 unfolding roomFor withinCeilings
 room-there c m hp he hf h =
-    let all : AsLong lent lent = record { positions = refl; points = refl; edges = refl; intervals = refl; faces = refl } in
-    and-is (and-is (self-is (rowsFor c m)) (self-is (rowsFor c lent)))
+    let all : AsLong zeroTables zeroTables = record { positions = refl; points = refl; edges = refl; intervals = refl; faces = refl } in
+    and-is (and-is (self-is (rowsFor c m)) (self-is (rowsFor c zeroTables)))
     (and-is (and-is (leb-is (c .points) 65536) (leb-is (c .edges) 131072)) (leb-is (c .faces) 65536)) .1
-    ((rows-there c m hp he hf h, rows-there c lent hp he hf all), ((omega arith, omega arith), omega arith))
+    ((rows-there c m hp he hf h, rows-there c zeroTables hp he hf all), ((omega arith, omega arith), omega arith))
 
 ended-answer : (m : Mesh) (c : Counts) (t : Mesh) (n : Made) → (ended m c t n .answer ≡ Refined c) ⊎ (ended m c t n .answer ≡ NotFinite)
 unfolding ended
 ended-answer m c t (whole n) = inl refl
 ended-answer m c t notFinite = inr refl
 
-step-answer : (m : Mesh) (c : Counts) → Within-limits Refine lent m c
+step-answer : (m : Mesh) (c : Counts) → Within-limits Refine zeroTables m c
     → (numberedStep c m .answer ≡ Refined (refinedCounts c)) ⊎ (numberedStep c m .answer ≡ NotFinite)
 unfolding numberedStep stepBy
 step-answer m c w =
@@ -82,12 +82,12 @@ step-answer m c w =
     let he = w .few-edges in
     let hf = w .few-faces in
     let room = room-there (refinedCounts c) m (omega arith) (omega arith) (omega arith) (w .as-long) in
-    rw (step-is m c (numbered (c .faces)) lent (w .passes) (numbered-once (c .faces)) room)
-    (ended-answer m (refinedCounts c) lent (made (firstRows c m) c (numbered (c .faces)) (firstRows (refinedCounts c) lent)))
+    rw (step-is m c (numbered (c .faces)) zeroTables (w .passes) (numbered-once (c .faces)) room)
+    (ended-answer m (refinedCounts c) zeroTables (made (firstRows c m) c (numbered (c .faces)) (firstRows (refinedCounts c) zeroTables)))
 
 pub two-answers : Two-answers
 two-answers s c a h =
-    rw (sym (h .stepped)) (step-answer (buildText Refine s lent .tables) c (accepted-within Refine s lent c (h .built)))
+    rw (sym (h .stepped)) (step-answer (buildText Refine s zeroTables .tables) c (accepted-within Refine s zeroTables c (h .built)))
 
 -- ---- 256 bytes hold every output
 
@@ -117,20 +117,20 @@ length-output (Accepted c) m =
     let k = length-step c (numberedStep c m .answer) (numberedStep c m .tables .positions) in
     omega arith
 length-output NotText m = let h = length-refused 1 in omega arith
-length-output (Refused g) m = let h = length-refused (numberOf g) in omega arith
+length-output (Refused g) m = let h = length-refused (groundNumber g) in omega arith
 
-pub fits : Fits
+pub fits : Output-fits
 unfolding refine output
 fits s out = go (leb 256 (length out)) refl
   where
-    go : (b : Bool) → leb 256 (length out) ≡ b → writingIf b (output s) out .length ≤ length (writingIf b (output s) out .out)
+    go : (b : Bool) → leb 256 (length out) ≡ b → writingIf b (output s) out .count ≤ length (writingIf b (output s) out .out)
     go true e =
         let h = leb-true 256 (length out) e in
-        let k = length-output (buildText Refine s lent .answer) (buildText Refine s lent .tables) in
+        let k = length-output (buildText Refine s zeroTables .answer) (buildText Refine s zeroTables .tables) in
         let l = length-sets out 0 (output s) in
         omega arith
     go false e = omega arith
 
 -- the same of what the function answers and leaves
-pub answer-fits : (s out : List ℕ) {r : ℕ} {out' : List ℕ} → record { length = r; out = out' } ≡ refine s out → r ≤ length out'
-answer-fits s out e = rw (ap (λ (w : Writing). w .length) e, ap (λ (w : Writing). w .out) e) (fits s out)
+pub answer-fits : (s out : List ℕ) {r : ℕ} {out' : List ℕ} → record { count = r; out = out' } ≡ refine s out → r ≤ length out'
+answer-fits s out e = rw (ap (λ (w : Writing). w .count) e, ap (λ (w : Writing). w .out) e) (fits s out)

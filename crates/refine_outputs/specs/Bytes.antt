@@ -1,6 +1,6 @@
 -- What is claimed of the numbers of bytes that are read and written.
 --     Long-text               of a text of more than 16,384 bytes the output is the ground 2, whatever the bytes are
---     Fits                    no more bytes are written than are lent: 256 hold every output
+--     Output-fits             no more bytes are written than are lent: 256 hold every output
 use mathlib.Core.Path.{_≡_}
 use mathlib.Core.List.{List}
 use Prim.Native.Nat.{ℕ, _≤_, _<_}
@@ -12,5 +12,5 @@ use Rattle.refine_outputs.specs.Output.{output, refine}
 abbrev pub Long-text : Type 0
 Long-text = (s : List ℕ) → refineBytes < length s → output s ≡ refusedLine 2
 
-abbrev pub Fits : Type 0
-Fits = (s out : List ℕ) → refine s out .length ≤ length (refine s out .out)
+abbrev pub Output-fits : Type 0
+Output-fits = (s out : List ℕ) → refine s out .count ≤ length (refine s out .out)

@@ -12,11 +12,11 @@ use Rattle.text_meshes.specs.declared.TextBuilt.the-variants.{Accepted}
 use Rattle.steps.specs.Step.{refinedCounts}
 use Rattle.steps.specs.declared.Stepped.{Stepped}
 use Rattle.steps.specs.declared.Stepped.the-variants.{Refined, NotFinite}
-use Rattle.refine_outputs.specs.Output.{lent, numberedStep}
+use Rattle.refine_outputs.specs.Output.{zeroTables, numberedStep}
 
 pub record Step-of (s : List ℕ) (c : Counts) (a : Stepped) : Type 0 where
-  pub built : buildText Refine s lent .answer ≡ Accepted c
-  pub stepped : numberedStep c (buildText Refine s lent .tables) .answer ≡ a
+  pub built : buildText Refine s zeroTables .answer ≡ Accepted c
+  pub stepped : numberedStep c (buildText Refine s zeroTables .tables) .answer ≡ a
 
 abbrev pub Two-answers : Type 0
 Two-answers = (s : List ℕ) (c : Counts) (a : Stepped) → Step-of s c a → (a ≡ Refined (refinedCounts c)) ⊎ (a ≡ NotFinite)

@@ -1,5 +1,5 @@
 -- What the program `refine` writes for the bytes of a text (document 01, "Mesh text").
---     lent                    the tables that it lends, and its scratch: zeros, with rows for 256 points, 512 edges and 256 faces
+--     zeroTables              the tables that it lends, and its scratch: zeros, with rows for 256 points, 512 edges and 256 faces
 --     outputBytes             the most bytes of an output
 --     pointLine ps            where point 0 is, by the table of positions ps
 --     groundLine ns           the line of a ground, by document 01's numbers of the answer
@@ -24,7 +24,7 @@ use Rattle.text_meshes.specs.TextBuilding.{buildText}
 use Rattle.text_meshes.specs.TextBuilding as text
 use Rattle.text_meshes.specs.declared.TextBuilt.{TextBuilt}
 use Rattle.text_meshes.specs.declared.TextBuilt.the-variants.{Accepted, NotText, Refused}
-use Rattle.steps.specs.Step.{step, Outcome as StepOutcome}
+use Rattle.steps.specs.Step.{step, StepOutcome}
 use Rattle.steps.specs.Step as steps
 use Rattle.steps.specs.declared.Stepped.{Stepped}
 use Rattle.steps.specs.declared.Stepped.the-variants.{Refined, NotClosed, NotEachFaceOnce, NoRoom, NotFinite}
@@ -34,8 +34,8 @@ use Rattle.mesh_answers.specs.Lines.{meshLine, stepLine, atLine, refusedLine}
 abbrev pub outputBytes : ℕ
 outputBytes = 256
 
-unfoldable pub lent : Mesh
-lent =
+unfoldable pub zeroTables : Mesh
+zeroTables =
     meshOf (replicate (256 * positionWidth) (ofBits binary64 0)) (replicate (256 * pointWidth) 0) (replicate (512 * edgeWidth) 0)
     (replicate 512 (ofBits binary64 0)) (replicate (256 * faceWidth) 0)
 
@@ -54,24 +54,24 @@ groundLine (g ∷ ns) = refusedLine g
 
 abbrev pub stepLines : Counts → Stepped → List Float → List ℕ
 stepLines c (Refined c') ps = stepLine (c' .points) (c' .edges) (c' .faces) ++ pointLines (c .points) ps
-stepLines c NotClosed ps = groundLine (steps.numbersOf NotClosed)
-stepLines c NotEachFaceOnce ps = groundLine (steps.numbersOf NotEachFaceOnce)
-stepLines c NoRoom ps = groundLine (steps.numbersOf NoRoom)
-stepLines c NotFinite ps = groundLine (steps.numbersOf NotFinite)
+stepLines c NotClosed ps = groundLine (steps.stepNumbers NotClosed)
+stepLines c NotEachFaceOnce ps = groundLine (steps.stepNumbers NotEachFaceOnce)
+stepLines c NoRoom ps = groundLine (steps.stepNumbers NoRoom)
+stepLines c NotFinite ps = groundLine (steps.stepNumbers NotFinite)
 
 abbrev pub linesOf : Counts → StepOutcome → List ℕ
 linesOf c o = stepLines c (o .answer) (o .tables .positions)
 
 unfoldable pub numberedStep : Counts → Mesh → StepOutcome
-unfolding step numbered lent
-numberedStep c m = step m c (numbered (c .faces)) lent
+unfolding step numbered zeroTables
+numberedStep c m = step m c (numbered (c .faces)) zeroTables
 
 -- by the answer of building, and the tables m that it left
 unfoldable pub outputIf : TextBuilt → Mesh → List ℕ
 unfolding numberedStep
 outputIf (Accepted c) m = meshLine (c .points) (c .edges) (c .faces) ++ linesOf c (numberedStep c m)
-outputIf NotText m = groundLine (text.numbersOf NotText)
-outputIf (Refused g) m = groundLine (text.numbersOf (Refused g))
+outputIf NotText m = groundLine (text.textNumbers NotText)
+outputIf (Refused g) m = groundLine (text.textNumbers (Refused g))
 
 -- by the tables m
 unfoldable pub outputFrom : List ℕ → Mesh → List ℕ
@@ -79,16 +79,16 @@ unfolding buildText outputIf
 outputFrom s m = let o = buildText Refine s m in outputIf (o .answer) (o .tables)
 
 unfoldable pub output : List ℕ → List ℕ
-unfolding outputFrom lent
-output s = outputFrom s lent
+unfolding outputFrom zeroTables
+output s = outputFrom s zeroTables
 
 pub record Writing : Type 0 where
-  pub length : ℕ
+  pub count : ℕ
   pub out : List ℕ
 
 abbrev pub writingIf : Bool → List ℕ → List ℕ → Writing
-writingIf true xs out = record { length = length xs; out = sets out 0 xs }
-writingIf false xs out = record { length = 0; out = out }
+writingIf true xs out = record { count = length xs; out = sets out 0 xs }
+writingIf false xs out = record { count = 0; out = out }
 
 unfoldable pub refine : List ℕ → List ℕ → Writing
 unfolding output

@@ -9,10 +9,10 @@ use lib.Ieee.{ofBits, binary64}
 use borrow.Author.Tests.{le-leb, lt-leb}
 use Rattle.tables.specs.Mesh.{Mesh, meshOf}
 use Rattle.tables.specs.declared.Counts.{Counts}
-use Rattle.built_meshes.specs.Answers.{numberOf}
+use Rattle.built_meshes.specs.Answers.{groundNumber}
 use Rattle.built_meshes.specs.declared.Ground.{Ground}
 use Rattle.building_tests.specs.declared.Bounds.the-variants.{Refine}
-use Rattle.text_meshes.specs.TextBuilding.{Outcome, buildText}
+use Rattle.text_meshes.specs.TextBuilding.{TextOutcome, buildText}
 use Rattle.text_meshes.specs.declared.TextBuilt.{TextBuilt}
 use Rattle.text_meshes.specs.declared.TextBuilt.the-variants.{Accepted, NotText, Refused}
 use Rattle.text_meshes.proofs.Theorem.{accepted-within}
@@ -23,7 +23,7 @@ use Rattle.text_numbers.specs.Form.{bytes}
 use Rattle.mesh_answers.specs.Lines.{meshLine, refusedLine}
 use Rattle.mesh_answers.specs.Writing.{Written}
 use Rattle.mesh_answers.proofs.Laws.{written-append, length-counts}
-use Rattle.refine_outputs.specs.Output.{lent, stepLines, linesOf, numberedStep, outputIf, outputFrom, output, refine}
+use Rattle.refine_outputs.specs.Output.{zeroTables, stepLines, linesOf, numberedStep, outputIf, outputFrom, output, refine}
 use Rattle.refine_outputs.specs.FirstPoint.{PointReady}
 use Rattle.refine_outputs.proofs.Orders.{take-numbered}
 use Rattle.refine_outputs.proofs.FirstPoint.{point-ready}
@@ -33,7 +33,7 @@ use Rattle.refine_text.specs.Parts.{SteppedTo}
 
 -- the order that is handed in is the numbered one
 pub in-numbered-order : (m : Mesh) (c : Counts) (o : List ℕ) {a : Stepped} {m' : Mesh} → c .faces ≤ 64 → o ≡ numbered 64
-    → SteppedTo a m' (step m c (take (c .faces) o) lent) → SteppedTo a m' (numberedStep c m)
+    → SteppedTo a m' (step m c (take (c .faces) o) zeroTables) → SteppedTo a m' (numberedStep c m)
 unfolding numberedStep
 in-numbered-order m c o few e h =
     let q : take (c .faces) o ≡ numbered (c .faces) = ap (take (c .faces)) e ∙ take-numbered (c .faces) 64 few in
@@ -42,7 +42,7 @@ in-numbered-order m c o few e h =
 module _ (c : Counts) (m : Mesh) {a : Stepped} {m' : Mesh} (h : SteppedTo a m' (numberedStep c m)) where
   pub ready : PointReady c a (m' .positions)
   unfolding numberedStep
-  ready = rw (h .answer, h .tables) (point-ready m c (numbered (c .faces)) lent)
+  ready = rw (h .answer, h .tables) (point-ready m c (numbered (c .faces)) zeroTables)
 
   -- the line of the counts, then those of the step
   pub written-both : {out : List ℕ} {i j : ℕ} {o1 o2 : List ℕ} → Written out 0 (meshLine (c .points) (c .edges) (c .faces)) i o1
@@ -64,10 +64,10 @@ step-room c w h l =
 
 module _ (s : List ℕ) (m : Mesh) {a : TextBuilt} {m' : Mesh} (e : record { answer = a; tables = m' } ≡ buildText Refine s m) where
   answered : buildText Refine s m .answer ≡ a
-  answered = ap (λ (o : Outcome). o .answer) (sym e)
+  answered = ap (λ (o : TextOutcome). o .answer) (sym e)
 
   left : buildText Refine s m .tables ≡ m'
-  left = ap (λ (o : Outcome). o .tables) (sym e)
+  left = ap (λ (o : TextOutcome). o .tables) (sym e)
 
   pub few : {c : Counts} → a ≡ Accepted c → c .faces ≤ 64
   few {c} h = accepted-within Refine s m c (answered ∙ h) .few-faces
@@ -86,24 +86,24 @@ module _ (s : List ℕ) (m : Mesh) {a : TextBuilt} {m' : Mesh} (e : record { ans
     unfolding outputIf
     written-not-text h w = rw (sym output-is, h) w
 
-    pub written-refused : {g : Ground} {n : ℕ} → a ≡ Refused g → n ≡ numberOf g → Written out 0 (refusedLine n) r out' → Written out 0 (outputFrom s m) r out'
+    pub written-refused : {g : Ground} {n : ℕ} → a ≡ Refused g → n ≡ groundNumber g → Written out 0 (refusedLine n) r out' → Written out 0 (outputFrom s m) r out'
     unfolding outputIf
     written-refused h e w = rw (sym output-is, h) (rw e at w)
 
 -- ---- the whole
 
 module _ (s out : List ℕ) where
-  pub no-room : length out < 256 → record { length = 0; out = out } ≡ refine s out
+  pub no-room : length out < 256 → record { count = 0; out = out } ≡ refine s out
   unfolding refine
   no-room h = rw (lt-leb 256 (length out) h)
 
-  written-output : {r : ℕ} {out' : List ℕ} → 256 ≤ length out → Written out 0 (output s) r out' → record { length = r; out = out' } ≡ refine s out
+  written-output : {r : ℕ} {out' : List ℕ} → 256 ≤ length out → Written out 0 (output s) r out' → record { count = r; out = out' } ≡ refine s out
   unfolding refine
   written-output h w = rw (le-leb 256 (length out) h, w .place, w .list, zero-add (length (output s)))
 
   pub written-by-zeros : {r : ℕ} {out' : List ℕ} → 256 ≤ length out
       → Written out 0
       (outputFrom s (meshOf (replicate 768 (ofBits binary64 0)) (replicate 768 0) (replicate 4096 0) (replicate 512 (ofBits binary64 0)) (replicate 1280 0))) r out'
-      → record { length = r; out = out' } ≡ refine s out
-  unfolding output lent
+      → record { count = r; out = out' } ≡ refine s out
+  unfolding output zeroTables
   written-by-zeros h w = written-output h w

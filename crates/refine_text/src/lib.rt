@@ -3,16 +3,16 @@
 // Not here: reading and writing (`refine`), the definition and its claims (`refine_outputs`), the lines of a step and the numbered
 // order (`refine_parts`).
 // Contract: `refine`. Definitions: `Output` of `refine_outputs`; `specs/Parts.antt`. Laws: `proofs/Steps.antt`, `proofs/Outputs.antt`.
-// Names: `places`, `rows`, `halves`, `lengths` and `quads` are the scratch tables of positions, points, edges, intervals, faces.
+// Names: `newpositions`, `newpoints`, `newedges`, `newintervals` and `newfaces` are the scratch tables of positions, points, edges, intervals, faces.
 ghost use mathlib.Core.Path.{_≡_};
 ghost use mathlib.Core.List.{_++_};
 ghost use Prim.Native.Nat.{_≤_};
 ghost use lib.ListN.{length};
 ghost use Rattle.tables.specs.Mesh.{meshOf};
-ghost use Rattle.built_meshes.specs.Lists.{refine as refineLimits};
+ghost use Rattle.built_meshes.specs.Lists.{refineLimits};
 ghost use Rattle.steps.specs.Step.{step};
 ghost use Rattle.mesh_answers.specs.Lines.{meshLine};
-ghost use Rattle.refine_outputs.specs.Output.{lent, linesOf, numberedStep, outputFrom, Writing, refine, outputBytes};
+ghost use Rattle.refine_outputs.specs.Output.{zeroTables, linesOf, numberedStep, outputFrom, Writing, refine, outputBytes};
 ghost use Rattle.mesh_answers.specs.Writing.{Written};
 ghost use Rattle.refine_text.specs.Parts.{SteppedTo};
 use answer_numbers::ground_number;
@@ -55,13 +55,13 @@ fn step_by_zeros(
     ensures { λ r. ⌜
         SteppedTo r (meshOf (now (positions .exit)) (now (points .exit)) (now (edges .exit)) (now (intervals .exit)) (now (faces .exit)))
         (step (meshOf (now (positions .entry)) (now (points .entry)) (now (edges .entry)) (now (intervals .entry)) (now (faces .entry)))
-        counts (now (order .entry)) lent) ⌝ }
+        counts (now (order .entry)) zeroTables) ⌝ }
 {
-    let mut places = [0.0; LENT_POINTS * POSITION_WIDTH];
-    let mut rows = [0u32; LENT_POINTS * POINT_WIDTH];
-    let mut halves = [0u32; LENT_EDGES * EDGE_WIDTH];
-    let mut lengths = [0.0; LENT_EDGES];
-    let mut quads = [0u32; LENT_FACES * FACE_WIDTH];
+    let mut newpositions = [0.0; LENT_POINTS * POSITION_WIDTH];
+    let mut newpoints = [0u32; LENT_POINTS * POINT_WIDTH];
+    let mut newedges = [0u32; LENT_EDGES * EDGE_WIDTH];
+    let mut newintervals = [0.0; LENT_EDGES];
+    let mut newfaces = [0u32; LENT_FACES * FACE_WIDTH];
     step(
         positions,
         points,
@@ -70,11 +70,11 @@ fn step_by_zeros(
         faces,
         counts,
         order,
-        &mut places,
-        &mut rows,
-        &mut halves,
-        &mut lengths,
-        &mut quads,
+        &mut newpositions,
+        &mut newpoints,
+        &mut newedges,
+        &mut newintervals,
+        &mut newfaces,
     )
 }
 
@@ -175,7 +175,7 @@ fn write_output(
 // Writes the output for a text of any bytes at the front of `out`, and answers how many bytes that are. Where fewer than 256
 // bytes are lent, nothing is written.
 pub fn refine(text: &[u8], out: &mut [u8]) -> usize
-    ensures { λ r. ⌜ _≡_ {A = Writing} (record { length = r; out = now (out .exit) }) (refine (now (text .entry)) (now (out .entry))) ⌝ }
+    ensures { λ r. ⌜ _≡_ {A = Writing} (record { count = r; out = now (out .exit) }) (refine (now (text .entry)) (now (out .entry))) ⌝ }
 {
     if out.len() < OUTPUT_BYTES {
         return 0;

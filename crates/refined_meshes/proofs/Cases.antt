@@ -10,7 +10,7 @@ use Rattle.tables.specs.Rows.{over}
 use Rattle.audited_meshes.specs.Walks.{faceWalk}
 use Rattle.refined_meshes.specs.Turns.{turns, filled}
 use Rattle.refined_meshes.specs.State.{State, putEdge, putPoint, putStart, putFace, copied}
-use Rattle.refined_meshes.specs.Split.{split, splitWhole}
+use Rattle.refined_meshes.specs.Split.{splitEdge, splitWhole}
 use Rattle.refined_meshes.specs.Ring.{putJoin, putFirst, putSecond, putNewFace, putFacePoint}
 use Rattle.refined_meshes.specs.Visits.{refinedRows, visits, visit, visitAlong, splitAll, ringOf, putRing}
 use Rattle.refined_meshes.proofs.Records.{cube, cubeNumbered, cubeLastToFirst, prism, prismRefined, triangles, trianglesRefined}
@@ -40,21 +40,21 @@ rowsOf m np ne nf =
     }
 
 cube-numbered : refinedRows cube 8 12 6 (0 ∷ 1 ∷ 2 ∷ 3 ∷ 4 ∷ 5 ∷ []) (used 26 48 24) ≡ rowsOf cubeNumbered 26 48 24
-unfolding refinedRows copied over visits visit faceWalk turns filled visitAlong splitAll splitWhole split ringOf putRing
+unfolding refinedRows copied over visits visit faceWalk turns filled visitAlong splitAll splitWhole splitEdge ringOf putRing
     putJoin putFirst putSecond putNewFace putFacePoint putEdge putPoint putStart putFace mul add ofBits
 cube-numbered = refl
 
 cube-last-to-first : refinedRows cube 8 12 6 (5 ∷ 4 ∷ 3 ∷ 2 ∷ 1 ∷ 0 ∷ []) (used 26 48 24) ≡ rowsOf cubeLastToFirst 26 48 24
-unfolding refinedRows copied over visits visit faceWalk turns filled visitAlong splitAll splitWhole split ringOf putRing
+unfolding refinedRows copied over visits visit faceWalk turns filled visitAlong splitAll splitWhole splitEdge ringOf putRing
     putJoin putFirst putSecond putNewFace putFacePoint putEdge putPoint putStart putFace mul add ofBits
 cube-last-to-first = refl
 
 two-triangles : refinedRows triangles 3 3 2 (0 ∷ 1 ∷ []) (used 8 12 6) ≡ rowsOf trianglesRefined 8 12 6
-unfolding refinedRows copied over visits visit faceWalk turns filled visitAlong splitAll splitWhole split ringOf putRing
+unfolding refinedRows copied over visits visit faceWalk turns filled visitAlong splitAll splitWhole splitEdge ringOf putRing
     putJoin putFirst putSecond putNewFace putFacePoint putEdge putPoint putStart putFace mul add ofBits
 two-triangles = refl
 
 prism-in-order : refinedRows prism 10 15 7 (0 ∷ 6 ∷ 1 ∷ 3 ∷ 2 ∷ 5 ∷ 4 ∷ []) (used 32 60 30) ≡ rowsOf prismRefined 32 60 30
-unfolding refinedRows copied over visits visit faceWalk turns filled visitAlong splitAll splitWhole split ringOf putRing
+unfolding refinedRows copied over visits visit faceWalk turns filled visitAlong splitAll splitWhole splitEdge ringOf putRing
     putJoin putFirst putSecond putNewFace putFacePoint putEdge putPoint putStart putFace mul add ofBits
 prism-in-order = refl

@@ -8,13 +8,13 @@
 use mathlib.Core.Path.{_≡_, refl, _∙_, ap}
 use mathlib.Core.Logic.{_⊎_, inl, inr}
 use Prim.Native.Nat.{ℕ, _≤_, _<_}
-use Rattle.closed_meshes.specs.Mesh.{Mesh as MeshOver, Dart, lft, rgt, edge, face}
+use Rattle.closed_meshes.specs.Mesh.{MeshOver, Dart, lft, rgt, edge, face}
 use Rattle.closed_meshes.specs.Closed.{Closed}
 use Rattle.closed_meshes.specs.Refinement.{mid, facePoint, org, dst, join}
 use Rattle.closed_meshes.specs.Renumbering.{Bijection, Row}
 use Rattle.closed_meshes.proofs.NewDarts.{start-half, end-half, inward, outward}
 use Rattle.tables.specs.Mesh.{Mesh, mark}
-use Rattle.refined_meshes.specs.State.{State, take}
+use Rattle.refined_meshes.specs.State.{State, takeRows}
 use Rattle.refined_meshes.specs.Fits.{RoomFor}
 use Rattle.refined_meshes.proofs.Leads.{when}
 use Rattle.refined_meshes.proofs.Numbering.{pointNo, edgeNo, faceNo}
@@ -98,7 +98,7 @@ module _ (m : Mesh) {np ne nf : ℕ} {t : MeshOver (Row np) (Row ne) (Row nf)} (
           })
 
   -- Taking rows changes no word.
-  pub content-taken : {S : Row ne → Type 0} {k : ℕ} {s : State} (p e f : ℕ) → Content S k s → Content S k (take p e f s)
+  pub content-taken : {S : Row ne → Type 0} {k : ℕ} {s : State} (p e f : ℕ) → Content S k s → Content S k (takeRows p e f s)
   content-taken {S} {k} {s} p e f h =
       record {
         room =
@@ -135,21 +135,21 @@ module _ (m : Mesh) {np ne nf : ℕ} {t : MeshOver (Row np) (Row ne) (Row nf)} (
             };
       }
     where
-      ends-taken : (i : ℕ) → ends (take p e f s) i ≡ ends s i
+      ends-taken : (i : ℕ) → ends (takeRows p e f s) i ≡ ends s i
       ends-taken i = unfold ends in refl
 
-      side-taken : (d : Dart ℕ) → side (take p e f s) d ≡ side s d
+      side-taken : (d : Dart ℕ) → side (takeRows p e f s) d ≡ side s d
       side-taken (lft i) = unfold side in refl
       side-taken (rgt i) = unfold side in refl
 
-      point-taken : (i : ℕ) → pointOf (take p e f s) i ≡ pointOf s i
+      point-taken : (i : ℕ) → pointOf (takeRows p e f s) i ≡ pointOf s i
       point-taken i = unfold pointOf in refl
 
-      link-taken : (d : Dart (Row ne)) → link (take p e f s) d ≡ link s d
+      link-taken : (d : Dart (Row ne)) → link (takeRows p e f s) d ≡ link s d
       link-taken (lft i) = unfold link side in refl
       link-taken (rgt i) = unfold link side in refl
 
-      start : (q : Row np) → Unchanged S s q ⊎ Latest S s q → Unchanged S (take p e f s) q ⊎ Latest S (take p e f s) q
+      start : (q : Row np) → Unchanged S s q ⊎ Latest S s q → Unchanged S (takeRows p e f s) q ⊎ Latest S (takeRows p e f s) q
       start q (inl u) = inl (record { none-split = u .none-split; start-kept = ap (λ x. x .start) (point-taken _) ∙ u .start-kept })
       start q (inr l) =
           inr

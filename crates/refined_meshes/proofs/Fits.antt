@@ -6,14 +6,14 @@ use Prim.Native.Nat.{ℕ, _+_, _-_, _*_, _≤_, _<_}
 use native.Mathlib.Omega.{arith}
 use lib.ListN.{getD}
 use borrow.Author.Tests.{ne-eqb}
-use Rattle.closed_meshes.specs.Mesh.{Mesh as MeshOver, edge, first}
+use Rattle.closed_meshes.specs.Mesh.{MeshOver, edge, first}
 use Rattle.closed_meshes.specs.Closed.{Closed}
 use Rattle.closed_meshes.specs.Refinement.{mid, facePoint, join, firstHalf, secondHalf}
 use Rattle.closed_meshes.specs.Renumbering.{Bijection, Row}
 use Rattle.tables.specs.Mesh.{Mesh}
 use Rattle.audited_meshes.specs.Walks.{edgesOf, passed, faceWalk, firstPoint}
 use Rattle.audited_meshes.specs.Rows.{Stands}
-use Rattle.refined_meshes.specs.State.{State, edgeOf, take, copied}
+use Rattle.refined_meshes.specs.State.{State, edgeOf, takeRows, copied}
 use Rattle.refined_meshes.specs.Ring.{Ring}
 use Rattle.refined_meshes.specs.Visits.{foundOn, ringOf, visits, refinedRows}
 use Rattle.refined_meshes.specs.Fits.{splitSome, ringAt, VisitFits, VisitsFit, AllTaken}
@@ -45,7 +45,7 @@ module _
 
     splitting : (i : ℕ) → i ≤ c .size f → Splitting m c order (when c order f) i (splitSome m np ne (f .0) i s)
     splitting i l =
-        splitting-some m c order f es i l edge-at (take 1 0 0 s) (splitting-begun m stands c order f es edge-at s h)
+        splitting-some m c order f es i l edge-at (takeRows 1 0 0 s) (splitting-begun m stands c order f es edge-at s h)
 
     rows-fit : (i : ℕ) → i < n → edgeOf (splitSome m np ne (f .0) i s) (getD es i 0) .dest < np
         → (splitSome m np ne (f .0) i s .pointsTaken < np + ne + nf) × (splitSome m np ne (f .0) i s .edgesTaken < 4 * ne)

@@ -7,7 +7,7 @@ use lib.ListN.{getD, replicate}
 use lib.Ieee.{Float, nan, ofBits, binary64}
 use Rattle.tables.specs.Mesh.{Mesh}
 use Rattle.refined_meshes.specs.Turns.{turns}
-use Rattle.refined_meshes.specs.State.{State, edgeOf, take}
+use Rattle.refined_meshes.specs.State.{State, edgeOf, takeRows}
 use Rattle.refined_meshes.specs.Split.{splitWhole}
 use Rattle.refined_meshes.specs.Ring.{Ring, firstHalfOf, secondHalfOf, putJoin, putFirst, putSecond, putNewFace, putFacePoint}
 use Rattle.refined_meshes.specs.Visits.{foundOn, splitAll, ringOf, putRing, visitAlong}
@@ -42,7 +42,7 @@ putRing-same m r es h s =
     let e2 : turns n (putFirst m w) s1 ≡ s2 = turns-cong n (putFirst m w) (putFirst m r) (λ i x l. rw (h i l)) s1 in
     let e3 : turns n (putSecond m w) s2 ≡ s3 = turns-cong n (putSecond m w) (putSecond m r) (λ i x l. rw (h i l)) s2 in
     let e4 : turns n (putNewFace m w) s3 ≡ turns n (putNewFace m r) s3 = turns-cong n (putNewFace m w) (putNewFace m r) (λ i x l. rw (h i l)) s3 in
-    ap (λ x. take 0 n (n - 1) (putFacePoint r x))
+    ap (λ x. takeRows 0 n (n - 1) (putFacePoint r x))
     (ap (λ x. turns n (putNewFace m w) (turns n (putSecond m w) x)) e2 ∙ ap (turns n (putNewFace m w)) e3 ∙ e4)
 
 module _ (m : Mesh) (np f n : ℕ) (es es' : List ℕ) (same : (i : ℕ) → i < n → getD es i 0 ≡ getD es' i 0) where
@@ -83,8 +83,8 @@ module _ (m : Mesh) (np f n : ℕ) (es es' : List ℕ) (same : (i : ℕ) → i <
   unfolding visitAlong
   visitAlong-same s =
       let p = s .pointsTaken in
-      let all : State = splitAll np es' n (take 1 0 0 s) in
-      ap (λ x. putRing m (ringOf m f es n p (foundOn es n s) x) x) (splitAll-same (take 1 0 0 s))
+      let all : State = splitAll np es' n (takeRows 1 0 0 s) in
+      ap (λ x. putRing m (ringOf m f es n p (foundOn es n s) x) x) (splitAll-same (takeRows 1 0 0 s))
       ∙ ap (λ x. putRing m (ringOf m f es n p x all) all) (foundOn-same s)
       ∙ ap (λ x. putRing m x all) (ringOf-same p (foundOn es' n s) all)
       ∙ putRing-same m (ringOf m f es' n p (foundOn es' n s) all) es (unfold ringOf in same) all

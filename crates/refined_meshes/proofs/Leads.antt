@@ -12,16 +12,16 @@ use native.Mathlib.Omega.{arith}
 use native.Mathlib.Decide.{decLt}
 use lib.Dec.{ltb}
 use borrow.Author.Tests.{ltb-true, ltb-false, lt-ltb, le-ltb}
-use Rattle.closed_meshes.specs.Mesh.{Mesh, Dart, lft, rgt, edge, flip, face}
+use Rattle.closed_meshes.specs.Mesh.{MeshOver, Dart, lft, rgt, edge, flip, face}
 use Rattle.closed_meshes.specs.Closed.{Closed}
 use Rattle.closed_meshes.specs.Renumbering.{Bijection, Row, sumTo}
 use Rattle.closed_meshes.proofs.Counting.{row-path}
 use Rattle.closed_meshes.proofs.Darts.{flip-flip, edge-flip}
 use Rattle.closed_meshes.proofs.Isomorphisms.{to-injective}
-use Rattle.audited_meshes.specs.Folds.{one}
+use Rattle.audited_meshes.specs.Folds.{oneIf}
 use Rattle.refined_meshes.proofs.Places.{dartAt, place, dartAt-place}
 
-module _ {np ne nf : ℕ} {t : Mesh (Row np) (Row ne) (Row nf)} (c : Closed t) (order : Bijection (Row nf) (Row nf)) where
+module _ {np ne nf : ℕ} {t : MeshOver (Row np) (Row ne) (Row nf)} (c : Closed t) (order : Bijection (Row nf) (Row nf)) where
   unfoldable pub when : Row nf → ℕ
   when f = order .to f .0
 
@@ -120,7 +120,7 @@ module _ {np ne nf : ℕ} {t : Mesh (Row np) (Row ne) (Row nf)} (c : Closed t) (
 
   -- 1 where the edge at place i is split at turn k
   unfoldable pub splitAt : ℕ → ℕ → ℕ
-  splitAt k i = atTurn k (λ f. one (leads (dartAt c f i)))
+  splitAt k i = atTurn k (λ f. oneIf (leads (dartAt c f i)))
 
   unfoldable pub splitsBefore : ℕ → ℕ → ℕ
   splitsBefore k i = sumTo i (splitAt k)
@@ -133,7 +133,7 @@ module _ {np ne nf : ℕ} {t : Mesh (Row np) (Row ne) (Row nf)} (c : Closed t) (
   unfolding sizeAt
   sizeAt-when f = atTurn-when f (λ f. c .size f)
 
-  pub splitAt-when : (d : Dart (Row ne)) → splitAt (when (face t d)) (place c d) ≡ one (leads d)
+  pub splitAt-when : (d : Dart (Row ne)) → splitAt (when (face t d)) (place c d) ≡ oneIf (leads d)
   unfolding splitAt
   splitAt-when d =
-      atTurn-when (face t d) (λ f. one (leads (dartAt c f (place c d)))) ∙ ap (λ x. one (leads x)) (dartAt-place c d)
+      atTurn-when (face t d) (λ f. oneIf (leads (dartAt c f (place c d)))) ∙ ap (λ x. oneIf (leads x)) (dartAt-place c d)

@@ -10,7 +10,7 @@ use native.Mathlib.Omega.{arith}
 use native.Mathlib.Decide.{decLt, ℕ-discrete}
 use lib.Dec.{eqb}
 use borrow.Author.Tests.{eq-eqb, ne-eqb}
-use Rattle.closed_meshes.specs.Mesh.{Mesh, Dart, edge, face}
+use Rattle.closed_meshes.specs.Mesh.{MeshOver, Dart, edge, face}
 use Rattle.closed_meshes.specs.Closed.{Closed}
 use Rattle.closed_meshes.specs.Refinement.{NewPoint, old, mid, facePoint, NewEdge, org, dst, join}
 use Rattle.closed_meshes.specs.Renumbering.{Bijection, Row, sumTo}
@@ -19,7 +19,7 @@ use Rattle.closed_meshes.proofs.Counts.{count-points, count-edges, count-darts}
 use Rattle.closed_meshes.proofs.Groupoid.{identity}
 use Rattle.closed_meshes.proofs.Isomorphisms.{to-injective}
 use Rattle.closed_meshes.proofs.Sums.{place-below as sum-below, place-unique, place-found}
-use Rattle.audited_meshes.specs.Folds.{one}
+use Rattle.audited_meshes.specs.Folds.{oneIf}
 use Rattle.refined_meshes.proofs.Places.{dartAt, place, face-dartAt, place-dartAt, place-below, place-injective}
 use Rattle.refined_meshes.proofs.Leads.{when, when-below, when-injective, when-from, leads, lead}
 use Rattle.refined_meshes.proofs.Leads.{edge-lead, leads-lead, lead-edge, atTurn-from, sizeAt}
@@ -47,15 +47,15 @@ slot-unique g k k' r r' h h' e =
     let s : sumTo k g ≡ sumTo k' g = ap (λ x. sumTo x g) i in
     (i, omega arith)
 
-one-true : (b : Bool) → 0 < one b → b ≡ true
+one-true : (b : Bool) → 0 < oneIf b → b ≡ true
 one-true true h = refl
 one-true false h = absurd (omega arith)
 
-one-below : (b : Bool) (q : ℕ) → q < one b → q ≡ 0
+one-below : (b : Bool) (q : ℕ) → q < oneIf b → q ≡ 0
 one-below true q h = omega arith
 one-below false q h = absurd (omega arith)
 
-module _ {np ne nf : ℕ} {t : Mesh (Row np) (Row ne) (Row nf)} (c : Closed t) (order : Bijection (Row nf) (Row nf)) where
+module _ {np ne nf : ℕ} {t : MeshOver (Row np) (Row ne) (Row nf)} (c : Closed t) (order : Bijection (Row nf) (Row nf)) where
   -- ---- the rows taken before a turn
 
   unfoldable pub pointsBefore : ℕ → ℕ
@@ -79,7 +79,7 @@ module _ {np ne nf : ℕ} {t : Mesh (Row np) (Row ne) (Row nf)} (c : Closed t) (
   slotOf-below e =
       let k : ℕ = when c order (face t (lead c order e)) in
       let i : place c (lead c order e) < sizeAt c order k = rw (sizeAt-when c order (face t (lead c order e))) (place-below c (lead c order e)) in
-      let s : splitAt c order k (place c (lead c order e)) ≡ 1 = splitAt-when c order (lead c order e) ∙ ap one (leads-lead c order e) in
+      let s : splitAt c order k (place c (lead c order e)) ≡ 1 = splitAt-when c order (lead c order e) ∙ ap oneIf (leads-lead c order e) in
       let b : sumTo (place c (lead c order e)) (splitAt c order k) + 0 < sumTo (sizeAt c order k) (splitAt c order k) =
       sum-below (splitAt c order k) (place c (lead c order e)) (sizeAt c order k) 0 i (omega arith) in
       omega arith
@@ -89,8 +89,8 @@ module _ {np ne nf : ℕ} {t : Mesh (Row np) (Row ne) (Row nf)} (c : Closed t) (
   slotOf-injective e e' h s =
       let k : ℕ = when c order (face t (lead c order e)) in
       let k' : ℕ = when c order (face t (lead c order e')) in
-      let a : splitAt c order k (place c (lead c order e)) ≡ 1 = splitAt-when c order (lead c order e) ∙ ap one (leads-lead c order e) in
-      let a' : splitAt c order k' (place c (lead c order e')) ≡ 1 = splitAt-when c order (lead c order e') ∙ ap one (leads-lead c order e') in
+      let a : splitAt c order k (place c (lead c order e)) ≡ 1 = splitAt-when c order (lead c order e) ∙ ap oneIf (leads-lead c order e) in
+      let a' : splitAt c order k' (place c (lead c order e')) ≡ 1 = splitAt-when c order (lead c order e') ∙ ap oneIf (leads-lead c order e') in
       let a'' : splitAt c order k (place c (lead c order e')) ≡ 1 = ap (λ x. splitAt c order x (place c (lead c order e'))) h ∙ a' in
       let s' : sumTo (place c (lead c order e')) (splitAt c order k) ≡ sumTo (place c (lead c order e')) (splitAt c order k') =
       ap (λ x. sumTo (place c (lead c order e')) (splitAt c order x)) h in
@@ -106,7 +106,7 @@ module _ {np ne nf : ℕ} {t : Mesh (Row np) (Row ne) (Row nf)} (c : Closed t) (
       let f : Row nf = order .from (k, h) in
       let i : ℕ = g .0 in
       let d : Dart (Row ne) = dartAt c f i in
-      let o : splitAt c order k i ≡ one (leads c order d) = unfold splitAt in atTurn-from c order k h (λ f. one (leads c order (dartAt c f i))) in
+      let o : splitAt c order k i ≡ oneIf (leads c order d) = unfold splitAt in atTurn-from c order k h (λ f. oneIf (leads c order (dartAt c f i))) in
       let z : g .2 ≡ 0 = one-below (leads c order d) (g .2) (rw (← o) (g .3)) in
       let y : leads c order d ≡ true = one-true (leads c order d) (omega (arith, g .3)) in
       let x : lead c order (edge d) ≡ d = lead-edge c order d y in

@@ -11,7 +11,7 @@ use native.Mathlib.Decide.{decLt, ℕ-discrete}
 use lib.Dec.{eqb}
 use lib.ListN.{length, getD}
 use borrow.Author.Tests.{eq-eqb, ne-eqb}
-use Rattle.closed_meshes.specs.Mesh.{Mesh}
+use Rattle.closed_meshes.specs.Mesh.{MeshOver}
 use Rattle.closed_meshes.specs.Closed.{Closed}
 use Rattle.closed_meshes.specs.Renumbering.{Bijection, Row}
 use Rattle.closed_meshes.proofs.Counting.{row-path, injective-onto, bijection}
@@ -57,7 +57,7 @@ module _ {nf : ℕ} (order : List ℕ) (once : EachOnce nf order) where
   unfolding orderOf faceOfTurn
   orderOf-from k = refl
 
-  module _ {np ne : ℕ} {t : Mesh (Row np) (Row ne) (Row nf)} (c : Closed t) where
+  module _ {np ne : ℕ} {t : MeshOver (Row np) (Row ne) (Row nf)} (c : Closed t) where
     pub when-turnIn : (f : Row nf) → when c orderOf f ≡ turnIn order (f .0)
     when-turnIn f =
         let k : ℕ = when c orderOf f in

@@ -7,12 +7,12 @@ use native.Mathlib.Omega.{arith}
 use native.Mathlib.Decide.{decLt}
 use Rattle.perimeters.specs.Places.{nextPlace, prevPlace}
 use Rattle.perimeters.proofs.Laws.{next-more, next-last, prev-below, next-prev}
-use Rattle.closed_meshes.specs.Mesh.{Mesh, Dart, face}
+use Rattle.closed_meshes.specs.Mesh.{MeshOver, Dart, face}
 use Rattle.closed_meshes.specs.Borders.{steps}
 use Rattle.closed_meshes.specs.Closed.{Closed}
 use Rattle.closed_meshes.proofs.Cycles.{rank-steps, cls-steps-start, steps-len, steps-rank, rank-injective}
 
-module _ {P E F : Type 0} {t : Mesh P E F} (c : Closed t) where
+module _ {P E F : Type 0} {t : MeshOver P E F} (c : Closed t) where
   unfoldable pub dartAt : F → ℕ → Dart E
   dartAt f i = steps (c .next) i (c .faceDart f)
 

@@ -12,7 +12,7 @@ use native.Mathlib.Omega.{arith}
 use lib.Ieee.{Float}
 use borrow.Author.Tests.{ltb-true, ltb-false, lt-ltb, le-ltb}
 use Rattle.perimeters.proofs.Laws.{prev-first}
-use Rattle.closed_meshes.specs.Mesh.{Mesh as MeshOver, Place, place0, place1, place2, place3, Dart, lft, rgt, edge, flip, first, face, acw, cw}
+use Rattle.closed_meshes.specs.Mesh.{MeshOver, Place, place0, place1, place2, place3, Dart, lft, rgt, edge, flip, first, face, acw, cw}
 use Rattle.closed_meshes.specs.Closed.{Closed}
 use Rattle.closed_meshes.specs.Refinement.{NewPoint, old, mid, facePoint, NewEdge, org, dst, join, firstHalf, refined}
 use Rattle.closed_meshes.specs.Renumbering.{Bijection, Touching, Row}

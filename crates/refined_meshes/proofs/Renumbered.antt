@@ -4,15 +4,15 @@
 --     renumbered-touching   its start edges touch if those do that were put
 use mathlib.Core.Path.{_≡_, _∙_, ap}
 use mathlib.Core.Option.{Option·map}
-use Rattle.closed_meshes.specs.Mesh.{Mesh, Dart, edge, first, face}
+use Rattle.closed_meshes.specs.Mesh.{MeshOver, Dart, edge, first, face}
 use Rattle.closed_meshes.specs.Renumbering.{Bijection, Isomorphism, Touching}
 use Rattle.closed_meshes.proofs.Isomorphisms.{edge-mapDart, dartTo, first-to, face-to}
 
 module _
-    {P E F P' E' F' : Type 0} (m : Mesh P E F) (ps : Bijection P P') (es : Bijection E E') (fs : Bijection F F') (start : P → E)
+    {P E F P' E' F' : Type 0} (m : MeshOver P E F) (ps : Bijection P P') (es : Bijection E E') (fs : Bijection F F') (start : P → E)
     (faceStart : F → E)
   where
-    abbrev pub renumbered : Mesh P' E' F'
+    abbrev pub renumbered : MeshOver P' E' F'
     renumbered =
         record {
           valence = λ p. m .valence (ps .from p);

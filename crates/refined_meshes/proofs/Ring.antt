@@ -9,7 +9,7 @@ use lib.Ieee.{nan}
 use Rattle.t_spline.specs.declared.TnurccEdge.{TnurccEdge}
 use Rattle.perimeters.specs.Places.{nextPlace, prevPlace}
 use Rattle.perimeters.proofs.Laws.{next-below, prev-below}
-use Rattle.closed_meshes.specs.Mesh.{Mesh as MeshOver, Dart, edge, first, face}
+use Rattle.closed_meshes.specs.Mesh.{MeshOver, Dart, edge, first, face}
 use Rattle.closed_meshes.specs.Closed.{Closed}
 use Rattle.closed_meshes.specs.Refinement.{mid, facePoint, NewEdge, join, firstHalf, secondHalf}
 use Rattle.closed_meshes.specs.Renumbering.{Bijection, Row}

@@ -7,14 +7,14 @@ use mathlib.Core.Bool.{Bool, true, false}
 use mathlib.Core.Logic.{_≢_}
 use Prim.Native.Nat.{ℕ, _+_, _-_, _<_}
 use native.Mathlib.Omega.{arith}
-use Rattle.closed_meshes.specs.Mesh.{Mesh as MeshOver, Dart, lft, rgt, edge, face}
+use Rattle.closed_meshes.specs.Mesh.{MeshOver, Dart, lft, rgt, edge, face}
 use Rattle.closed_meshes.specs.Closed.{Closed}
 use Rattle.closed_meshes.specs.Refinement.{NewPoint, facePoint, NewEdge, org, dst, join, firstHalf, secondHalf}
 use Rattle.closed_meshes.specs.Renumbering.{Bijection, Row}
 use Rattle.closed_meshes.proofs.NewDarts.{start-half, end-half, inward, outward}
 use Rattle.tables.specs.Mesh.{Mesh}
 use Rattle.refined_meshes.specs.Turns.{turns}
-use Rattle.refined_meshes.specs.State.{State, putEdge, putPoint, putFace, take}
+use Rattle.refined_meshes.specs.State.{State, putEdge, putPoint, putFace, takeRows}
 use Rattle.refined_meshes.specs.Ring.{Ring, joinRow, putJoin, putFirst, putSecond, putNewFace, putFacePoint}
 use Rattle.refined_meshes.specs.Visits.{putRing}
 use Rattle.refined_meshes.specs.Fits.{RoomFor}
@@ -102,13 +102,13 @@ module _ (m : Mesh) {np ne nf : ℕ} {t : MeshOver (Row np) (Row ne) (Row nf)} (
       last-below : n - 1 < n
       last-below = omega (arith, c .size-low f)
 
-      ring-is : putRing m r s ≡ take 0 n (n - 1) s5
+      ring-is : putRing m r s ≡ takeRows 0 n (n - 1) s5
       unfolding putRing putFacePoint
       ring-is =
-          ap (λ x. take 0 (r .size) (r .size - 1) (putPoint (r .centre) (r .size) (joinRow r (r .size - 1)) 0 x)) stages
-          ∙ ap (λ k. take 0 k (k - 1) (putPoint (r .centre) k (joinRow r (k - 1)) 0 s4)) (is .size-is)
-          ∙ ap (λ j. take 0 n (n - 1) (putPoint (r .centre) n j 0 s4)) (is .join-is (n - 1) last-below)
-          ∙ ap (λ p. take 0 n (n - 1) (putPoint p n (edgeNo c order (join (dartAt c f (n - 1)))) 0 s4)) (is .centre-is)
+          ap (λ x. takeRows 0 (r .size) (r .size - 1) (putPoint (r .centre) (r .size) (joinRow r (r .size - 1)) 0 x)) stages
+          ∙ ap (λ k. takeRows 0 k (k - 1) (putPoint (r .centre) k (joinRow r (k - 1)) 0 s4)) (is .size-is)
+          ∙ ap (λ j. takeRows 0 n (n - 1) (putPoint (r .centre) n j 0 s4)) (is .join-is (n - 1) last-below)
+          ∙ ap (λ p. takeRows 0 n (n - 1) (putPoint p n (edgeNo c order (join (dartAt c f (n - 1)))) 0 s4)) (is .centre-is)
 
       -- The tables that a loop does not write stay.
       edges-stay : (i : ℕ) → ends s5 i ≡ ends s3 i
@@ -225,24 +225,24 @@ module _ (m : Mesh) {np ne nf : ℕ} {t : MeshOver (Row np) (Row ne) (Row nf)} (
       faces-last i = refl
 
       -- taking rows changes no word
-      side-take : (d : Dart ℕ) → side (take 0 n (n - 1) s5) d ≡ side s5 d
+      side-take : (d : Dart ℕ) → side (takeRows 0 n (n - 1) s5) d ≡ side s5 d
       unfolding side
       side-take (lft i) = refl
       side-take (rgt i) = refl
 
-      ends-take : (i : ℕ) → ends (take 0 n (n - 1) s5) i ≡ ends s5 i
+      ends-take : (i : ℕ) → ends (takeRows 0 n (n - 1) s5) i ≡ ends s5 i
       unfolding ends
       ends-take i = refl
 
-      face-take : (i : ℕ) → faceOf (take 0 n (n - 1) s5) i ≡ faceOf s5 i
+      face-take : (i : ℕ) → faceOf (takeRows 0 n (n - 1) s5) i ≡ faceOf s5 i
       unfolding faceOf
       face-take i = refl
 
-      point-take : (i : ℕ) → pointOf (take 0 n (n - 1) s5) i ≡ pointOf s5 i
+      point-take : (i : ℕ) → pointOf (takeRows 0 n (n - 1) s5) i ≡ pointOf s5 i
       unfolding pointOf
       point-take i = refl
 
-      ringed-taken : Ringed f s (take 0 n (n - 1) s5)
+      ringed-taken : Ringed f s (takeRows 0 n (n - 1) s5)
       unfolding sideAt
       ringed-taken =
           record {

@@ -11,7 +11,7 @@ use native.Mathlib.Omega.{arith}
 use lib.ListN.{length, getD, take, drop, List·getD-append}
 use lib.Seq.{getD-take, length-take-le}
 use lib.Ieee.{nan}
-use Rattle.closed_meshes.specs.Mesh.{Mesh as MeshOver, edge}
+use Rattle.closed_meshes.specs.Mesh.{MeshOver, edge}
 use Rattle.closed_meshes.specs.Closed.{Closed}
 use Rattle.closed_meshes.specs.Refinement.{org}
 use Rattle.closed_meshes.specs.Renumbering.{Bijection, Row, sumTo}

@@ -5,7 +5,7 @@ use mathlib.Core.Logic.{_⊎_, inl, inr, _≢_}
 use Prim.Native.Nat.{ℕ, _+_, _*_, _≤_, _<_}
 use native.Mathlib.Omega.{arith}
 use native.Mathlib.Decide.{ℕ-discrete}
-use Rattle.closed_meshes.specs.Mesh.{Mesh as MeshOver, Dart, lft, rgt, edge, face}
+use Rattle.closed_meshes.specs.Mesh.{MeshOver, Dart, lft, rgt, edge, face}
 use Rattle.closed_meshes.specs.Closed.{Closed}
 use Rattle.closed_meshes.specs.Refinement.{NewPoint, old, mid, facePoint, NewEdge, org, dst, join}
 use Rattle.closed_meshes.specs.Renumbering.{Bijection, Row}
@@ -13,7 +13,7 @@ use Rattle.closed_meshes.proofs.Counting.{row-path}
 use Rattle.closed_meshes.proofs.NewDarts.{start-half, end-half, inward, outward}
 use Rattle.tables.specs.Mesh.{Mesh, mark}
 use Rattle.refined_meshes.specs.State.{State}
-use Rattle.refined_meshes.specs.Split.{split}
+use Rattle.refined_meshes.specs.Split.{splitEdge}
 use Rattle.refined_meshes.proofs.Leads.{when}
 use Rattle.refined_meshes.proofs.Numbering.{pointNo, edgeNo, faceNo, pointNo-injective, edgeNo-injective, pointNo-fits, edgeNo-fits}
 use Rattle.refined_meshes.proofs.Words.{ends, side, pointOf}
@@ -38,7 +38,7 @@ module _ (m : Mesh) {np ne nf : ℕ} {t : MeshOver (Row np) (Row ne) (Row nf)} (
       (later : (e' : Row ne) → S e' → edgeNo c order (dst e') ≤ edgeNo c order (dst e))
     where
       abbrev split-state : State
-      split-state = split (e .0) s
+      split-state = splitEdge (e .0) s
 
       e-below : e .0 < 4 * ne
       e-below = unfold edgeNo in edgeNo-fits c order (org e)

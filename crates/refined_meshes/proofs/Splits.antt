@@ -13,15 +13,15 @@ use native.Mathlib.Decide.{ℕ-discrete}
 use lib.Dec.{ltb}
 use lib.ListN.{getD}
 use borrow.Author.Tests.{ltb-false, lt-ltb, le-ltb}
-use Rattle.closed_meshes.specs.Mesh.{Mesh as MeshOver, Dart, lft, rgt, edge, flip, face}
+use Rattle.closed_meshes.specs.Mesh.{MeshOver, Dart, lft, rgt, edge, flip, face}
 use Rattle.closed_meshes.specs.Closed.{Closed}
 use Rattle.closed_meshes.specs.Refinement.{mid, dst}
 use Rattle.closed_meshes.specs.Renumbering.{Bijection, Row, sumTo}
 use Rattle.closed_meshes.proofs.Sums.{place-below as sum-below}
 use Rattle.tables.specs.Mesh.{Mesh}
-use Rattle.audited_meshes.specs.Folds.{one}
+use Rattle.audited_meshes.specs.Folds.{oneIf}
 use Rattle.refined_meshes.specs.State.{State, edgeOf, putEdge, putPoint, putStart}
-use Rattle.refined_meshes.specs.Split.{split, splitIf, splitWhole}
+use Rattle.refined_meshes.specs.Split.{splitEdge, splitIf, splitWhole}
 use Rattle.refined_meshes.specs.Visits.{splitAll}
 use Rattle.refined_meshes.proofs.Places.{dartAt, place, face-dartAt, place-dartAt, place-injective}
 use Rattle.refined_meshes.proofs.Leads.{when, when-injective, leads, lead, leads-lead, lead-edge, lead-across, edge-lead, splitAt, splitAt-when, splitsBefore, splits, sizeAt}
@@ -71,7 +71,7 @@ module _ {np ne nf : ℕ} {t : MeshOver (Row np) (Row ne) (Row nf)} (c : Closed 
   slot-below k i e h l =
       let s : splitAt c order k (place c (lead c order e)) ≡ 1 =
       ap (λ x. splitAt c order x (place c (lead c order e))) (sym h) ∙ splitAt-when c order (lead c order e)
-      ∙ ap one (leads-lead c order e) in
+      ∙ ap oneIf (leads-lead c order e) in
       let b : sumTo (place c (lead c order e)) (splitAt c order k) + 0 < sumTo i (splitAt c order k) =
       sum-below (splitAt c order k) (place c (lead c order e)) i 0 l (omega arith) in
       rw h (omega arith)
@@ -88,16 +88,16 @@ module _ {np ne nf : ℕ} {t : MeshOver (Row np) (Row ne) (Row nf)} (c : Closed 
 -- ---- one place
 
 -- the rows that a split takes
-points-split : (s : State) (e : ℕ) → split e s .pointsTaken ≡ s .pointsTaken + 1
-unfolding split putStart putPoint putEdge
+points-split : (s : State) (e : ℕ) → splitEdge e s .pointsTaken ≡ s .pointsTaken + 1
+unfolding splitEdge putStart putPoint putEdge
 points-split s e = refl
 
-edges-split : (s : State) (e : ℕ) → split e s .edgesTaken ≡ s .edgesTaken + 1
-unfolding split putStart putPoint putEdge
+edges-split : (s : State) (e : ℕ) → splitEdge e s .edgesTaken ≡ s .edgesTaken + 1
+unfolding splitEdge putStart putPoint putEdge
 edges-split s e = refl
 
-faces-split : (s : State) (e : ℕ) → split e s .facesTaken ≡ s .facesTaken
-unfolding split putStart putPoint putEdge
+faces-split : (s : State) (e : ℕ) → splitEdge e s .facesTaken ≡ s .facesTaken
+unfolding splitEdge putStart putPoint putEdge
 faces-split s e = add-zero (s .facesTaken)
 
 module _ (m : Mesh) {np ne nf : ℕ} {t : MeshOver (Row np) (Row ne) (Row nf)} (c : Closed t) (order : Bijection (Row nf) (Row nf)) where
@@ -129,11 +129,11 @@ module _ (m : Mesh) {np ne nf : ℕ} {t : MeshOver (Row np) (Row ne) (Row nf)} (
     lead-here e' q p =
         place-injective c (lead c order e') d (when-injective c order _ _ (q ∙ sym d-when)) (p ∙ sym d-place)
 
-    splits-more : splitsBefore c order k (suc i) ≡ splitsBefore c order k i + one (leads c order d)
+    splits-more : splitsBefore c order k (suc i) ≡ splitsBefore c order k i + oneIf (leads c order d)
     unfolding splitsBefore sumTo
     splits-more = ap (λ x. splitsBefore c order k i + x) here
       where
-        here : splitAt c order k i ≡ one (leads c order d)
+        here : splitAt c order k i ≡ oneIf (leads c order d)
         here = ap (λ x. splitAt c order x i) (sym d-when) ∙ ap (splitAt c order _) (sym d-place) ∙ splitAt-when c order d
 
     visited : (d' : Dart (Row ne)) → when c order (face t d') < k → Past c order k i (edge d')
@@ -174,7 +174,7 @@ module _ (m : Mesh) {np ne nf : ℕ} {t : MeshOver (Row np) (Row ne) (Row nf)} (
           go (yes p) = inr (sym (edge-lead c order e') ∙ ap edge (lead-here e' (l .0) p))
           go (no n) = inl (inr (l .0, omega (arith, l .1)))
 
-      splitting-split : Splitting k (suc i) (split (e .0) s)
+      splitting-split : Splitting k (suc i) (splitEdge (e .0) s)
       splitting-split =
           record {
             content =
@@ -189,7 +189,7 @@ module _ (m : Mesh) {np ne nf : ℕ} {t : MeshOver (Row np) (Row ne) (Row nf)} (
           later e' p = rw (← half-row, h .edges-taken) (omega (arith, past-below c order k i e' p))
 
           one-more : splitsBefore c order k (suc i) ≡ splitsBefore c order k i + 1
-          one-more = splits-more ∙ ap (λ x. splitsBefore c order k i + one x) first
+          one-more = splits-more ∙ ap (λ x. splitsBefore c order k i + oneIf x) first
 
           more-points : pointsBefore c order k + suc (splitsBefore c order k i) + 1 ≡ pointsBefore c order k + suc (splitsBefore c order k (suc i))
           more-points = omega (arith, one-more)
@@ -224,7 +224,7 @@ module _ (m : Mesh) {np ne nf : ℕ} {t : MeshOver (Row np) (Row ne) (Row nf)} (
       splitting-skip : Splitting k (suc i) s
       splitting-skip =
           let none-more : splitsBefore c order k (suc i) ≡ splitsBefore c order k i =
-          splits-more ∙ ap (λ x. splitsBefore c order k i + one x) later ∙ omega arith in
+          splits-more ∙ ap (λ x. splitsBefore c order k i + oneIf x) later ∙ omega arith in
           record {
             content = content-same m c order past-suc suc-past (h .content);
             points-taken = h .points-taken ∙ ap (λ x. pointsBefore c order k + suc x) (sym none-more);

@@ -11,7 +11,7 @@ use mathlib.Core.Path.{_≡_, refl, ap}
 use mathlib.Core.Bool.{Bool, true, false, cond}
 use Prim.Native.Nat.{ℕ, _-_}
 use lib.Ieee.{Float, add, binary64}
-use Rattle.closed_meshes.specs.Mesh.{Mesh as MeshOver, Dart, lft, rgt, edge, first, face}
+use Rattle.closed_meshes.specs.Mesh.{MeshOver, Dart, lft, rgt, edge, first, face}
 use Rattle.closed_meshes.specs.Closed.{Closed}
 use Rattle.closed_meshes.specs.Refinement.{mid, facePoint, NewEdge, org, dst, join, firstHalf, secondHalf}
 use Rattle.closed_meshes.specs.Renumbering.{Bijection, Row}

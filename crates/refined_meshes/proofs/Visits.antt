@@ -12,7 +12,7 @@ use native.Mathlib.Decide.{ℕ-discrete}
 use lib.Dec.{eqb}
 use lib.ListN.{getD, length, replicate, length-replicate}
 use lib.Ieee.{nan, ofBits, binary64}
-use Rattle.closed_meshes.specs.Mesh.{Mesh as MeshOver, Dart, lft, rgt, edge, face}
+use Rattle.closed_meshes.specs.Mesh.{MeshOver, Dart, lft, rgt, edge, face}
 use Rattle.closed_meshes.specs.Closed.{Closed}
 use Rattle.closed_meshes.specs.Refinement.{old, mid, facePoint, org, dst, join, firstHalf, secondHalf}
 use Rattle.closed_meshes.specs.Renumbering.{Bijection, Row, sumTo}
@@ -20,7 +20,7 @@ use Rattle.closed_meshes.proofs.NewDarts.{start-half, end-half, inward, outward
 use Rattle.tables.specs.Mesh.{Mesh, edgeTable, leftAcw, rightCw, interval}
 use Rattle.audited_meshes.specs.Walks.{firstPoint}
 use Rattle.audited_meshes.specs.Rows.{Stands}
-use Rattle.refined_meshes.specs.State.{State, edgeOf, take}
+use Rattle.refined_meshes.specs.State.{State, edgeOf, takeRows}
 use Rattle.refined_meshes.specs.Ring.{Ring, onLeft, firstHalfOf, secondHalfOf}
 use Rattle.refined_meshes.specs.Split.{half}
 use Rattle.refined_meshes.specs.Visits.{foundOn, splitAll, ringOf, putRing, visitAlong}
@@ -171,12 +171,14 @@ module _
           link-is : (i : ℕ) → i < n → link m c order all (dartAt c f i) ≡ edgeNo c order (dst (edge (dartAt c f i)))
           link-is i l = after .content .linked (dartAt c f i) (past-on i l) (rw (face-dartAt c f i) (omega arith))
 
-          first-read : (d : Dart (Row ne)) → link m c order all d ≡ edgeNo c order (dst (edge d)) → cond (isLeft d) (edge d .0) (rightCw (edgeTable (all .edges)) (edge d .0)) ≡ edgeNo c order (firstHalf d)
+          first-read : (d : Dart (Row ne)) → link m c order all d ≡ edgeNo c order (dst (edge d)) → cond (isLeft d)
+              (edge d .0) (rightCw (edgeTable (all .edges)) (edge d .0)) ≡ edgeNo c order (firstHalf d)
           unfolding link side edgeNo
           first-read (lft e) q = refl
           first-read (rgt e) q = q
 
-          second-read : (d : Dart (Row ne)) → link m c order all d ≡ edgeNo c order (dst (edge d)) → cond (isLeft d) (leftAcw (edgeTable (all .edges)) (edge d .0)) (edge d .0) ≡ edgeNo c order (secondHalf d)
+          second-read : (d : Dart (Row ne)) → link m c order all d ≡ edgeNo c order (dst (edge d)) → cond (isLeft d)
+              (leftAcw (edgeTable (all .edges)) (edge d .0)) (edge d .0) ≡ edgeNo c order (secondHalf d)
           unfolding link side edgeNo
           second-read (lft e) q = q
           second-read (rgt e) q = refl
@@ -258,7 +260,7 @@ module _
         -- ---- the whole visit
 
         -- Taking rows changes no word.
-        pub splitting-begun : (s : State) → Arriving turn s → Splitting m c order turn 0 (take 1 0 0 s)
+        pub splitting-begun : (s : State) → Arriving turn s → Splitting m c order turn 0 (takeRows 1 0 0 s)
         splitting-begun s h =
             record {
               content = content-taken m c order 1 0 0 (h .content);
@@ -296,10 +298,10 @@ module _
             }
           where
             all : State
-            all = splitAll np es n (take 1 0 0 s)
+            all = splitAll np es n (takeRows 1 0 0 s)
 
             after : Splitting m c order turn n all
-            after = splitting-some m c order f es n (omega arith) perimeter (take 1 0 0 s) (splitting-begun s h)
+            after = splitting-some m c order f es n (omega arith) perimeter (takeRows 1 0 0 s) (splitting-begun s h)
 
             ring-here : Ring
             ring-here = ringOf m (f .0) es n (s .pointsTaken) (foundOn es n s) all

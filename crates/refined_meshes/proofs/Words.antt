@@ -20,7 +20,7 @@ use Rattle.tables.specs.Records.{edgeWords}
 use Rattle.tables.proofs.Laws.{length-putRow, getD-putRow, getD-putRow-other}
 use Rattle.refined_meshes.specs.State.{State, edgeOf, putEdge, putPoint, putStart, putFace}
 use Rattle.refined_meshes.specs.Ring.{withSide, putSide}
-use Rattle.refined_meshes.specs.Fits.{Room}
+use Rattle.refined_meshes.specs.Fits.{StateRoom}
 
 pub record Ends : Type 0 where
   pub origin : ℕ
@@ -104,7 +104,7 @@ module _ {A : Type 0} where
 module _ {P E F : ℕ} (s : State) where
   -- ---- tables keep their lengths
 
-  pub room-putEdge : (e : ℕ) (r : TnurccEdge) → Room P E F s → Room P E F (putEdge e r s)
+  pub room-putEdge : (e : ℕ) (r : TnurccEdge) → StateRoom P E F s → StateRoom P E F (putEdge e r s)
   unfolding putEdge
   room-putEdge e r h =
       record {
@@ -114,7 +114,7 @@ module _ {P E F : ℕ} (s : State) where
         faces-room = h .faces-room;
       }
 
-  pub room-putPoint : (p v e k : ℕ) → Room P E F s → Room P E F (putPoint p v e k s)
+  pub room-putPoint : (p v e k : ℕ) → StateRoom P E F s → StateRoom P E F (putPoint p v e k s)
   unfolding putPoint
   room-putPoint p v e k h =
       record {
@@ -124,7 +124,7 @@ module _ {P E F : ℕ} (s : State) where
         faces-room = h .faces-room;
       }
 
-  pub room-putStart : (p e : ℕ) → Room P E F s → Room P E F (putStart p e s)
+  pub room-putStart : (p e : ℕ) → StateRoom P E F s → StateRoom P E F (putStart p e s)
   unfolding putStart
   room-putStart p e h =
       record {
@@ -134,7 +134,7 @@ module _ {P E F : ℕ} (s : State) where
         faces-room = h .faces-room;
       }
 
-  pub room-putFace : (f e c0 c1 c2 c3 : ℕ) → Room P E F s → Room P E F (putFace f e c0 c1 c2 c3 s)
+  pub room-putFace : (f e c0 c1 c2 c3 : ℕ) → StateRoom P E F s → StateRoom P E F (putFace f e c0 c1 c2 c3 s)
   unfolding putFace
   room-putFace f e c0 c1 c2 c3 h =
       record {
@@ -144,7 +144,7 @@ module _ {P E F : ℕ} (s : State) where
         faces-room = rw (length-putRow (e ∷ c0 ∷ c1 ∷ c2 ∷ c3 ∷ []) (s .faces) (f * 5)) (h .faces-room);
       }
 
-  module _ (room : Room P E F s) where
+  module _ (room : StateRoom P E F s) where
     -- ---- the row that was put
 
     module _ (e : ℕ) (below : e < E) (n : Ends) (l r : Side) where
@@ -285,8 +285,8 @@ abbrev pub dartOf : Bool → ℕ → Dart ℕ
 dartOf true e = lft e
 dartOf false e = rgt e
 
-module _ {P E F : ℕ} (s : State) (room : Room P E F s) (e : ℕ) (below : e < E) (f a c : ℕ) where
-  pub room-putSide : (b : Bool) → Room P E F (putSide b e f a c s)
+module _ {P E F : ℕ} (s : State) (room : StateRoom P E F s) (e : ℕ) (below : e < E) (f a c : ℕ) where
+  pub room-putSide : (b : Bool) → StateRoom P E F (putSide b e f a c s)
   room-putSide b = room-putEdge s e (withSide b f a c (edgeOf s e)) room
 
   pub side-putSide : (b : Bool) → side (putSide b e f a c s) (dartOf b e) ≡ record { face = f; acw = a; cw = c }

@@ -1,5 +1,5 @@
 -- That every row which the visits store fits into the scratch tables.
---     Room P E F s              the tables have P rows of points, E of edges and F of faces
+--     StateRoom P E F s         the tables have P rows of points, E of edges and F of faces
 --     RoomFor np ne nf s        they have the rows of the refinement of a mesh of np points, ne edges and nf faces
 --     splitSome m np ne f i s   the state of a visit of the face f in s before place i, its face point taken
 --     ringAt m np ne f s        what the visit of the face f in s reads once its perimeter is split
@@ -14,22 +14,22 @@ use Rattle.tables.specs.Layout.{pointWidth, edgeWidth, faceWidth, longestPerime
 use Rattle.tables.specs.Mesh.{Mesh, pointRows, edgeRows, faceRows}
 use Rattle.audited_meshes.specs.Walks.{edgesOf, passed, faceWalk, firstPoint}
 use Rattle.audited_meshes.specs.Rows.{HoldsClosed}
-use Rattle.refined_meshes.specs.State.{State, edgeOf, take, copied}
+use Rattle.refined_meshes.specs.State.{State, edgeOf, takeRows, copied}
 use Rattle.refined_meshes.specs.Ring.{Ring}
 use Rattle.refined_meshes.specs.Order.{EachOnce}
 use Rattle.refined_meshes.specs.Visits.{foundOn, splitAll, ringOf, visits, refinedRows}
 
-pub record Room (P E F : ℕ) (s : State) : Type 0 where
+pub record StateRoom (P E F : ℕ) (s : State) : Type 0 where
   pub points-room : P * pointWidth ≤ length (s .points)
   pub edges-room : E * edgeWidth ≤ length (s .edges)
   pub intervals-room : E ≤ length (s .intervals)
   pub faces-room : F * faceWidth ≤ length (s .faces)
 
 abbrev pub RoomFor : ℕ → ℕ → ℕ → State → Type 0
-RoomFor np ne nf s = Room (np + ne + nf) (4 * ne) (2 * ne) s
+RoomFor np ne nf s = StateRoom (np + ne + nf) (4 * ne) (2 * ne) s
 
 abbrev pub splitSome : Mesh → ℕ → ℕ → ℕ → ℕ → State → State
-splitSome m np ne f i s = splitAll np (edgesOf (faceWalk m ne f)) i (take 1 0 0 s)
+splitSome m np ne f i s = splitAll np (edgesOf (faceWalk m ne f)) i (takeRows 1 0 0 s)
 
 abbrev pub ringAt : Mesh → ℕ → ℕ → ℕ → State → Ring
 ringAt m np ne f s =

@@ -12,7 +12,7 @@ use mathlib.Core.Logic.{_⊎_, _≢_}
 use Prim.Native.Nat.{ℕ, _+_, _*_, _≤_}
 use lib.Dec.{ltb}
 use lib.Ieee.{Float, add, binary64}
-use Rattle.closed_meshes.specs.Mesh.{Mesh as MeshOver, Dart, edge, flip, face}
+use Rattle.closed_meshes.specs.Mesh.{MeshOver, Dart, edge, flip, face}
 use Rattle.closed_meshes.specs.Closed.{Closed}
 use Rattle.closed_meshes.specs.Refinement.{old, mid, facePoint, org, dst, join, firstHalf, refined}
 use Rattle.closed_meshes.specs.Renumbering.{Isomorphism, Touching, Row}

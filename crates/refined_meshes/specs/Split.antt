@@ -3,7 +3,7 @@
 --     half d                   d times 0.5
 --     originHalf p h r         the origin half of the edge r, with the midpoint p, beside its other half h
 --     destinationHalf p e r    the destination half of the edge r, with the midpoint p, beside its other half e
---     split e s                the edge e split: the next edge row is its destination half, the next point row its midpoint
+--     splitEdge e s            the edge e split: the next edge row is its destination half, the next point row its midpoint
 --     splitWhole np e s        the edge e split unless it is split already: a whole edge ends in one of the np old points
 use mathlib.Core.Bool.{Bool, true, false}
 use mathlib.Core.List.{[], _∷_}
@@ -12,7 +12,7 @@ use lib.Dec.{ltb}
 use lib.ListN.{getD}
 use lib.Ieee.{Float, mul, ofBits, binary64}
 use Rattle.t_spline.specs.declared.TnurccEdge.{TnurccEdge}
-use Rattle.refined_meshes.specs.State.{State, edgeOf, putEdge, putPoint, putStart, take}
+use Rattle.refined_meshes.specs.State.{State, edgeOf, putEdge, putPoint, putStart, takeRows}
 
 abbrev pub half : Float → Float
 half d = mul binary64 d (ofBits binary64 0x3fe0000000000000)
@@ -43,15 +43,15 @@ destinationHalf p e r =
 
 -- The midpoint has valence 4, the origin half as its start edge, and mark 0. The start edge of the old destination becomes the
 -- destination half.
-unfoldable pub split : ℕ → State → State
-split e s =
+unfoldable pub splitEdge : ℕ → State → State
+splitEdge e s =
     let r = edgeOf s e in
     let p = s .pointsTaken in
     let h = s .edgesTaken in
-    take 1 1 0 (putStart (r .dest) h (putPoint p 4 e 0 (putEdge e (originHalf p h r) (putEdge h (destinationHalf p e r) s))))
+    takeRows 1 1 0 (putStart (r .dest) h (putPoint p 4 e 0 (putEdge e (originHalf p h r) (putEdge h (destinationHalf p e r) s))))
 
 abbrev pub splitIf : Bool → ℕ → State → State
-splitIf true e s = split e s
+splitIf true e s = splitEdge e s
 splitIf false e s = s
 
 unfoldable pub splitWhole : ℕ → ℕ → State → State

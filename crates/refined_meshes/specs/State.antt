@@ -57,8 +57,8 @@ putFace f e c0 c1 c2 c3 s =
     (s .pointsTaken) (s .edgesTaken) (s .facesTaken)
 
 -- further rows taken
-abbrev pub take : ℕ → ℕ → ℕ → State → State
-take p e f s =
+abbrev pub takeRows : ℕ → ℕ → ℕ → State → State
+takeRows p e f s =
     stateOf (s .points) (s .edges) (s .intervals) (s .faces) (s .pointsTaken + p) (s .edgesTaken + e) (s .facesTaken + f)
 
 unfoldable pub copied : Mesh → ℕ → ℕ → ℕ → Mesh → State

@@ -17,7 +17,7 @@ use Rattle.tables.specs.Layout.{longestPerimeter}
 use Rattle.tables.specs.Mesh.{Mesh}
 use Rattle.audited_meshes.specs.Walks.{edgesOf, passed, faceWalk}
 use Rattle.refined_meshes.specs.Turns.{turns, filled}
-use Rattle.refined_meshes.specs.State.{State, edgeOf, take, copied}
+use Rattle.refined_meshes.specs.State.{State, edgeOf, takeRows, copied}
 use Rattle.refined_meshes.specs.Split.{splitWhole}
 use Rattle.refined_meshes.specs.Ring.{Ring, firstHalfOf, secondHalfOf, putJoin, putFirst, putSecond, putNewFace, putFacePoint}
 
@@ -50,11 +50,11 @@ putRing m r s =
     let firsts = turns (r .size) (putFirst m r) joined in
     let seconds = turns (r .size) (putSecond m r) firsts in
     let faced = turns (r .size) (putNewFace m r) seconds in
-    take 0 (r .size) (r .size - 1) (putFacePoint r faced)
+    takeRows 0 (r .size) (r .size - 1) (putFacePoint r faced)
 
 unfoldable pub visitAlong : Mesh → ℕ → ℕ → List ℕ → ℕ → State → State
 visitAlong m np f es n s =
-    let all = splitAll np es n (take 1 0 0 s) in
+    let all = splitAll np es n (takeRows 1 0 0 s) in
     putRing m (ringOf m f es n (s .pointsTaken) (foundOn es n s) all) all
 
 unfoldable pub visit : Mesh → ℕ → ℕ → ℕ → State → State

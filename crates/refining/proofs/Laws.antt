@@ -11,7 +11,7 @@ use Rattle.tables.specs.Mesh.{Mesh}
 use Rattle.tables.specs.declared.Counts.{Counts}
 use Rattle.audited_meshes.specs.Audit.{audit}
 use Rattle.steps.specs.declared.Stepped.the-variants.{Refined, NotClosed, NotEachFaceOnce, NoRoom}
-use Rattle.steps.specs.Step.{refusal, refinedCounts, eachFaceOnce, roomFor, testedIf, tested, stepBy, step}
+use Rattle.steps.specs.Step.{stepRefusal, refinedCounts, eachFaceOnce, roomFor, testedIf, tested, stepBy, step}
 use Rattle.steps.specs.declared.Stepped.{Stepped}
 use Rattle.steps.proofs.Rows.{room-of-holds, holds-firstRows, room-firstRows, points-fit, edges-fit, faces-fit}
 use Rattle.steps.proofs.Grounds.{eachFaceOnce-is, rooms-of-test, step-is}
@@ -67,7 +67,7 @@ module _ (m : Mesh) (c : Counts) (order : List ℕ) (t : Mesh) where
           subst (λ x. Passed m c order t x) q (all-passed ha ho hr)
 
   -- A ground that is not the counts is answered with everything untouched.
-  pub refused : (g : Stepped) → g ≡ tested m c order t → ((c' : Counts) → g ≢ Refined c') → refusal g m t ≡ step m c order t
+  pub refused : (g : Stepped) → g ≡ tested m c order t → ((c' : Counts) → g ≢ Refined c') → stepRefusal g m t ≡ step m c order t
   unfolding step stepBy
   refused (Refined c') e n = absurd (n c' refl)
   refused NotClosed e n = ap (λ x. stepBy x m c order t) e

@@ -1,11 +1,11 @@
 // One step of refining, of tables, counts, order and scratch of any content and any lengths (document 01, grounds 30 to 33).
 // The refined mesh is made whole in scratch; the mesh is written only when nothing can fail any more.
-// Names: `places`, `rows`, `halves`, `lengths` and `quads` are the scratch tables of positions, points, edges, intervals, faces.
+// Names: `newpositions`, `newpoints`, `newedges`, `newintervals` and `newfaces` are the scratch tables of positions, points, edges, intervals, faces.
 // Not here: the tests (`step_grounds`), what comes after them (`finishing`).
 // Contract: `step`. Definition: `steps`, specs/Step.antt, `step`.
 ghost use mathlib.Core.Path.{_≡_};
 ghost use Rattle.tables.specs.Mesh.{meshOf};
-ghost use Rattle.steps.specs.Step.{step, Outcome};
+ghost use Rattle.steps.specs.Step.{step, StepOutcome};
 ghost use Rattle.steps.specs.OneStep.{Binary64};
 use finishing::finish;
 use step_grounds::first_ground;
@@ -22,18 +22,18 @@ pub fn step(
     faces: &mut [u32],
     counts: Counts,
     order: &[u32],
-    places: &mut [f64],
-    rows: &mut [u32],
-    halves: &mut [u32],
-    lengths: &mut [f64],
-    quads: &mut [u32],
+    newpositions: &mut [f64],
+    newpoints: &mut [u32],
+    newedges: &mut [u32],
+    newintervals: &mut [f64],
+    newfaces: &mut [u32],
 ) -> Stepped
     ensures outcome { λ r. ⌜
-        _≡_ {A = Outcome}
-        (record { answer = r; tables = meshOf (now (positions .exit)) (now (points .exit)) (now (edges .exit)) (now (intervals .exit)) (now (faces .exit)); scratch = meshOf (now (places .exit)) (now (rows .exit)) (now (halves .exit)) (now (lengths .exit)) (now (quads .exit)) })
+        _≡_ {A = StepOutcome}
+        (record { answer = r; tables = meshOf (now (positions .exit)) (now (points .exit)) (now (edges .exit)) (now (intervals .exit)) (now (faces .exit)); scratch = meshOf (now (newpositions .exit)) (now (newpoints .exit)) (now (newedges .exit)) (now (newintervals .exit)) (now (newfaces .exit)) })
         (step (meshOf (now (positions .entry)) (now (points .entry)) (now (edges .entry)) (now (intervals .entry)) (now (faces .entry)))
         counts (now (order .entry))
-        (meshOf (now (places .entry)) (now (rows .entry)) (now (halves .entry)) (now (lengths .entry)) (now (quads .entry)))) ⌝ }
+        (meshOf (now (newpositions .entry)) (now (newpoints .entry)) (now (newedges .entry)) (now (newintervals .entry)) (now (newfaces .entry)))) ⌝ }
     ensures numbers { λ _. ⌜
         Binary64 counts
         (meshOf (now (positions .entry)) (now (points .entry)) (now (edges .entry)) (now (intervals .entry)) (now (faces .entry))) ⌝ }
@@ -46,11 +46,11 @@ pub fn step(
         faces,
         counts,
         order,
-        places,
-        rows,
-        halves,
-        lengths,
-        quads,
+        newpositions,
+        newpoints,
+        newedges,
+        newintervals,
+        newfaces,
     );
     let Stepped::Refined(c) = ground else {
         return ground;
@@ -64,10 +64,10 @@ pub fn step(
         counts,
         order,
         c,
-        places,
-        rows,
-        halves,
-        lengths,
-        quads,
+        newpositions,
+        newpoints,
+        newedges,
+        newintervals,
+        newfaces,
     )
 }

@@ -116,8 +116,8 @@ fn put_side(edges: &mut [u32], left: bool, e: u32, f: u32, acw: u32, cw: u32)
 
 // Stores the first half at place i on the side of the face.
 fn put_first(
-    oldedges: &[u32],
-    edges: &mut [u32],
+    edges: &[u32],
+    newedges: &mut [u32],
     perimeter: &[u32; LONGEST_PERIMETER],
     firsts: &[u32; LONGEST_PERIMETER],
     seconds: &[u32; LONGEST_PERIMETER],
@@ -126,20 +126,20 @@ fn put_first(
 )
     requires { ⌜ Small rows ⌝ }
     requires { ⌜ i < rows .size ⌝ }
-    requires { ⌜ getD (now perimeter) i 0 * edgeWidth + edgeWidth ≤ length (now oldedges) ⌝ }
-    requires { ⌜ getD (now firsts) i 0 * edgeWidth + edgeWidth ≤ length (now edges) ⌝ }
+    requires { ⌜ getD (now perimeter) i 0 * edgeWidth + edgeWidth ≤ length (now edges) ⌝ }
+    requires { ⌜ getD (now firsts) i 0 * edgeWidth + edgeWidth ≤ length (now newedges) ⌝ }
     ensures { λ _. ⌜
         ((ms ps fs : List ℕ) (ds is : List Float) (c : Counts) →
         _≡_ {A = State}
-        (tablesOf ps (now (edges .exit)) is fs c)
-        (putFirst (faceTables (now (oldedges .entry)) []) (ring rows (now (perimeter .entry)) (now (firsts .entry)) (now (seconds .entry)) ms ds) i
-        (tablesOf ps (now (edges .entry)) is fs c))) ⌝ }
+        (tablesOf ps (now (newedges .exit)) is fs c)
+        (putFirst (faceTables (now (edges .entry)) []) (ring rows (now (perimeter .entry)) (now (firsts .entry)) (now (seconds .entry)) ms ds) i
+        (tablesOf ps (now (newedges .entry)) is fs c))) ⌝ }
 {
-    let left = on_left(oldedges, rows.face, index(perimeter[i]));
+    let left = on_left(edges, rows.face, index(perimeter[i]));
     let prev = prev_place(rows.size, i);
     let f = face_row(rows, i);
     put_side(
-        edges,
+        newedges,
         left,
         firsts[i],
         f,
@@ -150,36 +150,36 @@ fn put_first(
 
 // Stores the first halves on the side of the face.
 pub fn put_firsts(
-    oldedges: &[u32],
-    edges: &mut [u32],
+    edges: &[u32],
+    newedges: &mut [u32],
     perimeter: &[u32; LONGEST_PERIMETER],
     firsts: &[u32; LONGEST_PERIMETER],
     seconds: &[u32; LONGEST_PERIMETER],
     rows: RingRows,
 )
     requires { ⌜ Small rows ⌝ }
-    requires { ⌜ Rows (now oldedges) (now perimeter) (rows .size) ⌝ }
-    requires { ⌜ Rows (now edges) (now firsts) (rows .size) ⌝ }
+    requires { ⌜ Rows (now edges) (now perimeter) (rows .size) ⌝ }
+    requires { ⌜ Rows (now newedges) (now firsts) (rows .size) ⌝ }
     ensures { λ _. ⌜
         ((ms ps fs : List ℕ) (ds is : List Float) (c : Counts) →
         _≡_ {A = State}
-        (tablesOf ps (now (edges .exit)) is fs c)
+        (tablesOf ps (now (newedges .exit)) is fs c)
         (turns (rows .size)
-        (putFirst (faceTables (now (oldedges .entry)) []) (ring rows (now (perimeter .entry)) (now (firsts .entry)) (now (seconds .entry)) ms ds))
-        (tablesOf ps (now (edges .entry)) is fs c))) ⌝ }
+        (putFirst (faceTables (now (edges .entry)) []) (ring rows (now (perimeter .entry)) (now (firsts .entry)) (now (seconds .entry)) ms ds))
+        (tablesOf ps (now (newedges .entry)) is fs c))) ⌝ }
 {
     let n = rows.size;
     let mut i = 0;
     while i < n {
-        put_first(oldedges, edges, perimeter, firsts, seconds, rows, i);
+        put_first(edges, newedges, perimeter, firsts, seconds, rows, i);
         i += 1;
     }
 }
 
 // Stores the second half at place i on the side of the face.
 fn put_second(
-    oldedges: &[u32],
-    edges: &mut [u32],
+    edges: &[u32],
+    newedges: &mut [u32],
     perimeter: &[u32; LONGEST_PERIMETER],
     firsts: &[u32; LONGEST_PERIMETER],
     seconds: &[u32; LONGEST_PERIMETER],
@@ -188,20 +188,20 @@ fn put_second(
 )
     requires { ⌜ Small rows ⌝ }
     requires { ⌜ i < rows .size ⌝ }
-    requires { ⌜ getD (now perimeter) i 0 * edgeWidth + edgeWidth ≤ length (now oldedges) ⌝ }
-    requires { ⌜ getD (now seconds) i 0 * edgeWidth + edgeWidth ≤ length (now edges) ⌝ }
+    requires { ⌜ getD (now perimeter) i 0 * edgeWidth + edgeWidth ≤ length (now edges) ⌝ }
+    requires { ⌜ getD (now seconds) i 0 * edgeWidth + edgeWidth ≤ length (now newedges) ⌝ }
     ensures { λ _. ⌜
         ((ms ps fs : List ℕ) (ds is : List Float) (c : Counts) →
         _≡_ {A = State}
-        (tablesOf ps (now (edges .exit)) is fs c)
-        (putSecond (faceTables (now (oldedges .entry)) []) (ring rows (now (perimeter .entry)) (now (firsts .entry)) (now (seconds .entry)) ms ds) i
-        (tablesOf ps (now (edges .entry)) is fs c))) ⌝ }
+        (tablesOf ps (now (newedges .exit)) is fs c)
+        (putSecond (faceTables (now (edges .entry)) []) (ring rows (now (perimeter .entry)) (now (firsts .entry)) (now (seconds .entry)) ms ds) i
+        (tablesOf ps (now (newedges .entry)) is fs c))) ⌝ }
 {
-    let left = on_left(oldedges, rows.face, index(perimeter[i]));
+    let left = on_left(edges, rows.face, index(perimeter[i]));
     let next = next_place(rows.size, i);
     let f = face_row(rows, next);
     put_side(
-        edges,
+        newedges,
         left,
         seconds[i],
         f,
@@ -212,28 +212,28 @@ fn put_second(
 
 // Stores the second halves on the side of the face.
 pub fn put_seconds(
-    oldedges: &[u32],
-    edges: &mut [u32],
+    edges: &[u32],
+    newedges: &mut [u32],
     perimeter: &[u32; LONGEST_PERIMETER],
     firsts: &[u32; LONGEST_PERIMETER],
     seconds: &[u32; LONGEST_PERIMETER],
     rows: RingRows,
 )
     requires { ⌜ Small rows ⌝ }
-    requires { ⌜ Rows (now oldedges) (now perimeter) (rows .size) ⌝ }
-    requires { ⌜ Rows (now edges) (now seconds) (rows .size) ⌝ }
+    requires { ⌜ Rows (now edges) (now perimeter) (rows .size) ⌝ }
+    requires { ⌜ Rows (now newedges) (now seconds) (rows .size) ⌝ }
     ensures { λ _. ⌜
         ((ms ps fs : List ℕ) (ds is : List Float) (c : Counts) →
         _≡_ {A = State}
-        (tablesOf ps (now (edges .exit)) is fs c)
+        (tablesOf ps (now (newedges .exit)) is fs c)
         (turns (rows .size)
-        (putSecond (faceTables (now (oldedges .entry)) []) (ring rows (now (perimeter .entry)) (now (firsts .entry)) (now (seconds .entry)) ms ds))
-        (tablesOf ps (now (edges .entry)) is fs c))) ⌝ }
+        (putSecond (faceTables (now (edges .entry)) []) (ring rows (now (perimeter .entry)) (now (firsts .entry)) (now (seconds .entry)) ms ds))
+        (tablesOf ps (now (newedges .entry)) is fs c))) ⌝ }
 {
     let n = rows.size;
     let mut i = 0;
     while i < n {
-        put_second(oldedges, edges, perimeter, firsts, seconds, rows, i);
+        put_second(edges, newedges, perimeter, firsts, seconds, rows, i);
         i += 1;
     }
 }

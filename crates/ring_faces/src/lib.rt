@@ -31,20 +31,20 @@ use tables::START_WORD;
 use tables::index;
 
 // The point from which a walk about face f goes along the edge e.
-fn first_point(oldedges: &[u32], f: usize, e: usize) -> u32
-    requires { ⌜ e * edgeWidth + edgeWidth ≤ length (now oldedges) ⌝ }
-    ensures { λ r. ⌜ r ≡ firstPoint (faceTables (now (oldedges .entry)) []) f e ⌝ }
+fn first_point(edges: &[u32], f: usize, e: usize) -> u32
+    requires { ⌜ e * edgeWidth + edgeWidth ≤ length (now edges) ⌝ }
+    ensures { λ r. ⌜ r ≡ firstPoint (faceTables (now (edges .entry)) []) f e ⌝ }
 {
-    if on_left(oldedges, f, e) {
-        return oldedges[e * EDGE_WIDTH];
+    if on_left(edges, f, e) {
+        return edges[e * EDGE_WIDTH];
     }
-    oldedges[e * EDGE_WIDTH + DEST_WORD]
+    edges[e * EDGE_WIDTH + DEST_WORD]
 }
 
 // Stores the new face at place i.
 fn put_new_face(
-    oldedges: &[u32],
-    faces: &mut [u32],
+    edges: &[u32],
+    newfaces: &mut [u32],
     perimeter: &[u32; LONGEST_PERIMETER],
     firsts: &[u32; LONGEST_PERIMETER],
     mids: &[u32; LONGEST_PERIMETER],
@@ -53,50 +53,50 @@ fn put_new_face(
 )
     requires { ⌜ Small rows ⌝ }
     requires { ⌜ i < rows .size ⌝ }
-    requires { ⌜ getD (now perimeter) i 0 * edgeWidth + edgeWidth ≤ length (now oldedges) ⌝ }
-    requires { ⌜ faceRow (ring rows [] [] [] [] []) i * faceWidth + faceWidth ≤ length (now faces) ⌝ }
+    requires { ⌜ getD (now perimeter) i 0 * edgeWidth + edgeWidth ≤ length (now edges) ⌝ }
+    requires { ⌜ faceRow (ring rows [] [] [] [] []) i * faceWidth + faceWidth ≤ length (now newfaces) ⌝ }
     ensures { λ _. ⌜
         ((gs ps es : List ℕ) (ds is : List Float) (c : Counts) →
         _≡_ {A = State}
-        (tablesOf ps es is (now (faces .exit)) c)
-        (putNewFace (faceTables (now (oldedges .entry)) []) (ring rows (now (perimeter .entry)) (now (firsts .entry)) gs (now (mids .entry)) ds) i
-        (tablesOf ps es is (now (faces .entry)) c))) ⌝ }
+        (tablesOf ps es is (now (newfaces .exit)) c)
+        (putNewFace (faceTables (now (edges .entry)) []) (ring rows (now (perimeter .entry)) (now (firsts .entry)) gs (now (mids .entry)) ds) i
+        (tablesOf ps es is (now (newfaces .entry)) c))) ⌝ }
 {
     let prev = prev_place(rows.size, i);
-    let p = first_point(oldedges, rows.face, index(perimeter[i]));
+    let p = first_point(edges, rows.face, index(perimeter[i]));
     let f = face_row(rows, i);
     let face = TnurccFace {
         edge: firsts[i],
         corners: [rows.centre as u32, mids[prev], p, mids[i]],
     };
-    store_face(faces, f as usize, face);
+    store_face(newfaces, f as usize, face);
 }
 
 // Stores the new faces.
 pub fn put_new_faces(
-    oldedges: &[u32],
-    faces: &mut [u32],
+    edges: &[u32],
+    newfaces: &mut [u32],
     perimeter: &[u32; LONGEST_PERIMETER],
     firsts: &[u32; LONGEST_PERIMETER],
     mids: &[u32; LONGEST_PERIMETER],
     rows: RingRows,
 )
     requires { ⌜ Small rows ⌝ }
-    requires { ⌜ Rows (now oldedges) (now perimeter) (rows .size) ⌝ }
-    requires { ⌜ rows .face * faceWidth + faceWidth ≤ length (now faces) ⌝ }
-    requires { ⌜ (rows .faces + (rows .size - 1)) * faceWidth ≤ length (now faces) ⌝ }
+    requires { ⌜ Rows (now edges) (now perimeter) (rows .size) ⌝ }
+    requires { ⌜ rows .face * faceWidth + faceWidth ≤ length (now newfaces) ⌝ }
+    requires { ⌜ (rows .faces + (rows .size - 1)) * faceWidth ≤ length (now newfaces) ⌝ }
     ensures { λ _. ⌜
         ((gs ps es : List ℕ) (ds is : List Float) (c : Counts) →
         _≡_ {A = State}
-        (tablesOf ps es is (now (faces .exit)) c)
+        (tablesOf ps es is (now (newfaces .exit)) c)
         (turns (rows .size)
-        (putNewFace (faceTables (now (oldedges .entry)) []) (ring rows (now (perimeter .entry)) (now (firsts .entry)) gs (now (mids .entry)) ds))
-        (tablesOf ps es is (now (faces .entry)) c))) ⌝ }
+        (putNewFace (faceTables (now (edges .entry)) []) (ring rows (now (perimeter .entry)) (now (firsts .entry)) gs (now (mids .entry)) ds))
+        (tablesOf ps es is (now (newfaces .entry)) c))) ⌝ }
 {
     let n = rows.size;
     let mut i = 0;
     while i < n {
-        put_new_face(oldedges, faces, perimeter, firsts, mids, rows, i);
+        put_new_face(edges, newfaces, perimeter, firsts, mids, rows, i);
         i += 1;
     }
 }

@@ -32,11 +32,11 @@ pub struct RingRows {
 }
 
 // Whether face f is on the left of the edge e, in a mesh's table of edges.
-pub fn on_left(oldedges: &[u32], f: usize, e: usize) -> bool
-    requires { ⌜ e * edgeWidth + edgeWidth ≤ length (now oldedges) ⌝ }
-    ensures { λ r. ⌜ r ≡ eqb (getD (now (oldedges .entry)) (e * edgeWidth + leftFaceWord) 0) f ⌝ }
+pub fn on_left(edges: &[u32], f: usize, e: usize) -> bool
+    requires { ⌜ e * edgeWidth + edgeWidth ≤ length (now edges) ⌝ }
+    ensures { λ r. ⌜ r ≡ eqb (getD (now (edges .entry)) (e * edgeWidth + leftFaceWord) 0) f ⌝ }
 {
-    index(oldedges[e * EDGE_WIDTH + LEFT_FACE_WORD]) == f
+    index(edges[e * EDGE_WIDTH + LEFT_FACE_WORD]) == f
 }
 
 // The half of the edge e at its first point, where the face is on its left or its right.
@@ -84,8 +84,8 @@ pub fn put_found(
 // Stores what stands at the places of the perimeter of face f, once it is split: the half of the edge at its first point, the half
 // at its second, the midpoint.
 pub fn put_places(
-    oldedges: &[u32],
     edges: &[u32],
+    newedges: &[u32],
     perimeter: &[u32; LONGEST_PERIMETER],
     f: usize,
     n: usize,
@@ -94,25 +94,25 @@ pub fn put_places(
     mids: &mut [u32; LONGEST_PERIMETER],
 )
     requires { ⌜ n ≤ longestPerimeter ⌝ }
-    requires { ⌜ Rows (now oldedges) (now perimeter) n ⌝ }
     requires { ⌜ Rows (now edges) (now perimeter) n ⌝ }
+    requires { ⌜ Rows (now newedges) (now perimeter) n ⌝ }
     ensures { λ _. ⌜
         now (firsts .exit) ≡
-        filled n (λ i. firstHalfOf (now (oldedges .entry)) (now (edges .entry)) f (getD (now (perimeter .entry)) i 0)) (now (firsts .entry)) ⌝ }
+        filled n (λ i. firstHalfOf (now (edges .entry)) (now (newedges .entry)) f (getD (now (perimeter .entry)) i 0)) (now (firsts .entry)) ⌝ }
     ensures { λ _. ⌜
         now (seconds .exit) ≡
-        filled n (λ i. secondHalfOf (now (oldedges .entry)) (now (edges .entry)) f (getD (now (perimeter .entry)) i 0)) (now (seconds .entry)) ⌝ }
+        filled n (λ i. secondHalfOf (now (edges .entry)) (now (newedges .entry)) f (getD (now (perimeter .entry)) i 0)) (now (seconds .entry)) ⌝ }
     ensures { λ _. ⌜
-        now (mids .exit) ≡ filled n (λ i. getD (now (edges .entry)) (getD (now (perimeter .entry)) i 0 * edgeWidth + destWord) 0) (now (mids .entry)) ⌝ }
+        now (mids .exit) ≡ filled n (λ i. getD (now (newedges .entry)) (getD (now (perimeter .entry)) i 0 * edgeWidth + destWord) 0) (now (mids .entry)) ⌝ }
 {
     let mut i = 0;
     while i < n {
         let e = perimeter[i];
         let row = index(e);
-        let left = on_left(oldedges, f, row);
-        firsts[i] = first_half(edges, left, e);
-        seconds[i] = second_half(edges, left, e);
-        mids[i] = edges[row * EDGE_WIDTH + DEST_WORD];
+        let left = on_left(edges, f, row);
+        firsts[i] = first_half(newedges, left, e);
+        seconds[i] = second_half(newedges, left, e);
+        mids[i] = newedges[row * EDGE_WIDTH + DEST_WORD];
         i += 1;
     }
 }

@@ -12,7 +12,7 @@ use Rattle.closed_meshes.specs.Mesh.{Place, place0, place1, place2, place3, Dar
 use Rattle.closed_meshes.specs.Refinement.{NewPoint, old, mid, facePoint, NewEdge, org, dst, join, refined}
 use Rattle.closed_meshes.specs.Renumbering.{Row}
 use Rattle.closed_meshes.specs.Names.{destinationHalfOf, joiningEdgeOf, newFaceOf}
-use Rattle.closed_meshes.specs.Runs.{newPointName, newEdgeName, newFaceName, Step}
+use Rattle.closed_meshes.specs.Runs.{newPointName, newEdgeName, newFaceName, NamedStep}
 use Rattle.closed_meshes.proofs.Counting.{row-path}
 use Rattle.closed_meshes.proofs.Groupoid.{isomorphism-trans}
 use Rattle.closed_meshes.proofs.Isomorphisms.{to-injective, onto}
@@ -94,7 +94,7 @@ module _
           (corner-there d place2 ∙ r .refines .old-row (first (n .holds .mesh) d))
 
       -- Names by the rules make a step.
-      pub step-of-names : Step k (stage n) (stage n')
+      pub step-of-names : NamedStep k (stage n) (stage n')
       unfolding isomorphism-trans reading point edge-no face-no
       step-of-names =
           record {

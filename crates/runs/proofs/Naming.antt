@@ -16,13 +16,13 @@ use Rattle.tables.specs.declared.Counts.{Counts}
 use Rattle.closed_meshes.specs.Renumbering.{Row}
 use Rattle.closed_meshes.specs.Names.{midpointOf, facePointOf, destinationHalfOf, joiningEdgeOf, newFaceOf}
 use Rattle.closed_meshes.specs.Shared.{Stage}
-use Rattle.closed_meshes.specs.Runs.{Run, then}
+use Rattle.closed_meshes.specs.Runs.{StepsTo, then}
 use Rattle.closed_meshes.proofs.Counting.{row-path}
 use Rattle.closed_meshes.proofs.Isomorphisms.{onto}
 use Rattle.audited_meshes.specs.Rows.{HoldsClosed}
 use Rattle.steps.specs.declared.Stepped.{Stepped}
 use Rattle.steps.specs.declared.Stepped.the-variants.{Refined, NotClosed, NotEachFaceOnce, NoRoom, NotFinite}
-use Rattle.steps.specs.Step.{numberOf, refinedCounts}
+use Rattle.steps.specs.Step.{stepGround, refinedCounts}
 use Rattle.tables.specs.Counted.{firstRows}
 use Rattle.steps.specs.OneStep.{Refinement, Binary64}
 use Rattle.runs.specs.Runs.{Lent, Handed, outcome, after, run, oneMore, accepted, lent, NamedMesh, stage, NewNames, SameNames, Renamed, Naming, done, further}
@@ -91,7 +91,7 @@ module _
     along-step k l n r b h n' a = go (answered (outcome l h .answer))
       where
         go :
-            ((c : Counts) × (outcome l h .answer ≡ Refined c)) ⊎ ((x : ℕ) × (numberOf (outcome l h .answer) ≡ some x)) →
+            ((c : Counts) × (outcome l h .answer ≡ Refined c)) ⊎ ((x : ℕ) × (stepGround (outcome l h .answer) ≡ some x)) →
             P (oneMore (outcome l h .answer) k) (after l h) n'
         go (inl (c, e)) =
             subst (λ g. P (oneMore g k) (after l h) n') (sym e)
@@ -116,7 +116,7 @@ module _ {first : Counts} (s : Stage (Row (first .points)) (Row (first .edges)) 
   pub record Reached (k : ℕ) (l : Lent) (n : NamedMesh first l) : Type 1 where
     pub mesh : NamedMesh first l
     pub same : SameNames mesh n
-    pub run : Run s k (stage mesh)
+    pub run : StepsTo s k (stage mesh)
 
   reached-same : (k : ℕ) (l : Lent) (n : NamedMesh first l) → Reached k l n → (n' : NamedMesh first l) → SameNames n n' → Reached k l n'
   reached-same k l n r n' a = record { mesh = r .mesh; same = same-names-trans (r .same) a; run = r .run }
@@ -141,7 +141,7 @@ module _ {first : Counts} where
   next-names k l n b h = go (answered (outcome l h .answer))
     where
       go :
-          ((c : Counts) × (outcome l h .answer ≡ Refined c)) ⊎ ((x : ℕ) × (numberOf (outcome l h .answer) ≡ some x)) →
+          ((c : Counts) × (outcome l h .answer ≡ Refined c)) ⊎ ((x : ℕ) × (stepGround (outcome l h .answer) ≡ some x)) →
           (n' : NamedMesh first (after l h)) × Renamed k (outcome l h .answer) n n'
       go (inl (c, e)) =
           let r = made-of l h b (n .holds) c e .refinement in
@@ -199,7 +199,7 @@ module _ {first : Counts} where
       (n' o' : NamedMesh first (after l h)) → Renamed k (outcome l h .answer) n n' → Renamed k (outcome l h .answer) o o' → SameNames n' o'
   settled-step k l n o s b h n' o' x y = go (answered (outcome l h .answer))
     where
-      go : ((c : Counts) × (outcome l h .answer ≡ Refined c)) ⊎ ((g : ℕ) × (numberOf (outcome l h .answer) ≡ some g)) → SameNames n' o'
+      go : ((c : Counts) × (outcome l h .answer ≡ Refined c)) ⊎ ((g : ℕ) × (stepGround (outcome l h .answer) ≡ some g)) → SameNames n' o'
       go (inl (c, e)) =
           pathJ (λ z q. (n' o' : NamedMesh first z) → NewNames (suc k) n n' → NewNames (suc k) o o' → SameNames n' o')
           (λ n' o' x y.

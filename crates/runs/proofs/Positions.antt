@@ -14,8 +14,8 @@ use Rattle.closed_meshes.specs.Renumbering.{Row}
 use Rattle.closed_meshes.specs.Names.{PointName, EdgeName, FaceName, givenPoint, midpointOf, facePointOf, givenEdge, destinationHalfOf, joiningEdgeOf, givenFace, newFaceOf, givenNames}
 use Rattle.closed_meshes.specs.Runs.{newPointName}
 use Rattle.closed_meshes.proofs.Isomorphisms.{onto}
-use Rattle.position_rules.specs.FacePoint.{facePointOf as facePointIn}
-use Rattle.position_rules.specs.Rules.{edgePointOf, oldPointOf}
+use Rattle.position_rules.specs.FacePoint.{facePointIn}
+use Rattle.position_rules.specs.Rules.{edgePointIn, oldPointIn}
 use Rattle.tables.specs.Counted.{firstRows}
 use Rattle.steps.specs.OneStep.{Refinement, Binary64}
 use Rattle.runs.specs.Runs.{Lent, Handed, accepted, lent, NamedMesh, SameNames, Naming}
@@ -25,7 +25,7 @@ use Rattle.runs.proofs.Naming.{same-names-trans, along}
 -- Where the point of a name stands after one accepted step, from the first mesh m and its counts c.
 module _ (m : Mesh) (c : Counts) where
   ofEdge : EdgeName (Row (c .points)) (Row (c .edges)) (Row (c .faces)) → Position
-  ofEdge (givenEdge e) = edgePointOf m (c .edges) (e .0)
+  ofEdge (givenEdge e) = edgePointIn m (c .edges) (e .0)
   ofEdge (destinationHalfOf k e) = zeros
   ofEdge (joiningEdgeOf k f e) = zeros
 
@@ -34,7 +34,7 @@ module _ (m : Mesh) (c : Counts) where
   ofFace (newFaceOf k f p) = zeros
 
   pub afterOne : PointName (Row (c .points)) (Row (c .edges)) (Row (c .faces)) → Position
-  afterOne (givenPoint p) = oldPointOf m (c .edges) (p .0)
+  afterOne (givenPoint p) = oldPointIn m (c .edges) (p .0)
   afterOne (midpointOf k e) = ofEdge e
   afterOne (facePointOf k f) = ofFace f
 
@@ -69,13 +69,13 @@ module _
             let q : Row (c .points) = (p .0, subst (λ x. p .0 < x .counts .points) (sym here) (p .1)) in
             let name : n .names .point p ≡ givenPoint q = r .none-accepted z .1 .points q p refl ∙ ap (λ x. x .point q) given in
             f .old-point p
-            ∙ ap (λ x. oldPointOf (firstRows (x .counts) (x .tables)) (x .counts .edges) (p .0)) (sym here)
+            ∙ ap (λ x. oldPointIn (firstRows (x .counts) (x .tables)) (x .counts .edges) (p .0)) (sym here)
             ∙ ap (afterOne (firstRows c a) c) (sym name)
         place (mid e) =
             let q : Row (c .edges) = (e .0, subst (λ x. e .0 < x .counts .edges) (sym here) (e .1)) in
             let name : n .names .edge e ≡ givenEdge q = r .none-accepted z .1 .edges q e refl ∙ ap (λ x. x .edge q) given in
             f .edge-point e
-            ∙ ap (λ x. edgePointOf (firstRows (x .counts) (x .tables)) (x .counts .edges) (e .0)) (sym here)
+            ∙ ap (λ x. edgePointIn (firstRows (x .counts) (x .tables)) (x .counts .edges) (e .0)) (sym here)
             ∙ ap (λ y. ofEdge (firstRows c a) c y) (sym name)
         place (facePoint g) =
             let q : Row (c .faces) = (g .0, subst (λ x. g .0 < x .counts .faces) (sym here) (g .1)) in

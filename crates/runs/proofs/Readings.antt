@@ -10,7 +10,7 @@ use native.Mathlib.Omega.{arith}
 use native.Mathlib.Decide.{decLt}
 use Rattle.tables.specs.Mesh.{Mesh, none as noRow, corner}
 use Rattle.tables.specs.declared.Counts.{Counts}
-use Rattle.closed_meshes.specs.Mesh.{Mesh as MeshOver, Place}
+use Rattle.closed_meshes.specs.Mesh.{MeshOver, Place}
 use Rattle.closed_meshes.specs.Renumbering.{Isomorphism, Row}
 use Rattle.closed_meshes.proofs.Counting.{row-path}
 use Rattle.closed_meshes.proofs.Groupoid.{identity}

@@ -12,7 +12,7 @@ use Rattle.tables.specs.declared.Counts.{Counts}
 use Rattle.closed_meshes.specs.Renumbering.{Row}
 use Rattle.closed_meshes.specs.Names.{givenPoint, givenNames}
 use Rattle.closed_meshes.specs.Shared.{Stage, Shared, NamesDiffer}
-use Rattle.closed_meshes.specs.Runs.{Run, begin}
+use Rattle.closed_meshes.specs.Runs.{StepsTo, begin}
 use Rattle.closed_meshes.proofs.Counting.{row-path}
 use Rattle.closed_meshes.proofs.Groupoid.{isomorphism-trans}
 use Rattle.closed_meshes.proofs.Names.{names-differ}
@@ -77,7 +77,7 @@ module _ {c : Counts} {m : Mesh} (numbers : Binary64 c m) {hs : List Handed} (n 
       (names-differ _ _ _ (n .begun .holds .mesh) (n .begun .holds .closed) (accepted (lent m c) hs) (stage (reached-end .mesh))
       (subst
       (λ x.
-      Run
+      StepsTo
       (record {
         Point = Row (c .points);
         Edge = Row (c .edges);
@@ -113,7 +113,7 @@ module _
           shared-of-matching
           (matching-trans (end-matches na n)
           (matching-trans
-          (matching-run begin-matches (subst (λ j. Run (stage (n .begun)) j (stage (reached-end na n .mesh))) k (reached-end na n .run)) (reached-end nb n' .run))
+          (matching-run begin-matches (subst (λ j. StepsTo (stage (n .begun)) j (stage (reached-end na n .mesh))) k (reached-end na n .run)) (reached-end nb n' .run))
           (matches-end nb n')))
           (end-differs nb n')
 

@@ -14,14 +14,14 @@ use Rattle.audited_meshes.specs.Rows.{HoldsClosed}
 use Rattle.audited_meshes.proofs.Holds.{audit-is-closed}
 use Rattle.steps.specs.declared.Stepped.{Stepped}
 use Rattle.steps.specs.declared.Stepped.the-variants.{Refined, NotClosed, NotEachFaceOnce, NoRoom, NotFinite}
-use Rattle.steps.specs.Step.{numberOf, refinedCounts, whole, made}
+use Rattle.steps.specs.Step.{stepGround, refinedCounts, whole, made}
 use Rattle.tables.specs.Counted.{firstRows}
 use Rattle.steps.specs.OneStep.{Binary64, Accepted}
 use Rattle.steps.proofs.Grounds.{untouched}
 use Rattle.steps.proofs.OneStep.{one-step}
 use Rattle.runs.specs.Runs.{Lent, Handed, outcome, countsAfter, after, oneMore, lent, NamedMesh, SameNames, Renamed, StepClaim, EachStep, noSteps, eachStep}
 
-pub answered : (g : Stepped) → ((c : Counts) × (g ≡ Refined c)) ⊎ ((x : ℕ) × (numberOf g ≡ some x))
+pub answered : (g : Stepped) → ((c : Counts) × (g ≡ Refined c)) ⊎ ((x : ℕ) × (stepGround g ≡ some x))
 answered (Refined c) = inl (c, refl)
 answered NotClosed = inr (30, refl)
 answered NotEachFaceOnce = inr (31, refl)
@@ -29,17 +29,17 @@ answered NoRoom = inr (32, refl)
 answered NotFinite = inr (33, refl)
 
 -- An answer is not both.
-pub not-both : {g : Stepped} (c : Counts) (x : ℕ) → g ≡ Refined c → ¬ (numberOf g ≡ some x)
-not-both c x e q = let z = sym (ap numberOf e) ∙ q in let y : _≡_ {A = ℕ} 0 1 = cc in omega arith
+pub not-both : {g : Stepped} (c : Counts) (x : ℕ) → g ≡ Refined c → ¬ (stepGround g ≡ some x)
+not-both c x e q = let z = sym (ap stepGround e) ∙ q in let y : _≡_ {A = ℕ} 0 1 = cc in omega arith
 
-refused-counts : (g : Stepped) (x : ℕ) (c : Counts) → numberOf g ≡ some x → countsAfter g c ≡ c
+refused-counts : (g : Stepped) (x : ℕ) (c : Counts) → stepGround g ≡ some x → countsAfter g c ≡ c
 refused-counts (Refined c') x c q = absurd (not-both c' x refl q)
 refused-counts NotClosed x c q = refl
 refused-counts NotEachFaceOnce x c q = refl
 refused-counts NoRoom x c q = refl
 refused-counts NotFinite x c q = refl
 
-pub refused-number : (g : Stepped) (x k : ℕ) → numberOf g ≡ some x → oneMore g k ≡ k
+pub refused-number : (g : Stepped) (x k : ℕ) → stepGround g ≡ some x → oneMore g k ≡ k
 refused-number (Refined c') x k q = absurd (not-both c' x refl q)
 refused-number NotClosed x k q = refl
 refused-number NotEachFaceOnce x k q = refl
@@ -48,14 +48,14 @@ refused-number NotFinite x k q = refl
 
 -- The names after a refused step are the names before it.
 module _ {first : Counts} {l l' : Lent} (n : NamedMesh first l) (n' : NamedMesh first l') where
-  pub same-names-of : (g : Stepped) (x k : ℕ) → numberOf g ≡ some x → Renamed k g n n' → SameNames n n'
+  pub same-names-of : (g : Stepped) (x k : ℕ) → stepGround g ≡ some x → Renamed k g n n' → SameNames n n'
   same-names-of (Refined c') x k q a = absurd (not-both c' x refl q)
   same-names-of NotClosed x k q a = a
   same-names-of NotEachFaceOnce x k q a = a
   same-names-of NoRoom x k q a = a
   same-names-of NotFinite x k q a = a
 
-  pub renamed-same : (g : Stepped) (x k : ℕ) → numberOf g ≡ some x → SameNames n n' → Renamed k g n n'
+  pub renamed-same : (g : Stepped) (x k : ℕ) → stepGround g ≡ some x → SameNames n n' → Renamed k g n n'
   renamed-same (Refined c') x k q a = absurd (not-both c' x refl q)
   renamed-same NotClosed x k q a = a
   renamed-same NotEachFaceOnce x k q a = a
@@ -63,7 +63,7 @@ module _ {first : Counts} {l l' : Lent} (n : NamedMesh first l) (n' : NamedMesh 
   renamed-same NotFinite x k q a = a
 
 module _ (l : Lent) (h : Handed) where
-  pub after-refused : (x : ℕ) → numberOf (outcome l h .answer) ≡ some x → after l h ≡ l
+  pub after-refused : (x : ℕ) → stepGround (outcome l h .answer) ≡ some x → after l h ≡ l
   after-refused x q =
       let t = untouched (l .tables) (l .counts) (h .order) (h .scratch) x q .tables in
       let c = refused-counts (outcome l h .answer) x (l .counts) q in
@@ -92,7 +92,7 @@ module _ (l : Lent) (h : Handed) (numbers : Binary64 (l .counts) (l .tables)) wh
         Holds : Lent → Type 0
         Holds x = HoldsClosed (x .tables) (x .counts .points) (x .counts .edges) (x .counts .faces)
 
-        go : ((c : Counts) × (outcome l h .answer ≡ Refined c)) ⊎ ((x : ℕ) × (numberOf (outcome l h .answer) ≡ some x)) → Holds (after l h)
+        go : ((c : Counts) × (outcome l h .answer ≡ Refined c)) ⊎ ((x : ℕ) × (stepGround (outcome l h .answer) ≡ some x)) → Holds (after l h)
         go (inl (c, e)) = subst Holds (sym (after-accepted H c e)) (made-of H c e .refinement .holds)
         go (inr (x, q)) = subst Holds (sym (after-refused l h x q)) H
 
@@ -100,7 +100,7 @@ module _ (l : Lent) (h : Handed) (numbers : Binary64 (l .counts) (l .tables)) wh
     numbers-after = go (answered (outcome l h .answer))
       where
         go :
-            ((c : Counts) × (outcome l h .answer ≡ Refined c)) ⊎ ((x : ℕ) × (numberOf (outcome l h .answer) ≡ some x)) →
+            ((c : Counts) × (outcome l h .answer ≡ Refined c)) ⊎ ((x : ℕ) × (stepGround (outcome l h .answer) ≡ some x)) →
             Binary64 (after l h .counts) (after l h .tables)
         go (inl (c, e)) = subst (λ x. Binary64 (x .counts) (x .tables)) (sym (after-accepted H c e)) (made-of H c e .numbers)
         go (inr (x, q)) = subst (λ x. Binary64 (x .counts) (x .tables)) (sym (after-refused l h x q)) numbers

@@ -40,7 +40,7 @@ use Rattle.audited_meshes.specs.Audit.{audit}
 use Rattle.audited_meshes.specs.Rows.{HoldsClosed, place}
 use Rattle.steps.specs.declared.Stepped.{Stepped}
 use Rattle.steps.specs.declared.Stepped.the-variants.{Refined, NotClosed, NotEachFaceOnce, NoRoom, NotFinite}
-use Rattle.steps.specs.Step.{numberOf, refinedCounts, whole, made, Outcome, step}
+use Rattle.steps.specs.Step.{stepGround, refinedCounts, whole, made, StepOutcome, step}
 use Rattle.tables.specs.Counted.{firstRows}
 use Rattle.steps.specs.OneStep.{Refinement, Binary64}
 
@@ -54,7 +54,7 @@ pub record Handed : Type 0 where
   pub order : List ℕ
   pub scratch : Mesh
 
-abbrev pub outcome : Lent → Handed → Outcome
+abbrev pub outcome : Lent → Handed → StepOutcome
 outcome l h = step (l .tables) (l .counts) (h .order) (h .scratch)
 
 abbrev pub countsAfter : Stepped → Counts → Counts
@@ -181,7 +181,7 @@ pub record StepClaim (l : Lent) (h : Handed) : Type 0 where
       (n : HoldsClosed (l .tables) (l .counts .points) (l .counts .edges) (l .counts .faces)) →
       Refinement (firstRows (l .counts) (l .tables)) (l .counts) (n .mesh) (n .closed) (h .order) (after l h .tables)
   -- A refused step changes nothing.
-  pub refused : (g : ℕ) → numberOf (outcome l h .answer) ≡ some g → after l h ≡ l
+  pub refused : (g : ℕ) → stepGround (outcome l h .answer) ≡ some g → after l h ≡ l
 
 pub data EachStep : Lent → List Handed → Type 0 where
   noSteps : {l : Lent} → EachStep l []

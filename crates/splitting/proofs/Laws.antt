@@ -18,18 +18,18 @@ use lib.Dec.{ltb}
 use lib.ListN.{getD}
 use Rattle.refined_meshes.specs.Turns.{turns}
 use Rattle.refined_meshes.specs.State.{State, edgeOf, putEdge, putPoint, putStart}
-use Rattle.refined_meshes.specs.Split.{split, splitIf, splitWhole}
+use Rattle.refined_meshes.specs.Split.{splitEdge, splitIf, splitWhole}
 use Rattle.refined_meshes.specs.Visits.{splitAll}
 use lib.Ieee.{Float}
 use Rattle.tables.specs.declared.Counts.{Counts}
 use Rattle.splitting.specs.Scratch.{tablesOf, scratch}
 
-pub splitWhole-split : (np e : ℕ) (s : State) → edgeOf s e .dest < np → splitWhole np e s ≡ split e s
-unfolding splitWhole split
+pub splitWhole-split : (np e : ℕ) (s : State) → edgeOf s e .dest < np → splitWhole np e s ≡ splitEdge e s
+unfolding splitWhole splitEdge
 splitWhole-split np e s h = rw (lt-ltb (edgeOf s e .dest) np h)
 
 pub splitWhole-kept : (np e : ℕ) (s : State) → np ≤ edgeOf s e .dest → splitWhole np e s ≡ s
-unfolding splitWhole split
+unfolding splitWhole splitEdge
 splitWhole-kept np e s h = rw (le-ltb (edgeOf s e .dest) np h)
 
 pub splitAll-none : (np : ℕ) (es : List ℕ) (s : State) → splitAll np es 0 s ≡ s
@@ -44,12 +44,12 @@ pub splitAll-more : (np : ℕ) (es : List ℕ) (i : ℕ) (s : State) → splitAl
 splitAll-more np es i s = rw add-one (splitAll-suc np es i s)
 
 points-splitIf : (b : Bool) (e : ℕ) (s : State) → s .pointsTaken ≤ splitIf b e s .pointsTaken
-unfolding split putEdge putPoint putStart
+unfolding splitEdge putEdge putPoint putStart
 points-splitIf true e s = omega arith
 points-splitIf false e s = omega arith
 
 edges-splitIf : (b : Bool) (e : ℕ) (s : State) → s .edgesTaken ≤ splitIf b e s .edgesTaken
-unfolding split putEdge putPoint putStart
+unfolding splitEdge putEdge putPoint putStart
 edges-splitIf true e s = omega arith
 edges-splitIf false e s = omega arith
 
@@ -62,7 +62,7 @@ unfolding splitWhole
 edges-splitWhole np e s = edges-splitIf (ltb (edgeOf s e .dest) np) e s
 
 faces-splitIf : (b : Bool) (e : ℕ) (s : State) → splitIf b e s .facesTaken ≡ s .facesTaken
-unfolding split putEdge putPoint putStart
+unfolding splitEdge putEdge putPoint putStart
 faces-splitIf true e s = add-zero (s .facesTaken)
 faces-splitIf false e s = refl
 
@@ -110,7 +110,7 @@ withFaces fs s =
     }
 
 splitIf-faces : (b : Bool) (e : ℕ) (fs : List ℕ) (s : State) → withFaces fs (splitIf b e s) ≡ splitIf b e (withFaces fs s)
-unfolding split putEdge putPoint putStart
+unfolding splitEdge putEdge putPoint putStart
 splitIf-faces true e fs s = refl
 splitIf-faces false e fs s = refl
 

@@ -12,9 +12,9 @@ use Rattle.tables.specs.declared.Counts.{Counts}
 use Rattle.tables.specs.Rows.{putRow}
 use Rattle.tables.specs.Records.{edgeAt, edgeWords}
 use Rattle.refined_meshes.specs.State.{State, putEdge, putPoint, putStart}
-use Rattle.refined_meshes.specs.Split.{originHalf, destinationHalf, split, splitWhole}
+use Rattle.refined_meshes.specs.Split.{originHalf, destinationHalf, splitEdge, splitWhole}
 use Rattle.refined_meshes.specs.Visits.{splitAll}
-use Rattle.splitting.specs.Scratch.{scratch, InRows, Room}
+use Rattle.splitting.specs.Scratch.{scratch, InRows, SplitRoom}
 use Rattle.splitting.proofs.Laws.{splitWhole-split, splitAll-none, splitAll-more, points-splitAll, edges-splitAll}
 
 -- the two halves stored: new in row h, then old in row e
@@ -35,15 +35,15 @@ module _ (ps ps2 es es2 : List ℕ) (is is2 : List Float) (e d : ℕ) (c : Count
       → is2 ≡ set (set is (c .edges) (destinationHalf (c .points) e (edgeAt es is e) .«knot_interval»)) e
       (originHalf (c .points) (c .edges) (edgeAt es is e) .«knot_interval»)
       → ps2 ≡ set (putRow ps (c .points * 3) (4 ∷ e ∷ 0 ∷ [])) (d * 3 + 1) (c .edges)
-      → _≡_ {A = State} (scratch ps2 es2 is2 (record { points = c .points + 1; edges = c .edges + 1; faces = c .faces })) (split e (scratch ps es is c))
-  unfolding split putEdge putPoint putStart
-  edge-split x a b q = rw (q, a, b, x, split, add-zero)
+      → _≡_ {A = State} (scratch ps2 es2 is2 (record { points = c .points + 1; edges = c .edges + 1; faces = c .faces })) (splitEdge e (scratch ps es is c))
+  unfolding splitEdge putEdge putPoint putStart
+  edge-split x a b q = rw (q, a, b, x, splitEdge, add-zero)
 
 -- the room for a whole edge is room for one more row of each kind
 pub whole-room : (ps es : List ℕ) (is : List Float) (np e : ℕ) (c : Counts) → getD es (e * 8 + 1) 0 < np
-    → Room ps es is (splitWhole np e (scratch ps es is c) .pointsTaken) (splitWhole np e (scratch ps es is c) .edgesTaken)
-    → Room ps es is (c .points + 1) (c .edges + 1)
-unfolding split putEdge putPoint putStart
+    → SplitRoom ps es is (splitWhole np e (scratch ps es is c) .pointsTaken) (splitWhole np e (scratch ps es is c) .edgesTaken)
+    → SplitRoom ps es is (c .points + 1) (c .edges + 1)
+unfolding splitEdge putEdge putPoint putStart
 whole-room ps es is np e c h r = rw (splitWhole-split np e (scratch ps es is c) h) at r
 
 -- the loop of split_all after i turns: ps0, es0, is0 and c0 are what it began with
@@ -78,8 +78,8 @@ module _ (ps0 es0 : List ℕ) (is0 : List Float) (np : ℕ) (perimeter : List �
     pub splitting-old : np * 3 ≤ length ps0 → np * 3 ≤ length ps
     splitting-old l = rw (h .same-points) l
 
-    pub splitting-room : i < n → Room ps0 es0 is0 (After n .pointsTaken) (After n .edgesTaken)
-        → Room ps es is (splitWhole np (getD perimeter i 0) (scratch ps es is c) .pointsTaken)
+    pub splitting-room : i < n → SplitRoom ps0 es0 is0 (After n .pointsTaken) (After n .edgesTaken)
+        → SplitRoom ps es is (splitWhole np (getD perimeter i 0) (scratch ps es is c) .pointsTaken)
         (splitWhole np (getD perimeter i 0) (scratch ps es is c) .edgesTaken)
     splitting-room l r =
         let a = points-splitAll np perimeter (scratch ps0 es0 is0 c0) (i + 1) n (omega arith) in

@@ -2,7 +2,7 @@
 --     tablesOf ps es is fs c     the state with the four tables and the rows c taken
 --     scratch ps es is c         the same with no faces: the tables that a splitting looks at
 --     InRows es is e             the edge e is a row of the tables of edges and intervals
---     Room ps es is p e          p points and e edges fit the tables and the ceilings
+--     SplitRoom ps es is p e     p points and e edges fit the tables and the ceilings
 use mathlib.Core.List.{List, []}
 use Prim.Native.Nat.{ℕ, _+_, _*_, _≤_, _<_}
 use lib.ListN.{length}
@@ -21,7 +21,7 @@ pub record InRows (es : List ℕ) (is : List Float) (e : ℕ) : Type 0 where
   pub words : e * edgeWidth + edgeWidth ≤ length es
   pub number : e < length is
 
-pub record Room (ps es : List ℕ) (is : List Float) (p e : ℕ) : Type 0 where
+pub record SplitRoom (ps es : List ℕ) (is : List Float) (p e : ℕ) : Type 0 where
   pub points : p * pointWidth ≤ length ps
   pub edges : e * edgeWidth ≤ length es
   pub intervals : e ≤ length is

@@ -10,9 +10,9 @@ ghost use Rattle.tables.specs.Layout.{pointWidth, startWord, edgeWidth, destWor
 ghost use Rattle.tables.specs.Rows.{putRow};
 ghost use Rattle.tables.specs.Records.{edgeAt, edgeWords};
 ghost use Rattle.refined_meshes.specs.State.{State};
-ghost use Rattle.refined_meshes.specs.Split.{half, originHalf, destinationHalf, split, splitWhole};
+ghost use Rattle.refined_meshes.specs.Split.{half, originHalf, destinationHalf, splitEdge, splitWhole};
 ghost use Rattle.refined_meshes.specs.Visits.{splitAll};
-ghost use Rattle.splitting.specs.Scratch.{scratch, InRows, Room};
+ghost use Rattle.splitting.specs.Scratch.{scratch, InRows, SplitRoom};
 use records::load_edge;
 use records::store_edge;
 use t_spline::TnurccEdge;
@@ -107,12 +107,12 @@ fn split_edge(
     taken: Counts,
 ) -> Counts
     requires { ⌜ InRows (now edges) (now intervals) e ⌝ }
-    requires { ⌜ Room (now points) (now edges) (now intervals) (taken .points + 1) (taken .edges + 1) ⌝ }
+    requires { ⌜ SplitRoom (now points) (now edges) (now intervals) (taken .points + 1) (taken .edges + 1) ⌝ }
     requires { ⌜ getD (now edges) (e * edgeWidth + destWord) 0 * pointWidth + pointWidth ≤ length (now points) ⌝ }
     ensures { λ r. ⌜
         _≡_ {A = State}
         (scratch (now (points .exit)) (now (edges .exit)) (now (intervals .exit)) r)
-        (split e (scratch (now (points .entry)) (now (edges .entry)) (now (intervals .entry)) taken)) ⌝ }
+        (splitEdge e (scratch (now (points .entry)) (now (edges .entry)) (now (intervals .entry)) taken)) ⌝ }
 {
     let p = taken.points as u32;
     let h = taken.edges as u32;
@@ -137,7 +137,7 @@ fn split_whole(
     requires { ⌜ InRows (now edges) (now intervals) e ⌝ }
     requires { ⌜ np * pointWidth ≤ length (now points) ⌝ }
     requires { ⌜
-        Room (now points) (now edges) (now intervals)
+        SplitRoom (now points) (now edges) (now intervals)
         (splitWhole np e (scratch (now points) (now edges) (now intervals) taken) .pointsTaken)
         (splitWhole np e (scratch (now points) (now edges) (now intervals) taken) .edgesTaken) ⌝ }
     ensures { λ r. ⌜
@@ -165,7 +165,7 @@ pub fn split_all(
     requires { ⌜ ((i : ℕ) → i < n → InRows (now edges) (now intervals) (getD (now perimeter) i 0)) ⌝ }
     requires { ⌜ np * pointWidth ≤ length (now points) ⌝ }
     requires { ⌜
-        Room (now points) (now edges) (now intervals)
+        SplitRoom (now points) (now edges) (now intervals)
         (splitAll np (now perimeter) n (scratch (now points) (now edges) (now intervals) taken) .pointsTaken)
         (splitAll np (now perimeter) n (scratch (now points) (now edges) (now intervals) taken) .edgesTaken) ⌝ }
     ensures { λ r. ⌜

@@ -7,28 +7,28 @@ use lib.Ieee.{Float}
 use Rattle.tables.specs.Mesh.{Mesh}
 use Rattle.tables.specs.declared.Counts.{Counts}
 use Rattle.audited_meshes.specs.Audit.{audit}
-use Rattle.built_meshes.specs.Answers.{numbersOf}
-use Rattle.built_meshes.specs.Building.{Outcome}
+use Rattle.built_meshes.specs.Answers.{builtNumbers}
+use Rattle.built_meshes.specs.Building.{BuildOutcome}
 use Rattle.built_meshes.specs.declared.Built.{Built}
-use Rattle.text_meshes.specs.TextBuilding.{Outcome as TextOutcome, numbersOf as textNumbers}
+use Rattle.text_meshes.specs.TextBuilding.{TextOutcome, textNumbers}
 use Rattle.text_meshes.specs.declared.TextBuilt.{TextBuilt}
-use Rattle.steps.specs.Step.{Outcome as StepOutcome, numbersOf as stepNumbers, step}
+use Rattle.steps.specs.Step.{StepOutcome, stepNumbers, step}
 use Rattle.steps.specs.declared.Stepped.{Stepped}
 use Rattle.crossings.specs.Crossings as crossings
 use Rattle.crossings.specs.declared.Crossing.{Crossing}
-use Rattle.station_answers.specs.Answers.{countsIn, answerOf, countsAfter, edgeAfter}
-use Rattle.station.specs.Station.{Building, built, textBuilt, audited, Step, stepped, Finding, found}
+use Rattle.station_answers.specs.Answers.{countsIn, answerOf, countsWritten, edgeAfter}
+use Rattle.station.specs.Station.{BuildingTold, built, textBuilt, audited, StepTold, stepped, Finding, found}
 
 -- the outcome of building from lists, told with the number n and the counts ys
-pub built-told : (xs : List ℕ) {a : Built} {m : Mesh} {o : Outcome} {ys : List ℕ} {n : ℕ}
-    → _≡_ {A = Outcome} (record { answer = a; tables = m }) o → n ≡ answerOf (numbersOf a) → ys ≡ countsAfter xs (numbersOf a)
-    → _≡_ {A = Building} (record { answer = n; counts = ys; tables = m }) (built xs o)
+pub built-told : (xs : List ℕ) {a : Built} {m : Mesh} {o : BuildOutcome} {ys : List ℕ} {n : ℕ}
+    → _≡_ {A = BuildOutcome} (record { answer = a; tables = m }) o → n ≡ answerOf (builtNumbers a) → ys ≡ countsWritten xs (builtNumbers a)
+    → _≡_ {A = BuildingTold} (record { answer = n; counts = ys; tables = m }) (built xs o)
 built-told xs e n q = rw (sym e, n, q)
 
 -- the same of building from a text
 pub text-told : (xs : List ℕ) {a : TextBuilt} {m : Mesh} {o : TextOutcome} {ys : List ℕ} {n : ℕ}
-    → _≡_ {A = TextOutcome} (record { answer = a; tables = m }) o → n ≡ answerOf (textNumbers a) → ys ≡ countsAfter xs (textNumbers a)
-    → _≡_ {A = Building} (record { answer = n; counts = ys; tables = m }) (textBuilt xs o)
+    → _≡_ {A = TextOutcome} (record { answer = a; tables = m }) o → n ≡ answerOf (textNumbers a) → ys ≡ countsWritten xs (textNumbers a)
+    → _≡_ {A = BuildingTold} (record { answer = n; counts = ys; tables = m }) (textBuilt xs o)
 text-told xs e n q = rw (sym e, n, q)
 
 -- k are the counts as the code loaded them
@@ -42,8 +42,8 @@ module _ (m : Mesh) {k c : Counts} (e : k ≡ c) where
 -- the outcome of the step, from the counts k as the code loaded them
 pub step-told : (xs : List ℕ) {k : Counts} (m : Mesh) {m' : Mesh} (t : Mesh) {t' : Mesh} (order : List ℕ) {ys : List ℕ} {a : Stepped}
     {n : ℕ} → k ≡ countsIn xs → _≡_ {A = StepOutcome} (record { answer = a; tables = m'; scratch = t' }) (step m k order t)
-    → n ≡ answerOf (stepNumbers a) → ys ≡ countsAfter xs (stepNumbers a)
-    → _≡_ {A = Step} (record { answer = n; counts = ys; tables = m'; scratch = t' }) (stepped xs (step m (countsIn xs) order t))
+    → n ≡ answerOf (stepNumbers a) → ys ≡ countsWritten xs (stepNumbers a)
+    → _≡_ {A = StepTold} (record { answer = n; counts = ys; tables = m'; scratch = t' }) (stepped xs (step m (countsIn xs) order t))
 step-told xs m t order p e n q = rw (sym p, sym e, n, q)
 
 -- the answer of the depth finder, from the counts k as the code loaded them

@@ -1,9 +1,9 @@
 -- What the C functions answer and leave: the numbers of an answer (`station_answers`), beside the tables.
---     Building                the answer of building, the array of counts and the tables afterwards
+--     BuildingTold            the answer of building, the array of counts and the tables afterwards
 --     built xs o              the outcome o of building from lists, if the array of counts was xs
 --     textBuilt xs o          the outcome o of building from a text
 --     audited m c             0 if the tables m are a closed mesh with the counts c, else 30
---     Step                    the answer of a step, the array of counts, the tables and the scratch tables afterwards
+--     StepTold                the answer of a step, the array of counts, the tables and the scratch tables afterwards
 --     stepped xs o            the outcome o of a step
 --     Finding                 the answer of the depth finder, and the array of one edge afterwards
 --     found xs r              the answer r of the depth finder, if the array of one edge was xs
@@ -13,42 +13,42 @@ use Prim.Native.Nat.{ℕ}
 use Rattle.tables.specs.Mesh.{Mesh}
 use Rattle.tables.specs.declared.Counts.{Counts}
 use Rattle.audited_meshes.specs.Audit.{audit}
-use Rattle.built_meshes.specs.Answers.{numbersOf}
+use Rattle.built_meshes.specs.Answers.{builtNumbers}
 use Rattle.built_meshes.specs.Building as building
 use Rattle.text_meshes.specs.TextBuilding as text
 use Rattle.steps.specs.Step as steps
 use Rattle.crossings.specs.Crossings as crossings
 use Rattle.crossings.specs.declared.Crossing.{Crossing}
-use Rattle.station_answers.specs.Answers.{answerOf, countsAfter, edgeAfter}
+use Rattle.station_answers.specs.Answers.{answerOf, countsWritten, edgeAfter}
 
-pub record Building : Type 0 where
+pub record BuildingTold : Type 0 where
   pub answer : ℕ
   pub counts : List ℕ
   pub tables : Mesh
 
-abbrev pub buildingOf : List ℕ → List ℕ → Mesh → Building
-buildingOf xs ns m = record { answer = answerOf ns; counts = countsAfter xs ns; tables = m }
+abbrev pub toldBuilding : List ℕ → List ℕ → Mesh → BuildingTold
+toldBuilding xs ns m = record { answer = answerOf ns; counts = countsWritten xs ns; tables = m }
 
-abbrev pub built : List ℕ → building.Outcome → Building
-built xs o = buildingOf xs (numbersOf (o .answer)) (o .tables)
+abbrev pub built : List ℕ → building.BuildOutcome → BuildingTold
+built xs o = toldBuilding xs (builtNumbers (o .answer)) (o .tables)
 
-abbrev pub textBuilt : List ℕ → text.Outcome → Building
-textBuilt xs o = buildingOf xs (text.numbersOf (o .answer)) (o .tables)
+abbrev pub textBuilt : List ℕ → text.TextOutcome → BuildingTold
+textBuilt xs o = toldBuilding xs (text.textNumbers (o .answer)) (o .tables)
 
 abbrev pub audited : Mesh → Counts → ℕ
 audited m c = cond (audit m (c .points) (c .edges) (c .faces)) 0 30
 
-pub record Step : Type 0 where
+pub record StepTold : Type 0 where
   pub answer : ℕ
   pub counts : List ℕ
   pub tables : Mesh
   pub scratch : Mesh
 
-abbrev pub stepped : List ℕ → steps.Outcome → Step
+abbrev pub stepped : List ℕ → steps.StepOutcome → StepTold
 stepped xs o =
     record {
-      answer = answerOf (steps.numbersOf (o .answer));
-      counts = countsAfter xs (steps.numbersOf (o .answer));
+      answer = answerOf (steps.stepNumbers (o .answer));
+      counts = countsWritten xs (steps.stepNumbers (o .answer));
       tables = o .tables;
       scratch = o .scratch;
     }

@@ -7,14 +7,14 @@
 // `specs/Station.antt`. Laws: `proofs/Laws.antt`.
 ghost use mathlib.Core.Path.{_≡_};
 ghost use Rattle.built_meshes.specs.Building.{build};
-ghost use Rattle.built_meshes.specs.Lists.{general};
+ghost use Rattle.built_meshes.specs.Lists.{generalLimits};
 ghost use Rattle.building_tests.specs.Lent.{lists};
 ghost use Rattle.building_tests.specs.declared.Bounds.the-variants.{General};
 ghost use Rattle.text_meshes.specs.TextBuilding.{buildText};
 ghost use Rattle.tables.specs.Mesh.{meshOf};
 ghost use Rattle.steps.specs.Step.{step};
 ghost use Rattle.steps.specs.OneStep.{Binary64};
-ghost use Rattle.station.specs.Station.{Building, built, textBuilt, audited, Step, stepped, Finding, found};
+ghost use Rattle.station.specs.Station.{BuildingTold, built, textBuilt, audited, StepTold, stepped, Finding, found};
 ghost use Rattle.crossings.specs.Crossings.{find};
 ghost use Rattle.station_answers.specs.Answers.{countsIn};
 use audit::audit;
@@ -44,10 +44,10 @@ pub extern "C" fn lavyngo_build(
     counts: &mut [usize; 3],
 ) -> u32
     ensures { λ r. ⌜
-        _≡_ {A = Building}
+        _≡_ {A = BuildingTold}
         (record { answer = r; counts = now (counts .exit); tables = meshOf (now (positions .exit)) (now (points .exit)) (now (edges .exit)) (now (intervals .exit)) (now (faces .exit)) })
         (built (now (counts .entry))
-        (build general (lists (now (coordinates .entry)) (now (sides .entry)) (now (listed .entry)) (now (beside .entry)))
+        (build generalLimits (lists (now (coordinates .entry)) (now (sides .entry)) (now (listed .entry)) (now (beside .entry)))
         (meshOf (now (positions .entry)) (now (points .entry)) (now (edges .entry)) (now (intervals .entry)) (now (faces .entry))))) ⌝ }
 {
     let answer = build(
@@ -77,7 +77,7 @@ pub extern "C" fn lavyngo_build_text(
     counts: &mut [usize; 3],
 ) -> u32
     ensures { λ r. ⌜
-        _≡_ {A = Building}
+        _≡_ {A = BuildingTold}
         (record { answer = r; counts = now (counts .exit); tables = meshOf (now (positions .exit)) (now (points .exit)) (now (edges .exit)) (now (intervals .exit)) (now (faces .exit)) })
         (textBuilt (now (counts .entry))
         (buildText General (now (text .entry))
@@ -125,8 +125,8 @@ pub extern "C" fn lavyngo_audit(
     }
 }
 
-// Refines the mesh in the tables once, visiting the faces in the order handed in. `places`, `rows`, `halves`, `lengths` and
-// `quads` are the scratch tables of positions, points, edges, intervals and faces. The counts are those before the step, and
+// Refines the mesh in the tables once, visiting the faces in the order handed in. `newpositions`, `newpoints`, `newedges`, `newintervals` and
+// `newfaces` are the scratch tables of positions, points, edges, intervals and faces. The counts are those before the step, and
 // become those after it if it is accepted. `numbers` is the premise `Binary64` of `Demand3` (`runs`).
 #[no_mangle]
 pub extern "C" fn lavyngo_step(
@@ -137,19 +137,19 @@ pub extern "C" fn lavyngo_step(
     faces: &mut [u32],
     counts: &mut [usize; 3],
     order: &[u32],
-    places: &mut [f64],
-    rows: &mut [u32],
-    halves: &mut [u32],
-    lengths: &mut [f64],
-    quads: &mut [u32],
+    newpositions: &mut [f64],
+    newpoints: &mut [u32],
+    newedges: &mut [u32],
+    newintervals: &mut [f64],
+    newfaces: &mut [u32],
 ) -> u32
     ensures outcome { λ r. ⌜
-        _≡_ {A = Step}
-        (record { answer = r; counts = now (counts .exit); tables = meshOf (now (positions .exit)) (now (points .exit)) (now (edges .exit)) (now (intervals .exit)) (now (faces .exit)); scratch = meshOf (now (places .exit)) (now (rows .exit)) (now (halves .exit)) (now (lengths .exit)) (now (quads .exit)) })
+        _≡_ {A = StepTold}
+        (record { answer = r; counts = now (counts .exit); tables = meshOf (now (positions .exit)) (now (points .exit)) (now (edges .exit)) (now (intervals .exit)) (now (faces .exit)); scratch = meshOf (now (newpositions .exit)) (now (newpoints .exit)) (now (newedges .exit)) (now (newintervals .exit)) (now (newfaces .exit)) })
         (stepped (now (counts .entry))
         (step (meshOf (now (positions .entry)) (now (points .entry)) (now (edges .entry)) (now (intervals .entry)) (now (faces .entry)))
         (countsIn (now (counts .entry))) (now (order .entry))
-        (meshOf (now (places .entry)) (now (rows .entry)) (now (halves .entry)) (now (lengths .entry)) (now (quads .entry))))) ⌝ }
+        (meshOf (now (newpositions .entry)) (now (newpoints .entry)) (now (newedges .entry)) (now (newintervals .entry)) (now (newfaces .entry))))) ⌝ }
     ensures numbers { λ _. ⌜
         Binary64 (countsIn (now (counts .entry)))
         (meshOf (now (positions .entry)) (now (points .entry)) (now (edges .entry)) (now (intervals .entry)) (now (faces .entry))) ⌝ }
@@ -163,11 +163,11 @@ pub extern "C" fn lavyngo_step(
         faces,
         c,
         order,
-        places,
-        rows,
-        halves,
-        lengths,
-        quads,
+        newpositions,
+        newpoints,
+        newedges,
+        newintervals,
+        newfaces,
     );
     tell_stepped(counts, answer)
 }

@@ -5,11 +5,11 @@
 ghost use mathlib.Core.Path.{_≡_};
 ghost use mathlib.Core.List.{[], _∷_};
 ghost use Rattle.tables.specs.Rows.{putRow};
-ghost use Rattle.built_meshes.specs.Answers.{numbersOf};
-ghost use Rattle.text_meshes.specs.TextBuilding.{numbersOf as textNumbers};
-ghost use Rattle.steps.specs.Step.{numbersOf as stepNumbers};
+ghost use Rattle.built_meshes.specs.Answers.{builtNumbers};
+ghost use Rattle.text_meshes.specs.TextBuilding.{textNumbers};
+ghost use Rattle.steps.specs.Step.{stepNumbers};
 ghost use Rattle.crossings.specs.Crossings.{numberOf as crossingNumber};
-ghost use Rattle.station_answers.specs.Answers.{countsIn, answerOf, countsAfter, edgeAfter};
+ghost use Rattle.station_answers.specs.Answers.{countsIn, answerOf, countsWritten, edgeAfter};
 use answer_numbers::ground_number;
 use answer_numbers::step_number;
 use built_meshes::Built;
@@ -40,8 +40,8 @@ fn store_counts(counts: &mut [usize; 3], c: Counts)
 
 // Tells the answer of building from lists. The counts are written if it is accepted.
 pub fn tell_built(counts: &mut [usize; 3], answer: Built) -> u32
-    ensures { λ r. ⌜ r ≡ answerOf (numbersOf answer) ⌝ }
-    ensures { λ _. ⌜ now (counts .exit) ≡ countsAfter (now (counts .entry)) (numbersOf answer) ⌝ }
+    ensures { λ r. ⌜ r ≡ answerOf (builtNumbers answer) ⌝ }
+    ensures { λ _. ⌜ now (counts .exit) ≡ countsWritten (now (counts .entry)) (builtNumbers answer) ⌝ }
 {
     match answer {
         Built::Accepted(c) => {
@@ -55,7 +55,7 @@ pub fn tell_built(counts: &mut [usize; 3], answer: Built) -> u32
 // Tells the answer of building from a text. The counts are written if it is accepted.
 pub fn tell_text_built(counts: &mut [usize; 3], answer: TextBuilt) -> u32
     ensures { λ r. ⌜ r ≡ answerOf (textNumbers answer) ⌝ }
-    ensures { λ _. ⌜ now (counts .exit) ≡ countsAfter (now (counts .entry)) (textNumbers answer) ⌝ }
+    ensures { λ _. ⌜ now (counts .exit) ≡ countsWritten (now (counts .entry)) (textNumbers answer) ⌝ }
 {
     match answer {
         TextBuilt::Accepted(c) => {
@@ -69,7 +69,7 @@ pub fn tell_text_built(counts: &mut [usize; 3], answer: TextBuilt) -> u32
 
 // Stores the counts after a step, if it is accepted.
 fn store_refined(counts: &mut [usize; 3], answer: Stepped)
-    ensures { λ _. ⌜ now (counts .exit) ≡ countsAfter (now (counts .entry)) (stepNumbers answer) ⌝ }
+    ensures { λ _. ⌜ now (counts .exit) ≡ countsWritten (now (counts .entry)) (stepNumbers answer) ⌝ }
 {
     match answer {
         Stepped::Refined(c) => store_counts(counts, c),
@@ -83,7 +83,7 @@ fn store_refined(counts: &mut [usize; 3], answer: Stepped)
 // Tells the answer of a step. The counts are written if it is accepted.
 pub fn tell_stepped(counts: &mut [usize; 3], answer: Stepped) -> u32
     ensures { λ r. ⌜ r ≡ answerOf (stepNumbers answer) ⌝ }
-    ensures { λ _. ⌜ now (counts .exit) ≡ countsAfter (now (counts .entry)) (stepNumbers answer) ⌝ }
+    ensures { λ _. ⌜ now (counts .exit) ≡ countsWritten (now (counts .entry)) (stepNumbers answer) ⌝ }
 {
     store_refined(counts, answer);
     step_number(answer)

@@ -1,6 +1,6 @@
 // The grounds on which a step is refused before anything is written: 30, 31 and 32, in document 01's order.
 // Not here: the step itself (`refining`), ground 33 (`making`).
-// Names: `places`, `rows`, `halves`, `lengths` and `quads` are the scratch tables of positions, points, edges, intervals, faces.
+// Names: `newpositions`, `newpoints`, `newedges`, `newintervals` and `newfaces` are the scratch tables of positions, points, edges, intervals, faces.
 // Contract: `first_ground`. Definition: `tested` of `steps`, specs/Step.antt.
 ghost use mathlib.Core.Path.{_≡_};
 ghost use Rattle.tables.specs.Mesh.{meshOf};
@@ -22,17 +22,17 @@ pub fn first_ground(
     faces: &[u32],
     counts: Counts,
     order: &[u32],
-    places: &[f64],
-    rows: &[u32],
-    halves: &[u32],
-    lengths: &[f64],
-    quads: &[u32],
+    newpositions: &[f64],
+    newpoints: &[u32],
+    newedges: &[u32],
+    newintervals: &[f64],
+    newfaces: &[u32],
 ) -> Stepped
     ensures { λ r. ⌜
         r
         ≡ tested (meshOf (now (positions .entry)) (now (points .entry)) (now (edges .entry)) (now (intervals .entry)) (now (faces .entry)))
         counts (now (order .entry))
-        (meshOf (now (places .entry)) (now (rows .entry)) (now (halves .entry)) (now (lengths .entry)) (now (quads .entry))) ⌝ }
+        (meshOf (now (newpositions .entry)) (now (newpoints .entry)) (now (newedges .entry)) (now (newintervals .entry)) (now (newfaces .entry))) ⌝ }
 {
     if !audit(positions, points, edges, intervals, faces, counts) {
         return Stepped::NotClosed;
@@ -44,7 +44,7 @@ pub fn first_ground(
     if !rows_for(c, positions, points, edges, intervals, faces) {
         return Stepped::NoRoom;
     }
-    if !rows_for(c, places, rows, halves, lengths, quads) {
+    if !rows_for(c, newpositions, newpoints, newedges, newintervals, newfaces) {
         return Stepped::NoRoom;
     }
     if !within_ceilings(c) {

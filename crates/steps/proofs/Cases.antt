@@ -13,15 +13,15 @@ use Rattle.audited_meshes.specs.Walks.{faceWalk}
 use Rattle.audited_meshes.specs.Folds.{again}
 use Rattle.refined_meshes.specs.Turns.{turns, filled}
 use Rattle.refined_meshes.specs.State.{putEdge, putPoint, putStart, putFace, copied}
-use Rattle.refined_meshes.specs.Split.{split, splitWhole}
+use Rattle.refined_meshes.specs.Split.{splitEdge, splitWhole}
 use Rattle.refined_meshes.specs.Ring.{putJoin, putFirst, putSecond, putNewFace, putFacePoint}
 use Rattle.refined_meshes.specs.Visits.{splitAll, ringOf, putRing, visitAlong, visit, visits, refinedRows}
 use Rattle.refined_meshes.proofs.Records.{bits, cube}
 use Rattle.position_rules.specs.Intervals.{acwAbout, cwAbout, threeTerms}
-use Rattle.position_rules.specs.FacePoint.{sixTerms, windowWeight, windowSum, facePoint, facePointAbout, facePointOf}
+use Rattle.position_rules.specs.FacePoint.{sixTerms, windowWeight, windowSum, facePointOver, facePointAbout, facePointIn}
 use Rattle.position_rules.specs.EdgePoint.{shares, edgeMiddle, edgePoint}
 use Rattle.position_rules.specs.OldPoint.{radialEdge, edgeWeight, faceWeight, radialTerms, radialSum, oldPoint}
-use Rattle.steps.specs.Step.{numbersOf, step}
+use Rattle.steps.specs.Step.{stepNumbers, step}
 
 record Piece : Type 0 where
   mesh : Mesh
@@ -31,7 +31,7 @@ record Piece : Type 0 where
   expected : List ℕ
 
 abbrev answered : Piece → List ℕ
-answered p = numbersOf (step (p .mesh) (p .counts) (p .order) (p .scratch) .answer)
+answered p = stepNumbers (step (p .mesh) (p .counts) (p .order) (p .scratch) .answer)
 
 -- tables of np, ne and nf rows with other things in them
 abbrev used : ℕ → ℕ → ℕ → Mesh
@@ -98,8 +98,8 @@ pieces =
 
 pieces-answered : map answered pieces ≡ map (λ p. p .expected) pieces
 unfolding pieces step over zeroed refinedRows copied visits visit faceWalk turns filled visitAlong splitAll splitWhole
-    split ringOf putRing putJoin putFirst putSecond putNewFace putFacePoint putEdge putPoint putStart putFace
-    facePointOf facePointAbout facePoint windowSum windowWeight sixTerms threeTerms acwAbout cwAbout again edgePoint
+    splitEdge ringOf putRing putJoin putFirst putSecond putNewFace putFacePoint putEdge putPoint putStart putFace
+    facePointIn facePointAbout facePointOver windowSum windowWeight sixTerms threeTerms acwAbout cwAbout again edgePoint
     edgeMiddle shares oldPoint radialSum radialTerms radialEdge edgeWeight faceWeight add sub mul div neg le ofBits
     ofInt
 pieces-answered = refl

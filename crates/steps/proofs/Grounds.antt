@@ -25,8 +25,8 @@ use Rattle.refined_meshes.specs.Order.{EachOnce}
 use Rattle.refined_meshes.specs.Visits.{refinedRows}
 use Rattle.steps.specs.declared.Stepped.{Stepped}
 use Rattle.steps.specs.declared.Stepped.the-variants.{Refined, NotClosed, NotEachFaceOnce, NoRoom, NotFinite}
-use Rattle.steps.specs.Positions.{Placing, on, stopped, placedAll}
-use Rattle.steps.specs.Step.{numberOf, refinedCounts, eachFaceOnce, withinCeilings, roomFor, Made, whole, notFinite, madeOf, placedRows, made, refusal, ended, testedIf, stepBy, step}
+use Rattle.steps.specs.Positions.{Placing, so-far, not-finite, placedAll}
+use Rattle.steps.specs.Step.{stepGround, refinedCounts, eachFaceOnce, withinCeilings, roomFor, Made, whole, notFinite, madeOf, placedRows, made, stepRefusal, ended, testedIf, stepBy, step}
 use Rattle.tables.specs.Counted.{rowsFor, firstRows, overRows}
 use Rattle.steps.specs.Rows.{Room}
 use Rattle.steps.specs.OneStep.{Refused, Untouched}
@@ -134,10 +134,10 @@ module _ (m : Mesh) (c : Counts) (order : List ℕ) (t : Mesh) where
 
   -- A step that 30, 31 or 32 refuses leaves everything as found.
   refused-early :
-      (b : Stepped) (n : ℕ) → n < 33 → numberOf b ≡ some n → step m c order t ≡ refusal b m t → (g : ℕ) →
-      numberOf (step m c order t .answer) ≡ some g → Refused m c order t g
+      (b : Stepped) (n : ℕ) → n < 33 → stepGround b ≡ some n → step m c order t ≡ stepRefusal b m t → (g : ℕ) →
+      stepGround (step m c order t .answer) ≡ some g → Refused m c order t g
   refused-early b n l k q g e =
-      let z : some n ≡ some g = sym k ∙ ap (λ o. numberOf (o .answer)) (sym q) ∙ e in
+      let z : some n ≡ some g = sym k ∙ ap (λ o. stepGround (o .answer)) (sym q) ∙ e in
       let w : n ≡ g = cc in
       record { tables = ap (λ o. o .tables) q; scratch = λ i. ap (λ o. o .scratch) q; zeroed = λ i. absurd (omega arith) }
 
@@ -151,11 +151,11 @@ untouched m c order t g e = go _ refl _ refl _ refl
         (w : Made) → begun m c order t ≡ w → Refused m c order t g
     mending ha ho hr (whole n) hw =
         let q = step-made m c order t ha ho hr (whole n) hw in
-        let k : none ≡ some g = ap (λ o. numberOf (o .answer)) (sym q) ∙ e in
+        let k : none ≡ some g = ap (λ o. stepGround (o .answer)) (sym q) ∙ e in
         absurd (let z : _≡_ {A = ℕ} 0 1 = cc in omega arith)
     mending ha ho hr notFinite hw =
         let q = step-made m c order t ha ho hr notFinite hw in
-        let k : some 33 ≡ some g = ap (λ o. numberOf (o .answer)) (sym q) ∙ e in
+        let k : some 33 ≡ some g = ap (λ o. stepGround (o .answer)) (sym q) ∙ e in
         let w : 33 ≡ g = cc in
         record { tables = ap (λ o. o .tables) q; scratch = λ i. absurd (omega arith); zeroed = λ i. ap (λ o. o .scratch) q }
 
@@ -170,7 +170,7 @@ untouched m c order t g e = go _ refl _ refl _ refl
 -- The mesh that is made: the visits' rows, with all positions put.
 pub record Begun (m : Mesh) (c : Counts) (order : List ℕ) (t : Mesh) (n : Mesh) : Type 0 where
   pub positions : List Float
-  pub put : placedAll m c (refinedRows m (c .points) (c .edges) (c .faces) order t) (t .positions) ≡ on positions
+  pub put : placedAll m c (refinedRows m (c .points) (c .edges) (c .faces) order t) (t .positions) ≡ so-far positions
   pub mesh : n ≡ withPositions positions (refinedRows m (c .points) (c .edges) (c .faces) order t)
 
 pub made-is : (m : Mesh) (c : Counts) (order : List ℕ) (t n : Mesh) → made m c order t ≡ whole n → Begun m c order t n
@@ -181,5 +181,5 @@ made-is m c order t n e = go _ refl e
     s = refinedRows m (c .points) (c .edges) (c .faces) order t
 
     go : (r : Placing) → placedAll m c s (t .positions) ≡ r → madeOf s r ≡ whole n → Begun m c order t n
-    go (on qs) h e = record { positions = qs; put = h; mesh = cc }
-    go stopped h e = absurd (let z : _≡_ {A = ℕ} 0 1 = cc in omega arith)
+    go (so-far qs) h e = record { positions = qs; put = h; mesh = cc }
+    go not-finite h e = absurd (let z : _≡_ {A = ℕ} 0 1 = cc in omega arith)

@@ -28,8 +28,8 @@ use Rattle.audited_meshes.proofs.Audited.{faceWalk-is}
 use Rattle.audited_meshes.proofs.Holds.{audited-of-closed}
 use Rattle.refined_meshes.proofs.Places.{place, dartAt-place, place-below, dartAt-next, dartAt-prev}
 use Rattle.refined_meshes.proofs.Perimeters.{perimeter-size, perimeter-edge}
-use Rattle.position_rules.specs.FacePoint.{facePointOf}
-use Rattle.position_rules.specs.Claims.{Found}
+use Rattle.position_rules.specs.FacePoint.{facePointIn}
+use Rattle.position_rules.specs.Claims.{WholeOrHalf}
 use Rattle.position_rules.proofs.Joins.{joining-fits}
 use Rattle.tables.specs.Counted.{firstRows}
 use Rattle.steps.specs.OneStep.{Binary64}
@@ -87,12 +87,12 @@ module _ (m : Mesh) {np ne nf : ℕ} (h : HoldsClosed m np ne nf) (held : (e : �
       ∙ ap (λ (x : Dart (Row ne)). edge x .0) (dartAt-prev (h .closed) f i below ∙ ap (h .closed .prev) (dartAt-place (h .closed) d))
 
   pub joining-fit :
-      finitePosition (facePointOf m ne (face (h .mesh) d .0)) ≡ true → (u v : Float) → Found (interval m (edge (h .closed .next d) .0)) u →
-      Found (interval m (edge (h .closed .prev d) .0)) v → intervalFit (add binary64 u v) ≡ true
+      finitePosition (facePointIn m ne (face (h .mesh) d .0)) ≡ true → (u v : Float) → WholeOrHalf (interval m (edge (h .closed .next d) .0)) u →
+      WholeOrHalf (interval m (edge (h .closed .prev d) .0)) v → intervalFit (add binary64 u v) ≡ true
   unfolding f
   joining-fit whole u v fu fv =
       joining-fits m np ne nf (f .0) es (prevPlace n i) u v audited held (f .1) came (rw size-is (prev-below n i below))
-      (subst (λ j. Found (interval m j) u) (sym next-edge) fu) (subst (λ j. Found (interval m j) v) (sym prev-edge) fv) whole
+      (subst (λ j. WholeOrHalf (interval m j) u) (sym next-edge) fu) (subst (λ j. WholeOrHalf (interval m j) v) (sym prev-edge) fv) whole
 
 -- The intervals of the first rows, and nothing beyond them.
 pub binary64-firstRows : (c : Counts) (m : Mesh) → Binary64 c m → (e : ℕ) → T (fits binary64 (interval (firstRows c m) e))

@@ -16,11 +16,11 @@ use Rattle.tables.proofs.Laws.{length-putRow, length-over}
 use Rattle.audited_meshes.specs.Audited.{Audited}
 use Rattle.audited_meshes.specs.Walks.{passed, faceWalk}
 use Rattle.refined_meshes.specs.Turns.{turns}
-use Rattle.refined_meshes.specs.State.{State, withPositions, edgeOf, putEdge, putPoint, putStart, putFace, take, copied}
-use Rattle.refined_meshes.specs.Split.{split, splitIf, splitWhole, originHalf, destinationHalf}
+use Rattle.refined_meshes.specs.State.{State, withPositions, edgeOf, putEdge, putPoint, putStart, putFace, takeRows, copied}
+use Rattle.refined_meshes.specs.Split.{splitEdge, splitIf, splitWhole, originHalf, destinationHalf}
 use Rattle.refined_meshes.specs.Ring.{Ring, putJoin, putFirst, putSecond, putNewFace, putFacePoint}
 use Rattle.refined_meshes.specs.Visits.{splitAll, putRing, visitAlong, visit, visits, refinedRows}
-use Rattle.steps.specs.Positions.{on, placedAll}
+use Rattle.steps.specs.Positions.{so-far, placedAll}
 use Rattle.steps.specs.Step.{refinedCounts}
 use Rattle.steps.specs.Rows.{Room}
 use Rattle.steps.proofs.Rows.{Exact}
@@ -69,7 +69,7 @@ long-face f e c0 c1 c2 c3 s =
       faces = length-putRow (e ∷ c0 ∷ c1 ∷ c2 ∷ c3 ∷ []) (s .faces) (f * 5);
     }
 
-long-take : (p e f : ℕ) (s : State) → AsLong s (take p e f s)
+long-take : (p e f : ℕ) (s : State) → AsLong s (takeRows p e f s)
 long-take p e f s = record { points = refl; edges = refl; intervals = refl; faces = refl }
 
 -- as many turns as wanted
@@ -78,8 +78,8 @@ unfolding turns
 long-turns turn h zero s = as-long-refl s
 long-turns turn h (suc n) s = as-long-trans (long-turns turn h n s) (h n (turns n turn s))
 
-long-split : (e : ℕ) (s : State) → AsLong s (split e s)
-unfolding split
+long-split : (e : ℕ) (s : State) → AsLong s (splitEdge e s)
+unfolding splitEdge
 long-split e s =
     let r = edgeOf s e in
     let p = s .pointsTaken in
@@ -141,7 +141,7 @@ module _
     (m : Mesh) (c : Counts) (held : Room c m) (audited : Audited m (c .points) (c .edges) (c .faces)) (few : c .faces ≤ none) (fewer : c .faces ≤ 2 * c .edges)
     (order : List ℕ) (t : Mesh) (room : Exact (refinedCounts c) t)
     (rows : PointRows c (refinedRows m (c .points) (c .edges) (c .faces) order t) (refinedCounts c .points)) (qs : List Float)
-    (put : placedAll m c (refinedRows m (c .points) (c .edges) (c .faces) order t) (t .positions) ≡ on qs)
+    (put : placedAll m c (refinedRows m (c .points) (c .edges) (c .faces) order t) (t .positions) ≡ so-far qs)
   where
     pub exact-made : Exact (refinedCounts c) (withPositions qs (refinedRows m (c .points) (c .edges) (c .faces) order t))
     unfolding copied

@@ -26,7 +26,7 @@ use Rattle.refined_meshes.proofs.Words.{pointOf, faceOf}
 use Rattle.refined_meshes.proofs.Refines.{visits-refine, visited-points, visited-edges, visited-faces}
 use Rattle.steps.specs.declared.Stepped.{Stepped}
 use Rattle.steps.specs.declared.Stepped.the-variants.{Refined, NotClosed, NotEachFaceOnce, NoRoom, NotFinite}
-use Rattle.steps.specs.Positions.{on, facePointRow, edgePointRow, placedAll}
+use Rattle.steps.specs.Positions.{so-far, facePointRow, edgePointRow, placedAll}
 use Rattle.steps.specs.Step.{refinedCounts, step}
 use Rattle.tables.specs.Counted.{firstRows, overRows}
 use Rattle.steps.specs.FirstGround.{Short, No-room, Due}
@@ -61,7 +61,7 @@ module _
         visits-refine m (c .points) (c .edges) (c .faces) h order once t (points-fit r) (edges-fit r) (faces-fit r) ps
 
     placed : (t : Mesh) → Exact (refinedCounts c) t → (qs : List Float) →
-        placedAll m c (refinedRows m (c .points) (c .edges) (c .faces) order t) (t .positions) ≡ on qs →
+        placedAll m c (refinedRows m (c .points) (c .edges) (c .faces) order t) (t .positions) ≡ so-far qs →
         AllPlaced m c (refinedRows m (c .points) (c .edges) (c .faces) order t) qs
     placed t x qs e =
         placed-all m c audited few (refinedRows m (c .points) (c .edges) (c .faces) order t) (refinedCounts c .points)
@@ -88,7 +88,7 @@ module _
         let r' = room-of-exact x' in
         visited-faces m (c .points) (c .edges) (c .faces) h order once t t' (points-fit r) (edges-fit r) (faces-fit r) (points-fit r') (edges-fit r') (faces-fit r')
 
-    module _ (qs qs' : List Float) (e : placedAll m c s (t .positions) ≡ on qs) (e' : placedAll m c s' (t' .positions) ≡ on qs') where
+    module _ (qs qs' : List Float) (e : placedAll m c s (t .positions) ≡ so-far qs) (e' : placedAll m c s' (t' .positions) ≡ so-far qs') where
       v : Refines m (h .mesh) (h .closed) order (withPositions qs s)
       v = refines t x qs
 
@@ -143,7 +143,7 @@ module _
 -- what is made has just the rows of the mesh after the step
 exact-alone :
     (m : Mesh) (c : Counts) (h : HoldsClosed m (c .points) (c .edges) (c .faces)) → c .faces ≤ none → (order : List ℕ) → EachOnce (c .faces) order →
-    (t : Mesh) → Exact (refinedCounts c) t → (qs : List Float) → placedAll m c (refinedRows m (c .points) (c .edges) (c .faces) order t) (t .positions) ≡ on qs →
+    (t : Mesh) → Exact (refinedCounts c) t → (qs : List Float) → placedAll m c (refinedRows m (c .points) (c .edges) (c .faces) order t) (t .positions) ≡ so-far qs →
     Exact (refinedCounts c) (withPositions qs (refinedRows m (c .points) (c .edges) (c .faces) order t))
 exact-alone m c h few order once t x qs e =
     let r = room-of-exact x in
@@ -243,16 +243,22 @@ module _ (m : Mesh) (c : Counts) (order : List ℕ) (t t' : Mesh) (s : Same-numb
       let u' = firstRows (refinedCounts c) t' in
       let b = made-is (firstRows c m) c order u (x .mesh) (x .is-made) in
       let b' = made-is (firstRows c m) c order u' (x' .mesh) (x' .is-made) in
-      let made-same =
-      made-alike (firstRows c m) c h1 few order (x .once) u u' (exact-firstRows (refinedCounts c) t (x .scratch-room)) (exact-firstRows (refinedCounts c) t' (x' .scratch-room))
+      let made-same = made-alike (firstRows c m) c h1 few order (x .once) u u'
+      (exact-firstRows (refinedCounts c) t (x .scratch-room)) (exact-firstRows (refinedCounts c) t' (x' .scratch-room))
       (b .positions) (b' .positions) (b .put) (b' .put) in
-      let exact = subst (Exact (refinedCounts c)) (sym (b .mesh)) (exact-alone (firstRows c m) c h1 few order (x .once) u (exact-firstRows (refinedCounts c) t (x .scratch-room)) (b .positions) (b .put)) in
-      let exact' = subst (Exact (refinedCounts c)) (sym (b' .mesh)) (exact-alone (firstRows c m) c h1 few order (x' .once) u' (exact-firstRows (refinedCounts c) t' (x' .scratch-room)) (b' .positions) (b' .put)) in
+      let exact = subst (Exact (refinedCounts c)) (sym (b .mesh))
+      (exact-alone (firstRows c m) c h1 few order (x .once) u (exact-firstRows (refinedCounts c) t (x .scratch-room))
+      (b .positions) (b .put)) in
+      let exact' = subst (Exact (refinedCounts c)) (sym (b' .mesh))
+      (exact-alone (firstRows c m) c h1 few order (x' .once) u'
+      (exact-firstRows (refinedCounts c) t' (x' .scratch-room)) (b' .positions) (b' .put)) in
       let one = withPositions (b .positions) (refinedRows (firstRows c m) (c .points) (c .edges) (c .faces) order u) in
-      let between : Same-mesh (refinedCounts c) (x .mesh) (x' .mesh) =
-      subst (λ n. Same-mesh (refinedCounts c) n (x' .mesh)) (sym (b .mesh)) (subst (λ n. Same-mesh (refinedCounts c) one n) (sym (b' .mesh)) made-same) in
-      let there : Same-mesh (refinedCounts c) (overRows (refinedCounts c) (x .mesh) m) (overRows (refinedCounts c) (x' .mesh) m) =
-      mesh-trans (mesh-sym (mesh-of-rows (same-overRows (refinedCounts c) (x .mesh) m exact)))
+      let between : Same-mesh (refinedCounts c) (x .mesh) (x' .mesh) = subst
+      (λ n. Same-mesh (refinedCounts c) n (x' .mesh)) (sym (b .mesh))
+      (subst (λ n. Same-mesh (refinedCounts c) one n) (sym (b' .mesh)) made-same) in
+      let there : Same-mesh (refinedCounts c) (overRows (refinedCounts c) (x .mesh) m)
+      (overRows (refinedCounts c) (x' .mesh) m) = mesh-trans
+      (mesh-sym (mesh-of-rows (same-overRows (refinedCounts c) (x .mesh) m exact)))
       (mesh-trans between (mesh-of-rows (same-overRows (refinedCounts c) (x' .mesh) m exact'))) in
       subst (λ k. Same-mesh k (step m c order t .tables) (step m c order t' .tables)) (sym (x .counts))
       (subst (λ n. Same-mesh (refinedCounts c) n (step m c order t' .tables)) (sym (x .tables))

@@ -31,15 +31,17 @@ use Rattle.refined_meshes.specs.Order.{turnIn}
 use Rattle.refined_meshes.specs.Visits.{refinedRows}
 use Rattle.refined_meshes.specs.Refines.{found, Refines}
 use Rattle.refined_meshes.proofs.Refines.{visits-refine}
-use Rattle.position_rules.specs.FacePoint.{facePointOf}
-use Rattle.position_rules.specs.Rules.{edgePointOf, oldPointOf}
-use Rattle.position_rules.specs.Claims.{Found}
+use Rattle.position_rules.specs.FacePoint.{facePointIn}
+use Rattle.position_rules.specs.Rules.{edgePointIn, oldPointIn}
+use Rattle.position_rules.specs.Claims.{WholeOrHalf}
 use Rattle.position_rules.proofs.Floats.{half-fit}
-use Rattle.steps.specs.Positions.{on, facePointRow, edgePointRow, placedAll}
+use Rattle.steps.specs.Positions.{so-far, facePointRow, edgePointRow, placedAll}
 use Rattle.steps.specs.Step.{refinedCounts, whole, step}
 use Rattle.tables.specs.Counted.{firstRows, overRows}
 use Rattle.steps.specs.OneStep.{Refinement, Binary64, OneStep}
-use Rattle.steps.proofs.Rows.{points-fit, edges-fit, faces-fit, Exact, exact-firstRows, room-of-exact, room-of-holds, holds-same, holds-firstRows, SameRows, firstRows-overRows, same-overRows, room-overRows, position-same}
+use Rattle.steps.proofs.Rows.{points-fit, edges-fit, faces-fit, Exact, exact-firstRows}
+use Rattle.steps.proofs.Rows.{room-of-exact, room-of-holds, holds-same, holds-firstRows, SameRows}
+use Rattle.steps.proofs.Rows.{firstRows-overRows, same-overRows, room-overRows, position-same}
 use Rattle.steps.proofs.NewPositions.{PointRows, AllPlaced, placed-all}
 use Rattle.steps.proofs.Lengths.{exact-made}
 use Rattle.steps.proofs.Joining.{joining-fit, binary64-firstRows}
@@ -58,7 +60,7 @@ finite-parts p e = go (finite (p .x)) refl (finite (p .y)) refl (finite (p .z)) 
     go false ha b hb c hc = absurd (let z : false ≡ true = sym (rw ha) ∙ e in let q : _≡_ {A = ℕ} 0 1 = cc in omega arith)
 
 -- the interval that is found is whole or half
-halved-found : (b : Bool) (d : Float) → Found d (cond b (half d) d)
+halved-found : (b : Bool) (d : Float) → WholeOrHalf d (cond b (half d) d)
 halved-found true d = inr refl
 halved-found false d = inl refl
 
@@ -67,7 +69,7 @@ module _ (m : Mesh) (c : Counts) (h : HoldsClosed m (c .points) (c .edges) (c .f
   abbrev s : State
   s = refinedRows m (c .points) (c .edges) (c .faces) order t
 
-  found-halved : (d : Dart (Row (c .edges))) → Found (interval m (edge d .0)) (found m (h .mesh) order d)
+  found-halved : (d : Dart (Row (c .edges))) → WholeOrHalf (interval m (edge d .0)) (found m (h .mesh) order d)
   found-halved d =
       halved-found (ltb (turnIn order (face (h .mesh) (flip d) .0)) (turnIn order (face (h .mesh) d .0))) (interval m (edge d .0))
 
@@ -132,7 +134,7 @@ module _ (m : Mesh) (c : Counts) (h : HoldsClosed m (c .points) (c .edges) (c .f
 
     module _
         (numbers : (e : ℕ) → T (fits binary64 (interval m e))) (few : c .faces ≤ none) (room : Exact (refinedCounts c) t)
-        (put : placedAll m c s (t .positions) ≡ on qs)
+        (put : placedAll m c s (t .positions) ≡ so-far qs)
       where
         audited : Audited m (c .points) (c .edges) (c .faces)
         audited = audited-of-closed m (h .mesh) (h .stands) (h .closed) (h .fit)
@@ -142,9 +144,9 @@ module _ (m : Mesh) (c : Counts) (h : HoldsClosed m (c .points) (c .edges) (c .f
 
         -- the position of each kind of point
         rule : NewPoint (Row (c .points)) (Row (c .edges)) (Row (c .faces)) → Position
-        rule (old p) = oldPointOf m (c .edges) (p .0)
-        rule (mid e) = edgePointOf m (c .edges) (e .0)
-        rule (facePoint f) = facePointOf m (c .edges) (f .0)
+        rule (old p) = oldPointIn m (c .edges) (p .0)
+        rule (mid e) = edgePointIn m (c .edges) (e .0)
+        rule (facePoint f) = facePointIn m (c .edges) (f .0)
 
         rule-stands : (x : NewPoint (Row (c .points)) (Row (c .edges)) (Row (c .faces))) → positionAt qs (row x) ≡ rule x
         unfolding rule

@@ -20,10 +20,10 @@ use Rattle.tables.specs.Rows.{putRow}
 use Rattle.tables.specs.Records.{positionAt}
 use Rattle.tables.specs.Loaded.{placeOf}
 use Rattle.tables.proofs.Laws.{length-putRow, getD-putRow, getD-putRow-other}
-use Rattle.steps.specs.Positions.{Placing, on, stopped, put, putNext, placed}
+use Rattle.steps.specs.Positions.{Placing, so-far, not-finite, put, putNext, placedBy}
 
 -- a table is no word that a position was not finite
-not-stopped : (ps : List Float) → ¬ (stopped ≡ on ps)
+not-stopped : (ps : List Float) → ¬ (not-finite ≡ so-far ps)
 not-stopped ps e = let z : _≡_ {A = ℕ} 0 1 = cc in omega arith
 
 -- a position put into a row stands there
@@ -48,59 +48,59 @@ position-other ps r s p n =
 
 -- what one position puts
 put-is :
-    (r : ℕ) (p : Position) (ps qs : List Float) → put r (placedAt p) ps ≡ on qs →
+    (r : ℕ) (p : Position) (ps qs : List Float) → put r (placedAt p) ps ≡ so-far qs →
     (finitePosition p ≡ true) × (qs ≡ putRow ps (r * 3) (placeOf p))
 put-is r p ps qs e = go (finitePosition p) refl e
   where
     go :
-        (b : Bool) → finitePosition p ≡ b → put r (placedIf b p) ps ≡ on qs →
+        (b : Bool) → finitePosition p ≡ b → put r (placedIf b p) ps ≡ so-far qs →
         (finitePosition p ≡ true) × (qs ≡ putRow ps (r * 3) (placeOf p))
     go true h e = (h, cc)
     go false h e = absurd (not-stopped qs e)
 
 -- a finite position is put
 put-finite :
-    (r : ℕ) (p : Position) (ps : List Float) → finitePosition p ≡ true → put r (placedAt p) ps ≡ on (putRow ps (r * 3) (placeOf p))
+    (r : ℕ) (p : Position) (ps : List Float) → finitePosition p ≡ true → put r (placedAt p) ps ≡ so-far (putRow ps (r * 3) (placeOf p))
 put-finite r p ps e = ap (λ b. put r (placedIf b p) ps) e
 
 module _ (row : ℕ → ℕ) (rule : ℕ → List Float → Position) where
-  pub placed-stopped : (n : ℕ) → placed n row rule stopped ≡ stopped
-  unfolding placed
+  pub placed-stopped : (n : ℕ) → placedBy n row rule not-finite ≡ not-finite
+  unfolding placedBy
   placed-stopped zero = refl
   placed-stopped (suc n) = rw (placed-stopped n)
 
-  pub placed-begun : (n : ℕ) (r : Placing) (ps : List Float) → placed n row rule r ≡ on ps → (qs : List Float) × (r ≡ on qs)
-  placed-begun n (on qs) ps e = (qs, refl)
-  placed-begun n stopped ps e = absurd (not-stopped ps (sym (placed-stopped n) ∙ e))
+  pub placed-begun : (n : ℕ) (r : Placing) (ps : List Float) → placedBy n row rule r ≡ so-far ps → (qs : List Float) × (r ≡ so-far qs)
+  placed-begun n (so-far qs) ps e = (qs, refl)
+  placed-begun n not-finite ps e = absurd (not-stopped ps (sym (placed-stopped n) ∙ e))
 
   -- one more position
   pub record Last (n : ℕ) (ps qs : List Float) : Type 0 where
     pub table : List Float
-    pub before : placed n row rule (on ps) ≡ on table
+    pub before : placedBy n row rule (so-far ps) ≡ so-far table
     pub is-finite : finitePosition (rule n table) ≡ true
     pub after : qs ≡ putRow table (row n * 3) (placeOf (rule n table))
 
-  pub placed-last : (n : ℕ) (ps qs : List Float) → placed (suc n) row rule (on ps) ≡ on qs → Last n ps qs
-  unfolding placed
-  placed-last n ps qs e = go (placed n row rule (on ps)) refl
+  pub placed-last : (n : ℕ) (ps qs : List Float) → placedBy (suc n) row rule (so-far ps) ≡ so-far qs → Last n ps qs
+  unfolding placedBy
+  placed-last n ps qs e = go (placedBy n row rule (so-far ps)) refl
     where
-      go : (r : Placing) → placed n row rule (on ps) ≡ r → Last n ps qs
-      go (on table) h =
+      go : (r : Placing) → placedBy n row rule (so-far ps) ≡ r → Last n ps qs
+      go (so-far table) h =
           let i = put-is (row n) (rule n table) table qs (rw h at e) in
           record { table = table; before = h; is-finite = i .0; after = i .1 }
-      go stopped h = absurd (not-stopped qs (rw h at e))
+      go not-finite h = absurd (not-stopped qs (rw h at e))
 
-  pub length-placed : (n : ℕ) (ps qs : List Float) → placed n row rule (on ps) ≡ on qs → length qs ≡ length ps
-  unfolding placed
+  pub length-placed : (n : ℕ) (ps qs : List Float) → placedBy n row rule (so-far ps) ≡ so-far qs → length qs ≡ length ps
+  unfolding placedBy
   length-placed zero ps qs e = let z : ps ≡ qs = cc in ap length (sym z)
   length-placed (suc n) ps qs e =
       let l = placed-last n ps qs e in
       ap length (l .after) ∙ length-putRow (placeOf (rule n (l .table))) (l .table) (row n * 3) ∙ length-placed n ps (l .table) (l .before)
 
   pub placed-other :
-      (n : ℕ) (ps qs : List Float) → placed n row rule (on ps) ≡ on qs → (s : ℕ) → ((i : ℕ) → i < n → s ≢ row i) →
+      (n : ℕ) (ps qs : List Float) → placedBy n row rule (so-far ps) ≡ so-far qs → (s : ℕ) → ((i : ℕ) → i < n → s ≢ row i) →
       positionAt qs s ≡ positionAt ps s
-  unfolding placed
+  unfolding placedBy
   placed-other zero ps qs e s h = let z : ps ≡ qs = cc in ap (λ t. positionAt t s) (sym z)
   placed-other (suc n) ps qs e s h =
       let l = placed-last n ps qs e in
@@ -111,12 +111,12 @@ module _ (row : ℕ → ℕ) (rule : ℕ → List Float → Position) where
   -- The position i was put, finite, by its rule from a table in which it and those after it were not yet put.
   pub record PutAt (i : ℕ) (ps qs : List Float) : Type 0 where
     pub table : List Float
-    pub before : placed i row rule (on ps) ≡ on table
+    pub before : placedBy i row rule (so-far ps) ≡ so-far table
     pub is-finite : finitePosition (rule i table) ≡ true
     pub stands : positionAt qs (row i) ≡ rule i table
 
   pub placed-at :
-      (n : ℕ) (ps qs : List Float) → placed n row rule (on ps) ≡ on qs → ((i j : ℕ) → i < n → j < n → row i ≡ row j → i ≡ j) →
+      (n : ℕ) (ps qs : List Float) → placedBy n row rule (so-far ps) ≡ so-far qs → ((i j : ℕ) → i < n → j < n → row i ≡ row j → i ≡ j) →
       ((i : ℕ) → i < n → row i * 3 + 3 ≤ length ps) → (i : ℕ) → i < n → PutAt i ps qs
   placed-at zero ps qs e distinct there i h = absurd (omega arith)
   placed-at (suc n) ps qs e distinct there i h =
@@ -150,21 +150,21 @@ module _ (row : ℕ → ℕ) (rule : ℕ → List Float → Position) where
           }
 
   -- A rule that is not finite ends it.
-  pub stopped-stays : (n i : ℕ) (r : Placing) → i ≤ n → placed i row rule r ≡ stopped → placed n row rule r ≡ stopped
-  unfolding placed
+  pub stopped-stays : (n i : ℕ) (r : Placing) → i ≤ n → placedBy i row rule r ≡ not-finite → placedBy n row rule r ≡ not-finite
+  unfolding placedBy
   stopped-stays zero i r h e = let z : i ≡ 0 = omega arith in rw z at e
   stopped-stays (suc n) i r h e = go (λ l. stopped-stays n i r l e) (ℕ-discrete i (suc n))
     where
-      go : (i ≤ n → placed n row rule r ≡ stopped) → Dec (i ≡ suc n) → placed (suc n) row rule r ≡ stopped
+      go : (i ≤ n → placedBy n row rule r ≡ not-finite) → Dec (i ≡ suc n) → placedBy (suc n) row rule r ≡ not-finite
       go earlier (yes q) = rw q at e
       go earlier (no q) = rw (earlier (omega arith))
 
   -- Rules that are all finite, each from the table that the one before left, are all put.
   pub placed-whole :
       (n : ℕ) (ps : List Float) →
-      ((i : ℕ) → i < n → (t : List Float) → placed i row rule (on ps) ≡ on t → finitePosition (rule i t) ≡ true) →
-      (qs : List Float) × (placed n row rule (on ps) ≡ on qs)
-  unfolding placed
+      ((i : ℕ) → i < n → (t : List Float) → placedBy i row rule (so-far ps) ≡ so-far t → finitePosition (rule i t) ≡ true) →
+      (qs : List Float) × (placedBy n row rule (so-far ps) ≡ so-far qs)
+  unfolding placedBy
   placed-whole zero ps h = (ps, refl)
   placed-whole (suc n) ps h =
       let w = placed-whole n ps (λ i l. h i (omega arith)) in

@@ -13,7 +13,7 @@ use Rattle.tables.specs.Mesh.{Mesh, pointRows, edgeRows, faceRows}
 use Rattle.tables.specs.Rows.{over}
 use Rattle.tables.specs.Records.{positionAt}
 use Rattle.tables.specs.declared.Counts.{Counts}
-use Rattle.closed_meshes.specs.Mesh.{Mesh as MeshOver}
+use Rattle.closed_meshes.specs.Mesh.{MeshOver}
 use Rattle.closed_meshes.specs.Renumbering.{Row}
 use Rattle.audited_meshes.specs.Rows.{place, Stands, Fit, HoldsClosed}
 use Rattle.audited_meshes.proofs.Rows.{place-below}

@@ -8,7 +8,7 @@ use native.Mathlib.Omega.{arith}
 use native.Mathlib.Decide.{decLt}
 use Rattle.tables.specs.Mesh.{Mesh, start}
 use Rattle.tables.specs.declared.Counts.{Counts}
-use Rattle.closed_meshes.specs.Mesh.{Mesh as MeshOver}
+use Rattle.closed_meshes.specs.Mesh.{MeshOver}
 use Rattle.closed_meshes.specs.Closed.{Closed}
 use Rattle.closed_meshes.specs.Refinement.{mid, facePoint, dst, join}
 use Rattle.closed_meshes.specs.Renumbering.{Row}

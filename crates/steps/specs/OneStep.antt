@@ -20,17 +20,17 @@ use Rattle.positions.specs.Position.{finitePosition}
 use Rattle.tables.specs.Mesh.{Mesh, interval}
 use Rattle.tables.specs.Records.{positionAt}
 use Rattle.tables.specs.declared.Counts.{Counts}
-use Rattle.closed_meshes.specs.Mesh.{Mesh as MeshOver}
+use Rattle.closed_meshes.specs.Mesh.{MeshOver}
 use Rattle.closed_meshes.specs.Closed.{Closed}
 use Rattle.closed_meshes.specs.Refinement.{old, mid, facePoint}
 use Rattle.closed_meshes.specs.Renumbering.{Row}
 use Rattle.audited_meshes.specs.Audit.{audit}
 use Rattle.audited_meshes.specs.Rows.{HoldsClosed}
 use Rattle.refined_meshes.specs.Refines.{Refines}
-use Rattle.position_rules.specs.FacePoint.{facePointOf}
-use Rattle.position_rules.specs.Rules.{edgePointOf, oldPointOf}
+use Rattle.position_rules.specs.FacePoint.{facePointIn}
+use Rattle.position_rules.specs.Rules.{edgePointIn, oldPointIn}
 use Rattle.steps.specs.declared.Stepped.the-variants.{Refined, NotFinite}
-use Rattle.steps.specs.Step.{numberOf, refinedCounts, eachFaceOnce, roomFor, whole, made, step}
+use Rattle.steps.specs.Step.{stepGround, refinedCounts, eachFaceOnce, roomFor, whole, made, step}
 use Rattle.tables.specs.Counted.{firstRows, zeroedRows}
 
 pub record Refinement
@@ -45,13 +45,13 @@ pub record Refinement
     -- Every position is its rule's answer.
     pub old-point :
         (p : Row (c .points)) →
-        positionAt (m' .positions) (refines .numbering .points .to (old p) .0) ≡ oldPointOf m (c .edges) (p .0)
+        positionAt (m' .positions) (refines .numbering .points .to (old p) .0) ≡ oldPointIn m (c .edges) (p .0)
     pub edge-point :
         (e : Row (c .edges)) →
-        positionAt (m' .positions) (refines .numbering .points .to (mid e) .0) ≡ edgePointOf m (c .edges) (e .0)
+        positionAt (m' .positions) (refines .numbering .points .to (mid e) .0) ≡ edgePointIn m (c .edges) (e .0)
     pub face-point :
         (f : Row (c .faces)) →
-        positionAt (m' .positions) (refines .numbering .points .to (facePoint f) .0) ≡ facePointOf m (c .edges) (f .0)
+        positionAt (m' .positions) (refines .numbering .points .to (facePoint f) .0) ≡ facePointIn m (c .edges) (f .0)
 
 -- A number of a definition may have more digits than a binary64 number. Those that are stored in the tables are binary64.
 abbrev pub Binary64 : Counts → Mesh → Type 0
@@ -82,13 +82,13 @@ pub record Refused (m : Mesh) (c : Counts) (order : List ℕ) (t : Mesh) (g : �
 
 abbrev pub Untouched : Type 0
 Untouched =
-    (m : Mesh) (c : Counts) (order : List ℕ) (t : Mesh) (g : ℕ) → numberOf (step m c order t .answer) ≡ some g → Refused m c order t g
+    (m : Mesh) (c : Counts) (order : List ℕ) (t : Mesh) (g : ℕ) → stepGround (step m c order t .answer) ≡ some g → Refused m c order t g
 
 -- In it is no visiting order, and no row number of a new point.
 pub record AllFinite (m : Mesh) (c : Counts) : Type 0 where
-  pub face-points : (f : ℕ) → f < c .faces → finitePosition (facePointOf m (c .edges) f) ≡ true
-  pub edge-points : (e : ℕ) → e < c .edges → finitePosition (edgePointOf m (c .edges) e) ≡ true
-  pub old-points : (p : ℕ) → p < c .points → finitePosition (oldPointOf m (c .edges) p) ≡ true
+  pub face-points : (f : ℕ) → f < c .faces → finitePosition (facePointIn m (c .edges) f) ≡ true
+  pub edge-points : (e : ℕ) → e < c .edges → finitePosition (edgePointIn m (c .edges) e) ≡ true
+  pub old-points : (p : ℕ) → p < c .points → finitePosition (oldPointIn m (c .edges) p) ≡ true
 
 -- Where they are, the other stored numbers are finite too: `OneStep` has it in `holds`.
 abbrev pub Not-finite-exactly : Type 0

@@ -4,7 +4,7 @@
 --     facePointRow s f, edgePointRow s e   the row of the face point of f, of the edge point of e
 --     Placing                              the table of new positions so far, or the word that one was not finite
 --     put p a ps                           what a rule answered, put into row p of the table ps
---     placed n row rule r                  the positions rule 0, rule 1, .., rule (n - 1) put into row 0, row 1, ..; each rule reads
+--     placedBy n row rule r                the positions rule 0, rule 1, .., rule (n - 1) put into row 0, row 1, ..; each rule reads
 --                                          the table that the one before left, and the first that is not finite ends it
 --     facePointRule edgePointRule oldPointRule     the rules, over the table of new positions so far
 --     placedAll m c s ps                   all of it, begun with the table ps
@@ -21,7 +21,7 @@ use Rattle.tables.specs.Mesh.{Mesh}
 use Rattle.tables.specs.Rows.{putRow}
 use Rattle.tables.specs.declared.Counts.{Counts}
 use Rattle.refined_meshes.specs.State.{State}
-use Rattle.position_rules.specs.FacePoint.{facePointOf}
+use Rattle.position_rules.specs.FacePoint.{facePointIn}
 use Rattle.position_rules.specs.EdgePoint.{edgePoint}
 use Rattle.position_rules.specs.OldPoint.{oldPoint}
 use Rattle.position_rules.specs.Places.{edgePointAt, facePointAt}
@@ -35,24 +35,24 @@ abbrev pub edgePointRow : State → ℕ → ℕ
 edgePointRow s e = getD (s .edges) (e * edgeWidth + destWord) 0
 
 pub data Placing : Type 0 where
-  on : List Float → Placing
-  stopped : Placing
+  so-far : List Float → Placing
+  not-finite : Placing
 
 abbrev pub put : ℕ → Placed → List Float → Placing
-put p (At x y z) ps = on (putRow ps (p * positionWidth) (x ∷ y ∷ z ∷ []))
-put p NotFinite ps = stopped
+put p (At x y z) ps = so-far (putRow ps (p * positionWidth) (x ∷ y ∷ z ∷ []))
+put p NotFinite ps = not-finite
 
 abbrev pub putNext : ℕ → (List Float → Position) → Placing → Placing
-putNext p rule (on ps) = put p (placedAt (rule ps)) ps
-putNext p rule stopped = stopped
+putNext p rule (so-far ps) = put p (placedAt (rule ps)) ps
+putNext p rule not-finite = not-finite
 
-unfoldable pub placed : ℕ → (ℕ → ℕ) → (ℕ → List Float → Position) → Placing → Placing
-placed zero row rule r = r
-placed (suc n) row rule r = putNext (row n) (rule n) (placed n row rule r)
+unfoldable pub placedBy : ℕ → (ℕ → ℕ) → (ℕ → List Float → Position) → Placing → Placing
+placedBy zero row rule r = r
+placedBy (suc n) row rule r = putNext (row n) (rule n) (placedBy n row rule r)
 
 -- read from the mesh alone
 abbrev pub facePointRule : Mesh → Counts → ℕ → List Float → Position
-facePointRule m c f ps = facePointOf m (c .edges) f
+facePointRule m c f ps = facePointIn m (c .edges) f
 
 -- read from the mesh and the face points
 abbrev pub edgePointRule : Mesh → State → ℕ → List Float → Position
@@ -64,7 +64,7 @@ oldPointRule m s p ps =
     oldPoint (m .positions) (m .points) (m .edges) (m .intervals) (edgePointAt ps (s .edges)) (facePointAt ps (s .faces)) p
 
 unfoldable pub placedAll : Mesh → Counts → State → List Float → Placing
-unfolding placed
+unfolding placedBy
 placedAll m c s ps =
-    placed (c .points) (λ p. p) (oldPointRule m s)
-    (placed (c .edges) (edgePointRow s) (edgePointRule m s) (placed (c .faces) (facePointRow s) (facePointRule m c) (on ps)))
+    placedBy (c .points) (λ p. p) (oldPointRule m s)
+    (placedBy (c .edges) (edgePointRow s) (edgePointRule m s) (placedBy (c .faces) (facePointRow s) (facePointRule m c) (so-far ps)))

@@ -1,12 +1,12 @@
 -- One step of refining, for tables, counts, order and scratch of any content and any lengths, in document 01's words and order.
---     numbersOf a              the answer in document 01's numbers: points, edges and faces, or the number of the ground
---     numberOf a               the number of the ground that is answered
+--     stepNumbers a            the answer in document 01's numbers: points, edges and faces, or the number of the ground
+--     stepGround a             the number of the ground that is answered
 --     refinedCounts c          V, E, F become V + E + F, 4 E, 2 E
 --     eachFaceOnce nf order    the order is each of nf faces once
 --     withinCeilings c         at most 65,536 points, 131,072 edges and 65,536 faces
 --     roomFor c m t            room for the mesh with the counts c, in the tables m and in scratch t
 --     made m c order t         the refined mesh of m, made in the tables t; or the word that a position is not finite
---     Outcome                  the answer, the tables afterwards, the scratch tables afterwards
+--     StepOutcome              the answer, the tables afterwards, the scratch tables afterwards
 --     tested m c order t       the first of the grounds 30, 31 and 32 that holds, or the counts after the step
 --     step m c order t         the step of the mesh in the tables m with the counts c, in the order handed in, by scratch t
 use mathlib.Core.Bool.{Bool, true, false, _&&_}
@@ -26,14 +26,14 @@ use Rattle.refined_meshes.specs.State.{State, withPositions}
 use Rattle.refined_meshes.specs.Visits.{refinedRows}
 use Rattle.steps.specs.declared.Stepped.{Stepped}
 use Rattle.steps.specs.declared.Stepped.the-variants.{Refined, NotClosed, NotEachFaceOnce, NoRoom, NotFinite}
-use Rattle.steps.specs.Positions.{Placing, on, stopped, placedAll}
+use Rattle.steps.specs.Positions.{Placing, so-far, not-finite, placedAll}
 
-abbrev pub numbersOf : Stepped → List ℕ
-numbersOf (Refined c) = c .points ∷ c .edges ∷ c .faces ∷ []
-numbersOf NotClosed = 30 ∷ []
-numbersOf NotEachFaceOnce = 31 ∷ []
-numbersOf NoRoom = 32 ∷ []
-numbersOf NotFinite = 33 ∷ []
+abbrev pub stepNumbers : Stepped → List ℕ
+stepNumbers (Refined c) = c .points ∷ c .edges ∷ c .faces ∷ []
+stepNumbers NotClosed = 30 ∷ []
+stepNumbers NotEachFaceOnce = 31 ∷ []
+stepNumbers NoRoom = 32 ∷ []
+stepNumbers NotFinite = 33 ∷ []
 
 -- one number is a ground's, three are counts
 abbrev ground : List ℕ → Option ℕ
@@ -41,8 +41,8 @@ ground [] = none
 ground (g ∷ []) = some g
 ground (p ∷ e ∷ ns) = none
 
-abbrev pub numberOf : Stepped → Option ℕ
-numberOf a = ground (numbersOf a)
+abbrev pub stepGround : Stepped → Option ℕ
+stepGround a = ground (stepNumbers a)
 
 abbrev pub refinedCounts : Counts → Counts
 refinedCounts c =
@@ -65,8 +65,8 @@ pub data Made : Type 0 where
   notFinite : Made
 
 abbrev pub madeOf : State → Placing → Made
-madeOf s (on ps) = whole (withPositions ps s)
-madeOf s stopped = notFinite
+madeOf s (so-far ps) = whole (withPositions ps s)
+madeOf s not-finite = notFinite
 
 -- the positions, once all faces are visited
 unfoldable pub placedRows : Mesh → Counts → List Float → State → Made
@@ -78,17 +78,17 @@ unfoldable pub made : Mesh → Counts → List ℕ → Mesh → Made
 unfolding placedRows refinedRows
 made m c order t = placedRows m c (t .positions) (refinedRows m (c .points) (c .edges) (c .faces) order t)
 
-pub record Outcome : Type 0 where
+pub record StepOutcome : Type 0 where
   pub answer : Stepped
   pub tables : Mesh
   pub scratch : Mesh
 
 -- everything untouched
-abbrev pub refusal : Stepped → Mesh → Mesh → Outcome
-refusal a m t = record { answer = a; tables = m; scratch = t }
+abbrev pub stepRefusal : Stepped → Mesh → Mesh → StepOutcome
+stepRefusal a m t = record { answer = a; tables = m; scratch = t }
 
 -- the mesh is written only when it is made whole; scratch is zeroed either way
-unfoldable pub ended : Mesh → Counts → Mesh → Made → Outcome
+unfoldable pub ended : Mesh → Counts → Mesh → Made → StepOutcome
 unfolding zeroedRows overRows
 ended m c t (whole n) =
     record { answer = Refined c; tables = overRows c n m; scratch = zeroedRows c t }
@@ -106,14 +106,14 @@ tested m c order t =
     testedIf (audit m (c .points) (c .edges) (c .faces)) (eachFaceOnce (c .faces) order) (roomFor (refinedCounts c) m t) (refinedCounts c)
 
 -- the step, by the answer of its tests
-unfoldable pub stepBy : Stepped → Mesh → Counts → List ℕ → Mesh → Outcome
+unfoldable pub stepBy : Stepped → Mesh → Counts → List ℕ → Mesh → StepOutcome
 unfolding ended made firstRows
 stepBy (Refined c') m c order t = ended m c' t (made (firstRows c m) c order (firstRows c' t))
-stepBy NotClosed m c order t = refusal NotClosed m t
-stepBy NotEachFaceOnce m c order t = refusal NotEachFaceOnce m t
-stepBy NoRoom m c order t = refusal NoRoom m t
-stepBy NotFinite m c order t = refusal NotFinite m t
+stepBy NotClosed m c order t = stepRefusal NotClosed m t
+stepBy NotEachFaceOnce m c order t = stepRefusal NotEachFaceOnce m t
+stepBy NoRoom m c order t = stepRefusal NoRoom m t
+stepBy NotFinite m c order t = stepRefusal NotFinite m t
 
-unfoldable pub step : Mesh → Counts → List ℕ → Mesh → Outcome
+unfoldable pub step : Mesh → Counts → List ℕ → Mesh → StepOutcome
 unfolding audit eachFaceOnce roomFor stepBy
 step m c order t = stepBy (tested m c order t) m c order t

@@ -15,7 +15,7 @@ use lib.ListN.{length, getD, set, length-set}
 use lib.Seq.{set-getD}
 use Rattle.t_spline.specs.Connection.{indexOf}
 use Rattle.t_spline.specs.Edge.{withConnection, sameFace}
-use Rattle.edge_links.specs.Connect.{vertexState, linked, linksOf, served, connected}
+use Rattle.edge_links.specs.Connect.{vertexState, withLinks, linksOf, served, connected}
 use Rattle.edge_links.specs.declared.Pair.{Pair}
 use Rattle.t_spline.specs.declared.TnurccEdge.{TnurccEdge}
 use Rattle.t_spline.specs.declared.TnurccConnection.{TnurccConnection}
@@ -99,7 +99,7 @@ module _ (es : List ℕ) (i j : ℕ) (apart : i ≢ j) where
         → n ≡ i * 8 + 4 + indexOf c → k ≡ j * 8 + 4 + indexOf d
         → set (set xs n j) k i ≡ paired es i j (served b f v i j p)
     both-served c d n k h e m a o =
-        let same : linked i j (Both c d) p ≡ served b f v i j p = rw (e, sym m) in
+        let same : withLinks i j (Both c d) p ≡ served b f v i j p = rw (e, sym m) in
         ap (λ (t : List ℕ). set (set t n j) k i) q
         ∙ ap (λ (t : List ℕ). set t k i) (link-first p j c n h a)
         ∙ link-other (record { first = withConnection (p .first) j c; other = p .other }) i d k
@@ -110,7 +110,7 @@ pub linkable-served : (b : Bool) (f v i j : ℕ) (p : Pair) → Linkable p → L
 linkable-served false f v i j p h = h
 linkable-served true f v i j p h = go (linksOf f v)
   where
-    go : (ls : Links) → Linkable (linked i j ls p)
+    go : (ls : Links) → Linkable (withLinks i j ls p)
     go (Both c d) =
         record {
           first-four = length-set (p .first .connections) (indexOf c) j ∙ h .first-four;

@@ -13,24 +13,24 @@ use lib.ListN.{length, take, drop}
 use lib.Seq.{sets, length-sets, sets-eq, take-append-seam}
 use borrow.Author.Tests.{leb-true, le-leb}
 use Rattle.tables.specs.Mesh.{Mesh}
-use Rattle.text_numbers.specs.Form.{Found, found, none}
+use Rattle.text_numbers.specs.Form.{Parsed, parsed, unparsed}
 use Rattle.text_numbers.proofs.Laws.{and-both}
-use Rattle.mesh_text.specs.Text.{text, Mesh as TextMesh}
-use Rattle.mesh_text.specs.Reading.{counts, Lists, filled, within, Answer, readInto}
+use Rattle.mesh_text.specs.Text.{text, TextMesh}
+use Rattle.mesh_text.specs.Reading.{counts, TextLists, withText, within, ReadOutcome, readInto}
 use Rattle.mesh_text.specs.Lists.{coordinates, lengths, listedPoints, intervals}
 use Rattle.tables.specs.declared.Sizes.{Sizes}
 use Rattle.mesh_text.specs.declared.Reading.{Reading}
 use Rattle.mesh_text.specs.declared.Reading.the-variants as Reading
 use Rattle.mesh_text.proofs.Read.{ReadText, read-means, length-coordinates, length-lengths, length-intervals}
 use Rattle.built_meshes.specs.Lists.{countsFit}
-use Rattle.built_meshes.specs.Building.{build, Outcome as ListsOutcome}
+use Rattle.built_meshes.specs.Building.{build, BuildOutcome as ListsOutcome}
 use Rattle.built_meshes.specs.declared.Ground.the-variants.{OverCounts}
 use Rattle.built_meshes.specs.declared.Built.{Built}
 use Rattle.built_meshes.proofs.Begin.{counts-is}
 use Rattle.building_tests.specs.Lent.{lists, limitsOf}
 use Rattle.building_tests.specs.declared.Bounds.{Bounds}
 use Rattle.building_tests.specs.declared.Bounds.the-variants.{General, Refine}
-use Rattle.text_meshes.specs.TextBuilding.{tooLong, listsOf, told, Outcome, toldOutcome, ofForm, buildTextIf, buildText}
+use Rattle.text_meshes.specs.TextBuilding.{tooLong, listsOf, told, TextOutcome, toldOutcome, ofForm, buildTextIf, buildText}
 use Rattle.text_meshes.specs.declared.TextBuilt.{TextBuilt}
 use Rattle.text_meshes.specs.declared.TextBuilt.the-variants.{NotText, Refused}
 
@@ -57,7 +57,7 @@ within-room b c xs ls ps ds hp hf hl rx rl rp rd =
     )
 
 -- a text over the limits has lists that are over them
-over-counts : (b : Bounds) (s : List ℕ) (t : TextMesh) (n : ℕ) → text s ≡ found t n → (xs ls ps ds : ℕ) → 12288 ≤ xs → 16384 ≤ ls → 16384 ≤ ps → 16384 ≤ ds
+over-counts : (b : Bounds) (s : List ℕ) (t : TextMesh) (n : ℕ) → text s ≡ parsed t n → (xs ls ps ds : ℕ) → 12288 ≤ xs → 16384 ≤ ls → 16384 ≤ ps → 16384 ≤ ds
     → within (counts t) (limitsOf b) xs ls ps ds ≡ false → countsFit (limitsOf b) (listsOf t) ≡ false
 over-counts b s t n e xs ls ps ds rx rl rp rd w = go (countsFit (limitsOf b) (listsOf t)) refl
   where
@@ -70,13 +70,13 @@ over-counts b s t n e xs ls ps ds rx rl rp rd w = go (countsFit (limitsOf b) (li
     go false h = refl
 
 -- the lists hold as much as the counts say
-pub record Held (c : Sizes) (l : Lists) : Type 0 where
+pub record Held (c : Sizes) (l : TextLists) : Type 0 where
   pub coordinates : 3 * c .points ≤ length (l .coordinates)
   pub lengths : 4 * c .faces ≤ length (l .lengths)
   pub listed : c .listed ≤ length (l .listed)
   pub intervals : c .listed ≤ length (l .intervals)
 
-held : (c limits : Sizes) (l : Lists) → within c limits (length (l .coordinates)) (length (l .lengths)) (length (l .listed)) (length (l .intervals)) ≡ true → Held c l
+held : (c limits : Sizes) (l : TextLists) → within c limits (length (l .coordinates)) (length (l .lengths)) (length (l .listed)) (length (l .intervals)) ≡ true → Held c l
 unfolding within
 held c limits l e =
     let e1 = and-both (leb (c .points) (limits .points)) _ e .1 in
@@ -95,20 +95,20 @@ take-sets xs cs n e h =
 -- the answer as one of building from a text, beside the tables
 pub same-told : {a : TextBuilt} {r : Built} {m : Mesh} {o : ListsOutcome} → a ≡ told r → record { answer = r; tables = m } ≡ o → record { answer = a; tables = m } ≡ toldOutcome o
 same-told {a} {r} {m} e h =
-    let f : (x : ListsOutcome) → Outcome = toldOutcome in
+    let f : (x : ListsOutcome) → TextOutcome = toldOutcome in
     (λ i. record { answer = e i; tables = m }) ∙ ap f h
 
-module _ (b : Bounds) (s : List ℕ) (l : Lists) (m : Mesh) {r : Reading} {l′ : Lists} {limits : Sizes} (eb : limits ≡ limitsOf b)
+module _ (b : Bounds) (s : List ℕ) (l : TextLists) (m : Mesh) {r : Reading} {l′ : TextLists} {limits : Sizes} (eb : limits ≡ limitsOf b)
     (e : record { reading = r; lists = l′ } ≡ readInto s limits l) where
   answered : r ≡ readInto s (limitsOf b) l .reading
-  answered = ap (λ (x : Answer). x .reading) e ∙ ap (λ (v : Sizes). readInto s v l .reading) eb
+  answered = ap (λ (x : ReadOutcome). x .reading) e ∙ ap (λ (v : Sizes). readInto s v l .reading) eb
 
-  no-form : r ≡ Reading.NotText → text s ≡ none
+  no-form : r ≡ Reading.NotText → text s ≡ unparsed
   unfolding readInto
   no-form h = go (text s) refl
     where
-      test : (t : TextMesh) (n : ℕ) → text s ≡ found t n → (w : Bool)
-          → within (counts t) (limitsOf b) (length (l .coordinates)) (length (l .lengths)) (length (l .listed)) (length (l .intervals)) ≡ w → found t n ≡ none
+      test : (t : TextMesh) (n : ℕ) → text s ≡ parsed t n → (w : Bool)
+          → within (counts t) (limitsOf b) (length (l .coordinates)) (length (l .lengths)) (length (l .listed)) (length (l .intervals)) ≡ w → parsed t n ≡ unparsed
       test t n et true ew =
           let e′ = rw (et, ew) at answered in
           cc
@@ -116,9 +116,9 @@ module _ (b : Bounds) (s : List ℕ) (l : Lists) (m : Mesh) {r : Reading} {l′ 
           let e′ = rw (et, ew) at answered in
           cc
 
-      go : (x : Found TextMesh) → text s ≡ x → x ≡ none
-      go (found t n) et = test t n et _ refl
-      go none et = refl
+      go : (x : Parsed TextMesh) → text s ≡ x → x ≡ unparsed
+      go (parsed t n) et = test t n et _ refl
+      go unparsed et = refl
 
   pub not-text : r ≡ Reading.NotText → record { answer = NotText; tables = m } ≡ buildTextIf false b s m
   unfolding buildTextIf
@@ -129,7 +129,7 @@ module _ (b : Bounds) (s : List ℕ) (l : Lists) (m : Mesh) {r : Reading} {l′ 
     unfolding readInto buildTextIf
     over-limits h = go (text s) refl
       where
-        test : (t : TextMesh) (n : ℕ) → text s ≡ found t n → (w : Bool)
+        test : (t : TextMesh) (n : ℕ) → text s ≡ parsed t n → (w : Bool)
             → within (counts t) (limitsOf b) (length (l .coordinates)) (length (l .lengths)) (length (l .listed)) (length (l .intervals)) ≡ w
             → record { answer = Refused OverCounts; tables = m } ≡ ofForm b m (text s)
         test t n et true ew =
@@ -138,9 +138,9 @@ module _ (b : Bounds) (s : List ℕ) (l : Lists) (m : Mesh) {r : Reading} {l′ 
             absurd (omega arith)
         test t n et false ew = rw (et, over-counts b s t n et _ _ _ _ rx rl rp rd ew)
 
-        go : (x : Found TextMesh) → text s ≡ x → record { answer = Refused OverCounts; tables = m } ≡ ofForm b m (text s)
-        go (found t n) et = test t n et _ refl
-        go none et =
+        go : (x : Parsed TextMesh) → text s ≡ x → record { answer = Refused OverCounts; tables = m } ≡ ofForm b m (text s)
+        go (parsed t n) et = test t n et _ refl
+        go unparsed et =
             let e′ = rw et at answered in
             let z : _≡_ {A = ℕ} 0 1 = cc in
             absurd (omega arith)
@@ -149,8 +149,8 @@ module _ (b : Bounds) (s : List ℕ) (l : Lists) (m : Mesh) {r : Reading} {l′ 
     means : ReadText s (limitsOf b) l c
     means = read-means s (limitsOf b) l c (sym answered ∙ ec)
 
-    read-lists : l′ ≡ filled (means .what) l
-    read-lists = ap (λ (v : Answer). v .lists) e ∙ ap (λ (v : Sizes). readInto s v l .lists) eb ∙ means .lists
+    read-lists : l′ ≡ withText (means .what) l
+    read-lists = ap (λ (v : ReadOutcome). v .lists) e ∙ ap (λ (v : Sizes). readInto s v l .lists) eb ∙ means .lists
 
     before : Held c l
     before = held c (limitsOf b) l (means .fits)
@@ -165,7 +165,7 @@ module _ (b : Bounds) (s : List ℕ) (l : Lists) (m : Mesh) {r : Reading} {l′ 
         let ld = length-sets (l .intervals) 0 (intervals t) in
         rw read-lists (record { coordinates = omega (arith, h .coordinates); lengths = omega (arith, h .lengths); listed = omega (arith, h .listed); intervals = omega (arith, h .intervals) })
 
-    pub first-entries : (o : Outcome) → o ≡ toldOutcome (build (limitsOf b)
+    pub first-entries : (o : TextOutcome) → o ≡ toldOutcome (build (limitsOf b)
         (lists (take (3 * c .points) (l′ .coordinates)) (take (4 * c .faces) (l′ .lengths)) (take (c .listed) (l′ .listed)) (take (c .listed) (l′ .intervals))) m)
         → o ≡ buildTextIf false b s m
     unfolding buildTextIf
@@ -179,11 +179,11 @@ module _ (b : Bounds) (s : List ℕ) (l : Lists) (m : Mesh) {r : Reading} {l′ 
         let lc = length-coordinates s t (x .place) (x .form) in
         let ll = length-lengths s t (x .place) (x .form) in
         let li = length-intervals t in
-        let el : l′ ≡ filled t l = read-lists in
-        let tc = ap (λ (v : Lists). take (3 * c .points) (v .coordinates)) el ∙ take-sets (l .coordinates) (coordinates t) (3 * c .points) (omega arith) (h .coordinates) in
-        let tl = ap (λ (v : Lists). take (4 * c .faces) (v .lengths)) el ∙ take-sets (l .lengths) (lengths t) (4 * c .faces) (omega arith) (h .lengths) in
-        let tp = ap (λ (v : Lists). take (c .listed) (v .listed)) el ∙ take-sets (l .listed) (listedPoints t) (c .listed) (omega arith) (h .listed) in
-        let td = ap (λ (v : Lists). take (c .listed) (v .intervals)) el ∙ take-sets (l .intervals) (intervals t) (c .listed) (omega arith) (h .intervals) in
+        let el : l′ ≡ withText t l = read-lists in
+        let tc = ap (λ (v : TextLists). take (3 * c .points) (v .coordinates)) el ∙ take-sets (l .coordinates) (coordinates t) (3 * c .points) (omega arith) (h .coordinates) in
+        let tl = ap (λ (v : TextLists). take (4 * c .faces) (v .lengths)) el ∙ take-sets (l .lengths) (lengths t) (4 * c .faces) (omega arith) (h .lengths) in
+        let tp = ap (λ (v : TextLists). take (c .listed) (v .listed)) el ∙ take-sets (l .listed) (listedPoints t) (c .listed) (omega arith) (h .listed) in
+        let td = ap (λ (v : TextLists). take (c .listed) (v .intervals)) el ∙ take-sets (l .intervals) (intervals t) (c .listed) (omega arith) (h .intervals) in
         rw (x .form) (eo ∙ λ i. toldOutcome (build (limitsOf b) (lists (tc i) (tl i) (tp i) (td i)) m))
 
 module _ (b : Bounds) (s : List ℕ) (m : Mesh) {t : Bool} (e : t ≡ tooLong b (length s)) where
@@ -191,6 +191,6 @@ module _ (b : Bounds) (s : List ℕ) (m : Mesh) {t : Bool} (e : t ≡ tooLong b 
   unfolding buildText
   too-long h = rw (sym e ∙ h)
 
-  pub not-too-long : t ≡ false → {o : Outcome} → o ≡ buildTextIf false b s m → o ≡ buildText b s m
+  pub not-too-long : t ≡ false → {o : TextOutcome} → o ≡ buildTextIf false b s m → o ≡ buildText b s m
   unfolding buildText
   not-too-long h eo = rw (sym e ∙ h) eo

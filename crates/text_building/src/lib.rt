@@ -10,9 +10,9 @@ ghost use lib.ListN.{length, take};
 ghost use Rattle.tables.specs.Layout.{positionWidth};
 ghost use Rattle.tables.specs.Mesh.{meshOf};
 ghost use Rattle.building_tests.specs.Lent.{lists, limitsOf};
-ghost use Rattle.built_meshes.specs.Lists.{general};
+ghost use Rattle.built_meshes.specs.Lists.{generalLimits};
 ghost use Rattle.built_meshes.specs.Building.{build};
-ghost use Rattle.text_meshes.specs.TextBuilding.{Outcome, toldOutcome, buildTextIf, buildText};
+ghost use Rattle.text_meshes.specs.TextBuilding.{TextOutcome, toldOutcome, buildTextIf, buildText};
 use building::build;
 use building_tests::Bounds;
 use building_tests::MOST_FACES;
@@ -47,7 +47,7 @@ fn build_first(
     requires { ⌜ n ≤ length (now listed) ⌝ }
     requires { ⌜ n ≤ length (now beside) ⌝ }
     ensures { λ r. ⌜
-        _≡_ {A = Outcome}
+        _≡_ {A = TextOutcome}
         (record { answer = r; tables = meshOf (now (positions .exit)) (now (points .exit)) (now (edges .exit)) (now (intervals .exit)) (now (faces .exit)) })
         (toldOutcome
         (build (limitsOf bounds)
@@ -85,12 +85,12 @@ fn read_and_build(
     intervals: &mut [f64],
     faces: &mut [u32],
 ) -> TextBuilt
-    requires { ⌜ positionWidth * general .points ≤ length (now coordinates) ⌝ }
-    requires { ⌜ 4 * general .faces ≤ length (now sides) ⌝ }
-    requires { ⌜ general .listed ≤ length (now listed) ⌝ }
-    requires { ⌜ general .listed ≤ length (now beside) ⌝ }
+    requires { ⌜ positionWidth * generalLimits .points ≤ length (now coordinates) ⌝ }
+    requires { ⌜ 4 * generalLimits .faces ≤ length (now sides) ⌝ }
+    requires { ⌜ generalLimits .listed ≤ length (now listed) ⌝ }
+    requires { ⌜ generalLimits .listed ≤ length (now beside) ⌝ }
     ensures { λ r. ⌜
-        _≡_ {A = Outcome}
+        _≡_ {A = TextOutcome}
         (record { answer = r; tables = meshOf (now (positions .exit)) (now (points .exit)) (now (edges .exit)) (now (intervals .exit)) (now (faces .exit)) })
         (buildTextIf false bounds (now (text .entry))
         (meshOf (now (positions .entry)) (now (points .entry)) (now (edges .entry)) (now (intervals .entry)) (now (faces .entry)))) ⌝ }
@@ -127,7 +127,7 @@ pub fn build_text(
     faces: &mut [u32],
 ) -> TextBuilt
     ensures { λ r. ⌜
-        _≡_ {A = Outcome}
+        _≡_ {A = TextOutcome}
         (record { answer = r; tables = meshOf (now (positions .exit)) (now (points .exit)) (now (edges .exit)) (now (intervals .exit)) (now (faces .exit)) })
         (buildText bounds (now (text .entry))
         (meshOf (now (positions .entry)) (now (points .entry)) (now (edges .entry)) (now (intervals .entry)) (now (faces .entry)))) ⌝ }

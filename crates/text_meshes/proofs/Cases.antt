@@ -8,12 +8,12 @@ use lib.ListN.{replicate}
 use Rattle.edge_links.specs.Connect.{linksOf}
 use Rattle.tables.specs.Mesh.{Mesh}
 use Rattle.text_numbers.specs.Form.{bytes, times, stands, literal, many}
-use Rattle.text_numbers.specs.Numbers.{digitValue, value, digit, bits, digits, decimalFrom, decimal}
-use Rattle.mesh_lines.specs.Grammar.{coordinate, point, listed, side, face, flat}
+use Rattle.text_numbers.specs.Numbers.{digitValue, value, digit, bits, digitsFrom, decimalFrom, decimal}
+use Rattle.mesh_lines.specs.Grammar.{coordinateForm, pointForm, listedForm, sideForm, faceForm, flat}
 use Rattle.mesh_text.specs.Text.{ends, mesh, text}
 use Rattle.building_tests.specs.declared.Bounds.{Bounds}
 use Rattle.building_tests.specs.declared.Bounds.the-variants.{General, Refine}
-use Rattle.text_meshes.specs.TextBuilding.{numbersOf, buildText}
+use Rattle.text_meshes.specs.TextBuilding.{textNumbers, buildText}
 
 -- zeros for so many rows
 abbrev rowsOf : ℕ → ℕ → ℕ → Mesh
@@ -29,10 +29,10 @@ rowsOf np ne nf =
 -- what is answered of a text for which there are no rows
 numbers : Bounds → List ℕ → List ℕ
 unfolding buildText
-numbers b s = numbersOf (buildText b s (rowsOf 0 0 0) .answer)
+numbers b s = textNumbers (buildText b s (rowsOf 0 0 0) .answer)
 
 -- the cube of document 01
-cube : numbersOf (buildText Refine (bytes "[mesh 1]\n" ++
+cube : textNumbers (buildText Refine (bytes "[mesh 1]\n" ++
     bytes "[point bff0000000000000 bff0000000000000 bff0000000000000]\n" ++
     bytes "[point 3ff0000000000000 bff0000000000000 bff0000000000000]\n" ++
     bytes "[point bff0000000000000 3ff0000000000000 bff0000000000000]\n" ++
@@ -48,7 +48,8 @@ cube : numbersOf (buildText Refine (bytes "[mesh 1]\n" ++
     bytes "[face [0 [4 3ff0000000000000]] [4 [6 3ff0000000000000]] [6 [2 3ff0000000000000]] [2 [0 3ff0000000000000]]]\n" ++
     bytes "[face [1 [3 3ff0000000000000]] [3 [7 3ff0000000000000]] [7 [5 3ff0000000000000]] [5 [1 3ff0000000000000]]]\n" ++
     bytes "[end]\n") (rowsOf 8 24 6) .answer) ≡ 8 ∷ 12 ∷ 6 ∷ []
-unfolding buildText digitValue value stands literal digit bits digits decimalFrom decimal many coordinate point listed side face ends mesh text times flat ofBits neg add sub le lt linksOf
+unfolding buildText digitValue value stands literal digit bits digitsFrom decimalFrom decimal many coordinateForm
+    pointForm listedForm sideForm faceForm ends mesh text times flat ofBits neg add sub le lt linksOf
 cube = refl
 
 texts : map (λ t. numbers General (bytes t)) (
@@ -59,14 +60,15 @@ texts : map (λ t. numbers General (bytes t)) (
     "[mesh 1]\n[point 7ff0000000000000 0000000000000000 0000000000000000]\n[end]\n" ∷
     "[mesh 1]\n[point 3ff0000000000000 0000000000000000 0000000000000000]\n[end]\n" ∷ [])
     ≡ (0 ∷ 0 ∷ 0 ∷ []) ∷ (1 ∷ []) ∷ (1 ∷ []) ∷ (4 ∷ []) ∷ (3 ∷ []) ∷ (4 ∷ []) ∷ []
-unfolding numbers digitValue value stands literal digit bits digits decimalFrom decimal many coordinate point listed side face ends mesh text times flat ofBits neg add sub le lt linksOf
+unfolding numbers digitValue value stands literal digit bits digitsFrom decimalFrom decimal many coordinateForm
+    pointForm listedForm sideForm faceForm ends mesh text times flat ofBits neg add sub le lt linksOf
 texts = refl
 
 -- 16,384 bytes are looked at by `refine`, one more is too many; generally there is no limit
 long : map (λ n. numbers Refine (replicate n 0)) (16384 ∷ 16385 ∷ []) ≡ (1 ∷ []) ∷ (2 ∷ []) ∷ []
-unfolding numbers digitValue value stands literal digit bits digits decimalFrom decimal many coordinate point listed side face ends mesh text times flat
+unfolding numbers digitValue value stands literal digit bits digitsFrom decimalFrom decimal many coordinateForm pointForm listedForm sideForm faceForm ends mesh text times flat
 long = refl
 
 longer : numbers General (replicate 16385 0) ≡ 1 ∷ []
-unfolding numbers digitValue value stands literal digit bits digits decimalFrom decimal many coordinate point listed side face ends mesh text times flat
+unfolding numbers digitValue value stands literal digit bits digitsFrom decimalFrom decimal many coordinateForm pointForm listedForm sideForm faceForm ends mesh text times flat
 longer = refl

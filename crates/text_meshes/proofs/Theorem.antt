@@ -11,9 +11,9 @@ use lib.ListN.{length, getD}
 use Rattle.tables.specs.Mesh.{Mesh, none as noRow}
 use Rattle.tables.specs.declared.Counts.{Counts}
 use Rattle.closed_meshes.specs.Renumbering.{sumTo}
-use Rattle.text_numbers.specs.Form.{Found, found, none}
+use Rattle.text_numbers.specs.Form.{Parsed, parsed, unparsed}
 use Rattle.text_numbers.proofs.Laws.{total}
-use Rattle.mesh_text.specs.Text.{text, Mesh as TextMesh}
+use Rattle.mesh_text.specs.Text.{text, TextMesh}
 use Rattle.mesh_text.specs.Lists.{lengths, listedPoints}
 use Rattle.mesh_text.proofs.Read.{length-coordinates, length-lengths, length-intervals, total-lengths}
 use Rattle.built_meshes.specs.Lists.{countsFit}
@@ -29,8 +29,8 @@ use Rattle.built_meshes.proofs.Theorem.{over-of, refusals-hold, accepts-exactly
 use Rattle.building_tests.specs.Lent.{limitsOf}
 use Rattle.building_tests.specs.declared.Bounds.{Bounds}
 use Rattle.building_tests.specs.declared.Bounds.the-variants.{General, Refine}
-use Rattle.text_meshes.specs.TextBuilding.{tooLong, listsOf, told, Outcome, toldOutcome, ofForm, buildTextIf, buildText}
-use Rattle.text_meshes.specs.Claims.{Stands-for, Over-text, many-bytes, Accepts-exactly, Not-text-exactly, Over-exactly}
+use Rattle.text_meshes.specs.TextBuilding.{tooLong, listsOf, told, TextOutcome, toldOutcome, ofForm, buildTextIf, buildText}
+use Rattle.text_meshes.specs.Claims.{Stands-for, Over-text, over-bytes, Accepts-text-exactly, Not-text-exactly, Over-exactly}
 use Rattle.text_meshes.specs.Within.{Untouched-early, Within-limits, Accepted-within}
 use Rattle.text_meshes.specs.Claims as Claims
 use Rattle.text_meshes.specs.declared.TextBuilt.the-variants.{Accepted, NotText, Refused}
@@ -51,7 +51,7 @@ unfolding total sumTo
 sumTo-total [] = refl
 sumTo-total (x ∷ l) = sumTo-first (length l) (λ k. getD (x ∷ l) k 0) ∙ ap (λ v. x + v) (sumTo-total l)
 
-module _ (c : Sizes) (s : List ℕ) (t : TextMesh) (n : ℕ) (e : text s ≡ found t n) where
+module _ (c : Sizes) (s : List ℕ) (t : TextMesh) (n : ℕ) (e : text s ≡ parsed t n) where
   over-means : Over-counts c (listsOf t)
       → (c .points < length (t .points)) ⊎ ((c .faces < length (t .faces)) ⊎ (c .listed < length (listedPoints t)))
   over-means (many-points h) = let lc = length-coordinates s t n e in inl (omega arith)
@@ -76,18 +76,18 @@ module _ (b : Bounds) (s : List ℕ) (m : Mesh) where
   of-lists h = rw (h .short, h .form)
 
   -- what comes of a text
-  data Came : Outcome → Type 0 where
+  data Came : TextOutcome → Type 0 where
     bytes : tooLong b (length s) ≡ true → Came (record { answer = Refused OverCounts; tables = m })
-    formless : tooLong b (length s) ≡ false → text s ≡ none → Came (record { answer = NotText; tables = m })
+    formless : tooLong b (length s) ≡ false → text s ≡ unparsed → Came (record { answer = NotText; tables = m })
     formed : {t : TextMesh} → Stands-for b s t → Came (toldOutcome (build (limitsOf b) (listsOf t) m))
 
   came : Came (buildText b s m)
   unfolding buildText
   came = go (tooLong b (length s)) refl
     where
-      form : tooLong b (length s) ≡ false → (x : Found TextMesh) → text s ≡ x → Came (ofForm b m x)
-      form eb (found t n) e = formed (record { short = eb; place = n; form = e })
-      form eb none e = formless eb e
+      form : tooLong b (length s) ≡ false → (x : Parsed TextMesh) → text s ≡ x → Came (ofForm b m x)
+      form eb (parsed t n) e = formed (record { short = eb; place = n; form = e })
+      form eb unparsed e = formless eb e
 
       go : (x : Bool) → tooLong b (length s) ≡ x → Came (buildTextIf x b s m)
       go true eb = bytes eb
@@ -107,10 +107,10 @@ told-text (Built.Refused g) e = let z : _≡_ {A = ℕ} 0 1 = cc in omega arith
 
 -- ---- the claims
 
-pub accepts-exactly : Accepts-exactly
+pub accepts-exactly : Accepts-text-exactly
 accepts-exactly b s m = (λ a. to (buildText b s m) (came b s m) (a .0) (a .1), from)
   where
-    to : (o : Outcome) → Came b s m o → (k : Counts) → o .answer ≡ Accepted k
+    to : (o : TextOutcome) → Came b s m o → (k : Counts) → o .answer ≡ Accepted k
         → (t : TextMesh) × Stands-for b s t × ((g : Ground) → ¬ Holds (limitsOf b) (listsOf t) m g)
     to o (bytes h) k a = let z : _≡_ {A = ℕ} 0 1 = cc in absurd (omega arith)
     to o (formless h e) k a = let z : _≡_ {A = ℕ} 0 1 = cc in absurd (omega arith)
@@ -119,18 +119,18 @@ accepts-exactly b s m = (λ a. to (buildText b s m) (came b s m) (a .0) (a .1), 
     from : (t : TextMesh) × Stands-for b s t × ((g : Ground) → ¬ Holds (limitsOf b) (listsOf t) m g) → (k : Counts) × (buildText b s m .answer ≡ Accepted k)
     from (t, h, n) =
         let (k, e) = lists-accept-exactly (limitsOf b) (listsOf t) m (few-faces b) .1 n in
-        (k, ap (λ (o : Outcome). o .answer) (of-lists b s m h) ∙ ap told e)
+        (k, ap (λ (o : TextOutcome). o .answer) (of-lists b s m h) ∙ ap told e)
 
 pub not-text-exactly : Not-text-exactly
 unfolding buildText
 not-text-exactly b s m = (to (buildText b s m) (came b s m), from)
   where
-    to : (o : Outcome) → Came b s m o → o .answer ≡ NotText → (tooLong b (length s) ≡ false) × (text s ≡ none)
+    to : (o : TextOutcome) → Came b s m o → o .answer ≡ NotText → (tooLong b (length s) ≡ false) × (text s ≡ unparsed)
     to o (bytes h) a = let z : _≡_ {A = ℕ} 0 1 = cc in absurd (omega arith)
     to o (formless h e) a = (h, e)
     to o (formed {t = t} h) a = absurd (told-text (build (limitsOf b) (listsOf t) m .answer) a)
 
-    from : (tooLong b (length s) ≡ false) × (text s ≡ none) → buildText b s m .answer ≡ NotText
+    from : (tooLong b (length s) ≡ false) × (text s ≡ unparsed) → buildText b s m .answer ≡ NotText
     from (h, e) = rw (h, e)
 
 pub over-exactly : Over-exactly
@@ -139,33 +139,36 @@ over-exactly b s m = (to (buildText b s m) (came b s m), from)
   where
     which : (t : TextMesh) → Stands-for b s t
         → (limitsOf b .points < length (t .points)) ⊎ ((limitsOf b .faces < length (t .faces)) ⊎ (limitsOf b .listed < length (listedPoints t))) → Over-text b s
-    which t h (inl k) = Claims.many-points t h k
-    which t h (inr (inl k)) = Claims.many-faces t h k
-    which t h (inr (inr k)) = Claims.many-listed t h k
+    which t h (inl k) = Claims.over-points t h k
+    which t h (inr (inl k)) = Claims.over-faces t h k
+    which t h (inr (inr k)) = Claims.over-listed t h k
 
-    to : (o : Outcome) → Came b s m o → o .answer ≡ Refused OverCounts → Over-text b s
-    to o (bytes h) a = many-bytes h
+    to : (o : TextOutcome) → Came b s m o → o .answer ≡ Refused OverCounts → Over-text b s
+    to o (bytes h) a = over-bytes h
     to o (formless h e) a = let z : _≡_ {A = ℕ} 0 1 = cc in absurd (omega arith)
-    to o (formed {t = t} h) a =
-        which t h (over-means (limitsOf b) s t (h .place) (h .form) (over-of (limitsOf b) (listsOf t) m (refusals-hold (limitsOf b) (listsOf t) m (few-faces b) OverCounts (told-refused (build (limitsOf b) (listsOf t) m .answer) a) .holds)))
+    to o (formed {t = t} h) a = which t h
+        (over-means (limitsOf b) s t (h .place) (h .form)
+        (over-of (limitsOf b) (listsOf t) m
+        (refusals-hold (limitsOf b) (listsOf t) m (few-faces b) OverCounts
+        (told-refused (build (limitsOf b) (listsOf t) m .answer) a) .holds)))
 
     refuses : (t : TextMesh) → Stands-for b s t → Over-counts (limitsOf b) (listsOf t) → buildText b s m .answer ≡ Refused OverCounts
-    refuses t h k = ap (λ (o : Outcome). o .answer) (of-lists b s m h) ∙ ap told (go (countsFit (limitsOf b) (listsOf t)) refl)
+    refuses t h k = ap (λ (o : TextOutcome). o .answer) (of-lists b s m h) ∙ ap told (go (countsFit (limitsOf b) (listsOf t)) refl)
       where
         go : (f : Bool) → countsFit (limitsOf b) (listsOf t) ≡ f → build (limitsOf b) (listsOf t) m .answer ≡ Built.Refused OverCounts
         go true e = absurd (counted-fits _ _ (counts-is (limitsOf b) (listsOf t) e) k)
         go false e = rw e
 
     from : Over-text b s → buildText b s m .answer ≡ Refused OverCounts
-    from (many-bytes h) = rw h
-    from (Claims.many-points t h k) = refuses t h (means-over (limitsOf b) s t (h .place) (h .form) (inl k))
-    from (Claims.many-faces t h k) = refuses t h (means-over (limitsOf b) s t (h .place) (h .form) (inr (inl k)))
-    from (Claims.many-listed t h k) = refuses t h (means-over (limitsOf b) s t (h .place) (h .form) (inr (inr k)))
+    from (over-bytes h) = rw h
+    from (Claims.over-points t h k) = refuses t h (means-over (limitsOf b) s t (h .place) (h .form) (inl k))
+    from (Claims.over-faces t h k) = refuses t h (means-over (limitsOf b) s t (h .place) (h .form) (inr (inl k)))
+    from (Claims.over-listed t h k) = refuses t h (means-over (limitsOf b) s t (h .place) (h .form) (inr (inr k)))
 
 pub untouched-early : Untouched-early
 untouched-early b s m = go (buildText b s m) (came b s m)
   where
-    go : (o : Outcome) → Came b s m o → (o .answer ≡ NotText) ⊎ (o .answer ≡ Refused OverCounts) → o .tables ≡ m
+    go : (o : TextOutcome) → Came b s m o → (o .answer ≡ NotText) ⊎ (o .answer ≡ Refused OverCounts) → o .tables ≡ m
     go o (bytes h) a = refl
     go o (formless h e) a = refl
     go o (formed {t = t} h) (inl a) = absurd (told-text (build (limitsOf b) (listsOf t) m .answer) a)
@@ -181,7 +184,7 @@ accepted-within b s m k answer = go (buildText b s m) (came b s m) answer
     few t a false e =
         absurd (lists-accept-exactly (limitsOf b) (listsOf t) m (few-faces b) .0 (k, a) OverCounts (lists, over-counts (counts-fail (limitsOf b) (listsOf t) e)))
 
-    go : (o : Outcome) → Came b s m o → o .answer ≡ Accepted k → Within-limits b m (o .tables) k
+    go : (o : TextOutcome) → Came b s m o → o .answer ≡ Accepted k → Within-limits b m (o .tables) k
     go o (bytes h) a = let z : _≡_ {A = ℕ} 0 1 = cc in absurd (omega arith)
     go o (formless h e) a = let z : _≡_ {A = ℕ} 0 1 = cc in absurd (omega arith)
     go o (formed {t = t} h) a =

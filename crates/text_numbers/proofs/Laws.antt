@@ -7,8 +7,8 @@ use native.Mathlib.Omega.{arith}
 use lib.ListN.{length, getD, List·getD-eq-default}
 use lib.Dec.{eqb, ltb}
 use borrow.Author.Tests.{ltb-true, ltb-false, eqb-true}
-use Rattle.text_numbers.specs.Form.{Found, found, none, Form, onward, _>>=_, pure, choose, times, stands, literal, many}
-use Rattle.text_numbers.specs.Numbers.{digitValue, value, digit, bits, digits, decimalFrom, decimal}
+use Rattle.text_numbers.specs.Form.{Parsed, parsed, unparsed, Form, onward, _>>=_, pure, choose, times, stands, literal, many}
+use Rattle.text_numbers.specs.Numbers.{digitValue, value, digit, bits, digitsFrom, decimalFrom, decimal}
 
 -- a byte other than 0 stands inside the text
 pub inside : (s : List ℕ) (i : ℕ) → 0 < getD s i 0 → i < length s
@@ -41,10 +41,10 @@ stands-inside s (b ∷ t) at k h e =
 
 -- Where p is found from a place in the text on, the place after it is in the text too, and lies at least w further, but for c places.
 abbrev pub Takes : {A : Type 0} → List ℕ → ℕ → (A → ℕ) → Form A → Type 0
-Takes {A} s c w p = (at : ℕ) → at ≤ length s → (a : A) (n : ℕ) → p at ≡ found a n → (at + w a ≤ n + c) × (n ≤ length s)
+Takes {A} s c w p = (at : ℕ) → at ≤ length s → (a : A) (n : ℕ) → p at ≡ parsed a n → (at + w a ≤ n + c) × (n ≤ length s)
 
 module _ {A : Type 0} (s : List ℕ) where
-  pub takes-none : (c : ℕ) (w : A → ℕ) → Takes s c w (λ at. none)
+  pub takes-none : (c : ℕ) (w : A → ℕ) → Takes s c w (λ at. unparsed)
   takes-none c w at h a n e = let z : _≡_ {A = ℕ} 0 1 = cc in omega arith
 
   pub takes-pure : (c : ℕ) (w : A → ℕ) (b : A) → w b ≤ c → Takes s c w (pure b)
@@ -62,12 +62,12 @@ pub takes-bind : {A B : Type 0} (s : List ℕ) (c : ℕ) (u : A → ℕ) (w : B 
     → Takes s 0 u p → ((a : A) → Takes s (u a + c) w (f a)) → Takes s c w (p >>= f)
 takes-bind {A} {B} s c u w p f hp hf at h b n e = go (p at) refl e
   where
-    go : (x : Found A) → p at ≡ x → onward f x ≡ found b n → (at + w b ≤ n + c) × (n ≤ length s)
-    go (found a m) ex e′ =
+    go : (x : Parsed A) → p at ≡ x → onward f x ≡ parsed b n → (at + w b ≤ n + c) × (n ≤ length s)
+    go (parsed a m) ex e′ =
         let l = hp at h a m ex in
         let r = hf a m (l .1) b n e′ in
         omega arith
-    go none ex e′ = let z : _≡_ {A = ℕ} 0 1 = cc in omega arith
+    go unparsed ex e′ = let z : _≡_ {A = ℕ} 0 1 = cc in omega arith
 
 -- the weights of a list's elements added up
 unfoldable pub total : {A : Type 0} → (A → ℕ) → List A → ℕ
@@ -87,12 +87,12 @@ takes-times s u p (suc k) hp =
     takes-bind s (u a + 0) (total u) (total u) (times k p) _ (takes-times s u p k hp) λ l. takes-pure s (total u l + (u a + 0)) (total u) (a ∷ l) (omega arith)
 
 -- what was found before the rest
-pub onward-found : {A B : Type 0} (f : A → Form B) (x : Found A) {b : B} {n : ℕ} → onward f x ≡ found b n
-    → (a : A) × (m : ℕ) × (x ≡ found a m) × (f a m ≡ found b n)
-onward-found f (found a m) e = (a, m, refl, e)
-onward-found f none e = let z : _≡_ {A = ℕ} 0 1 = cc in absurd (omega arith)
+pub onward-found : {A B : Type 0} (f : A → Form B) (x : Parsed A) {b : B} {n : ℕ} → onward f x ≡ parsed b n
+    → (a : A) × (m : ℕ) × (x ≡ parsed a m) × (f a m ≡ parsed b n)
+onward-found f (parsed a m) e = (a, m, refl, e)
+onward-found f unparsed e = let z : _≡_ {A = ℕ} 0 1 = cc in absurd (omega arith)
 
-pub length-times : {A : Type 0} (p : Form A) (k at : ℕ) (l : List A) (n : ℕ) → times k p at ≡ found l n → length l ≡ k
+pub length-times : {A : Type 0} (p : Form A) (k at : ℕ) (l : List A) (n : ℕ) → times k p at ≡ parsed l n → length l ≡ k
 unfolding times
 length-times p zero at l n e = let el : l ≡ [] = cc in ap length el
 length-times p (suc k) at l n e =
@@ -106,7 +106,7 @@ module _ (s : List ℕ) where
   unfolding literal
   takes-literal t k at h a n e = go (stands s at t) refl e
     where
-      go : (b : Bool) → stands s at t ≡ b → choose b (λ m. found tt (m + length t)) (λ m. none) at ≡ found a n → (at + length t ≤ n + 0) × (n ≤ length s)
+      go : (b : Bool) → stands s at t ≡ b → choose b (λ m. parsed tt (m + length t)) (λ m. unparsed) at ≡ parsed a n → (at + length t ≤ n + 0) × (n ≤ length s)
       go true eb e′ =
           let i = stands-inside s t at k h eb in
           let en : at + length t ≡ n = cc in
@@ -130,7 +130,7 @@ module _ (s : List ℕ) where
   takes-digit base k at h a n e = go (ltb (digitValue (getD s at 0)) base) refl e
     where
       go : (b : Bool) → ltb (digitValue (getD s at 0)) base ≡ b
-          → choose b (λ m. found (digitValue (getD s m 0)) (m + 1)) (λ m. none) at ≡ found a n
+          → choose b (λ m. parsed (digitValue (getD s m 0)) (m + 1)) (λ m. unparsed) at ≡ parsed a n
           → (at + 1 ≤ n + 0) × (n ≤ length s)
       go true eb e′ =
           let i = digit-inside at base k (ltb-true _ _ eb) in
@@ -138,8 +138,8 @@ module _ (s : List ℕ) where
           omega arith
       go false eb e′ = let z : _≡_ {A = ℕ} 0 1 = cc in omega arith
 
-  pub takes-digits : (k v : ℕ) → Takes s 0 (λ w. 0) (digits s k v)
-  unfolding digits
+  pub takes-digits : (k v : ℕ) → Takes s 0 (λ w. 0) (digitsFrom s k v)
+  unfolding digitsFrom
   takes-digits zero v at = takes-pure s 0 _ v (omega arith) at
   takes-digits (suc k) v at =
       takes-choose s 0 _ (ltb (digitValue (getD s at 0)) 10) _ _
@@ -153,7 +153,7 @@ module _ (s : List ℕ) where
   takes-decimal =
       takes-bind s 0 (λ d. 1) _ (digit s 10) _ (takes-digit 10 (omega arith)) λ d.
       takes-choose s 1 _ (eqb d 0) _ _ (takes-pure s 1 _ 0 (omega arith))
-      (takes-bind s 1 (λ v. 0) _ (digits s (length s) d) _ (takes-digits (length s) d) λ v.
+      (takes-bind s 1 (λ v. 0) _ (digitsFrom s (length s) d) _ (takes-digits (length s) d) λ v.
       takes-choose s 1 _ (ltb v 4294967296) _ _ (takes-pure s 1 _ v (omega arith)) (takes-none s 1 _))
 
   pub takes-many : {A : Type 0} (t : List ℕ) (u : A → ℕ) (p : Form A) (k : ℕ) → solid t ≡ true → Takes s 0 u p → Takes s 0 (total (λ a. length t + u a)) (many s t p k)
@@ -174,18 +174,18 @@ module _ (s : List ℕ) where
       takes-bind s 0 (total (λ d. 1)) _ (times 16 (digit s 16)) _ (takes-times s (λ d. 1) (digit s 16) 16 (takes-digit 16 (omega arith))) λ ds.
       takes-pure s _ _ (value 16 0 ds) (omega arith)
 
-  pub decimal-below : (at v n : ℕ) → decimal s at ≡ found v n → v < 4294967296
+  pub decimal-below : (at v n : ℕ) → decimal s at ≡ parsed v n → v < 4294967296
   unfolding decimal decimalFrom
   decimal-below at v n e =
       let (d, m, ed, ev) = onward-found _ (digit s 10 at) e in
       first d m (eqb d 0) ev
     where
-      last : (b : Bool) (w m : ℕ) → ltb w 4294967296 ≡ b → choose b (pure w) (λ k. none) m ≡ found v n → v < 4294967296
+      last : (b : Bool) (w m : ℕ) → ltb w 4294967296 ≡ b → choose b (pure w) (λ k. unparsed) m ≡ parsed v n → v < 4294967296
       last true w m h k = let wv : w ≡ v = cc in let l = ltb-true w 4294967296 h in omega arith
       last false w m h k = let z : _≡_ {A = ℕ} 0 1 = cc in omega arith
 
-      first : (d m : ℕ) (b : Bool) → choose b (pure 0) (digits s (length s) d >>= λ w. choose (ltb w 4294967296) (pure w) (λ k. none)) m ≡ found v n → v < 4294967296
+      first : (d m : ℕ) (b : Bool) → choose b (pure 0) (digitsFrom s (length s) d >>= λ w. choose (ltb w 4294967296) (pure w) (λ k. unparsed)) m ≡ parsed v n → v < 4294967296
       first d m true h = let zv : 0 ≡ v = cc in omega arith
       first d m false h =
-          let (w, m′, ew, eo) = onward-found (λ w. choose (ltb w 4294967296) (pure w) (λ k. none)) (digits s (length s) d m) h in
+          let (w, m′, ew, eo) = onward-found (λ w. choose (ltb w 4294967296) (pure w) (λ k. unparsed)) (digitsFrom s (length s) d m) h in
           last (ltb w 4294967296) w m′ refl eo

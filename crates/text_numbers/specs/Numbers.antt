@@ -11,7 +11,7 @@ use Prim.Native.Nat.{ℕ, zero, suc, _+_, _-_, _*_}
 use lib.ListN.{getD, length}
 use lib.Dec.{eqb, ltb}
 use lib.Ieee.{Float, binary64, ofBits}
-use Rattle.text_numbers.specs.Form.{Found, found, none, Form, onward, _>>=_, _>>_, pure, choose, times}
+use Rattle.text_numbers.specs.Form.{Parsed, parsed, unparsed, Form, onward, _>>=_, _>>_, pure, choose, times}
 
 -- 0 to 9 and a to f
 unfoldable pub digitValue : ℕ → ℕ
@@ -24,7 +24,7 @@ value base v (d ∷ ds) = value base (v * base + d) ds
 
 module _ (s : List ℕ) where
   unfoldable pub digit : ℕ → Form ℕ
-  digit base at = choose (ltb (digitValue (getD s at 0)) base) (λ n. found (digitValue (getD s n 0)) (n + 1)) (λ n. none) at
+  digit base at = choose (ltb (digitValue (getD s at 0)) base) (λ n. parsed (digitValue (getD s n 0)) (n + 1)) (λ n. unparsed) at
 
   unfoldable pub bits : Form ℕ
   bits = do
@@ -32,15 +32,15 @@ module _ (s : List ℕ) where
     pure (value 16 0 ds)
 
   -- the digits that stand from a place on, at most k of them, after a number v
-  unfoldable pub digits : ℕ → ℕ → Form ℕ
-  digits zero v = pure v
-  digits (suc k) v = λ at. choose (ltb (digitValue (getD s at 0)) 10) (digit 10 >>= λ d. digits k (v * 10 + d)) (pure v) at
+  unfoldable pub digitsFrom : ℕ → ℕ → Form ℕ
+  digitsFrom zero v = pure v
+  digitsFrom (suc k) v = λ at. choose (ltb (digitValue (getD s at 0)) 10) (digit 10 >>= λ d. digitsFrom k (v * 10 + d)) (pure v) at
 
   -- after the first digit
   unfoldable pub decimalFrom : ℕ → Form ℕ
   decimalFrom d = do
-    v ← digits (length s) d
-    choose (ltb v 4294967296) (pure v) (λ at. none)
+    v ← digitsFrom (length s) d
+    choose (ltb v 4294967296) (pure v) (λ at. unparsed)
 
   -- `0`, or a digit from 1 to 9 and any digits after it
   unfoldable pub decimal : Form ℕ

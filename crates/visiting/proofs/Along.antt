@@ -18,7 +18,7 @@ use Rattle.walks.specs.Border.{padded, border}
 use Rattle.walks.specs.declared.FaceBorder.{FaceBorder}
 use Rattle.walks.proofs.Laws.{getD-padded}
 use Rattle.refined_meshes.specs.Turns.{turns, filled}
-use Rattle.refined_meshes.specs.State.{State, take}
+use Rattle.refined_meshes.specs.State.{State, takeRows}
 use Rattle.refined_meshes.specs.Ring.{Ring, firstHalfOf, secondHalfOf, putJoin, putFirst, putSecond, putNewFace, putFacePoint}
 use Rattle.refined_meshes.specs.Visits.{foundOn, splitAll, ringOf, putRing, visitAlong, visit}
 use Rattle.splitting.specs.Scratch.{tablesOf, scratch}
@@ -67,7 +67,7 @@ module _ (oe ps ps1 es es1 fs fs1 pe hs gs ms : List ℕ) (is is1 ds : List Floa
       (putRing N (ringOf N (rows .face) pe (rows .size) (rows .centre) ds (tablesOf ps es is fs before)) (tablesOf ps es is fs before))
   unfolding putRing
   ring-written a b c edges faces point =
-      let end : State → State = λ t. take 0 (rows .size) (rows .size - 1) t in
+      let end : State → State = λ t. takeRows 0 (rows .size) (rows .size - 1) t in
       let faced : State → State = λ t. end (putFacePoint R t) in
       let halved : State → State = λ t. faced (turns (rows .size) (putNewFace N R) t) in
       ap (λ (k : ℕ). tablesOf ps1 es1 is1 fs1 (record { points = k; edges = rows .joins + rows .size; faces = rows .faces + (rows .size - 1) }))
@@ -80,7 +80,7 @@ module _ (oe ps ps1 es es1 fs fs1 pe hs gs ms : List ℕ) (is is1 ds : List Floa
 pub along-split : (ps ps1 es es1 fs pe : List ℕ) (is is1 : List Float) (np n : ℕ) (taken all : Counts)
     → _≡_ {A = State} (scratch ps1 es1 is1 all)
     (splitAll np pe n (scratch ps es is (record { points = taken .points + 1; edges = taken .edges; faces = taken .faces })))
-    → _≡_ {A = State} (tablesOf ps1 es1 is1 fs all) (splitAll np pe n (take 1 0 0 (tablesOf ps es is fs taken)))
+    → _≡_ {A = State} (tablesOf ps1 es1 is1 fs all) (splitAll np pe n (takeRows 1 0 0 (tablesOf ps es is fs taken)))
 along-split ps ps1 es es1 fs pe is is1 np n taken all h =
     rw (add-zero (taken .edges), add-zero (taken .faces))
     (splitAll-faces np pe n ps es is fs (record { points = taken .points + 1; edges = taken .edges; faces = taken .faces }) ps1 es1 is1 all h)
@@ -95,7 +95,7 @@ module _ (oe ps ps1 ps2 es es1 es2 fs fs2 pe : List ℕ) (is is1 is2 found : Lis
 
   pub along-visited :
       found ≡ filled n (λ i. getD is (getD pe i 0) nan) (replicate 64 (ofBits binary64 0))
-      → _≡_ {A = State} (tablesOf ps1 es1 is1 fs all) (splitAll np pe n (take 1 0 0 S))
+      → _≡_ {A = State} (tablesOf ps1 es1 is1 fs all) (splitAll np pe n (takeRows 1 0 0 S))
       → _≡_ {A = State} (tablesOf ps2 es2 is2 fs2 (record { points = all .points; edges = all .edges + n; faces = all .faces + (n - 1) }))
       (putRing O (ringOf O f pe n (taken .points) found (tablesOf ps1 es1 is1 fs all)) (tablesOf ps1 es1 is1 fs all))
       → _≡_ {A = State} (tablesOf ps2 es2 is2 fs2 (record { points = all .points; edges = all .edges + n; faces = all .faces + (n - 1) }))

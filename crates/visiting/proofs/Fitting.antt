@@ -16,7 +16,7 @@ use Rattle.refined_meshes.specs.Visits.{ringOf, visits}
 use Rattle.refined_meshes.specs.Fits.{VisitFits}
 use Rattle.refined_meshes.proofs.Fits.{visits-fit}
 use Rattle.refined_meshes.proofs.Runs.{rooms-of}
-use Rattle.visiting.specs.Visiting.{bare, Holds, Ceilings, Fits}
+use Rattle.visiting.specs.Visiting.{bare, RowsThere, Ceilings, EachVisitFits}
 use Rattle.visiting.proofs.Laws.{visits-bare}
 
 -- what a visit needs concerns the mesh's edges and faces alone
@@ -43,7 +43,7 @@ visitFits-bare m np ne nf f s h =
     }
 
 module _ (m : Mesh) (np ne nf : ℕ) (h : HoldsClosed m np ne nf) where
-  pub holds-of-closed : Holds m np ne nf
+  pub holds-of-closed : RowsThere m np ne nf
   holds-of-closed = record {
     points = omega (arith, h .fit .points-fit);
     edges = omega (arith, h .fit .edges-fit);
@@ -53,12 +53,12 @@ module _ (m : Mesh) (np ne nf : ℕ) (h : HoldsClosed m np ne nf) where
 
   module _ (order : List ℕ) (once : EachOnce nf order) (t : Mesh)
       (p : np + ne + nf ≤ pointRows t) (e : 4 * ne ≤ edgeRows t) (f : 2 * ne ≤ faceRows t) where
-    pub holds-of-rows : Holds t np ne nf
+    pub holds-of-rows : RowsThere t np ne nf
     holds-of-rows =
         let less = rooms-of m h order once t p e f .faces-less in
         record { points = omega arith; edges = omega arith; intervals = omega arith; faces = omega arith }
 
-    pub fits-of-closed : Ceilings np ne nf → Fits (bare m) np ne nf order (copied m np ne nf t)
+    pub fits-of-closed : Ceilings np ne nf → EachVisitFits (bare m) np ne nf order (copied m np ne nf t)
     fits-of-closed limits = record {
       ceilings = limits;
       edges = holds-of-closed .edges;

@@ -17,12 +17,12 @@ use Rattle.walks.specs.declared.FaceBorder.{FaceBorder}
 use Rattle.tables.specs.Parts.{faceTables}
 use Rattle.walks.proofs.Laws.{getD-padded}
 use Rattle.refined_meshes.specs.Turns.{filled}
-use Rattle.refined_meshes.specs.State.{State, edgeOf, take, putEdge, putPoint, putStart}
-use Rattle.refined_meshes.specs.Split.{split}
+use Rattle.refined_meshes.specs.State.{State, edgeOf, takeRows, putEdge, putPoint, putStart}
+use Rattle.refined_meshes.specs.Split.{splitEdge}
 use Rattle.refined_meshes.specs.Ring.{firstHalfOf, secondHalfOf}
 use Rattle.refined_meshes.specs.Visits.{splitAll, ringOf}
 use Rattle.refined_meshes.specs.Fits.{VisitFits, splitSome}
-use Rattle.splitting.specs.Scratch.{tablesOf, scratch, Room}
+use Rattle.splitting.specs.Scratch.{tablesOf, scratch, SplitRoom}
 use Rattle.splitting.proofs.Laws.{splitWhole-split, splitWhole-kept, splitAll-none, splitAll-suc, faces-splitAll, points-splitAll-faces, edges-splitAll-faces}
 use Rattle.ring_places.specs.Rings.{Rows}
 use Rattle.refined_meshes.proofs.Turns.{getD-filled}
@@ -30,8 +30,8 @@ use Rattle.refined_meshes.proofs.Laws.{splitAll-same}
 use Rattle.visiting.specs.Visiting.{Ceilings, RingFits, AlongFits}
 use Rattle.visiting.proofs.Laws.{border-edges, border-n}
 
-split-points : (e : ℕ) (s : State) → split e s .pointsTaken ≡ s .pointsTaken + 1
-unfolding split putEdge putPoint putStart
+split-points : (e : ℕ) (s : State) → splitEdge e s .pointsTaken ≡ s .pointsTaken + 1
+unfolding splitEdge putEdge putPoint putStart
 split-points e s = refl
 
 module _ (m : Mesh) (np ne nf f : ℕ) (s : State) (h : VisitFits m np ne nf f s) (limits : Ceilings np ne nf) where
@@ -42,11 +42,11 @@ module _ (m : Mesh) (np ne nf f : ℕ) (s : State) (h : VisitFits m np ne nf f s
   n = passed (faceWalk m ne f)
 
   abbrev all : State
-  all = splitAll np es n (take 1 0 0 s)
+  all = splitAll np es n (takeRows 1 0 0 s)
 
   -- the points taken before place k
   points-before : (k : ℕ) → k ≤ n → splitSome m np ne f k s .pointsTaken ≤ np + ne + nf
-  points-before zero l = rw (splitAll-none np es (take 1 0 0 s)) (omega (arith, h .centre-fits))
+  points-before zero l = rw (splitAll-none np es (takeRows 1 0 0 s)) (omega (arith, h .centre-fits))
   points-before (suc k) l = go (decLt (edgeOf before (getD es k 0) .dest) np) (points-before k (omega arith))
     where
       before : State
@@ -55,11 +55,11 @@ module _ (m : Mesh) (np ne nf f : ℕ) (s : State) (h : VisitFits m np ne nf f s
       go : Dec (edgeOf before (getD es k 0) .dest < np) → before .pointsTaken ≤ np + ne + nf → splitSome m np ne f (suc k) s .pointsTaken ≤ np + ne + nf
       go (yes d) r =
           let fits = h .mid-fits k (omega arith) d in
-          rw (splitAll-suc np es k (take 1 0 0 s), splitWhole-split np (getD es k 0) before d, split-points (getD es k 0) before) (omega arith)
-      go (no d) r = rw (splitAll-suc np es k (take 1 0 0 s), splitWhole-kept np (getD es k 0) before (omega arith)) r
+          rw (splitAll-suc np es k (takeRows 1 0 0 s), splitWhole-split np (getD es k 0) before d, split-points (getD es k 0) before) (omega arith)
+      go (no d) r = rw (splitAll-suc np es k (takeRows 1 0 0 s), splitWhole-kept np (getD es k 0) before (omega arith)) r
 
   faces-all : all .facesTaken ≡ s .facesTaken
-  faces-all = faces-splitAll np es n (take 1 0 0 s) ∙ add-zero (s .facesTaken)
+  faces-all = faces-splitAll np es n (takeRows 1 0 0 s) ∙ add-zero (s .facesTaken)
 
   joins-fit : all .edgesTaken + n ≤ 4 * ne
   unfolding ringOf
@@ -126,7 +126,7 @@ module _ (m : Mesh) (np ne nf f : ℕ) (s : State) (h : VisitFits m np ne nf f s
 along-places : (oe : List ℕ) (np f : ℕ) (pe es : List ℕ) (n : ℕ) (s : State) → ((i : ℕ) → getD pe i 0 ≡ getD es i 0)
     → AlongFits oe np f es n s → AlongFits oe np f pe n s
 along-places oe np f pe es n s same h =
-    let all : splitAll np pe n (take 1 0 0 s) ≡ splitAll np es n (take 1 0 0 s) = splitAll-same (faceTables oe []) np f n pe es (λ i l. same i) (take 1 0 0 s) in
+    let all : splitAll np pe n (takeRows 1 0 0 s) ≡ splitAll np es n (takeRows 1 0 0 s) = splitAll-same (faceTables oe []) np f n pe es (λ i l. same i) (takeRows 1 0 0 s) in
     record {
       some-places = h .some-places;
       few-places = h .few-places;
@@ -160,11 +160,11 @@ module _ (oe ps es fs pe : List ℕ) (is : List Float) (np f n : ℕ) (taken : C
   first = record { points = taken .points + 1; edges = taken .edges; faces = taken .faces }
 
   abbrev after : State
-  after = splitAll np pe n (take 1 0 0 (tablesOf ps es is fs taken))
+  after = splitAll np pe n (takeRows 1 0 0 (tablesOf ps es is fs taken))
 
   -- the room that the splitting needs
   pub split-room :
-      Room ps es is (splitAll np pe n (scratch ps es is first) .pointsTaken) (splitAll np pe n (scratch ps es is first) .edgesTaken)
+      SplitRoom ps es is (splitAll np pe n (scratch ps es is first) .pointsTaken) (splitAll np pe n (scratch ps es is first) .edgesTaken)
   split-room =
       let x : splitAll np pe n (tablesOf ps es is fs first) ≡ after = rw (add-zero (taken .edges), add-zero (taken .faces)) in
       let a : splitAll np pe n (scratch ps es is first) .pointsTaken ≡ after .pointsTaken =
@@ -188,7 +188,7 @@ module _ (oe ps es fs pe : List ℕ) (is : List Float) (np f n : ℕ) (taken : C
       let e : all .edges ≡ after .edgesTaken = ap (λ (s : State). s .edgesTaken) t in
       let w : es1 ≡ after .edges = ap (λ (s : State). s .edges) t in
       let g : all .faces ≡ taken .faces =
-      ap (λ (s : State). s .facesTaken) t ∙ faces-splitAll np pe n (take 1 0 0 (tablesOf ps es is fs taken)) ∙ add-zero (taken .faces) in
+      ap (λ (s : State). s .facesTaken) t ∙ faces-splitAll np pe n (takeRows 1 0 0 (tablesOf ps es is fs taken)) ∙ add-zero (taken .faces) in
       record {
         small = record {
           some-places = h .some-places;

@@ -12,7 +12,7 @@ use Rattle.refined_meshes.specs.State.{State}
 use Rattle.refined_meshes.specs.Visits.{visit, visits}
 use Rattle.refined_meshes.specs.Fits.{VisitFits}
 use Rattle.splitting.specs.Scratch.{tablesOf}
-use Rattle.visiting.specs.Visiting.{Fits}
+use Rattle.visiting.specs.Visiting.{EachVisitFits}
 use Rattle.visiting.proofs.Laws.{visits-none, visits-more}
 
 pub record Turning (m : Mesh) (np ne nf : ℕ) (order : List ℕ) (s0 : State) (ps es : List ℕ) (is : List Float) (fs : List ℕ) (taken : Counts) (i : ℕ)
@@ -38,7 +38,7 @@ module _ (m : Mesh) (np ne nf : ℕ) (order : List ℕ) where
 
   module _ (s0 : State) (ps es : List ℕ) (is : List Float) (fs : List ℕ) (taken : Counts) (i : ℕ)
       (h : Turning m np ne nf order s0 ps es is fs taken i) where
-    pub turning-fits : (f : ℕ) → f ≡ getD order i 0 → Fits m np ne nf order s0 → i < nf → VisitFits m np ne nf f (tablesOf ps es is fs taken)
+    pub turning-fits : (f : ℕ) → f ≡ getD order i 0 → EachVisitFits m np ne nf order s0 → i < nf → VisitFits m np ne nf f (tablesOf ps es is fs taken)
     turning-fits f e r l = rw (e, h .stands) (r .each i l)
 
     pub turning-turn : (ps1 es1 : List ℕ) (is1 : List Float) (fs1 : List ℕ) (taken1 : Counts) (f : ℕ) → f ≡ getD order i 0 → i < nf

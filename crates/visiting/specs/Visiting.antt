@@ -1,10 +1,10 @@
 -- What must hold so that every row that a visit reads or writes is there.
 --     bare m                   the mesh m with its tables of edges and faces alone, which are all that a visit looks at
---     Holds m np ne nf         the tables of m hold the rows of np points, ne edges and nf faces, positions aside
+--     RowsThere m np ne nf     the tables of m hold the rows of np points, ne edges and nf faces, positions aside
 --     Ceilings np ne nf        a mesh with these counts is below the ceilings of document 01 once it is refined
 --     RingFits oe pe rows ..   the ring with these rows, of the split perimeter pe, finds its rows and has room in the scratch tables
 --     AlongFits oe np f pe n s   the visit of the face f in s along the perimeter pe of n edges finds its rows and has room
---     Fits ..                  every visit in the order finds its rows and has room
+--     EachVisitFits ..         every visit in the order finds its rows and has room
 use mathlib.Core.List.{List}
 use Prim.Native.Nat.{ℕ, _+_, _-_, _*_, _≤_, _<_}
 use lib.ListN.{length, getD}
@@ -12,10 +12,10 @@ use lib.Ieee.{Float}
 use Rattle.tables.specs.Layout.{pointWidth, edgeWidth, faceWidth, longestPerimeter, pointCeiling, edgeCeiling, faceCeiling}
 use Rattle.tables.specs.Mesh.{Mesh}
 use Rattle.tables.specs.Parts.{faceTables}
-use Rattle.refined_meshes.specs.State.{State, take}
+use Rattle.refined_meshes.specs.State.{State, takeRows}
 use Rattle.refined_meshes.specs.Visits.{splitAll, visits}
 use Rattle.refined_meshes.specs.Fits.{VisitFits}
-use Rattle.splitting.specs.Scratch.{InRows, Room}
+use Rattle.splitting.specs.Scratch.{InRows, SplitRoom}
 use Rattle.ring_places.specs.declared.RingRows.{RingRows}
 use Rattle.ring_places.specs.Rings.{Small, Rows}
 use Rattle.refined_meshes.specs.Ring.{firstHalfOf, secondHalfOf}
@@ -23,7 +23,7 @@ use Rattle.refined_meshes.specs.Ring.{firstHalfOf, secondHalfOf}
 abbrev pub bare : Mesh → Mesh
 bare m = faceTables (m .edges) (m .faces)
 
-pub record Holds (m : Mesh) (np ne nf : ℕ) : Type 0 where
+pub record RowsThere (m : Mesh) (np ne nf : ℕ) : Type 0 where
   pub points : np * pointWidth ≤ length (m .points)
   pub edges : ne * edgeWidth ≤ length (m .edges)
   pub intervals : ne ≤ length (m .intervals)
@@ -55,15 +55,15 @@ pub record AlongFits (oe : List ℕ) (np f : ℕ) (pe : List ℕ) (n : ℕ) (s :
   pub centre : s .pointsTaken * pointWidth + pointWidth ≤ length (s .points)
   pub few-points : s .pointsTaken < pointCeiling
   pub room :
-      Room (s .points) (s .edges) (s .intervals) (splitAll np pe n (take 1 0 0 s) .pointsTaken) (splitAll np pe n (take 1 0 0 s) .edgesTaken + n)
+      SplitRoom (s .points) (s .edges) (s .intervals) (splitAll np pe n (takeRows 1 0 0 s) .pointsTaken) (splitAll np pe n (takeRows 1 0 0 s) .edgesTaken + n)
   pub face : f * faceWidth + faceWidth ≤ length (s .faces)
   pub face-below : f < faceCeiling
   pub faces : (s .facesTaken + (n - 1)) * faceWidth ≤ length (s .faces)
   pub few-faces : s .facesTaken + n ≤ 65537
-  pub firsts : (i : ℕ) → i < n → firstHalfOf oe (splitAll np pe n (take 1 0 0 s) .edges) f (getD pe i 0) * edgeWidth + edgeWidth ≤ length (s .edges)
-  pub seconds : (i : ℕ) → i < n → secondHalfOf oe (splitAll np pe n (take 1 0 0 s) .edges) f (getD pe i 0) * edgeWidth + edgeWidth ≤ length (s .edges)
+  pub firsts : (i : ℕ) → i < n → firstHalfOf oe (splitAll np pe n (takeRows 1 0 0 s) .edges) f (getD pe i 0) * edgeWidth + edgeWidth ≤ length (s .edges)
+  pub seconds : (i : ℕ) → i < n → secondHalfOf oe (splitAll np pe n (takeRows 1 0 0 s) .edges) f (getD pe i 0) * edgeWidth + edgeWidth ≤ length (s .edges)
 
-pub record Fits (m : Mesh) (np ne nf : ℕ) (order : List ℕ) (s : State) : Type 0 where
+pub record EachVisitFits (m : Mesh) (np ne nf : ℕ) (order : List ℕ) (s : State) : Type 0 where
   pub ceilings : Ceilings np ne nf
   pub edges : ne * edgeWidth ≤ length (m .edges)
   pub faces : nf * faceWidth ≤ length (m .faces)

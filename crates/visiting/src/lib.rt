@@ -18,7 +18,7 @@ ghost use Rattle.refined_meshes.specs.Visits.{ringOf, putRing, visitAlong, visi
 ghost use Rattle.refined_meshes.specs.Fits.{VisitFits};
 ghost use Rattle.splitting.specs.Scratch.{tablesOf};
 ghost use Rattle.ring_places.specs.Rings.{ring, Small, Rows};
-ghost use Rattle.visiting.specs.Visiting.{Holds, Ceilings, RingFits, AlongFits, Fits};
+ghost use Rattle.visiting.specs.Visiting.{RowsThere, Ceilings, RingFits, AlongFits, EachVisitFits};
 ghost use Rattle.tables.specs.Mesh.{meshOf};
 use ring_edges::put_firsts;
 use ring_edges::put_joins;
@@ -42,9 +42,9 @@ use walks::t_nurcc_face::put_border;
 
 // Stores the edges of a ring: the joining edges, then the halves on the side of the face.
 fn put_ring_edges(
-    oldedges: &[u32],
-    edges: &mut [u32],
-    intervals: &mut [f64],
+    edges: &[u32],
+    newedges: &mut [u32],
+    newintervals: &mut [f64],
     perimeter: &[u32; LONGEST_PERIMETER],
     firsts: &[u32; LONGEST_PERIMETER],
     seconds: &[u32; LONGEST_PERIMETER],
@@ -53,61 +53,61 @@ fn put_ring_edges(
     rows: RingRows,
 )
     requires { ⌜ Small rows ⌝ }
-    requires { ⌜ (rows .joins + rows .size) * edgeWidth ≤ length (now edges) ⌝ }
-    requires { ⌜ rows .joins + rows .size ≤ length (now intervals) ⌝ }
-    requires { ⌜ Rows (now oldedges) (now perimeter) (rows .size) ⌝ }
-    requires { ⌜ Rows (now edges) (now firsts) (rows .size) ⌝ }
-    requires { ⌜ Rows (now edges) (now seconds) (rows .size) ⌝ }
+    requires { ⌜ (rows .joins + rows .size) * edgeWidth ≤ length (now newedges) ⌝ }
+    requires { ⌜ rows .joins + rows .size ≤ length (now newintervals) ⌝ }
+    requires { ⌜ Rows (now edges) (now perimeter) (rows .size) ⌝ }
+    requires { ⌜ Rows (now newedges) (now firsts) (rows .size) ⌝ }
+    requires { ⌜ Rows (now newedges) (now seconds) (rows .size) ⌝ }
     ensures { λ _. ⌜
         ((ps fs : List ℕ) (c : Counts) →
         _≡_ {A = State}
-        (tablesOf ps (now (edges .exit)) (now (intervals .exit)) fs c)
+        (tablesOf ps (now (newedges .exit)) (now (newintervals .exit)) fs c)
         (turns (rows .size)
-        (putSecond (faceTables (now (oldedges .entry)) [])
+        (putSecond (faceTables (now (edges .entry)) [])
         (ring rows (now (perimeter .entry)) (now (firsts .entry)) (now (seconds .entry)) (now (mids .entry)) (now (found .entry))))
         (turns (rows .size)
-        (putFirst (faceTables (now (oldedges .entry)) [])
+        (putFirst (faceTables (now (edges .entry)) [])
         (ring rows (now (perimeter .entry)) (now (firsts .entry)) (now (seconds .entry)) (now (mids .entry)) (now (found .entry))))
         (turns (rows .size)
         (putJoin (ring rows (now (perimeter .entry)) (now (firsts .entry)) (now (seconds .entry)) (now (mids .entry)) (now (found .entry))))
-        (tablesOf ps (now (edges .entry)) (now (intervals .entry)) fs c))))) ⌝ }
+        (tablesOf ps (now (newedges .entry)) (now (newintervals .entry)) fs c))))) ⌝ }
 {
-    put_joins(edges, intervals, firsts, seconds, mids, found, rows);
-    put_firsts(oldedges, edges, perimeter, firsts, seconds, rows);
-    put_seconds(oldedges, edges, perimeter, firsts, seconds, rows);
+    put_joins(newedges, newintervals, firsts, seconds, mids, found, rows);
+    put_firsts(edges, newedges, perimeter, firsts, seconds, rows);
+    put_seconds(edges, newedges, perimeter, firsts, seconds, rows);
 }
 
 // Writes the ring of a face whose perimeter is split: the next rows of edges are its joining edges, the next rows of faces its
 // new faces but the first.
 fn put_ring(
-    oldedges: &[u32],
-    points: &mut [u32],
-    edges: &mut [u32],
-    intervals: &mut [f64],
-    faces: &mut [u32],
+    edges: &[u32],
+    newpoints: &mut [u32],
+    newedges: &mut [u32],
+    newintervals: &mut [f64],
+    newfaces: &mut [u32],
     perimeter: &[u32; LONGEST_PERIMETER],
     found: &[f64; LONGEST_PERIMETER],
     rows: RingRows,
 )
-    requires { ⌜ RingFits (now oldedges) (now perimeter) rows (now points) (now edges) (now intervals) (now faces) ⌝ }
+    requires { ⌜ RingFits (now edges) (now perimeter) rows (now newpoints) (now newedges) (now newintervals) (now newfaces) ⌝ }
     ensures { λ _. ⌜
         ((p : ℕ) →
         _≡_ {A = State}
-        (tablesOf (now (points .exit)) (now (edges .exit)) (now (intervals .exit)) (now (faces .exit))
+        (tablesOf (now (newpoints .exit)) (now (newedges .exit)) (now (newintervals .exit)) (now (newfaces .exit))
         (record { points = p; edges = rows .joins + rows .size; faces = rows .faces + (rows .size - 1) }))
-        (putRing (faceTables (now (oldedges .entry)) [])
-        (ringOf (faceTables (now (oldedges .entry)) []) (rows .face) (now (perimeter .entry)) (rows .size) (rows .centre) (now (found .entry))
-        (tablesOf (now (points .entry)) (now (edges .entry)) (now (intervals .entry)) (now (faces .entry))
+        (putRing (faceTables (now (edges .entry)) [])
+        (ringOf (faceTables (now (edges .entry)) []) (rows .face) (now (perimeter .entry)) (rows .size) (rows .centre) (now (found .entry))
+        (tablesOf (now (newpoints .entry)) (now (newedges .entry)) (now (newintervals .entry)) (now (newfaces .entry))
         (record { points = p; edges = rows .joins; faces = rows .faces })))
-        (tablesOf (now (points .entry)) (now (edges .entry)) (now (intervals .entry)) (now (faces .entry))
+        (tablesOf (now (newpoints .entry)) (now (newedges .entry)) (now (newintervals .entry)) (now (newfaces .entry))
         (record { points = p; edges = rows .joins; faces = rows .faces })))) ⌝ }
 {
     let mut firsts = [0u32; LONGEST_PERIMETER];
     let mut seconds = [0u32; LONGEST_PERIMETER];
     let mut mids = [0u32; LONGEST_PERIMETER];
     put_places(
-        oldedges,
         edges,
+        newedges,
         perimeter,
         rows.face,
         rows.size,
@@ -116,9 +116,9 @@ fn put_ring(
         &mut mids,
     );
     put_ring_edges(
-        oldedges,
         edges,
-        intervals,
+        newedges,
+        newintervals,
         perimeter,
         &firsts,
         &seconds,
@@ -126,38 +126,38 @@ fn put_ring(
         found,
         rows,
     );
-    put_new_faces(oldedges, faces, perimeter, &firsts, &mids, rows);
-    put_face_point(points, rows);
+    put_new_faces(edges, newfaces, perimeter, &firsts, &mids, rows);
+    put_face_point(newpoints, rows);
 }
 
 // Visits the face f along its perimeter of n edges. np is the number of old points; answers the rows taken then.
 fn visit_along(
-    oldedges: &[u32],
-    points: &mut [u32],
-    edges: &mut [u32],
-    intervals: &mut [f64],
-    faces: &mut [u32],
+    edges: &[u32],
+    newpoints: &mut [u32],
+    newedges: &mut [u32],
+    newintervals: &mut [f64],
+    newfaces: &mut [u32],
     np: usize,
     f: usize,
     perimeter: &[u32; LONGEST_PERIMETER],
     n: usize,
     taken: Counts,
 ) -> Counts
-    requires { ⌜ AlongFits (now oldedges) np f (now perimeter) n (tablesOf (now points) (now edges) (now intervals) (now faces) taken) ⌝ }
+    requires { ⌜ AlongFits (now edges) np f (now perimeter) n (tablesOf (now newpoints) (now newedges) (now newintervals) (now newfaces) taken) ⌝ }
     ensures { λ r. ⌜
         _≡_ {A = State}
-        (tablesOf (now (points .exit)) (now (edges .exit)) (now (intervals .exit)) (now (faces .exit)) r)
-        (visitAlong (faceTables (now (oldedges .entry)) []) np f (now (perimeter .entry)) n
-        (tablesOf (now (points .entry)) (now (edges .entry)) (now (intervals .entry)) (now (faces .entry)) taken)) ⌝ }
+        (tablesOf (now (newpoints .exit)) (now (newedges .exit)) (now (newintervals .exit)) (now (newfaces .exit)) r)
+        (visitAlong (faceTables (now (edges .entry)) []) np f (now (perimeter .entry)) n
+        (tablesOf (now (newpoints .entry)) (now (newedges .entry)) (now (newintervals .entry)) (now (newfaces .entry)) taken)) ⌝ }
 {
     let mut found = [0.0; LONGEST_PERIMETER];
-    put_found(intervals, perimeter, n, &mut found);
+    put_found(newintervals, perimeter, n, &mut found);
     let first = Counts {
         points: taken.points + 1,
         edges: taken.edges,
         faces: taken.faces,
     };
-    let all = split_all(points, edges, intervals, np, perimeter, n, first);
+    let all = split_all(newpoints, newedges, newintervals, np, perimeter, n, first);
     let rows = RingRows {
         face: f,
         size: n,
@@ -166,11 +166,11 @@ fn visit_along(
         faces: all.faces,
     };
     put_ring(
-        oldedges,
-        points,
         edges,
-        intervals,
-        faces,
+        newpoints,
+        newedges,
+        newintervals,
+        newfaces,
         perimeter,
         &found,
         rows,
@@ -184,37 +184,37 @@ fn visit_along(
 
 // Visits the face f of the mesh with the counts `old`; answers the rows taken then.
 fn visit(
-    oldedges: &[u32],
-    oldfaces: &[u32],
-    points: &mut [u32],
-    edges: &mut [u32],
-    intervals: &mut [f64],
-    faces: &mut [u32],
+    edges: &[u32],
+    faces: &[u32],
+    newpoints: &mut [u32],
+    newedges: &mut [u32],
+    newintervals: &mut [f64],
+    newfaces: &mut [u32],
     old: Counts,
     f: usize,
     taken: Counts,
 ) -> Counts
     requires { ⌜ Ceilings (old .points) (old .edges) (old .faces) ⌝ }
-    requires { ⌜ old .edges * edgeWidth ≤ length (now oldedges) ⌝ }
-    requires { ⌜ old .faces * faceWidth ≤ length (now oldfaces) ⌝ }
+    requires { ⌜ old .edges * edgeWidth ≤ length (now edges) ⌝ }
+    requires { ⌜ old .faces * faceWidth ≤ length (now faces) ⌝ }
     requires { ⌜
-        VisitFits (faceTables (now oldedges) (now oldfaces)) (old .points) (old .edges) (old .faces) f
-        (tablesOf (now points) (now edges) (now intervals) (now faces) taken) ⌝ }
+        VisitFits (faceTables (now edges) (now faces)) (old .points) (old .edges) (old .faces) f
+        (tablesOf (now newpoints) (now newedges) (now newintervals) (now newfaces) taken) ⌝ }
     ensures { λ r. ⌜
         _≡_ {A = State}
-        (tablesOf (now (points .exit)) (now (edges .exit)) (now (intervals .exit)) (now (faces .exit)) r)
-        (visit (faceTables (now (oldedges .entry)) (now (oldfaces .entry))) (old .points) (old .edges) f
-        (tablesOf (now (points .entry)) (now (edges .entry)) (now (intervals .entry)) (now (faces .entry)) taken)) ⌝ }
+        (tablesOf (now (newpoints .exit)) (now (newedges .exit)) (now (newintervals .exit)) (now (newfaces .exit)) r)
+        (visit (faceTables (now (edges .entry)) (now (faces .entry))) (old .points) (old .edges) f
+        (tablesOf (now (newpoints .entry)) (now (newedges .entry)) (now (newintervals .entry)) (now (newfaces .entry)) taken)) ⌝ }
 {
     let mut perimeter = [0u32; LONGEST_PERIMETER];
     let mut about = [0u32; LONGEST_BORDER];
-    let n = put_border(oldedges, oldfaces, old.edges, f, &mut perimeter, &mut about);
+    let n = put_border(edges, faces, old.edges, f, &mut perimeter, &mut about);
     visit_along(
-        oldedges,
-        points,
         edges,
-        intervals,
-        faces,
+        newpoints,
+        newedges,
+        newintervals,
+        newfaces,
         old.points,
         f,
         &perimeter,
@@ -225,35 +225,35 @@ fn visit(
 
 // Visits the faces in the order; answers the rows taken then.
 fn visits(
-    oldedges: &[u32],
-    oldfaces: &[u32],
-    points: &mut [u32],
-    edges: &mut [u32],
-    intervals: &mut [f64],
-    faces: &mut [u32],
+    edges: &[u32],
+    faces: &[u32],
+    newpoints: &mut [u32],
+    newedges: &mut [u32],
+    newintervals: &mut [f64],
+    newfaces: &mut [u32],
     old: Counts,
     order: &[u32],
 ) -> Counts
     requires { ⌜
-        Fits (faceTables (now oldedges) (now oldfaces)) (old .points) (old .edges) (old .faces) (now order)
-        (tablesOf (now points) (now edges) (now intervals) (now faces) old) ⌝ }
+        EachVisitFits (faceTables (now edges) (now faces)) (old .points) (old .edges) (old .faces) (now order)
+        (tablesOf (now newpoints) (now newedges) (now newintervals) (now newfaces) old) ⌝ }
     ensures { λ r. ⌜
         _≡_ {A = State}
-        (tablesOf (now (points .exit)) (now (edges .exit)) (now (intervals .exit)) (now (faces .exit)) r)
-        (visits (faceTables (now (oldedges .entry)) (now (oldfaces .entry))) (old .points) (old .edges) (old .faces) (now (order .entry))
-        (tablesOf (now (points .entry)) (now (edges .entry)) (now (intervals .entry)) (now (faces .entry)) old)) ⌝ }
+        (tablesOf (now (newpoints .exit)) (now (newedges .exit)) (now (newintervals .exit)) (now (newfaces .exit)) r)
+        (visits (faceTables (now (edges .entry)) (now (faces .entry))) (old .points) (old .edges) (old .faces) (now (order .entry))
+        (tablesOf (now (newpoints .entry)) (now (newedges .entry)) (now (newintervals .entry)) (now (newfaces .entry)) old)) ⌝ }
 {
     let mut taken = old;
     let mut i = 0;
     while i < old.faces {
         let f = index(order[i]);
         taken = visit(
-            oldedges,
-            oldfaces,
-            points,
             edges,
-            intervals,
             faces,
+            newpoints,
+            newedges,
+            newintervals,
+            newfaces,
             old,
             f,
             taken,
@@ -265,77 +265,77 @@ fn visits(
 
 // Copies the rows of a mesh with the counts `old` into the scratch tables.
 fn copy_rows(
-    oldpoints: &[u32],
-    oldedges: &[u32],
-    oldintervals: &[f64],
-    oldfaces: &[u32],
-    points: &mut [u32],
-    edges: &mut [u32],
-    intervals: &mut [f64],
-    faces: &mut [u32],
+    points: &[u32],
+    edges: &[u32],
+    intervals: &[f64],
+    faces: &[u32],
+    newpoints: &mut [u32],
+    newedges: &mut [u32],
+    newintervals: &mut [f64],
+    newfaces: &mut [u32],
     old: Counts,
 )
-    requires { ⌜ Holds (meshOf [] (now oldpoints) (now oldedges) (now oldintervals) (now oldfaces)) (old .points) (old .edges) (old .faces) ⌝ }
-    requires { ⌜ Holds (meshOf [] (now points) (now edges) (now intervals) (now faces)) (old .points) (old .edges) (old .faces) ⌝ }
+    requires { ⌜ RowsThere (meshOf [] (now points) (now edges) (now intervals) (now faces)) (old .points) (old .edges) (old .faces) ⌝ }
+    requires { ⌜ RowsThere (meshOf [] (now newpoints) (now newedges) (now newintervals) (now newfaces)) (old .points) (old .edges) (old .faces) ⌝ }
     ensures { λ _. ⌜
         _≡_ {A = State}
-        (tablesOf (now (points .exit)) (now (edges .exit)) (now (intervals .exit)) (now (faces .exit)) old)
-        (copied (meshOf [] (now (oldpoints .entry)) (now (oldedges .entry)) (now (oldintervals .entry)) (now (oldfaces .entry)))
+        (tablesOf (now (newpoints .exit)) (now (newedges .exit)) (now (newintervals .exit)) (now (newfaces .exit)) old)
+        (copied (meshOf [] (now (points .entry)) (now (edges .entry)) (now (intervals .entry)) (now (faces .entry)))
         (old .points) (old .edges) (old .faces)
-        (meshOf [] (now (points .entry)) (now (edges .entry)) (now (intervals .entry)) (now (faces .entry)))) ⌝ }
+        (meshOf [] (now (newpoints .entry)) (now (newedges .entry)) (now (newintervals .entry)) (now (newfaces .entry)))) ⌝ }
 {
-    copy_words(oldpoints, points, old.points * POINT_WIDTH);
-    copy_words(oldedges, edges, old.edges * EDGE_WIDTH);
-    copy_numbers(oldintervals, intervals, old.edges);
-    copy_words(oldfaces, faces, old.faces * FACE_WIDTH);
+    copy_words(points, newpoints, old.points * POINT_WIDTH);
+    copy_words(edges, newedges, old.edges * EDGE_WIDTH);
+    copy_numbers(intervals, newintervals, old.edges);
+    copy_words(faces, newfaces, old.faces * FACE_WIDTH);
 }
 
 // Makes the topology of the refined mesh in the scratch tables: the mesh's rows are copied, then its faces are visited in the
 // order. Answers the counts of the refined mesh.
 pub fn refined_rows(
-    oldpoints: &[u32],
-    oldedges: &[u32],
-    oldintervals: &[f64],
-    oldfaces: &[u32],
-    points: &mut [u32],
-    edges: &mut [u32],
-    intervals: &mut [f64],
-    faces: &mut [u32],
+    points: &[u32],
+    edges: &[u32],
+    intervals: &[f64],
+    faces: &[u32],
+    newpoints: &mut [u32],
+    newedges: &mut [u32],
+    newintervals: &mut [f64],
+    newfaces: &mut [u32],
     old: Counts,
     order: &[u32],
 ) -> Counts
-    requires { ⌜ Holds (meshOf [] (now oldpoints) (now oldedges) (now oldintervals) (now oldfaces)) (old .points) (old .edges) (old .faces) ⌝ }
-    requires { ⌜ Holds (meshOf [] (now points) (now edges) (now intervals) (now faces)) (old .points) (old .edges) (old .faces) ⌝ }
+    requires { ⌜ RowsThere (meshOf [] (now points) (now edges) (now intervals) (now faces)) (old .points) (old .edges) (old .faces) ⌝ }
+    requires { ⌜ RowsThere (meshOf [] (now newpoints) (now newedges) (now newintervals) (now newfaces)) (old .points) (old .edges) (old .faces) ⌝ }
     requires { ⌜
-        Fits (faceTables (now oldedges) (now oldfaces)) (old .points) (old .edges) (old .faces) (now order)
-        (copied (meshOf [] (now oldpoints) (now oldedges) (now oldintervals) (now oldfaces)) (old .points) (old .edges) (old .faces)
-        (meshOf [] (now points) (now edges) (now intervals) (now faces))) ⌝ }
+        EachVisitFits (faceTables (now edges) (now faces)) (old .points) (old .edges) (old .faces) (now order)
+        (copied (meshOf [] (now points) (now edges) (now intervals) (now faces)) (old .points) (old .edges) (old .faces)
+        (meshOf [] (now newpoints) (now newedges) (now newintervals) (now newfaces))) ⌝ }
     ensures { λ r. ⌜
         ((qs ps : List Float) →
         _≡_ {A = State}
-        (tablesOf (now (points .exit)) (now (edges .exit)) (now (intervals .exit)) (now (faces .exit)) r)
-        (refinedRows (meshOf qs (now (oldpoints .entry)) (now (oldedges .entry)) (now (oldintervals .entry)) (now (oldfaces .entry)))
+        (tablesOf (now (newpoints .exit)) (now (newedges .exit)) (now (newintervals .exit)) (now (newfaces .exit)) r)
+        (refinedRows (meshOf qs (now (points .entry)) (now (edges .entry)) (now (intervals .entry)) (now (faces .entry)))
         (old .points) (old .edges) (old .faces) (now (order .entry))
-        (meshOf ps (now (points .entry)) (now (edges .entry)) (now (intervals .entry)) (now (faces .entry))))) ⌝ }
+        (meshOf ps (now (newpoints .entry)) (now (newedges .entry)) (now (newintervals .entry)) (now (newfaces .entry))))) ⌝ }
 {
     copy_rows(
-        oldpoints,
-        oldedges,
-        oldintervals,
-        oldfaces,
         points,
         edges,
         intervals,
         faces,
+        newpoints,
+        newedges,
+        newintervals,
+        newfaces,
         old,
     );
     visits(
-        oldedges,
-        oldfaces,
-        points,
         edges,
-        intervals,
         faces,
+        newpoints,
+        newedges,
+        newintervals,
+        newfaces,
         old,
         order,
     )

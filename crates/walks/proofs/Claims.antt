@@ -8,7 +8,7 @@ use lib.Dec.{ltb}
 use lib.ListN.{length}
 use borrow.Author.Tests.{eq-eqb, ne-eqb}
 use Rattle.tables.specs.Mesh.{Mesh, start, faceStart}
-use Rattle.audited_meshes.specs.Folds.{one, occurrences}
+use Rattle.audited_meshes.specs.Folds.{oneIf, occurrences}
 use Rattle.audited_meshes.specs.Walks.{back, borders, touches, acwOfFace, acwOfPoint, faceWalk, pointWalk, Touches}
 use Rattle.audited_meshes.specs.Audited.{Passes, last, more, Borders, FaceWalked, PointWalked}
 use Rattle.audited_meshes.proofs.Tests.{self-is}
@@ -19,7 +19,7 @@ use Rattle.walks.specs.declared.FoundEdge.the-variants.{Nowhere}
 use Rattle.walks.specs.declared.Passed.{Passed}
 use Rattle.walks.specs.Steps.{passedBy}
 use Rattle.walks.specs.Neighbour.{seek, edgeTo}
-use Rattle.walks.specs.Claims.{perimeter, firstOf, CountIsPerimeter, CountIsValence, FirstFound}
+use Rattle.walks.specs.Claims.{perimeterSize, firstPassing, CountIsPerimeter, CountIsValence, FirstFound}
 use Rattle.walks.specs.declared.Passed
 
 -- a walk that passes each edge of its face, and no other, passes as many as there are
@@ -35,7 +35,7 @@ module _ (m : Mesh) (ne f : ℕ) (w : FaceWalked m ne f) where
   passes-only : (e : ℕ) → 0 < occurrences e (w .edges) → On e
   passes-only = passes-on (acwOfFace m f) On (faceStart m f) (faceStart m f) (w .edges) (w .passes)
 
-  each : (e : ℕ) → e < ne → (b : Bool) → borders m f e ≡ b → occurrences e (w .edges) ≡ one b
+  each : (e : ℕ) → e < ne → (b : Bool) → borders m f e ≡ b → occurrences e (w .edges) ≡ oneIf b
   each e h true o = w .each-once e h (borders-is m f e .0 o)
   each e h false o = none (occurrences e (w .edges)) (λ q. let z : true ≡ false = sym (borders-is m f e .1 (passes-only e q .1)) ∙ o in cc)
     where
@@ -43,8 +43,8 @@ module _ (m : Mesh) (ne f : ℕ) (w : FaceWalked m ne f) where
       none zero g = refl
       none (suc j) g = absurd (let z : _≡_ {A = ℕ} 0 1 = g (omega arith) in omega arith)
 
-  whole : length (w .edges) ≡ perimeter m ne f
-  unfolding perimeter
+  whole : length (w .edges) ≡ perimeterSize m ne f
+  unfolding perimeterSize
   whole = length-sumTo ne (w .edges) (λ e q. passes-only e q .0) ∙ sumTo-cong ne _ _ (λ e h. each e h (borders m f e) refl)
 
 pub count-is-perimeter : CountIsPerimeter
@@ -68,7 +68,7 @@ module _ (step : ℕ → ℕ) (on test : ℕ → Bool) (s : ℕ) where
   seek-met zero here e = refl
   seek-met (suc k) here e = refl
 
-  seek-passes : (k e : ℕ) (es : List ℕ) → Passes step (λ i. on i ≡ true) s e es → length es ≤ k → seek step on test s k false (on e) e ≡ firstOf test es
+  seek-passes : (k e : ℕ) (es : List ℕ) → Passes step (λ i. on i ≡ true) s e es → length es ≤ k → seek step on test s k false (on e) e ≡ firstPassing test es
   unfolding seek
   seek-passes zero e es (last o b) l = absurd (omega arith)
   seek-passes zero e es (more o b p) l = absurd (omega arith)

@@ -11,12 +11,14 @@ use Rattle.tables.specs.Parts.{edgeTables, faceTables}
 returns : tie.Need-returns
 returns c =
     let a = c .before .before .before .before .args in
-    sym (edge-range (edgeTables (a .edges .now) (a .intervals .now)) (a .np) (a .ne) (a .nf) (a .e) (edge-range-rows _ _ _ _ _ _ ∙ sym (c .before .edge-in-range .ensures) ∙ not-true _ (c .if1 .taken)))
+    sym (edge-range (edgeTables (a .edges .now) (a .intervals .now)) (a .np) (a .ne) (a .nf) (a .e)
+    (edge-range-rows _ _ _ _ _ _ ∙ sym (c .before .edge-in-range .ensures) ∙ not-true _ (c .if1 .taken)))
 
 returns-2 : tie.Need-returns-2
 returns-2 c =
     let a = c .before .before .before .before .before .before .before .args in
-    sym (edge-interval (edgeTables (a .edges .now) (a .intervals .now)) (a .np) (a .ne) (a .nf) (a .e) (sym (c .before .interval-fits .ensures) ∙ not-true _ (c .if2 .taken)))
+    sym (edge-interval (edgeTables (a .edges .now) (a .intervals .now)) (a .np) (a .ne) (a .nf) (a .e)
+    (sym (c .before .interval-fits .ensures) ∙ not-true _ (c .if2 .taken)))
 
 returns-3 : tie.Need-returns-3
 returns-3 c =
@@ -45,7 +47,10 @@ returns-5 c =
     let edge-in-range = c8 .before .before .before .edge-in-range in
     c .is-linked .ensures ∙ sym (linked-rows _ _ _)
     ∙ sym (edge-links (edgeTables (a .edges .now) (a .intervals .now)) (a .np) (a .ne) (a .nf) (a .e)
-    (edge-range-rows _ _ _ _ _ _ ∙ sym (c .before .before .before .before .before .before .before .before .before .before .before .edge-in-range .ensures) ∙ not-false _ (c .before .before .before .before .before .before .before .before .before .before .if1 .left)) (sym (c .before .before .before .before .before .before .before .before .interval-fits .ensures) ∙ not-false _ (c .before .before .before .before .before .before .before .if2 .left)) (c .before .before .before .before .if3 .left) (c .before .if4 .left))
+    (edge-range-rows _ _ _ _ _ _ ∙ sym (edge-in-range .ensures) ∙ not-false _ (c8 .before .before .if1 .left))
+    (sym (c8 .interval-fits .ensures)
+    ∙ not-false _ (c .before .before .before .before .before .before .before .if2 .left))
+    (c .before .before .before .before .if3 .left) (c .before .if4 .left))
 
 pub edge-fit-spec : {M : Type 1} → statement M
 edge-fit-spec =

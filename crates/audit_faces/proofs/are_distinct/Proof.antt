@@ -7,12 +7,12 @@ use borrow.Author.Tests.{not-true, not-false}
 use borrow.Author.Needs.{needs}
 use Rattle.audited_meshes.specs.Folds.{every}
 use Rattle.audit_tests.proofs.Laws.{every-none, every-more, every-stop, every-all}
-use Rattle.audit_tests.specs.Parts.{apart}
+use Rattle.audit_tests.specs.Parts.{differAt}
 use Rattle.audit_faces.proofs.are_distinct.Statement.{statement}
 use Rattle.audit_faces.proofs.are_distinct.Tie as tie
 
 abbrev Inv-loop : tie.InvT-loop
-Inv-loop points n i₀ i = (i ≤ n) × (every i (λ k. every k (λ j. apart points k j)) ≡ true)
+Inv-loop points n i₀ i = (i ≤ n) × (every i (λ k. every k (λ j. differAt points k j)) ≡ true)
 
 abbrev μ-loop : tie.MeasureT-loop
 μ-loop points n i₀ i = n - i

@@ -7,12 +7,12 @@ use borrow.Author.Tests.{eq-eqb, ne-eqb}
 use borrow.Author.Needs.{needs}
 use Rattle.audited_meshes.specs.Folds.{every}
 use Rattle.audit_tests.proofs.Laws.{every-none, every-more, every-stop, every-all}
-use Rattle.audit_tests.specs.Parts.{apart}
+use Rattle.audit_tests.specs.Parts.{differAt}
 use Rattle.audit_faces.proofs.is_new.Statement.{statement}
 use Rattle.audit_faces.proofs.is_new.Tie as tie
 
 abbrev Inv-loop : tie.InvT-loop
-Inv-loop points i p j₀ j = (j ≤ i) × (every j (λ k. apart points i k) ≡ true)
+Inv-loop points i p j₀ j = (j ≤ i) × (every j (λ k. differAt points i k) ≡ true)
 
 abbrev μ-loop : tie.MeasureT-loop
 μ-loop points i p j₀ j = i - j

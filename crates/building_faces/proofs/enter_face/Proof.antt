@@ -48,10 +48,16 @@ returns c =
 
 returns-2 : tie.Need-returns-2
 returns-2 c =
-    let h = c .before .before .before .before .before .before .before .before .before .before .before .before .before .pre in (
-      (λ cs ps z. passed-unfit (c .before .before .before .before .before .before .before .before .before .before .before .before .before .args .sides .now) (c .before .before .before .before .before .before .before .before .before .before .before .before .before .args .listed .now) (c .before .before .before .before .before .before .before .before .before .before .before .before .before .args .beside .now) (c .before .before .before .before .before .before .before .before .before .before .before .before .before .args .np) (c .before .before .before .before .before .before .before .before .before .before .before .before .before .args .f) (c .before .before .before .before .before .before .before .before .before .before .before .before .before .args .a) (c .before .before .before .before .before .before .before .before .before .before .before .before .before .args .n) (c .before .before .before .before .before .before .before .before .before .before .before .before .before .pre .1 .1 .0) cs z (stateAt (meshOf ps (c .before .before .before .before .before .before .before .before .before .before .before .before .before .args .points .now) (c .before .before .before .before .before .before .before .before .before .before .before .before .before .args .edges .now) (c .before .before .before .before .before .before .before .before .before .before .before .before .before .args .intervals .now) (c .before .before .before .before .before .before .before .before .before .before .before .before .before .args .faces .now)) (c .before .before .before .before .before .before .before .before .before .before .before .before .before .args .k)) (c .before .g .given .0 .0) (sym (rw (c .before .before .before .before .index .ensures) at (c .before .before .before .face-verdict .ensures cs)) ∙ c .before .g .given .1)),
-      (c .before .before .before .before .before .before .before .before .before .before .before .before .before .args .k, h .0, omega (arith, h .1 .1 .1 .0)),
-    )
+    let c8 = c .before .before .before .before .before .before .before .before in
+    let args = c8 .before .before .before .before .before .args in
+    let h = c8 .before .before .before .before .before .pre in
+    ((λ cs ps z. passed-unfit (args .sides .now) (args .listed .now) (args .beside .now) (args .np) (args .f) (args .a)
+    (args .n) (h .1 .1 .0) cs z
+    (stateAt (meshOf ps (args .points .now) (args .edges .now) (args .intervals .now) (args .faces .now)) (args .k))
+    (c .before .g .given .0 .0) (sym
+    (rw (c .before .before .before .before .index .ensures) at (c .before .before .before .face-verdict .ensures cs))
+    ∙ c .before .g .given .1)),
+    (args .k, h .0, omega (arith, h .1 .1 .1 .0)))
 
 pub enter-face-spec : {M : Type 1} → statement M
 enter-face-spec =

@@ -53,19 +53,27 @@ enter-face-requires c κs =
 
 returns : tie.Need-returns Inv-loop μ-loop
 returns c =
-    let a = c .before .before .before .before .before .before .before .before .before .before .before .before .before .before .before .before .before .before .before .before .before .before .before .before .before .before .before .before .before .before .args in
-    let l = c .before .before .before .before .before .before .before .before .before .before .before .before .before .before .before .before .before .before .before .before .before .loop in
-    let n = c .before .before .before .before .before .before .before .before .before .before .before .before .before .before .before .before .before .before .before .face-size in
-    let e = c .before .before .before .before .before .before .before .before .before .before .before .before .before .enter-face in
-    let w =
-    face-sided (a .np) (a .sides .now) (a .listed .now) (a .beside .now) (a .points .now) (a .edges .now) (a .intervals .now) (a .faces .now)
-    (a .chain .now) (c .before .before .before .before .before .before .before .before .before .before .before .before .before .before .before .before .before .before .before .before .before .before .before .before .before .before .before .before .before .before .pre .1 .1 .1 .1) (l .points) (l .edges) (l .intervals) (l .faces) (l .chain) (l .k) (l .a) (l .f) (n .result)
-    (l .inv) (c .before .before .before .before .before .before .before .before .before .before .before .before .before .before .before .before .before .before .before .before .loop-test .taken) (n .ensures) in
-    let s = rw (c .before .g .given .1) at (e .ensures .1) in (
-      (λ cs ps z. face-stop (c .before .before .before .before .before .before .before .before .before .before .before .before .before .before .before .before .before .before .before .before .before .before .before .before .before .before .before .before .before .before .args .np) (c .before .before .before .before .before .before .before .before .before .before .before .before .before .before .before .before .before .before .before .before .before .before .before .before .before .before .before .before .before .before .args .sides .now) (c .before .before .before .before .before .before .before .before .before .before .before .before .before .before .before .before .before .before .before .before .before .before .before .before .before .before .before .before .before .before .args .listed .now) (c .before .before .before .before .before .before .before .before .before .before .before .before .before .before .before .before .before .before .before .before .before .before .before .before .before .before .before .before .before .before .args .beside .now) (c .before .before .before .before .before .before .before .before .before .before .before .before .before .before .before .before .before .before .before .before .before .before .before .before .before .before .before .before .before .before .args .points .now) (c .before .before .before .before .before .before .before .before .before .before .before .before .before .before .before .before .before .before .before .before .before .before .before .before .before .before .before .before .before .before .args .edges .now) (c .before .before .before .before .before .before .before .before .before .before .before .before .before .before .before .before .before .before .before .before .before .before .before .before .before .before .before .before .before .before .args .intervals .now) (c .before .before .before .before .before .before .before .before .before .before .before .before .before .before .before .before .before .before .before .before .before .before .before .before .before .before .before .before .before .before .args .faces .now) (c .before .before .before .before .before .before .before .before .before .before .before .before .before .before .before .before .before .before .before .before .before .before .before .before .before .before .before .before .before .before .args .chain .now) (c .before .before .before .before .before .before .before .before .before .before .before .before .before .before .before .before .before .before .before .before .before .before .before .before .before .before .before .before .before .before .pre .1 .1 .1 .1) (c .before .before .before .before .before .before .before .before .before .before .before .before .before .before .before .before .before .before .before .before .before .loop .points) (c .before .before .before .before .before .before .before .before .before .before .before .before .before .before .before .before .before .before .before .before .before .loop .edges) (c .before .before .before .before .before .before .before .before .before .before .before .before .before .before .before .before .before .before .before .before .before .loop .intervals) (c .before .before .before .before .before .before .before .before .before .before .before .before .before .before .before .before .before .before .before .before .before .loop .faces) (c .before .before .before .before .before .before .before .before .before .before .before .before .before .before .before .before .before .before .before .before .before .loop .chain) (c .before .before .before .before .before .before .before .before .before .before .before .before .before .before .before .before .before .before .before .before .before .loop .k) (c .before .before .before .before .before .before .before .before .before .before .before .before .before .before .before .before .before .before .before .before .before .loop .a) (c .before .before .before .before .before .before .before .before .before .before .before .before .before .before .before .before .before .before .before .before .before .loop .f) (c .before .before .before .before .before .before .before .before .before .before .before .before .before .before .before .before .before .before .before .face-size .result) (c .before .before .before .before .before .before .before .before .before .before .before .before .before .before .before .before .before .before .before .before .before .loop .inv) (c .before .before .before .before .before .before .before .before .before .before .before .before .before .before .before .before .before .before .before .before .loop-test .taken) (c .before .before .before .before .before .before .before .before .before .before .before .before .before .before .before .before .before .before .before .face-size .ensures) (c .before .before .before .before .before .before .before .before .before .before .before .before .before .enter-face .last .1 .1 .1 .0) (c .before .before .before .before .before .before .before .before .before .before .before .before .before .enter-face .last .1 .1 .1 .1 .0) (c .before .before .before .before .before .before .before .before .before .before .before .before .before .enter-face .last .1 .1 .1 .1 .1 .0) (c .before .before .before .before .before .before .before .before .before .before .before .before .before .enter-face .last .1 .1 .1 .1 .1 .1 .0) (c .before .before .before .before .before .before .before .before .before .before .before .before .before .enter-face .last .1 .1 .1 .1 .1 .1 .1 .0) (c .before .g .given .0 .0) cs ps z (rw (c .before .g .given .1) at (c .before .before .before .before .before .before .before .before .before .before .before .before .before .enter-face .ensures .0 cs ps z))),
-      some-more (a .np) (e .last .1 .1 .1 .0) (e .last .1 .1 .1 .1 .0) (e .last .1 .1 .1 .1 .1 .1 .1 .0) (l .a + n .result) (length (a .listed .now))
-          (w .within) s,
-    )
+    let c8 = c .before .before .before .before .before .before .before .before in
+    let c16 = c8 .before .before .before .before .before .before .before .before in
+    let c24 = c16 .before .before .before .before .before .before .before .before in
+    let a = c24 .before .before .before .before .before .before .args in
+    let pre = c24 .before .before .before .before .before .before .pre in
+    let l = c16 .before .before .before .before .before .loop in
+    let loop-test = c16 .before .before .before .before .loop-test in
+    let n = c16 .before .before .before .face-size in
+    let e = c8 .before .before .before .before .before .enter-face in
+    let w = face-sided (a .np) (a .sides .now) (a .listed .now) (a .beside .now) (a .points .now) (a .edges .now)
+    (a .intervals .now) (a .faces .now) (a .chain .now) (pre .1 .1 .1 .1) (l .points) (l .edges) (l .intervals)
+    (l .faces) (l .chain) (l .k) (l .a) (l .f) (n .result) (l .inv) (loop-test .taken) (n .ensures) in
+    let s = rw (c .before .g .given .1) at (e .ensures .1) in
+    ((λ cs ps z. face-stop (a .np) (a .sides .now) (a .listed .now) (a .beside .now) (a .points .now) (a .edges .now)
+    (a .intervals .now) (a .faces .now) (a .chain .now) (pre .1 .1 .1 .1) (l .points) (l .edges) (l .intervals)
+    (l .faces) (l .chain) (l .k) (l .a) (l .f) (n .result) (l .inv) (loop-test .taken) (n .ensures)
+    (e .last .1 .1 .1 .0) (e .last .1 .1 .1 .1 .0) (e .last .1 .1 .1 .1 .1 .0) (e .last .1 .1 .1 .1 .1 .1 .0)
+    (e .last .1 .1 .1 .1 .1 .1 .1 .0) (c .before .g .given .0 .0) cs ps z
+    (rw (c .before .g .given .1) at (e .ensures .0 cs ps z))),
+    some-more (a .np) (e .last .1 .1 .1 .0) (e .last .1 .1 .1 .1 .0) (e .last .1 .1 .1 .1 .1 .1 .1 .0)
+    (l .a + n .result) (length (a .listed .now)) (w .within) s)
 
 add-a : tie.Need-add-a Inv-loop μ-loop
 add-a c =

@@ -40,14 +40,22 @@ turn-place-requires c κs =
 
 returns : tie.Need-returns Inv-loop μ-loop
 returns c =
-    let a = c .before .before .before .before .before .before .before .before .before .before .before .before .before .before .before .before .before .before .before .before .before .before .before .before .args in
-    let i = c .before .before .before .before .before .before .before .before .before .before .before .before .before .before .before .before .before .loop .i in
-    let l = c .before .before .before .before .before .before .before .before .before .before .before .before .before .before .before .before .loop-test .taken in
-    let t = c .before .before .before .before .before .before .before .before .before .before .before .turn-place in
-    let s = rw (c .before .g .given .1) at (t .ensures .1) in (
-      (λ cs ss ps fs. passing-stop (c .before .before .before .before .before .before .before .before .before .before .before .before .before .before .before .before .before .before .before .before .before .before .before .before .args .np) (c .before .before .before .before .before .before .before .before .before .before .before .before .before .before .before .before .before .before .before .before .before .before .before .before .args .listed .now) (c .before .before .before .before .before .before .before .before .before .before .before .before .before .before .before .before .before .before .before .before .before .before .before .before .args .beside .now) (c .before .before .before .before .before .before .before .before .before .before .before .before .before .before .before .before .before .before .before .before .before .before .before .before .args .f) (c .before .before .before .before .before .before .before .before .before .before .before .before .before .before .before .before .before .before .before .before .before .before .before .before .args .a) (c .before .before .before .before .before .before .before .before .before .before .before .before .before .before .before .before .before .before .before .before .before .before .before .before .args .n) (c .before .before .before .before .before .before .before .before .before .before .before .before .before .before .before .before .before .before .before .before .before .before .before .before .args .k) (c .before .before .before .before .before .before .before .before .before .before .before .before .before .before .before .before .before .before .before .before .before .before .before .before .args .points .now) (c .before .before .before .before .before .before .before .before .before .before .before .before .before .before .before .before .before .before .before .before .before .before .before .before .args .edges .now) (c .before .before .before .before .before .before .before .before .before .before .before .before .before .before .before .before .before .before .before .before .before .before .before .before .args .intervals .now) (c .before .before .before .before .before .before .before .before .before .before .before .before .before .before .before .before .before .before .before .before .before .before .before .before .args .chain .now) (c .before .before .before .before .before .before .before .before .before .before .before .before .before .before .before .before .before .loop .points) (c .before .before .before .before .before .before .before .before .before .before .before .before .before .before .before .before .before .loop .edges) (c .before .before .before .before .before .before .before .before .before .before .before .before .before .before .before .before .before .loop .intervals) (c .before .before .before .before .before .before .before .before .before .before .before .before .before .before .before .before .before .loop .chain) (c .before .before .before .before .before .before .before .before .before .before .before .before .before .before .before .before .before .loop .ring) (c .before .before .before .before .before .before .before .before .before .before .before .before .before .before .before .before .before .loop .i) (c .before .before .before .before .before .before .before .before .before .before .before .before .before .before .before .before .before .loop .inv) (c .before .before .before .before .before .before .before .before .before .before .before .before .before .before .before .before .loop-test .taken) (c .before .before .before .before .before .before .before .before .before .before .before .turn-place .last .1 .1 .0) (c .before .before .before .before .before .before .before .before .before .before .before .turn-place .last .1 .1 .1 .0) (c .before .before .before .before .before .before .before .before .before .before .before .turn-place .last .1 .1 .1 .1 .0) (c .before .before .before .before .before .before .before .before .before .before .before .turn-place .last .1 .1 .1 .1 .1 .0) (c .before .g .given .0 .0) cs ss ps fs (rw (c .before .g .given .1) at (c .before .before .before .before .before .before .before .before .before .before .before .turn-place .ensures .0 cs ss ps fs))),
-      some-more (a .np) (t .last .1 .1 .0) (t .last .1 .1 .1 .0) (t .last .1 .1 .1 .1 .1 .0) (a .a + i + 1) (a .a + a .n) (omega (arith, l)) s,
-    )
+    let c8 = c .before .before .before .before .before .before .before .before in
+    let c16 = c8 .before .before .before .before .before .before .before .before in
+    let a = c16 .before .before .before .before .before .before .before .before .args in
+    let loop = c16 .before .loop in
+    let loop-test = c16 .loop-test in
+    let t = c8 .before .before .before .turn-place in
+    let i = loop .i in
+    let l = loop-test .taken in
+    let s = rw (c .before .g .given .1) at (t .ensures .1) in
+    ((λ cs ss ps fs. passing-stop (a .np) (a .listed .now) (a .beside .now) (a .f) (a .a) (a .n) (a .k) (a .points .now)
+    (a .edges .now) (a .intervals .now) (a .chain .now) (loop .points) (loop .edges) (loop .intervals) (loop .chain)
+    (loop .ring) (loop .i) (loop .inv) (loop-test .taken) (t .last .1 .1 .0) (t .last .1 .1 .1 .0)
+    (t .last .1 .1 .1 .1 .0) (t .last .1 .1 .1 .1 .1 .0) (c .before .g .given .0 .0) cs ss ps fs
+    (rw (c .before .g .given .1) at (t .ensures .0 cs ss ps fs))),
+    some-more (a .np) (t .last .1 .1 .0) (t .last .1 .1 .1 .0) (t .last .1 .1 .1 .1 .1 .0) (a .a + i + 1) (a .a + a .n)
+    (omega (arith, l)) s)
 
 loop-again : tie.Need-loop-again Inv-loop μ-loop
 loop-again c =

@@ -13,36 +13,68 @@ use Rattle.building_faces.proofs.turn_place.Statement.{statement}
 use Rattle.building_faces.proofs.turn_place.Tie as tie
 
 add-q : tie.Need-add-q
-add-q c = let l = next-below (c .before .before .before .before .before .before .before .before .args .n) (c .before .before .before .before .before .before .before .before .args .i) (c .before .before .before .before .before .before .before .before .pre .1 .1 .1 .0) in let w = c .before .before .before .before .before .before .before .before .pre .1 .1 .0 .within in omega (arith, c .next-place .ensures .0, c .before .before .before .before .before .before .before .before .good .0 .0)
+add-q c =
+    let args = c .before .before .before .before .before .before .before .before .args in
+    let good = c .before .before .before .before .before .before .before .before .good in
+    let pre = c .before .before .before .before .before .before .before .before .pre in
+    let l = next-below (args .n) (args .i) (pre .1 .1 .1 .0) in
+    let w = pre .1 .1 .0 .within in
+    omega (arith, c .next-place .ensures .0, good .0 .0)
 
 mul-q : tie.Need-mul-q
-mul-q c = let l = next-below (c .before .before .before .before .before .before .before .before .args .n) (c .before .before .before .before .before .before .before .before .args .i) (c .before .before .before .before .before .before .before .before .pre .1 .1 .1 .0) in let w = c .before .before .before .before .before .before .before .before .pre .1 .1 .0 .within in omega (arith, c .next-place .ensures .0, c .before .before .before .before .before .before .before .before .good .0 .1)
+mul-q c =
+    let args = c .before .before .before .before .before .before .before .before .args in
+    let good = c .before .before .before .before .before .before .before .before .good in
+    let pre = c .before .before .before .before .before .before .before .before .pre in
+    let l = next-below (args .n) (args .i) (pre .1 .1 .1 .0) in
+    let w = pre .1 .1 .0 .within in
+    omega (arith, c .next-place .ensures .0, good .0 .1)
 
 shared-slice-read-q : tie.Need-shared-slice-read-q
-shared-slice-read-q c = let l = next-below (c .before .before .before .before .before .before .before .before .before .args .n) (c .before .before .before .before .before .before .before .before .before .args .i) (c .before .before .before .before .before .before .before .before .before .pre .1 .1 .1 .0) in let w = c .before .before .before .before .before .before .before .before .before .pre .1 .1 .0 .within in omega (arith, c .before .next-place .ensures .0)
+shared-slice-read-q c =
+    let c8 = c .before .before .before .before .before .before .before .before in
+    let args = c8 .before .args in
+    let pre = c8 .before .pre in
+    let l = next-below (args .n) (args .i) (pre .1 .1 .1 .0) in
+    let w = pre .1 .1 .0 .within in
+    omega (arith, c .before .next-place .ensures .0)
 
 enter-requires : tie.Need-enter-requires
 enter-requires c κs =
     let c8 = c .before .before .before .before .before .before .before .before in
     let a = c8 .before .before .before .before .before .before .args in
     let pre = c8 .before .before .before .before .before .before .pre in
-    let w = pre .1 .1 .0 .within in (
-      pre .0,
-      (
-        room-lent (a .np) (a .listed .now) (a .beside .now) (a .edges .now) (a .intervals .now) (a .chain .now)
-            (a .ring .edges) (pre .1 .0) (omega (arith, pre .1 .1 .1 .1 .0, pre .1 .1 .1 .0)),
-        (
-          placed-point (c .before .before .before .before .before .before .before .before .before .before .before .before .before .before .args .np) (c .before .before .before .before .before .before .before .before .before .before .before .before .before .before .args .listed .now) (c .before .before .before .before .before .before .before .before .before .before .before .before .before .before .args .a) (c .before .before .before .before .before .before .before .before .before .before .before .before .before .before .args .n) (a .i) (c .before .before .before .before .before .before .before .before .before .before .before .before .before .before .pre .1 .1 .0) (c .before .before .before .before .before .before .before .before .before .before .before .before .before .before .pre .1 .1 .1 .0),
-          rw (c .before .before .before .before .before .before .next-place .ensures .0) (placed-point (c .before .before .before .before .before .before .before .before .before .before .before .before .before .before .args .np) (c .before .before .before .before .before .before .before .before .before .before .before .before .before .before .args .listed .now) (c .before .before .before .before .before .before .before .before .before .before .before .before .before .before .args .a) (c .before .before .before .before .before .before .before .before .before .before .before .before .before .before .args .n) _ (c .before .before .before .before .before .before .before .before .before .before .before .before .before .before .pre .1 .1 .0) (next-below (a .n) (a .i) (c .before .before .before .before .before .before .before .before .before .before .before .before .before .before .pre .1 .1 .1 .0))),
-        ),
-      ),
-    )
+    let w = pre .1 .1 .0 .within in
+    (pre .0,
+    (room-lent (a .np) (a .listed .now) (a .beside .now) (a .edges .now) (a .intervals .now) (a .chain .now)
+    (a .ring .edges) (pre .1 .0) (omega (arith, pre .1 .1 .1 .1 .0, pre .1 .1 .1 .0)),
+    (placed-point (a .np) (a .listed .now) (a .a) (a .n) (a .i) (pre .1 .1 .0) (pre .1 .1 .1 .0),
+    rw (c .before .before .before .before .before .before .next-place .ensures .0)
+    (placed-point (a .np) (a .listed .now) (a .a) (a .n) _ (pre .1 .1 .0) (next-below (a .n) (a .i) (pre .1 .1 .1 .0))))))
 
 returns : tie.Need-returns
-returns c = (
-  (λ cs ss ps fs. turn-first cs ss (c .before .before .before .before .before .before .before .before .before .before .before .before .before .before .before .before .before .before .before .before .before .before .before .before .before .before .before .args .listed .now) (c .before .before .before .before .before .before .before .before .before .before .before .before .before .before .before .before .before .before .before .before .before .before .before .before .before .before .before .args .beside .now) (c .before .before .before .before .before .before .before .before .before .before .before .before .before .before .before .before .before .before .before .before .before .before .before .before .before .before .before .args .f) (c .before .before .before .before .before .before .before .before .before .before .before .before .before .before .before .before .before .before .before .before .before .before .before .before .before .before .before .args .a) (c .before .before .before .before .before .before .before .before .before .before .before .before .before .before .before .before .before .before .before .before .before .before .before .before .before .before .before .args .n) (c .before .before .before .before .before .before .before .before .before .before .before .before .before .before .before .before .before .before .before .before .before .before .before .before .before .before .before .args .i) (c .before .before .before .before .before .before .before .before .before .before .before .before .before .before .before .before .before .before .before .next-place .result) (getD (c .before .before .before .before .before .before .before .before .before .before .before .before .before .before .before .before .before .before .before .before .before .before .before .before .before .before .before .args .listed .now) (c .before .before .before .before .before .before .before .before .before .before .before .before .before .before .before .before .before .before .before .before .before .before .before .before .before .before .before .args .a + c .before .before .before .before .before .before .before .before .before .before .before .before .before .before .before .before .before .before .before .before .before .before .before .before .before .before .before .args .i) 0) (getD (c .before .before .before .before .before .before .before .before .before .before .before .before .before .before .before .before .before .before .before .before .before .before .before .before .before .before .before .args .listed .now) (c .before .before .before .before .before .before .before .before .before .before .before .before .before .before .before .before .before .before .before .before .before .before .before .before .before .before .before .args .a + c .before .before .before .before .before .before .before .before .before .before .before .before .before .before .before .before .before .before .before .next-place .result) 0) (getD (c .before .before .before .before .before .before .before .before .before .before .before .before .before .before .before .before .before .before .before .before .before .before .before .before .before .before .before .args .beside .now) (c .before .before .before .before .before .before .before .before .before .before .before .before .before .before .before .before .before .before .before .before .before .before .before .before .before .before .before .args .a + c .before .before .before .before .before .before .before .before .before .before .before .before .before .before .before .before .before .before .before .before .before .before .before .before .before .before .before .args .i) nan) (c .before .before .before .before .before .before .before .before .before .before .before .before .before .before .before .before .before .before .before .before .before .before .before .before .before .before .before .args .ring) (meshOf ps (c .before .before .before .before .before .before .before .before .before .before .before .before .before .before .before .before .before .before .before .before .before .before .before .before .before .before .before .args .points .now) (c .before .before .before .before .before .before .before .before .before .before .before .before .before .before .before .before .before .before .before .before .before .before .before .before .before .before .before .args .edges .now) (c .before .before .before .before .before .before .before .before .before .before .before .before .before .before .before .before .before .before .before .before .before .before .before .before .before .before .before .args .intervals .now) fs) (meshOf ps (c .before .before .before .before .before .before .before .before .before .before .before .before .enter .last .0) (c .before .before .before .before .before .before .before .before .before .before .before .before .enter .last .1 .0) (c .before .before .before .before .before .before .before .before .before .before .before .before .enter .last .1 .1 .0) fs) (c .before .before .before .before .before .before .before .before .before .before .before .before .before .before .before .before .before .before .before .next-place .ensures .0) refl refl refl (c .before .before .count .given .0 .0) (c .before .before .count .given .0 .1 .0) (rw (c .before .before .count .given .1) at (c .before .before .before .before .before .before .before .before .before .before .before .before .enter .ensures .0 ps fs)) (c .if1 .taken)),
-  stands-first (c .before .before .before .before .before .before .before .before .before .before .before .before .before .before .before .before .before .before .before .before .before .before .before .before .before .before .before .args .np) (c .before .before .before .before .before .before .before .before .before .before .before .before .enter .last .0) (c .before .before .before .before .before .before .before .before .before .before .before .before .enter .last .1 .0) (c .before .before .before .before .before .before .before .before .before .before .before .before .enter .last .1 .1 .1 .0) (c .before .before .before .before .before .before .before .before .before .before .before .before .before .before .before .before .before .before .before .before .before .before .before .before .before .before .before .args .ring .edges) (c .before .before .count .given .0 .0) (c .before .before .count .given .0 .1 .0) (c .before .before .before .before .before .before .before .before .before .before .before .before .before .before .before .before .before .before .before .before .before .before .before .before .before .before .before .args .a + c .before .before .before .before .before .before .before .before .before .before .before .before .before .before .before .before .before .before .before .before .before .before .before .before .before .before .before .args .i + 1) (rw (c .before .before .count .given .1) at (c .before .before .before .before .before .before .before .before .before .before .before .before .enter .ensures .1)) (made-counted (meshOf [] (c .before .before .before .before .before .before .before .before .before .before .before .before .before .before .before .before .before .before .before .before .before .before .before .before .before .before .before .args .points .now) (c .before .before .before .before .before .before .before .before .before .before .before .before .before .before .before .before .before .before .before .before .before .before .before .before .before .before .before .args .edges .now) (c .before .before .before .before .before .before .before .before .before .before .before .before .before .before .before .before .before .before .before .before .before .before .before .before .before .before .before .args .intervals .now) []) (meshOf [] (c .before .before .before .before .before .before .before .before .before .before .before .before .enter .last .0) (c .before .before .before .before .before .before .before .before .before .before .before .before .enter .last .1 .0) (c .before .before .before .before .before .before .before .before .before .before .before .before .enter .last .1 .1 .0) []) (c .before .before .before .before .before .before .before .before .before .before .before .before .before .before .before .before .before .before .before .before .before .before .before .before .before .before .before .args .ring .edges) (c .before .before .before .before .before .before .before .before .before .before .before .before .before .before .before .before .before .before .before .before .before .before .before .before .before .before .before .args .f) (getD (c .before .before .before .before .before .before .before .before .before .before .before .before .before .before .before .before .before .before .before .before .before .before .before .before .before .before .before .args .listed .now) (c .before .before .before .before .before .before .before .before .before .before .before .before .before .before .before .before .before .before .before .before .before .before .before .before .before .before .before .args .a + c .before .before .before .before .before .before .before .before .before .before .before .before .before .before .before .before .before .before .before .before .before .before .before .before .before .before .before .args .i) 0) (getD (c .before .before .before .before .before .before .before .before .before .before .before .before .before .before .before .before .before .before .before .before .before .before .before .before .before .before .before .args .listed .now) (c .before .before .before .before .before .before .before .before .before .before .before .before .before .before .before .before .before .before .before .before .before .before .before .before .before .before .before .args .a + c .before .before .before .before .before .before .before .before .before .before .before .before .before .before .before .before .before .before .before .next-place .result) 0) (getD (c .before .before .before .before .before .before .before .before .before .before .before .before .before .before .before .before .before .before .before .before .before .before .before .before .before .before .before .args .beside .now) (c .before .before .before .before .before .before .before .before .before .before .before .before .before .before .before .before .before .before .before .before .before .before .before .before .before .before .before .args .a + c .before .before .before .before .before .before .before .before .before .before .before .before .before .before .before .before .before .before .before .before .before .before .before .before .before .before .before .args .i) nan) (c .before .before .count .given .0 .0) (c .before .before .count .given .0 .1 .0) (rw (c .before .before .count .given .1) at (c .before .before .before .before .before .before .before .before .before .before .before .before .enter .ensures .0 [] []))) (let few = c .before .before .before .before .before .before .before .before .before .before .before .before .before .before .before .before .before .before .before .before .before .before .before .before .before .before .before .pre .1 .1 .1 .1 .0 in omega arith),
-)
+returns c =
+    let c8 = c .before .before .before .before .before .before .before .before in
+    let c16 = c8 .before .before .before .before .before .before .before .before in
+    let c24 = c16 .before .before .before .before .before .before .before .before in
+    let args = c24 .before .before .before .args in
+    let pre = c24 .before .before .before .pre in
+    let next-place = c16 .before .before .before .next-place in
+    let enter = c8 .before .before .before .before .enter in
+    let count = c .before .before .count in
+    ((λ cs ss ps fs. turn-first cs ss (args .listed .now) (args .beside .now) (args .f) (args .a) (args .n) (args .i)
+    (next-place .result) (getD (args .listed .now) (args .a + args .i) 0)
+    (getD (args .listed .now) (args .a + next-place .result) 0) (getD (args .beside .now) (args .a + args .i) nan)
+    (args .ring) (meshOf ps (args .points .now) (args .edges .now) (args .intervals .now) fs)
+    (meshOf ps (enter .last .0) (enter .last .1 .0) (enter .last .1 .1 .0) fs) (next-place .ensures .0) refl refl refl
+    (count .given .0 .0) (count .given .0 .1 .0) (rw (count .given .1) at (enter .ensures .0 ps fs)) (c .if1 .taken)),
+    stands-first (args .np) (enter .last .0) (enter .last .1 .0) (enter .last .1 .1 .1 .0) (args .ring .edges)
+    (count .given .0 .0) (count .given .0 .1 .0) (args .a + args .i + 1) (rw (count .given .1) at (enter .ensures .1))
+    (made-counted (meshOf [] (args .points .now) (args .edges .now) (args .intervals .now) [])
+    (meshOf [] (enter .last .0) (enter .last .1 .0) (enter .last .1 .1 .0) []) (args .ring .edges) (args .f)
+    (getD (args .listed .now) (args .a + args .i) 0) (getD (args .listed .now) (args .a + next-place .result) 0)
+    (getD (args .beside .now) (args .a + args .i) nan) (count .given .0 .0) (count .given .0 .1 .0)
+    (rw (count .given .1) at (enter .ensures .0 [] []))) (let few = pre .1 .1 .1 .1 .0 in omega arith))
 
 connect-requires : tie.Need-connect-requires
 connect-requires c κs =
@@ -69,19 +101,50 @@ connect-requires c κs =
 
 returns-2 : tie.Need-returns-2
 returns-2 c =
-    let some = c .before .before .before .before .before .if1 .left in (
-      (λ cs ss ps fs. turn-more cs ss (c .before .before .before .before .before .before .before .before .before .before .before .before .before .before .before .before .before .before .before .before .before .before .before .before .before .before .before .before .before .before .before .before .args .listed .now) (c .before .before .before .before .before .before .before .before .before .before .before .before .before .before .before .before .before .before .before .before .before .before .before .before .before .before .before .before .before .before .before .before .args .beside .now) (c .before .before .before .before .before .before .before .before .before .before .before .before .before .before .before .before .before .before .before .before .before .before .before .before .before .before .before .before .before .before .before .before .args .f) (c .before .before .before .before .before .before .before .before .before .before .before .before .before .before .before .before .before .before .before .before .before .before .before .before .before .before .before .before .before .before .before .before .args .a) (c .before .before .before .before .before .before .before .before .before .before .before .before .before .before .before .before .before .before .before .before .before .before .before .before .before .before .before .before .before .before .before .before .args .n) (c .before .before .before .before .before .before .before .before .before .before .before .before .before .before .before .before .before .before .before .before .before .before .before .before .before .before .before .before .before .before .before .before .args .i) (c .before .before .before .before .before .before .before .before .before .before .before .before .before .before .before .before .before .before .before .before .before .before .before .before .next-place .result) (getD (c .before .before .before .before .before .before .before .before .before .before .before .before .before .before .before .before .before .before .before .before .before .before .before .before .before .before .before .before .before .before .before .before .args .listed .now) (c .before .before .before .before .before .before .before .before .before .before .before .before .before .before .before .before .before .before .before .before .before .before .before .before .before .before .before .before .before .before .before .before .args .a + c .before .before .before .before .before .before .before .before .before .before .before .before .before .before .before .before .before .before .before .before .before .before .before .before .before .before .before .before .before .before .before .before .args .i) 0) (getD (c .before .before .before .before .before .before .before .before .before .before .before .before .before .before .before .before .before .before .before .before .before .before .before .before .before .before .before .before .before .before .before .before .args .listed .now) (c .before .before .before .before .before .before .before .before .before .before .before .before .before .before .before .before .before .before .before .before .before .before .before .before .before .before .before .before .before .before .before .before .args .a + c .before .before .before .before .before .before .before .before .before .before .before .before .before .before .before .before .before .before .before .before .before .before .before .before .next-place .result) 0) (getD (c .before .before .before .before .before .before .before .before .before .before .before .before .before .before .before .before .before .before .before .before .before .before .before .before .before .before .before .before .before .before .before .before .args .beside .now) (c .before .before .before .before .before .before .before .before .before .before .before .before .before .before .before .before .before .before .before .before .before .before .before .before .before .before .before .before .before .before .before .before .args .a + c .before .before .before .before .before .before .before .before .before .before .before .before .before .before .before .before .before .before .before .before .before .before .before .before .before .before .before .before .before .before .before .before .args .i) nan) (c .before .before .before .before .before .before .before .before .before .before .before .before .before .before .before .before .before .before .before .before .before .before .before .before .before .before .before .before .before .before .before .before .args .ring) (meshOf ps (c .before .before .before .before .before .before .before .before .before .before .before .before .before .before .before .before .before .before .before .before .before .before .before .before .before .before .before .before .before .before .before .before .args .points .now) (c .before .before .before .before .before .before .before .before .before .before .before .before .before .before .before .before .before .before .before .before .before .before .before .before .before .before .before .before .before .before .before .before .args .edges .now) (c .before .before .before .before .before .before .before .before .before .before .before .before .before .before .before .before .before .before .before .before .before .before .before .before .before .before .before .before .before .before .before .before .args .intervals .now) fs) (meshOf ps (c .before .before .before .before .before .before .before .before .before .before .before .before .before .before .before .before .before .enter .last .0) (c .before .before .before .before .before .before .before .before .before .before .before .before .before .before .before .before .before .enter .last .1 .0) (c .before .before .before .before .before .before .before .before .before .before .before .before .before .before .before .before .before .enter .last .1 .1 .0) fs) (c .before .before .before .before .before .before .before .before .before .before .before .before .before .before .before .before .before .before .before .before .before .before .before .before .next-place .ensures .0) refl refl refl (c .before .before .before .before .before .before .before .count .given .0 .0) (c .before .before .before .before .before .before .before .count .given .0 .1 .0) (c .before .before .connect .last .0) (rw (c .before .before .before .before .before .before .before .count .given .1) at (c .before .before .before .before .before .before .before .before .before .before .before .before .before .before .before .before .before .enter .ensures .0 ps fs)) (c .before .before .before .before .before .if1 .left) (c .before .before .connect .ensures .1)),
-      stands-more (c .before .before .before .before .before .before .before .before .before .before .before .before .before .before .before .before .before .before .before .before .before .before .before .before .before .before .before .before .before .before .before .before .args .np) (c .before .before .before .before .before .before .before .before .before .before .before .before .before .before .before .before .before .enter .last .0) (c .before .before .before .before .before .before .before .before .before .before .before .before .before .before .before .before .before .enter .last .1 .0) (c .before .before .before .before .before .before .before .before .before .before .before .before .before .before .before .before .before .enter .last .1 .1 .1 .0) (c .before .before .before .before .before .before .before .before .before .before .before .before .before .before .before .before .before .before .before .before .before .before .before .before .before .before .before .before .before .before .before .before .args .ring .edges) (c .before .before .before .before .before .before .before .count .given .0 .0) (c .before .before .before .before .before .before .before .count .given .0 .1 .0) (c .before .before .before .before .before .before .before .before .before .before .before .before .before .before .before .before .before .before .before .before .before .before .before .before .before .before .before .before .before .before .before .before .args .a + c .before .before .before .before .before .before .before .before .before .before .before .before .before .before .before .before .before .before .before .before .before .before .before .before .before .before .before .before .before .before .before .before .args .i + 1) (rw (c .before .before .before .before .before .before .before .count .given .1) at (c .before .before .before .before .before .before .before .before .before .before .before .before .before .before .before .before .before .enter .ensures .1)) (made-counted (meshOf [] (c .before .before .before .before .before .before .before .before .before .before .before .before .before .before .before .before .before .before .before .before .before .before .before .before .before .before .before .before .before .before .before .before .args .points .now) (c .before .before .before .before .before .before .before .before .before .before .before .before .before .before .before .before .before .before .before .before .before .before .before .before .before .before .before .before .before .before .before .before .args .edges .now) (c .before .before .before .before .before .before .before .before .before .before .before .before .before .before .before .before .before .before .before .before .before .before .before .before .before .before .before .before .before .before .before .before .args .intervals .now) []) (meshOf [] (c .before .before .before .before .before .before .before .before .before .before .before .before .before .before .before .before .before .enter .last .0) (c .before .before .before .before .before .before .before .before .before .before .before .before .before .before .before .before .before .enter .last .1 .0) (c .before .before .before .before .before .before .before .before .before .before .before .before .before .before .before .before .before .enter .last .1 .1 .0) []) (c .before .before .before .before .before .before .before .before .before .before .before .before .before .before .before .before .before .before .before .before .before .before .before .before .before .before .before .before .before .before .before .before .args .ring .edges) (c .before .before .before .before .before .before .before .before .before .before .before .before .before .before .before .before .before .before .before .before .before .before .before .before .before .before .before .before .before .before .before .before .args .f) (getD (c .before .before .before .before .before .before .before .before .before .before .before .before .before .before .before .before .before .before .before .before .before .before .before .before .before .before .before .before .before .before .before .before .args .listed .now) (c .before .before .before .before .before .before .before .before .before .before .before .before .before .before .before .before .before .before .before .before .before .before .before .before .before .before .before .before .before .before .before .before .args .a + c .before .before .before .before .before .before .before .before .before .before .before .before .before .before .before .before .before .before .before .before .before .before .before .before .before .before .before .before .before .before .before .before .args .i) 0) (getD (c .before .before .before .before .before .before .before .before .before .before .before .before .before .before .before .before .before .before .before .before .before .before .before .before .before .before .before .before .before .before .before .before .args .listed .now) (c .before .before .before .before .before .before .before .before .before .before .before .before .before .before .before .before .before .before .before .before .before .before .before .before .before .before .before .before .before .before .before .before .args .a + c .before .before .before .before .before .before .before .before .before .before .before .before .before .before .before .before .before .before .before .before .before .before .before .before .next-place .result) 0) (getD (c .before .before .before .before .before .before .before .before .before .before .before .before .before .before .before .before .before .before .before .before .before .before .before .before .before .before .before .before .before .before .before .before .args .beside .now) (c .before .before .before .before .before .before .before .before .before .before .before .before .before .before .before .before .before .before .before .before .before .before .before .before .before .before .before .before .before .before .before .before .args .a + c .before .before .before .before .before .before .before .before .before .before .before .before .before .before .before .before .before .before .before .before .before .before .before .before .before .before .before .before .before .before .before .before .args .i) nan) (c .before .before .before .before .before .before .before .count .given .0 .0) (c .before .before .before .before .before .before .before .count .given .0 .1 .0) (rw (c .before .before .before .before .before .before .before .count .given .1) at (c .before .before .before .before .before .before .before .before .before .before .before .before .before .before .before .before .before .enter .ensures .0 [] []))) (let few = c .before .before .before .before .before .before .before .before .before .before .before .before .before .before .before .before .before .before .before .before .before .before .before .before .before .before .before .before .before .before .before .before .pre .1 .1 .1 .1 .0 in omega arith) (c .before .before .before .before .before .before .before .before .before .before .before .before .before .before .before .before .before .before .before .before .before .before .before .before .before .before .before .before .before .before .before .before .args .ring) refl (c .before .before .before .before .before .before .before .before .before .before .before .before .before .before .before .before .before .before .before .before .before .before .before .before .before .before .before .before .before .before .before .before .pre .1 .1 .1 .1 .1 (omega arith)) (c .before .before .before .before .before .before .before .before .before .before .before .before .before .before .before .before .before .enter .last .1 .1 .0) (c .before .before .connect .last .0) (c .before .before .connect .ensures .1),
-    )
+    let c8 = c .before .before .before .before .before .before .before .before in
+    let c16 = c8 .before .before .before .before .before .before .before .before in
+    let c24 = c16 .before .before .before .before .before .before .before .before in
+    let args = c24 .before .before .before .before .before .before .before .before .args in
+    let pre = c24 .before .before .before .before .before .before .before .before .pre in
+    let next-place = c24 .next-place in
+    let enter = c16 .before .enter in
+    let count = c .before .before .before .before .before .before .before .count in
+    let if1 = c .before .before .before .before .before .if1 in
+    let connect = c .before .before .connect in
+    let some = if1 .left in
+    ((λ cs ss ps fs. turn-more cs ss (args .listed .now) (args .beside .now) (args .f) (args .a) (args .n) (args .i)
+    (next-place .result) (getD (args .listed .now) (args .a + args .i) 0)
+    (getD (args .listed .now) (args .a + next-place .result) 0) (getD (args .beside .now) (args .a + args .i) nan)
+    (args .ring) (meshOf ps (args .points .now) (args .edges .now) (args .intervals .now) fs)
+    (meshOf ps (enter .last .0) (enter .last .1 .0) (enter .last .1 .1 .0) fs) (next-place .ensures .0) refl refl refl
+    (count .given .0 .0) (count .given .0 .1 .0) (connect .last .0) (rw (count .given .1) at (enter .ensures .0 ps fs))
+    (if1 .left) (connect .ensures .1)),
+    stands-more (args .np) (enter .last .0) (enter .last .1 .0) (enter .last .1 .1 .1 .0) (args .ring .edges)
+    (count .given .0 .0) (count .given .0 .1 .0) (args .a + args .i + 1) (rw (count .given .1) at (enter .ensures .1))
+    (made-counted (meshOf [] (args .points .now) (args .edges .now) (args .intervals .now) [])
+    (meshOf [] (enter .last .0) (enter .last .1 .0) (enter .last .1 .1 .0) []) (args .ring .edges) (args .f)
+    (getD (args .listed .now) (args .a + args .i) 0) (getD (args .listed .now) (args .a + next-place .result) 0)
+    (getD (args .beside .now) (args .a + args .i) nan) (count .given .0 .0) (count .given .0 .1 .0)
+    (rw (count .given .1) at (enter .ensures .0 [] []))) (let few = pre .1 .1 .1 .1 .0 in omega arith) (args .ring) refl
+    (pre .1 .1 .1 .1 .1 (omega arith)) (enter .last .1 .1 .0) (connect .last .0) (connect .ensures .1))
 
 returns-3 : tie.Need-returns-3
 returns-3 c =
-    let a = c .before .before .before .before .before .before .before .before .before .before .before .before .before .before .before .before .before .before .before .before .before .before .before .before .before .before .args in
-    let k = c .before .before .before .before .before .before .before .before .before .before .before .before .before .before .before .before .before .before .before .before .before .before .before .before .before .before .pre .1 .1 .1 .1 .0 in
-    let s = rw (c .before .g .given .1) at (c .before .before .before .before .before .before .before .before .before .before .before .enter .ensures .1) in (
-      (λ cs ss ps fs. turn-stopped cs ss (c .before .before .before .before .before .before .before .before .before .before .before .before .before .before .before .before .before .before .before .before .before .before .before .before .before .before .args .listed .now) (c .before .before .before .before .before .before .before .before .before .before .before .before .before .before .before .before .before .before .before .before .before .before .before .before .before .before .args .beside .now) (c .before .before .before .before .before .before .before .before .before .before .before .before .before .before .before .before .before .before .before .before .before .before .before .before .before .before .args .f) (c .before .before .before .before .before .before .before .before .before .before .before .before .before .before .before .before .before .before .before .before .before .before .before .before .before .before .args .a) (c .before .before .before .before .before .before .before .before .before .before .before .before .before .before .before .before .before .before .before .before .before .before .before .before .before .before .args .n) (c .before .before .before .before .before .before .before .before .before .before .before .before .before .before .before .before .before .before .before .before .before .before .before .before .before .before .args .i) (c .before .before .before .before .before .before .before .before .before .before .before .before .before .before .before .before .before .before .next-place .result) (getD (c .before .before .before .before .before .before .before .before .before .before .before .before .before .before .before .before .before .before .before .before .before .before .before .before .before .before .args .listed .now) (c .before .before .before .before .before .before .before .before .before .before .before .before .before .before .before .before .before .before .before .before .before .before .before .before .before .before .args .a + c .before .before .before .before .before .before .before .before .before .before .before .before .before .before .before .before .before .before .before .before .before .before .before .before .before .before .args .i) 0) (getD (c .before .before .before .before .before .before .before .before .before .before .before .before .before .before .before .before .before .before .before .before .before .before .before .before .before .before .args .listed .now) (c .before .before .before .before .before .before .before .before .before .before .before .before .before .before .before .before .before .before .before .before .before .before .before .before .before .before .args .a + c .before .before .before .before .before .before .before .before .before .before .before .before .before .before .before .before .before .before .next-place .result) 0) (getD (c .before .before .before .before .before .before .before .before .before .before .before .before .before .before .before .before .before .before .before .before .before .before .before .before .before .before .args .beside .now) (c .before .before .before .before .before .before .before .before .before .before .before .before .before .before .before .before .before .before .before .before .before .before .before .before .before .before .args .a + c .before .before .before .before .before .before .before .before .before .before .before .before .before .before .before .before .before .before .before .before .before .before .before .before .before .before .args .i) nan) (c .before .before .before .before .before .before .before .before .before .before .before .before .before .before .before .before .before .before .before .before .before .before .before .before .before .before .args .ring) (meshOf ps (c .before .before .before .before .before .before .before .before .before .before .before .before .before .before .before .before .before .before .before .before .before .before .before .before .before .before .args .points .now) (c .before .before .before .before .before .before .before .before .before .before .before .before .before .before .before .before .before .before .before .before .before .before .before .before .before .before .args .edges .now) (c .before .before .before .before .before .before .before .before .before .before .before .before .before .before .before .before .before .before .before .before .before .before .before .before .before .before .args .intervals .now) fs) (meshOf ps (c .before .before .before .before .before .before .before .before .before .before .before .enter .last .0) (c .before .before .before .before .before .before .before .before .before .before .before .enter .last .1 .0) (c .before .before .before .before .before .before .before .before .before .before .before .enter .last .1 .1 .0) fs) (c .before .before .before .before .before .before .before .before .before .before .before .before .before .before .before .before .before .before .next-place .ensures .0) refl refl refl (c .before .g .given .0 .0) (rw (c .before .g .given .1) at (c .before .before .before .before .before .before .before .before .before .before .before .enter .ensures .0 ps fs))),
-      (a .ring .edges, s, omega (arith, k)),
-    )
+    let c8 = c .before .before .before .before .before .before .before .before in
+    let c16 = c8 .before .before .before .before .before .before .before .before in
+    let c24 = c16 .before .before .before .before .before .before .before .before in
+    let a = c24 .before .before .args in
+    let next-place = c16 .before .before .next-place in
+    let enter = c8 .before .before .before .enter in
+    let k = c24 .before .before .pre .1 .1 .1 .1 .0 in
+    let s = rw (c .before .g .given .1) at (enter .ensures .1) in
+    ((λ cs ss ps fs. turn-stopped cs ss (a .listed .now) (a .beside .now) (a .f) (a .a) (a .n) (a .i)
+    (next-place .result) (getD (a .listed .now) (a .a + a .i) 0) (getD (a .listed .now) (a .a + next-place .result) 0)
+    (getD (a .beside .now) (a .a + a .i) nan) (a .ring)
+    (meshOf ps (a .points .now) (a .edges .now) (a .intervals .now) fs)
+    (meshOf ps (enter .last .0) (enter .last .1 .0) (enter .last .1 .1 .0) fs) (next-place .ensures .0) refl refl refl
+    (c .before .g .given .0 .0) (rw (c .before .g .given .1) at (enter .ensures .0 ps fs))),
+    (a .ring .edges, s, omega (arith, k)))
 
 pub turn-place-spec : {M : Type 1} → statement M
 turn-place-spec =

@@ -36,20 +36,24 @@ crosses-depth-requires c κs = (omega arith, c .before .before .before .before .
 returns : tie.Need-returns Inv-loop μ-loop
 returns c =
     let a = c .before .before .before .before .before .before .args in
-    sym (first-here (λ k. test (a .positions .now) (a .edges .now) (a .depth) k) (a .ne) (c .before .before .before .loop .e) (omega arith) (sym (c .before .crosses-depth .ensures) ∙ c .if1 .taken))
+    sym (first-here (λ k. test (a .positions .now) (a .edges .now) (a .depth) k) (a .ne)
+    (c .before .before .before .loop .e) (omega arith) (sym (c .before .crosses-depth .ensures) ∙ c .if1 .taken))
     ∙ c .before .before .before .loop .inv .1
 
 loop-again : tie.Need-loop-again Inv-loop μ-loop
 loop-again c =
-    let a = c .before .before .before .before .before .before .args in (
-      omega arith,
-      sym (first-later (λ k. test (a .positions .now) (a .edges .now) (a .depth) k) (a .ne) (c .before .before .before .loop .e) (omega arith) (sym (c .before .crosses-depth .ensures) ∙ c .if1 .left)) ∙ c .before .before .before .loop .inv .1,
-    )
+    let a = c .before .before .before .before .before .before .args in
+    (omega arith,
+    sym (first-later (λ k. test (a .positions .now) (a .edges .now) (a .depth) k) (a .ne)
+    (c .before .before .before .loop .e) (omega arith) (sym (c .before .crosses-depth .ensures) ∙ c .if1 .left))
+    ∙ c .before .before .before .loop .inv .1)
 
 returns-2 : tie.Need-returns-2 Inv-loop μ-loop
 returns-2 c =
     let a = c .before .before .before .before .args in
-    sym (first-none (λ k. test (a .positions .now) (a .edges .now) (a .depth) k) (a .ne) (c .before .loop .e) (omega arith)) ∙ c .before .loop .inv .1
+    sym
+    (first-none (λ k. test (a .positions .now) (a .edges .now) (a .depth) k) (a .ne) (c .before .loop .e) (omega arith))
+    ∙ c .before .loop .inv .1
 
 pub search-spec : {M : Type 1} → statement M
 search-spec =

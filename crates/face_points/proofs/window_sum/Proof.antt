@@ -31,9 +31,11 @@ terms-at-requires-2 c κs =
 loop-holds : tie.Need-loop-holds Inv-loop μ-loop
 loop-holds c =
     let a = c .before .before .before .before .before .before .before .before .args in
-    let border = c .before .before .before .before .before .before .before .before .pre .0 in
-    summed-start (a .positions .now) (a .edges .now) (a .intervals .now) (a .points .now) (a .border .now) (a .n)
-    _ _ _ (border .at-least-3) (rw (c .before .before .before .before .origin .ensures)) (c .before .before .terms-at .ensures) (c .terms-at2 .ensures)
+    let pre = c .before .before .before .before .before .before .before .before .pre in
+    let border = pre .0 in
+    summed-start (a .positions .now) (a .edges .now) (a .intervals .now) (a .points .now) (a .border .now) (a .n) _ _ _
+    (border .at-least-3) (rw (c .before .before .before .before .origin .ensures))
+    (c .before .before .terms-at .ensures) (c .terms-at2 .ensures)
 
 next-place-requires : tie.Need-next-place-requires Inv-loop μ-loop
 next-place-requires c κs = c .before .loop-test .taken
@@ -52,76 +54,100 @@ next-place-requires-2 c κs =
 
 add-terms-at-2 : tie.Need-add-terms-at-2 Inv-loop μ-loop
 add-terms-at-2 c =
-    let border = c .before .before .before .before .before .before .before .before .before .before .before .before .before .before .pre .0 in
+    let c8 = c .before .before .before .before .before .before .before .before in
+    let pre = c8 .before .before .before .before .before .before .pre in
+    let border = pre .0 in
     let turn = c .before .before .before .before .loop-test .taken in
     omega arith
 
 mul-terms-at-2 : tie.Need-mul-terms-at-2 Inv-loop μ-loop
 mul-terms-at-2 c =
-    let border = c .before .before .before .before .before .before .before .before .before .before .before .before .before .before .pre .0 in
+    let c8 = c .before .before .before .before .before .before .before .before in
+    let pre = c8 .before .before .before .before .before .before .pre in
+    let border = pre .0 in
     let turn = c .before .before .before .before .loop-test .taken in
     omega arith
 
 element-copy-out-terms-at-4 : tie.Need-element-copy-out-terms-at-4 Inv-loop μ-loop
 element-copy-out-terms-at-4 c =
-    let border = c .before .before .before .before .before .before .before .before .before .before .before .before .before .before .pre .0 in
+    let c8 = c .before .before .before .before .before .before .before .before in
+    let pre = c8 .before .before .before .before .before .before .pre in
+    let border = pre .0 in
     let turn = c .before .before .before .before .loop-test .taken in
     omega arith
 
 terms-at-requires-4 : tie.Need-terms-at-requires-4 Inv-loop μ-loop
 terms-at-requires-4 c κs =
-    let border = c .before .before .before .before .before .before .before .before .before .before .before .before .before .before .before .pre .0 in
-    (omega (arith, c .before .next-place2 .ensures .1), border-fits _ _ _ _ _ border (c .before .next-place2 .ensures .1))
+    let c8 = c .before .before .before .before .before .before .before .before in
+    let pre = c8 .before .before .before .before .before .before .before .pre in
+    let border = pre .0 in
+    (omega (arith, c .before .next-place2 .ensures .1),
+    border-fits _ _ _ _ _ border (c .before .next-place2 .ensures .1))
 
 add-index : tie.Need-add-index Inv-loop μ-loop
 add-index c =
-    let border = c .before .before .before .before .before .before .before .before .before .before .before .before .before .before .before .before .before .before .pre .0 in
-    let turn = c .before .before .before .before .before .before .before .before .loop-test .taken in
+    let c8 = c .before .before .before .before .before .before .before .before in
+    let c16 = c8 .before .before .before .before .before .before .before .before in
+    let border = c16 .before .before .pre .0 in
+    let turn = c8 .loop-test .taken in
     omega arith
 
 mul-index : tie.Need-mul-index Inv-loop μ-loop
 mul-index c =
-    let border = c .before .before .before .before .before .before .before .before .before .before .before .before .before .before .before .before .before .before .pre .0 in
-    let turn = c .before .before .before .before .before .before .before .before .loop-test .taken in
+    let c8 = c .before .before .before .before .before .before .before .before in
+    let c16 = c8 .before .before .before .before .before .before .before .before in
+    let border = c16 .before .before .pre .0 in
+    let turn = c8 .loop-test .taken in
     omega arith
 
 element-copy-out-index : tie.Need-element-copy-out-index Inv-loop μ-loop
 element-copy-out-index c =
-    let border = c .before .before .before .before .before .before .before .before .before .before .before .before .before .before .before .before .before .before .pre .0 in
-    let turn = c .before .before .before .before .before .before .before .before .loop-test .taken in
+    let c8 = c .before .before .before .before .before .before .before .before in
+    let c16 = c8 .before .before .before .before .before .before .before .before in
+    let border = c16 .before .before .pre .0 in
+    let turn = c8 .loop-test .taken in
     omega arith
 
 load-position-requires : tie.Need-load-position-requires Inv-loop μ-loop
 load-position-requires c κs =
-    let turn = c .before .before .before .before .before .before .before .before .before .before .loop-test .taken in
-    let points = c .before .before .before .before .before .before .before .before .before .before .before .before .before .before .before .before .before .before .before .before .pre .1 in
+    let c8 = c .before .before .before .before .before .before .before .before in
+    let c16 = c8 .before .before .before .before .before .before .before .before in
+    let pre = c16 .before .before .before .before .pre in
+    let turn = c8 .before .before .loop-test .taken in
+    let points = pre .1 in
     rw (c .index .ensures) (points .points-there _ (omega arith))
 
 add-i : tie.Need-add-i Inv-loop μ-loop
 add-i c =
-    let border = c .before .before .before .before .before .before .before .before .before .before .before .before .before .before .before .before .before .before .before .before .before .before .pre .0 in
-    let turn = c .before .before .before .before .before .before .before .before .before .before .before .before .loop-test .taken in
+    let c8 = c .before .before .before .before .before .before .before .before in
+    let c16 = c8 .before .before .before .before .before .before .before .before in
+    let pre = c16 .before .before .before .before .before .before .pre in
+    let loop-test = c8 .before .before .before .before .loop-test in
+    let border = pre .0 in
+    let turn = loop-test .taken in
     omega arith
 
 loop-again : tie.Need-loop-again Inv-loop μ-loop
 loop-again c =
-    let a = c .before .before .before .before .before .before .before .before .before .before .before .before .before .before .before .before .before .before .before .before .before .before .args in
-    let turn = c .before .before .before .before .before .before .before .before .before .before .before .before .loop-test .taken in
-    summed-more (a .positions .now) (a .edges .now) (a .intervals .now) (a .points .now) (a .border .now) (a .n)
-    _ _ _ _ _ (c .before .before .before .before .before .before .before .before .before .before .before .before .before .loop .inv) turn
-    _ _ (c .before .before .before .before .before .before .before .before .before .before .next-place .ensures .0)
-    (c .before .before .before .before .before .before .before .before .next-place2 .ensures .0)
-    _ _ (c .before .before .before .before .before .before .before .before .before .terms-at3 .ensures)
-    (c .before .before .before .before .before .before .terms-at4 .ensures)
-    _ _ (c .before .before .before .before .before .six-terms .ensures) (c .before .before .before .before .six-terms2 .ensures)
-    _ _ (c .before .before .index .ensures) (c .before .load-position .ensures) _ (c .with-term .ensures)
+    let c8 = c .before .before .before .before .before .before .before .before in
+    let c16 = c8 .before .before .before .before .before .before .before .before in
+    let a = c16 .before .before .before .before .before .before .args in
+    let loop = c8 .before .before .before .before .before .loop in
+    let loop-test = c8 .before .before .before .before .loop-test in
+    let turn = loop-test .taken in
+    summed-more (a .positions .now) (a .edges .now) (a .intervals .now) (a .points .now) (a .border .now) (a .n) _ _ _ _
+    _ (loop .inv) turn _ _ (c8 .before .before .next-place .ensures .0) (c8 .next-place2 .ensures .0) _ _
+    (c8 .before .terms-at3 .ensures) (c .before .before .before .before .before .before .terms-at4 .ensures) _ _
+    (c .before .before .before .before .before .six-terms .ensures)
+    (c .before .before .before .before .six-terms2 .ensures) _ _ (c .before .before .index .ensures)
+    (c .before .load-position .ensures) _ (c .with-term .ensures)
 
 returns : tie.Need-returns Inv-loop μ-loop
 returns c =
     let a = c .before .before .before .before .before .before .before .before .before .before .args in
     c .before .loop .inv .sum-is
-    ∙ ap
-    (λ (k : ℕ). windowSum (a .positions .now) (a .edges .now) (a .intervals .now) (λ j. getD (a .points .now) j 0) (λ j. getD (a .border .now) (around (a .n) j) 0) k)
+    ∙ ap (λ (k : ℕ). windowSum (a .positions .now) (a .edges .now) (a .intervals .now) (λ j. getD (a .points .now) j 0)
+    (λ j. getD (a .border .now) (around (a .n) j) 0) k)
     (omega (arith, c .before .loop .inv .within, c .loop-test .left))
 
 pub window-sum-spec : {M : Type 1} → statement M

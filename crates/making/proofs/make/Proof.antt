@@ -16,7 +16,7 @@ refined-rows-requires c κs =
     let a = c8 .before .before .before .before .before .before .before .args in
     let pre = c8 .before .before .before .before .before .before .before .pre in
     let m : Mesh = meshOf (a .positions .now) (a .points .now) (a .edges .now) (a .intervals .now) (a .faces .now) in
-    let t : Mesh = meshOf (a .places .now) (a .rows .now) (a .halves .now) (a .lengths .now) (a .quads .now) in (
+    let t : Mesh = meshOf (a .newpositions .now) (a .newpoints .now) (a .newedges .now) (a .newintervals .now) (a .newfaces .now) in (
       old-rows-hold m (a .counts) (a .order .now) t (pre),
       (new-rows-hold m (a .counts) (a .order .now) t (pre), visits-fit m (a .counts) (a .order .now) t (pre)),
     )
@@ -30,20 +30,20 @@ place-all-requires c κs =
     let pre = c24 .before .before .before .pre in
     let v = c8 .before .before .before .refined-rows in
     let m : Mesh = meshOf (a .positions .now) (a .points .now) (a .edges .now) (a .intervals .now) (a .faces .now) in
-    let t : Mesh = meshOf (a .places .now) (a .rows .now) (a .halves .now) (a .lengths .now) (a .quads .now) in
+    let t : Mesh = meshOf (a .newpositions .now) (a .newpoints .now) (a .newedges .now) (a .newintervals .now) (a .newfaces .now) in
     let s : State = tablesOf (v .last .1 .1 .1 .1 .0) (v .last .1 .1 .1 .1 .1 .0) (v .last .1 .1 .1 .1 .1 .1 .0)
     (v .last .1 .1 .1 .1 .1 .1 .1 .0) (v .result) in
-    let same = v .ensures (a .positions .now) (a .places .now) in
+    let same = v .ensures (a .positions .now) (a .newpositions .now) in
     let held = new-rows-hold m (a .counts) (a .order .now) t (pre) in
     let edges-there : a .counts .edges * 8 ≤ length (s .edges) = rw (v .kept .1 .1 .1 .1 .1 .0) (held .edges) in
     let faces-there : a .counts .faces * 5 ≤ length (s .faces) = rw (v .kept .1 .1 .1 .1 .1 .1 .1 .0) (held .faces) in
     let room = pre .points-room in
-    let places-there : (a .counts .points + a .counts .edges + a .counts .faces) * 3 ≤ length (a .places .now) = omega
+    let places-there : (a .counts .points + a .counts .edges + a .counts .faces) * 3 ≤ length (a .newpositions .now) = omega
     (arith, room) in (
-      faces-fit m (a .counts) (a .order .now) t (pre) s same edges-there faces-there (a .places .now) places-there,
+      faces-fit m (a .counts) (a .order .now) t (pre) s same edges-there faces-there (a .newpositions .now) places-there,
       (
-        edges-fit m (a .counts) (a .order .now) t (pre) s same edges-there faces-there (a .places .now) places-there,
-        points-fit m (a .counts) (a .order .now) t (pre) s same edges-there faces-there (a .places .now) places-there,
+        edges-fit m (a .counts) (a .order .now) t (pre) s same edges-there faces-there (a .newpositions .now) places-there,
+        points-fit m (a .counts) (a .order .now) t (pre) s same edges-there faces-there (a .newpositions .now) places-there,
       ),
     )
 
@@ -56,11 +56,11 @@ returns c =
     let v = c8 .before .before .before .before .before .before .refined-rows in
     let place-all = c .before .before .place-all in
     let m : Mesh = meshOf (a .positions .now) (a .points .now) (a .edges .now) (a .intervals .now) (a .faces .now) in
-    let t : Mesh = meshOf (a .places .now) (a .rows .now) (a .halves .now) (a .lengths .now) (a .quads .now) in
+    let t : Mesh = meshOf (a .newpositions .now) (a .newpoints .now) (a .newedges .now) (a .newintervals .now) (a .newfaces .now) in
     let s : State = tablesOf (v .last .1 .1 .1 .1 .0) (v .last .1 .1 .1 .1 .1 .0) (v .last .1 .1 .1 .1 .1 .1 .0)
     (v .last .1 .1 .1 .1 .1 .1 .1 .0) (v .result) in
     made-of-parts m (a .counts) (a .order .now) t s (place-all .result) (place-all .last .1 .1 .1 .1 .1 .1 .1 .1 .0)
-    (v .ensures (a .positions .now) (a .places .now)) (place-all .ensures)
+    (v .ensures (a .positions .now) (a .newpositions .now)) (place-all .ensures)
 
 pub make-spec : {M : Type 1} → statement M
 make-spec =

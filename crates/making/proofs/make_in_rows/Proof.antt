@@ -20,26 +20,26 @@ slice-aggregate-make c =
     let c8 = c .before .before .before .before .before .before .before .before in
     let args = c8 .before .before .before .before .before .before .before .args in
     let pre = c8 .before .before .before .before .before .before .before .pre in
-    sym (length-take-le _ (args .places .now) (pre .0 .positions))
+    sym (length-take-le _ (args .newpositions .now) (pre .0 .positions))
 
 slice-aggregate-make-2 : tie.Need-slice-aggregate-make-2
 slice-aggregate-make-2 c =
     let c8 = c .before .before .before .before .before .before .before .before in
     let args = c8 .before .before .before .before .before .before .before .before .args in
     let pre = c8 .before .before .before .before .before .before .before .before .pre in
-    sym (length-take-le _ (args .rows .now) (pre .0 .points))
+    sym (length-take-le _ (args .newpoints .now) (pre .0 .points))
 
 slice-aggregate-make-3 : tie.Need-slice-aggregate-make-3
 slice-aggregate-make-3 c =
     let c8 = c .before .before .before .before .before .before .before .before in
     let c16 = c8 .before .before .before .before .before .before .before .before in
-    sym (length-take-le _ (c16 .before .args .halves .now) (c16 .before .pre .0 .edges))
+    sym (length-take-le _ (c16 .before .args .newedges .now) (c16 .before .pre .0 .edges))
 
 slice-aggregate-make-4 : tie.Need-slice-aggregate-make-4
 slice-aggregate-make-4 c =
     let c8 = c .before .before .before .before .before .before .before .before in
     let c16 = c8 .before .before .before .before .before .before .before .before in
-    sym (length-take-le _ (c16 .before .before .args .lengths .now) (c16 .before .before .pre .0 .intervals))
+    sym (length-take-le _ (c16 .before .before .args .newintervals .now) (c16 .before .before .pre .0 .intervals))
 
 slice-aggregate-make-5 : tie.Need-slice-aggregate-make-5
 slice-aggregate-make-5 c =
@@ -47,7 +47,7 @@ slice-aggregate-make-5 c =
     let c16 = c8 .before .before .before .before .before .before .before .before in
     let args = c16 .before .before .before .args in
     let pre = c16 .before .before .before .pre in
-    sym (length-take-le _ (args .quads .now) (pre .0 .faces))
+    sym (length-take-le _ (args .newfaces .now) (pre .0 .faces))
 
 make-requires : tie.Need-make-requires
 unfolding firstRows
@@ -75,12 +75,12 @@ returns c =
     let pre = c24 .before .before .before .before .before .before .pre in
     let v = c8 .before .before .make in
     let h = pre .0 in
-    let t : Mesh = meshOf (a .places .now) (a .rows .now) (a .halves .now) (a .lengths .now) (a .quads .now) in
-    let lp = v .kept .1 .1 .1 .1 .1 .1 .1 .0 ∙ length-take-le _ (a .places .now) (h .positions) in
-    let lw = v .kept .1 .1 .1 .1 .1 .1 .1 .1 .0 ∙ length-take-le _ (a .rows .now) (h .points) in
-    let le = v .kept .1 .1 .1 .1 .1 .1 .1 .1 .1 .0 ∙ length-take-le _ (a .halves .now) (h .edges) in
-    let li = v .kept .1 .1 .1 .1 .1 .1 .1 .1 .1 .1 .0 ∙ length-take-le _ (a .lengths .now) (h .intervals) in
-    let lf = v .kept .1 .1 .1 .1 .1 .1 .1 .1 .1 .1 .1 .0 ∙ length-take-le _ (a .quads .now) (h .faces) in (
+    let t : Mesh = meshOf (a .newpositions .now) (a .newpoints .now) (a .newedges .now) (a .newintervals .now) (a .newfaces .now) in
+    let lp = v .kept .1 .1 .1 .1 .1 .1 .1 .0 ∙ length-take-le _ (a .newpositions .now) (h .positions) in
+    let lw = v .kept .1 .1 .1 .1 .1 .1 .1 .1 .0 ∙ length-take-le _ (a .newpoints .now) (h .points) in
+    let le = v .kept .1 .1 .1 .1 .1 .1 .1 .1 .1 .0 ∙ length-take-le _ (a .newedges .now) (h .edges) in
+    let li = v .kept .1 .1 .1 .1 .1 .1 .1 .1 .1 .1 .0 ∙ length-take-le _ (a .newintervals .now) (h .intervals) in
+    let lf = v .kept .1 .1 .1 .1 .1 .1 .1 .1 .1 .1 .1 .0 ∙ length-take-le _ (a .newfaces .now) (h .faces) in (
       v .ensures
           ∙ ap (madeAs (v .result)) (sym (first-rows-back (a .c) t (v .last .1 .1 .1 .1 .1 .1 .1 .0)
           (v .last .1 .1 .1 .1 .1 .1 .1 .1 .0) (v .last .1 .1 .1 .1 .1 .1 .1 .1 .1 .0)

@@ -1,7 +1,7 @@
--- `coordinate` meets its contract.
+-- `coordinateForm` meets its contract.
 use mathlib.Core.Path.{sym, _∙_, refl}
 use borrow.Author.Tests.{not-true, not-false}
-use Rattle.mesh_lines.specs.Grammar.{coordinate}
+use Rattle.mesh_lines.specs.Grammar.{coordinateForm}
 use Rattle.text_numbers.specs.Form.{bytes}
 use Rattle.text_numbers.proofs.Laws.{stands-inside}
 use Rattle.text_numbers.proofs.Turns.{literal-found, literal-none}
@@ -10,7 +10,7 @@ use Rattle.mesh_lines.proofs.coordinate.Statement.{statement}
 use Rattle.mesh_lines.proofs.coordinate.Tie as tie
 
 returns : tie.Need-returns
-unfolding coordinate
+unfolding coordinateForm
 returns c = rw (literal-none _ _ _ (sym (c .before .stands .ensures) ∙ not-true _ (c .if1 .taken)))
 
 bits-requires : tie.Need-bits-requires
@@ -20,7 +20,7 @@ bits-requires c κs =
     (sym (c .before .stands .ensures) ∙ not-false _ (c .if1 .left))
 
 returns-2 : tie.Need-returns-2
-unfolding coordinate
+unfolding coordinateForm
 returns-2 c =
     rw (literal-found _ _ _ (sym (c .before .before .stands .ensures) ∙ not-false _ (c .before .if1 .left)))
     (c .bits .ensures)

@@ -13,12 +13,12 @@ use Rattle.old_points.proofs.radial_sum.Statement.{statement}
 use Rattle.old_points.proofs.radial_sum.Tie as tie
 
 abbrev Inv-loop : tie.InvT-loop
-Inv-loop edges intervals places halves quads p start n s₀ r₀ i₀ s r i = (i ≤ n) × RadialFits edges intervals r places
-    halves quads × (r ≡ radialEdge edges p start i) ×
-    (s ≡ radialSum edges intervals (edgePointAt places halves) (facePointAt places quads) p start i)
+Inv-loop edges intervals newpositions newedges newfaces p start n s₀ r₀ i₀ s r i = (i ≤ n) × RadialFits edges intervals r newpositions
+    newedges newfaces × (r ≡ radialEdge edges p start i) ×
+    (s ≡ radialSum edges intervals (edgePointAt newpositions newedges) (facePointAt newpositions newfaces) p start i)
 
 abbrev μ-loop : tie.MeasureT-loop
-μ-loop edges intervals places halves quads p start n s₀ r₀ i₀ s r i = n - i
+μ-loop edges intervals newpositions newedges newfaces p start n s₀ r₀ i₀ s r i = n - i
 
 loop-holds : tie.Need-loop-holds Inv-loop μ-loop
 loop-holds c = (
@@ -49,7 +49,7 @@ returns c =
     let args = c .before .before .before .before .before .before .before .before .args in
     c .before .loop .inv .3
     ∙ ap (λ (k : ℕ). radialSum (args .edges .now) (args .intervals .now)
-    (edgePointAt (args .places .now) (args .halves .now)) (facePointAt (args .places .now) (args .quads .now)) (args .p)
+    (edgePointAt (args .newpositions .now) (args .newedges .now)) (facePointAt (args .newpositions .now) (args .newfaces .now)) (args .p)
     (args .start) k) (omega arith)
 
 pub radial-sum-spec : {M : Type 1} → statement M

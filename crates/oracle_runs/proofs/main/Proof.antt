@@ -7,7 +7,9 @@ use Rattle.oracle_runs.proofs.main.Statement.{statement}
 use Rattle.oracle_runs.proofs.main.Tie as tie
 
 tell-all-requires : tie.Need-tell-all-requires
-tell-all-requires c κs = let l : length (c .before .before .read-full .last .1 .0) ≡ 458752 = search needs in omega (arith, length-take (c .before .before .read-full .result) (c .before .before .read-full .last .1 .0), l)
+tell-all-requires c κs =
+    let l : length (c .before .before .read-full .last .1 .0) ≡ 458752 = search needs in
+    omega (arith, length-take (c .before .before .read-full .result) (c .before .before .read-full .last .1 .0), l)
 
 pub main-spec : {M : Type 1} → statement M
 main-spec =

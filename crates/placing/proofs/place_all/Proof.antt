@@ -1,6 +1,6 @@
 -- place_all meets its contract: the three loops one after the other are the definition's.
 use Rattle.placing.proofs.Laws.{faces-placed, stopped-at-faces, stopped-at-edges, all-placed, edges-fit-length, points-fit-length}
-use Rattle.placing.specs.Placing.{came, rowsOf}
+use Rattle.placing.specs.Placing.{came, refinedTables}
 use Rattle.steps.specs.Positions.{Placing}
 use Rattle.tables.specs.Mesh.{Mesh}
 use lib.Ieee.{Float}
@@ -38,9 +38,9 @@ returns c =
       intervals = a .intervals .now;
       faces = a .faces .now;
     } in
-    let s = rowsOf (a .halves .now) (a .quads .now) in
+    let s = refinedTables (a .newedges .now) (a .newfaces .now) in
     let one = place-face-points .last .1 .1 .1 .1 .1 .1 .1 .0 in
-    stopped-at-faces m (a .counts) s (a .places .now)
+    stopped-at-faces m (a .counts) s (a .newpositions .now)
     (faces-placed m (a .counts) s _
     (place-face-points .ensures ∙ ap (λ (b : Bool). came b one) (not-true (place-face-points .result) (c .if1 .taken))))
 
@@ -70,10 +70,10 @@ returns-2 c =
       intervals = a .intervals .now;
       faces = a .faces .now;
     } in
-    let s = rowsOf (a .halves .now) (a .quads .now) in
+    let s = refinedTables (a .newedges .now) (a .newfaces .now) in
     let one = place-face-points .last .1 .1 .1 .1 .1 .1 .1 .0 in
     let two = place-edge-points .last .1 .1 .1 .1 .1 .1 .0 in
-    stopped-at-edges m (a .counts) s (a .places .now) one
+    stopped-at-edges m (a .counts) s (a .newpositions .now) one
     (faces-placed m (a .counts) s _ (place-face-points .ensures
     ∙ ap (λ (b : Bool). came b one)
     (not-false (place-face-points .result) (c .before .before .before .before .before .if1 .left))))
@@ -107,10 +107,10 @@ returns-3 c =
       intervals = a .intervals .now;
       faces = a .faces .now;
     } in
-    let s = rowsOf (a .halves .now) (a .quads .now) in
+    let s = refinedTables (a .newedges .now) (a .newfaces .now) in
     let one = place-face-points .last .1 .1 .1 .1 .1 .1 .1 .0 in
     let two = place-edge-points .last .1 .1 .1 .1 .1 .1 .0 in
-    all-placed m (a .counts) s (a .places .now) one two _
+    all-placed m (a .counts) s (a .newpositions .now) one two _
     (faces-placed m (a .counts) s _ (place-face-points .ensures
     ∙ ap (λ (b : Bool). came b one) (not-false (place-face-points .result) (c8 .before .if1 .left))))
     (place-edge-points .ensures

@@ -6,25 +6,25 @@ use native.Mathlib.Omega.{arith}
 use borrow.Author.Needs.{needs}
 use lib.Ieee.{Float}
 use lib.ListN.{length, getD}
-use Rattle.position_rules.specs.FacePoint.{facePointOf}
+use Rattle.position_rules.specs.FacePoint.{facePointIn}
 use Rattle.tables.specs.Parts.{withoutPoints}
 use Rattle.placing.proofs.Laws.{placed-more, placed-ends}
-use Rattle.steps.specs.Positions.{on, placed}
+use Rattle.steps.specs.Positions.{so-far, placedBy}
 use Rattle.tables.proofs.Laws.{length-putRow}
 use Rattle.positions.specs.declared.Position.{Position}
 use Rattle.placing.proofs.place_face_points.Statement.{statement}
 use Rattle.placing.proofs.place_face_points.Tie as tie
 
 abbrev Inv-loop : tie.InvT-loop
-Inv-loop positions edges intervals faces ne nf quads places₀ f₀ places f =
-    (f ≤ nf) × (length places ≡ length places₀)
-    × (placed f (λ k. getD quads (k * 5 + 1) 0) (λ k ps. facePointOf (withoutPoints positions edges intervals faces) ne k) (on places₀) ≡ on places)
+Inv-loop positions edges intervals faces ne nf newfaces places₀ f₀ newpositions f =
+    (f ≤ nf) × (length newpositions ≡ length places₀)
+    × (placedBy f (λ k. getD newfaces (k * 5 + 1) 0) (λ k ps. facePointIn (withoutPoints positions edges intervals faces) ne k) (so-far places₀) ≡ so-far newpositions)
 
 abbrev μ-loop : tie.MeasureT-loop
-μ-loop positions edges intervals faces ne nf quads places₀ f₀ places f = nf - f
+μ-loop positions edges intervals faces ne nf newfaces places₀ f₀ newpositions f = nf - f
 
 loop-holds : tie.Need-loop-holds Inv-loop μ-loop
-loop-holds c = (omega arith, refl, unfold placed in refl)
+loop-holds c = (omega arith, refl, unfold placedBy in refl)
 
 face-point-requires : tie.Need-face-point-requires Inv-loop μ-loop
 face-point-requires c κs =
@@ -35,10 +35,10 @@ returns : tie.Need-returns Inv-loop μ-loop
 returns c =
     let a = c .before .before .before .before .before .before .before .before .before .before .before .args in
     let loop = c .before .before .before .before .loop in
-    let row : ℕ → ℕ = λ k. getD (a .quads .now) (k * 5 + 1) 0 in
-    let rule : ℕ → List Float → Position = λ k ps. facePointOf (withoutPoints (a .positions .now) (a .edges .now) (a .intervals .now) (a .faces .now)) (a .ne) k in
-    let start = on (a .places .now) in
-    placed-ends row rule start (a .nf) (loop .f) (loop .places) (omega arith) (loop .inv .2)
+    let row : ℕ → ℕ = λ k. getD (a .newfaces .now) (k * 5 + 1) 0 in
+    let rule : ℕ → List Float → Position = λ k ps. facePointIn (withoutPoints (a .positions .now) (a .edges .now) (a .intervals .now) (a .faces .now)) (a .ne) k in
+    let start = so-far (a .newpositions .now) in
+    placed-ends row rule start (a .nf) (loop .f) (loop .newpositions) (omega arith) (loop .inv .2)
     (sym (c .before .before .face-point .ensures) ∙ c .enum-told .given .1)
 
 mul-index : tie.Need-mul-index Inv-loop μ-loop
@@ -77,10 +77,10 @@ loop-again c =
     let c16 = c8 .before .before .before .before .before .before .before .before in
     let a = c16 .before .before .args in
     let loop = c8 .before .before .before .loop in
-    let row : ℕ → ℕ = λ k. getD (a .quads .now) (k * 5 + 1) 0 in
-    let rule : ℕ → List Float → Position = λ k ps. facePointOf (withoutPoints (a .positions .now) (a .edges .now) (a .intervals .now) (a .faces .now)) (a .ne) k in
-    let start = on (a .places .now) in
-    let put = placed-more row rule start (loop .f) (loop .places) (loop .inv .2)
+    let row : ℕ → ℕ = λ k. getD (a .newfaces .now) (k * 5 + 1) 0 in
+    let rule : ℕ → List Float → Position = λ k ps. facePointIn (withoutPoints (a .positions .now) (a .edges .now) (a .intervals .now) (a .faces .now)) (a .ne) k in
+    let start = so-far (a .newpositions .now) in
+    let put = placed-more row rule start (loop .f) (loop .newpositions) (loop .inv .2)
     (sym (c8 .before .face-point .ensures) ∙ c .before .before .before .before .before .before .before .x .given .1) in (
       omega arith,
       rw (c .before .before .store-position .ensures, length-putRow) (loop .inv .1),
@@ -90,11 +90,11 @@ loop-again c =
 returns-2 : tie.Need-returns-2 Inv-loop μ-loop
 returns-2 c =
     let a = c .before .before .before .before .before .before .before .before .args in
-    let row : ℕ → ℕ = λ k. getD (a .quads .now) (k * 5 + 1) 0 in
-    let rule : ℕ → List Float → Position = λ k ps. facePointOf (withoutPoints (a .positions .now) (a .edges .now) (a .intervals .now) (a .faces .now)) (a .ne) k in
-    let start = on (a .places .now) in
+    let row : ℕ → ℕ = λ k. getD (a .newfaces .now) (k * 5 + 1) 0 in
+    let rule : ℕ → List Float → Position = λ k ps. facePointIn (withoutPoints (a .positions .now) (a .edges .now) (a .intervals .now) (a .faces .now)) (a .ne) k in
+    let start = so-far (a .newpositions .now) in
     let all : a .nf ≡ c .before .loop .f = omega arith in
-    ap (λ (k : ℕ). placed k row rule start) all ∙ c .before .loop .inv .2
+    ap (λ (k : ℕ). placedBy k row rule start) all ∙ c .before .loop .inv .2
 
 pub place-face-points-spec : {M : Type 1} → statement M
 place-face-points-spec =

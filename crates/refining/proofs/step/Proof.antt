@@ -27,7 +27,7 @@ returns c =
     let a = c16 .before .before .before .before .before .before .before .args in
     let slice-known4 = c16 .before .before .before .slice-known4 in
     let m : Mesh = meshOf (a .positions .now) (a .points .now) (a .edges .now) (a .intervals .now) (a .faces .now) in
-    let t : Mesh = meshOf (a .places .now) (a .rows .now) (a .halves .now) (a .lengths .now) (a .quads .now) in (
+    let t : Mesh = meshOf (a .newpositions .now) (a .newpoints .now) (a .newedges .now) (a .newintervals .now) (a .newfaces .now) in (
       refused m (a .counts) (a .order .now) t (c .before .first-ground .result) (c .before .first-ground .ensures)
           (λ c' e. not-one (subst (λ (x : Stepped). OneOf (1 ∷ 2 ∷ 3 ∷ 4 ∷ []) (tagOf the-type x)) e (c .match .keys2))),
       λ e l. slice-known4 .given e,
@@ -43,7 +43,7 @@ finish-requires c κs =
     let first-ground = c8 .before .before .before .before .before .first-ground in
     let ground = c8 .before .before .before .ground in
     let m : Mesh = meshOf (a .positions .now) (a .points .now) (a .edges .now) (a .intervals .now) (a .faces .now) in
-    let t : Mesh = meshOf (a .places .now) (a .rows .now) (a .halves .now) (a .lengths .now) (a .quads .now) in
+    let t : Mesh = meshOf (a .newpositions .now) (a .newpoints .now) (a .newedges .now) (a .newintervals .now) (a .newfaces .now) in
     passed m (a .counts) (a .order .now) t _ (sym (ground .given .1) ∙ first-ground .ensures)
 
 returns-2 : tie.Need-returns-2

@@ -12,7 +12,7 @@ returns c =
     let a = c8 .before .before .before .before .before .before .args in
     λ ms ps fs ds is k. c .before .before .put-side .ensures ps fs is k
     ∙ second-put (a .rows) (a .i) (a .perimeter .now) (a .firsts .now) (a .seconds .now) ms ds
-    (tablesOf ps (a .edges .now) is fs k) (a .oldedges .now) _ (c8 .before .before .index .ensures) _ _ _
+    (tablesOf ps (a .newedges .now) is fs k) (a .edges .now) _ (c8 .before .before .index .ensures) _ _ _
     (c8 .before .on-left .ensures) (c8 .next-place .ensures .0)
     (c .before .before .before .before .before .before .before .face-row .ensures)
 

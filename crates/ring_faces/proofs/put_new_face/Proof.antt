@@ -17,7 +17,7 @@ returns c =
     let prev-place = c8 .before .before .before .before .prev-place in
     λ gs ps es ds is k. ap (λ (fs : List ℕ). tablesOf ps es is fs k) (c .before .before .store-face .ensures)
     ∙ face-put (a .rows) (a .i) (a .perimeter .now) (a .firsts .now) gs (a .mids .now) ds
-    (tablesOf ps es is (a .faces .now) k) (a .oldedges .now) _ (c8 .before .before .index .ensures) _ _ _
+    (tablesOf ps es is (a .newfaces .now) k) (a .edges .now) _ (c8 .before .before .index .ensures) _ _ _
     (prev-place .ensures .0) (c8 .before .first-point .ensures) (c8 .face-row .ensures)
 
 pub put-new-face-spec : {M : Type 1} → statement M

@@ -33,8 +33,8 @@ loop-holds c =
       search needs,
       refl,
       refl,
-      λ gs ps es ds is k. turns-none (putNewFace (faceTables (a .oldedges .now) [])
-          (ring (a .rows) (a .perimeter .now) (a .firsts .now) gs (a .mids .now) ds)) (tablesOf ps es is (a .faces .now) k),
+      λ gs ps es ds is k. turns-none (putNewFace (faceTables (a .edges .now) [])
+          (ring (a .rows) (a .perimeter .now) (a .firsts .now) gs (a .mids .now) ds)) (tablesOf ps es is (a .newfaces .now) k),
     )
 
 put-new-face-requires : tie.Need-put-new-face-requires Inv-loop μ-loop
@@ -49,7 +49,7 @@ put-new-face-requires c κs =
         omega arith,
         (
           p .1 .0 (t .i) (omega arith),
-          faces-fit (c .before .before .before .before .before .args .rows) (t .i) (t .faces) (omega arith)
+          faces-fit (c .before .before .before .before .before .args .rows) (t .i) (t .newfaces) (omega arith)
               (omega (arith, p .1 .1 .0)) (omega (arith, p .1 .1 .1)),
         ),
       ),
@@ -64,9 +64,9 @@ loop-again c =
       t .inv .1,
       put-new-face .kept .1 .0 ∙ t .inv .2,
       λ gs ps es ds is k. put-new-face .ensures gs ps es ds is k
-          ∙ turns-turn (putNewFace (faceTables (a .oldedges .now) [])
+          ∙ turns-turn (putNewFace (faceTables (a .edges .now) [])
           (ring (a .rows) (a .perimeter .now) (a .firsts .now) gs (a .mids .now) ds)) (t .i) (tablesOf ps es is _ k)
-          (tablesOf ps es is (a .faces .now) k) (t .inv .3 gs ps es ds is k),
+          (tablesOf ps es is (a .newfaces .now) k) (t .inv .3 gs ps es ds is k),
     )
 
 same-length : tie.Need-same-length Inv-loop μ-loop
@@ -77,9 +77,9 @@ returns c =
     let a = c .before .before .before .before .args in
     let t = c .before .loop in
     λ gs ps es ds is k. t .inv .3 gs ps es ds is k
-    ∙ turns-end (putNewFace (faceTables (a .oldedges .now) [])
+    ∙ turns-end (putNewFace (faceTables (a .edges .now) [])
     (ring (a .rows) (a .perimeter .now) (a .firsts .now) gs (a .mids .now) ds)) (t .i) (a .rows .size)
-    (tablesOf ps es is (a .faces .now) k)
+    (tablesOf ps es is (a .newfaces .now) k)
     (let l = c .loop-test .left in let q = t .inv .1 in let w = t .inv .0 in omega arith)
 
 pub put-new-faces-spec : {M : Type 1} → statement M

@@ -15,7 +15,7 @@ abbrev μ-loop : tie.MeasureT-loop
 loop-holds : tie.Need-loop-holds Inv-loop μ-loop
 loop-holds c =
     let a = c .before .before .args in
-    filled-start (a .oldedges .now) (a .edges .now) (a .perimeter .now) (a .f) (a .n) (a .firsts .now) (a .seconds .now)
+    filled-start (a .edges .now) (a .newedges .now) (a .perimeter .now) (a .f) (a .n) (a .firsts .now) (a .seconds .now)
     (a .mids .now)
 
 on-left-requires : tie.Need-on-left-requires Inv-loop μ-loop
@@ -80,7 +80,7 @@ shared-slice-read-mids c =
 loop-again : tie.Need-loop-again Inv-loop μ-loop
 loop-again c =
     let a = c .before .before .before .before .before .before .before .before .before .before .args in
-    filled-place (a .oldedges .now) (a .edges .now) (a .perimeter .now) (a .f) (a .n) (a .firsts .now) (a .seconds .now)
+    filled-place (a .edges .now) (a .newedges .now) (a .perimeter .now) (a .f) (a .n) (a .firsts .now) (a .seconds .now)
     (a .mids .now) _ _ _ _ (c .before .before .before .before .before .before .before .loop .inv) _ _ _ _
     (c .before .before .before .before .before .before .loop-test .taken)
     (c .before .before .before .before .index .ensures) (c .before .before .before .on-left .ensures)
@@ -89,7 +89,7 @@ loop-again c =
 returns : tie.Need-returns Inv-loop μ-loop
 returns c =
     let a = c .before .before .before .before .args in
-    filled-whole (a .oldedges .now) (a .edges .now) (a .perimeter .now) (a .f) (a .n) (a .firsts .now) (a .seconds .now)
+    filled-whole (a .edges .now) (a .newedges .now) (a .perimeter .now) (a .f) (a .n) (a .firsts .now) (a .seconds .now)
     (a .mids .now) _ _ _ _ (c .before .loop .inv) (c .loop-test .left)
 
 pub put-places-spec : {M : Type 1} → statement M

@@ -13,7 +13,7 @@ returns c =
     let c8 = c .before .before .before .before .before .before .before .before in
     let a = c8 .before .before .before .before .before .args in
     let m : Mesh = meshOf (a .positions .now) (a .points .now) (a .edges .now) (a .intervals .now) (a .faces .now) in
-    let t : Mesh = meshOf (a .places .now) (a .rows .now) (a .halves .now) (a .lengths .now) (a .quads .now) in
+    let t : Mesh = meshOf (a .newpositions .now) (a .newpoints .now) (a .newedges .now) (a .newintervals .now) (a .newfaces .now) in
     not-closed m (a .counts) (a .order .now) t
     (sym (c .before .audit .ensures) ∙ not-true (c .before .audit .result) (c .if1 .taken))
 
@@ -22,7 +22,7 @@ returns-2 c =
     let c8 = c .before .before .before .before .before .before .before .before in
     let a = c8 .before .before .before .before .before .before .before .args in
     let m : Mesh = meshOf (a .positions .now) (a .points .now) (a .edges .now) (a .intervals .now) (a .faces .now) in
-    let t : Mesh = meshOf (a .places .now) (a .rows .now) (a .halves .now) (a .lengths .now) (a .quads .now) in
+    let t : Mesh = meshOf (a .newpositions .now) (a .newpoints .now) (a .newedges .now) (a .newintervals .now) (a .newfaces .now) in
     not-once m (a .counts) (a .order .now) t
     (sym (c .before .before .before .audit .ensures)
     ∙ not-false (c .before .before .before .audit .result) (c .before .before .if1 .left))
@@ -33,7 +33,7 @@ refined-counts-requires c κs =
     let c8 = c .before .before .before .before .before .before .before .before in
     let a = c8 .before .before .before .before .before .before .before .args in
     let m : Mesh = meshOf (a .positions .now) (a .points .now) (a .edges .now) (a .intervals .now) (a .faces .now) in
-    let t : Mesh = meshOf (a .places .now) (a .rows .now) (a .halves .now) (a .lengths .now) (a .quads .now) in
+    let t : Mesh = meshOf (a .newpositions .now) (a .newpoints .now) (a .newedges .now) (a .newintervals .now) (a .newfaces .now) in
     counts-fit m (a .counts) (a .order .now) t
     (sym (c .before .before .before .audit .ensures)
     ∙ not-false (c .before .before .before .audit .result) (c .before .before .if1 .left)) (omega arith) (omega arith)
@@ -47,7 +47,7 @@ returns-3 c =
     let audit = c .before .before .before .before .before .before .audit in
     let each-face-once = c .before .before .before .before .each-face-once in
     let m : Mesh = meshOf (a .positions .now) (a .points .now) (a .edges .now) (a .intervals .now) (a .faces .now) in
-    let t : Mesh = meshOf (a .places .now) (a .rows .now) (a .halves .now) (a .lengths .now) (a .quads .now) in
+    let t : Mesh = meshOf (a .newpositions .now) (a .newpoints .now) (a .newedges .now) (a .newintervals .now) (a .newfaces .now) in
     no-room-in-tables m (a .counts) (a .order .now) t
     (sym (audit .ensures) ∙ not-false (audit .result) (c .before .before .before .before .before .if1 .left))
     (sym (each-face-once .ensures) ∙ not-false (each-face-once .result) (c .before .before .before .if2 .left))
@@ -63,7 +63,7 @@ returns-4 c =
     let each-face-once = c .before .before .before .before .before .before .each-face-once in
     let refined-counts = c .before .before .before .before .refined-counts in
     let m : Mesh = meshOf (a .positions .now) (a .points .now) (a .edges .now) (a .intervals .now) (a .faces .now) in
-    let t : Mesh = meshOf (a .places .now) (a .rows .now) (a .halves .now) (a .lengths .now) (a .quads .now) in
+    let t : Mesh = meshOf (a .newpositions .now) (a .newpoints .now) (a .newedges .now) (a .newintervals .now) (a .newfaces .now) in
     no-room-in-scratch m (a .counts) (a .order .now) t
     (sym (audit .ensures)
     ∙ not-false (audit .result) (c .before .before .before .before .before .before .before .if1 .left))
@@ -84,7 +84,7 @@ returns-5 c =
     let refined-counts = c .before .before .before .before .before .before .refined-counts in
     let rows-for = c .before .before .before .before .before .rows-for in
     let m : Mesh = meshOf (a .positions .now) (a .points .now) (a .edges .now) (a .intervals .now) (a .faces .now) in
-    let t : Mesh = meshOf (a .places .now) (a .rows .now) (a .halves .now) (a .lengths .now) (a .quads .now) in
+    let t : Mesh = meshOf (a .newpositions .now) (a .newpoints .now) (a .newedges .now) (a .newintervals .now) (a .newfaces .now) in
     over-ceilings m (a .counts) (a .order .now) t
     (sym (audit .ensures) ∙ not-false (audit .result) (c8 .before .if1 .left))
     (sym (each-face-once .ensures)
@@ -106,7 +106,7 @@ returns-6 c =
     let refined-counts = c .before .before .before .before .before .before .refined-counts in
     let rows-for = c .before .before .before .before .before .rows-for in
     let m : Mesh = meshOf (a .positions .now) (a .points .now) (a .edges .now) (a .intervals .now) (a .faces .now) in
-    let t : Mesh = meshOf (a .places .now) (a .rows .now) (a .halves .now) (a .lengths .now) (a .quads .now) in
+    let t : Mesh = meshOf (a .newpositions .now) (a .newpoints .now) (a .newedges .now) (a .newintervals .now) (a .newfaces .now) in
     rw (refined-counts .ensures) (no-ground m (a .counts) (a .order .now) t
     (sym (audit .ensures) ∙ not-false (audit .result) (c8 .before .if1 .left))
     (sym (each-face-once .ensures)

@@ -12,7 +12,7 @@ put-ring-edges-requires c κs =
     let args = c8 .before .before .before .before .before .before .before .args in
     let p = c8 .before .before .before .before .before .before .before .pre in
     let put-places = c .before .before .before .before .before .put-places in
-    let es = args .edges .now in (
+    let es = args .newedges .now in (
       p .small,
       (
         p .joins,
@@ -61,10 +61,10 @@ returns c =
     let is = put-ring-edges .last .1 .1 .0 in
     let fs = put-new-faces .last .1 .0 in
     let k : Counts = record { points = p; edges = a .rows .joins; faces = a .rows .faces } in
-    ring-written (a .oldedges .now) (a .points .now) _ (a .edges .now) es (a .faces .now) fs (a .perimeter .now) hs gs
-    ms (a .intervals .now) is (a .found .now) (a .rows) p (put-places .ensures .0) (put-places .ensures .1 .0)
-    (put-places .ensures .1 .1) (put-ring-edges .ensures (a .points .now) (a .faces .now) k)
-    (put-new-faces .ensures gs (a .points .now) es (a .found .now) is k)
+    ring-written (a .edges .now) (a .newpoints .now) _ (a .newedges .now) es (a .newfaces .now) fs (a .perimeter .now) hs gs
+    ms (a .newintervals .now) is (a .found .now) (a .rows) p (put-places .ensures .0) (put-places .ensures .1 .0)
+    (put-places .ensures .1 .1) (put-ring-edges .ensures (a .newpoints .now) (a .newfaces .now) k)
+    (put-new-faces .ensures gs (a .newpoints .now) es (a .found .now) is k)
     (c .before .before .put-face-point .ensures (a .perimeter .now) hs gs ms es fs (a .found .now) is k)
 
 pub put-ring-spec : {M : Type 1} → statement M

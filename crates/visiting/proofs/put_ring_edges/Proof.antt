@@ -32,7 +32,7 @@ returns c =
     let put-joins = c8 .before .before .before .before .put-joins in
     λ ps fs k.
     let r = ring (a .rows) (a .perimeter .now) (a .firsts .now) (a .seconds .now) (a .mids .now) (a .found .now) in
-    let m = faceTables (a .oldedges .now) [] in
+    let m = faceTables (a .edges .now) [] in
     c .before .before .put-seconds .ensures (a .mids .now) ps fs (a .found .now) (put-joins .last .1 .0) k
     ∙ ap (turns (a .rows .size) (putSecond m r))
     (c .before .before .before .before .before .before .put-firsts .ensures (a .mids .now) ps fs (a .found .now)

@@ -14,7 +14,7 @@ visit-along-requires c κs =
     let c8 = c .before .before .before .before .before .before .before .before in
     let a = c8 .before .before .before .before .before .before .args in
     let p = c8 .before .before .before .before .before .before .pre in
-    along-of-visit (a .oldedges .now) (a .oldfaces .now) (a .old .points) (a .old .edges) (a .old .faces) (a .f) _ _
+    along-of-visit (a .edges .now) (a .faces .now) (a .old .points) (a .old .edges) (a .old .faces) (a .f) _ _
     (c .before .before .before .before .before .put-border .ensures) (p .0) (p .1 .0) (p .1 .1 .1)
 
 returns : tie.Need-returns
@@ -24,7 +24,7 @@ returns c =
     let a = c16 .before .before .before .before .before .before .before .args in
     let put-border = c8 .before .before .before .before .before .before .put-border in
     c8 .visit-along .ensures
-    ∙ visited-border (a .oldedges .now) (a .oldfaces .now) (a .old .points) (a .old .edges) (a .f) _ _
+    ∙ visited-border (a .edges .now) (a .faces .now) (a .old .points) (a .old .edges) (a .f) _ _
     (put-border .ensures)
 
 pub visit-spec : {M : Type 1} → statement M

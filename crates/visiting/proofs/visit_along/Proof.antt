@@ -21,8 +21,8 @@ split-all-requires c κs =
         p .rows,
         (
           p .old-points,
-          split-room (a .oldedges .now) (a .points .now) (a .edges .now) (a .faces .now) (a .perimeter .now)
-              (a .intervals .now) (a .np) (a .f) (a .n) (a .taken) p,
+          split-room (a .edges .now) (a .newpoints .now) (a .newedges .now) (a .newfaces .now) (a .perimeter .now)
+              (a .newintervals .now) (a .np) (a .f) (a .n) (a .taken) p,
         ),
       ),
     )
@@ -35,10 +35,10 @@ put-ring-requires c κs =
     let p = c16 .before .before .before .before .before .before .before .before .pre in
     let split-all = c8 .before .before .before .split-all in
     let all = split-all .result in
-    let split = along-split (a .points .now) _ (a .edges .now) _ (a .faces .now) (a .perimeter .now) (a .intervals .now)
+    let split = along-split (a .newpoints .now) _ (a .newedges .now) _ (a .newfaces .now) (a .perimeter .now) (a .newintervals .now)
     _ (a .np) (a .n) (a .taken) all (split-all .ensures) in
-    ring-fits (a .oldedges .now) (a .points .now) (a .edges .now) (a .faces .now) (a .perimeter .now)
-    (a .intervals .now) (a .np) (a .f) (a .n) (a .taken) p _ _ _ all split (split-all .kept .0) (split-all .kept .1 .0)
+    ring-fits (a .edges .now) (a .newpoints .now) (a .newedges .now) (a .newfaces .now) (a .perimeter .now)
+    (a .newintervals .now) (a .np) (a .f) (a .n) (a .taken) p _ _ _ all split (split-all .kept .0) (split-all .kept .1 .0)
     (split-all .kept .1 .1 .0)
 
 add-t19-2 : tie.Need-add-t19-2
@@ -51,10 +51,10 @@ add-t19-2 c =
     let p = c32 .before .before .pre in
     let split-all = c16 .before .before .before .before .before .split-all in
     let all = split-all .result in
-    let split = along-split (a .points .now) _ (a .edges .now) _ (a .faces .now) (a .perimeter .now) (a .intervals .now)
+    let split = along-split (a .newpoints .now) _ (a .newedges .now) _ (a .newfaces .now) (a .perimeter .now) (a .newintervals .now)
     _ (a .np) (a .n) (a .taken) all (split-all .ensures) in
-    let small = ring-fits (a .oldedges .now) (a .points .now) (a .edges .now) (a .faces .now) (a .perimeter .now)
-    (a .intervals .now) (a .np) (a .f) (a .n) (a .taken) p _ _ _ all split (split-all .kept .0) (split-all .kept .1 .0)
+    let small = ring-fits (a .edges .now) (a .newpoints .now) (a .newedges .now) (a .newfaces .now) (a .perimeter .now)
+    (a .newintervals .now) (a .np) (a .f) (a .n) (a .taken) p _ _ _ all split (split-all .kept .0) (split-all .kept .1 .0)
     (split-all .kept .1 .1 .0) .small in
     omega (arith, small .few-edges)
 
@@ -77,10 +77,10 @@ add-t36 c =
     let p = c32 .before .before .before .pre in
     let split-all = c16 .before .before .before .before .before .before .split-all in
     let all = split-all .result in
-    let split = along-split (a .points .now) _ (a .edges .now) _ (a .faces .now) (a .perimeter .now) (a .intervals .now)
+    let split = along-split (a .newpoints .now) _ (a .newedges .now) _ (a .newfaces .now) (a .perimeter .now) (a .newintervals .now)
     _ (a .np) (a .n) (a .taken) all (split-all .ensures) in
-    let small = ring-fits (a .oldedges .now) (a .points .now) (a .edges .now) (a .faces .now) (a .perimeter .now)
-    (a .intervals .now) (a .np) (a .f) (a .n) (a .taken) p _ _ _ all split (split-all .kept .0) (split-all .kept .1 .0)
+    let small = ring-fits (a .edges .now) (a .newpoints .now) (a .newedges .now) (a .newfaces .now) (a .perimeter .now)
+    (a .newintervals .now) (a .np) (a .f) (a .n) (a .taken) p _ _ _ all split (split-all .kept .0) (split-all .kept .1 .0)
     (split-all .kept .1 .1 .0) .small in
     omega (arith, small .few-faces)
 
@@ -94,10 +94,10 @@ returns c =
     let put-found = c24 .before .before .before .put-found in
     let split-all = c16 .before .before .before .before .before .before .split-all in
     let all = split-all .result in
-    let split = along-split (a .points .now) _ (a .edges .now) _ (a .faces .now) (a .perimeter .now) (a .intervals .now)
+    let split = along-split (a .newpoints .now) _ (a .newedges .now) _ (a .newfaces .now) (a .perimeter .now) (a .newintervals .now)
     _ (a .np) (a .n) (a .taken) all (split-all .ensures) in
-    along-visited (a .oldedges .now) (a .points .now) _ _ (a .edges .now) _ _ (a .faces .now) _ (a .perimeter .now)
-    (a .intervals .now) _ _ _ (a .np) (a .f) (a .n) (a .taken) all (put-found .ensures) split
+    along-visited (a .edges .now) (a .newpoints .now) _ _ (a .newedges .now) _ _ (a .newfaces .now) _ (a .perimeter .now)
+    (a .newintervals .now) _ _ _ (a .np) (a .f) (a .n) (a .taken) all (put-found .ensures) split
     (c8 .before .before .put-ring .ensures (all .points))
 
 pub visit-along-spec : {M : Type 1} → statement M

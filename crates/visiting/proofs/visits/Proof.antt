@@ -19,8 +19,8 @@ abbrev μ-loop : tie.MeasureT-loop
 loop-holds : tie.Need-loop-holds Inv-loop μ-loop
 loop-holds c =
     let a = c .before .before .before .before .before .before .before .args in
-    turning-start (faceTables (a .oldedges .now) (a .oldfaces .now)) (a .old .points) (a .old .edges) (a .old .faces)
-    (a .order .now) (a .points .now) (a .edges .now) (a .intervals .now) (a .faces .now) (a .old)
+    turning-start (faceTables (a .edges .now) (a .faces .now)) (a .old .points) (a .old .edges) (a .old .faces)
+    (a .order .now) (a .newpoints .now) (a .newedges .now) (a .newintervals .now) (a .newfaces .now) (a .old)
 
 mul-index : tie.Need-mul-index Inv-loop μ-loop
 mul-index c =

@@ -7,7 +7,7 @@ use native.Mathlib.Omega.{arith}
 use Prim.Native.Nat.{_≤_, _-_, _+_}
 use mathlib.Core.Bool.{true}
 use mathlib.Core.Path.{_≡_, sym}
-use Rattle.built_meshes.specs.Faces.{inRange}
+use Rattle.built_meshes.specs.Faces.{listedInRange}
 use Rattle.audited_meshes.specs.Folds.{every}
 use Rattle.building_tests.proofs.Laws.{every-none, every-more, every-stop, whole}
 use Rattle.building_tests.proofs.faces.are_points.Statement.{statement}
@@ -26,7 +26,7 @@ loop-holds c = (
 )
 
 returns : tie.Need-returns Inv-loop μ-loop
-unfolding inRange
+unfolding listedInRange
 returns c =
     let args = c .before .before .before .before .before .before .args in
     sym (every-stop (args .n) (c .before .before .before .before .loop .i)
@@ -43,7 +43,7 @@ loop-again c =
     )
 
 returns-2 : tie.Need-returns-2 Inv-loop μ-loop
-unfolding inRange
+unfolding listedInRange
 returns-2 c =
     sym (rw
     (whole (c .before .loop .i) (c .before .before .before .args .n) (c .before .loop .inv .0) (c .loop-test .left)) at

@@ -6,10 +6,10 @@ use native.Mathlib.Nat.{add-zero}
 use native.Mathlib.Omega.{arith}
 use lib.ListN.{length, set, length-set}
 use lib.Ieee.{Float}
-use Rattle.text_numbers.specs.Form.{Found, found, none, times}
-use Rattle.mesh_lines.specs.Grammar.{coordinate}
+use Rattle.text_numbers.specs.Form.{Parsed, parsed, unparsed, times}
+use Rattle.mesh_lines.specs.Grammar.{coordinateForm}
 use Rattle.text_numbers.specs.Numbers.{float}
-use Rattle.mesh_lines.specs.Parts.{place, stored}
+use Rattle.mesh_lines.specs.Parts.{placeAnswer, stored}
 use Rattle.mesh_lines.specs.declared.Place.the-variants as Place
 use Rattle.mesh_lines.proofs.Laws.{takes-coordinate}
 use Rattle.text_numbers.proofs.Turns.{times-found, times-none}
@@ -19,20 +19,20 @@ pub record Coordinates (s : List ℕ) (at : ℕ) (xs₀ : List Float) (n : ℕ) 
   pub few : k ≤ 3
   pub inside : i ≤ length s
   pub same : length xs ≡ length xs₀
-  pub place : place (times (3 - k) (coordinate s) i) ≡ place (times 3 (coordinate s) at)
-  pub list : stored (map float) xs (n + k) (times (3 - k) (coordinate s) i) ≡ stored (map float) xs₀ n (times 3 (coordinate s) at)
+  pub place : placeAnswer (times (3 - k) (coordinateForm s) i) ≡ placeAnswer (times 3 (coordinateForm s) at)
+  pub list : stored (map float) xs (n + k) (times (3 - k) (coordinateForm s) i) ≡ stored (map float) xs₀ n (times 3 (coordinateForm s) at)
 
 pub start : (s : List ℕ) (at : ℕ) (xs₀ : List Float) (n : ℕ) → at ≤ length s → Coordinates s at xs₀ n xs₀ at 0
 start s at xs₀ n h = record { few = omega arith; inside = h; same = refl; place = refl; list = rw add-zero }
 
 module _ (s : List ℕ) (at : ℕ) (xs₀ : List Float) (n : ℕ) (xs : List Float) (i k : ℕ) (inv : Coordinates s at xs₀ n xs i k) where
-  pub turn : k < 3 → at ≤ length s → {b j : ℕ} → coordinate s i ≡ found b j → {x : Float} → x ≡ float b → {ys : List Float} → ys ≡ set xs (n + k) x
+  pub turn : k < 3 → at ≤ length s → {b j : ℕ} → coordinateForm s i ≡ parsed b j → {x : Float} → x ≡ float b → {ys : List Float} → ys ≡ set xs (n + k) x
       → Coordinates s at xs₀ n ys j (k + 1)
   turn hk h {b} {j} e {x} ex {ys} ey =
       let f : 3 - k ≡ suc (3 - (k + 1)) = omega arith in
-      let t = times-found (coordinate s) i (3 - (k + 1)) e in
+      let t = times-found (coordinateForm s) i (3 - (k + 1)) e in
       let l : n + (k + 1) ≡ n + k + 1 = omega arith in
-      let rest : Found (List ℕ) = times (3 - (k + 1)) (coordinate s) j in
+      let rest : Parsed (List ℕ) = times (3 - (k + 1)) (coordinateForm s) j in
       record {
         few = omega arith;
         inside = takes-coordinate s i (inv .inside) b j e .1;
@@ -45,12 +45,12 @@ module _ (s : List ℕ) (at : ℕ) (xs₀ : List Float) (n : ℕ) (xs : List Flo
             ∙ (rw (f, t) at (inv .list));
       }
 
-  pub stop : k < 3 → coordinate s i ≡ none → Place.None ≡ place (times 3 (coordinate s) at)
+  pub stop : k < 3 → coordinateForm s i ≡ unparsed → Place.None ≡ placeAnswer (times 3 (coordinateForm s) at)
   stop hk e =
       let f : 3 - k ≡ suc (3 - (k + 1)) = omega arith in
-      rw (f, times-none (coordinate s) i (3 - (k + 1)) e) at (inv .place)
+      rw (f, times-none (coordinateForm s) i (3 - (k + 1)) e) at (inv .place)
 
-  pub end : 3 ≤ k → (Place.At i ≡ place (times 3 (coordinate s) at)) × (xs ≡ stored (map float) xs₀ n (times 3 (coordinate s) at))
+  pub end : 3 ≤ k → (Place.At i ≡ placeAnswer (times 3 (coordinateForm s) at)) × (xs ≡ stored (map float) xs₀ n (times 3 (coordinateForm s) at))
   unfolding times
   end hk =
       let f : 3 - k ≡ 0 = omega arith in

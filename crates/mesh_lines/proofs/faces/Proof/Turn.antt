@@ -8,9 +8,9 @@ use native.Mathlib.Omega.{arith}
 use lib.ListN.{length, length-map, length-append}
 use lib.Seq.{sets, length-sets}
 use lib.Ieee.{Float}
-use Rattle.text_numbers.specs.Form.{bytes, Found, found, none, given, Form, onward, pure, many, stands}
-use Rattle.mesh_lines.specs.Grammar.{Listed, face, flat, sidePoints, sideIntervals}
-use Rattle.mesh_lines.specs.Parts.{run, linesOf, stored, lengthWord, listedIn, AtRun}
+use Rattle.text_numbers.specs.Form.{bytes, Parsed, parsed, unparsed, ifParsed, Form, onward, pure, many, stands}
+use Rattle.mesh_lines.specs.Grammar.{Listed, faceForm, flat, sidePoints, sideIntervals}
+use Rattle.mesh_lines.specs.Parts.{runAnswer, linesAnswer, stored, lengthWord, listedIn, AtRun}
 use Rattle.mesh_lines.specs.declared.Run.{Run}
 use Rattle.mesh_lines.specs.declared.Run.the-variants as Run
 use Rattle.mesh_lines.specs.declared.Lines.{Lines}
@@ -22,24 +22,24 @@ use Rattle.mesh_lines.proofs.Answers.{run-of, run-none, stored-next}
 
 -- the face lines from a place on, at most k of them
 abbrev pub facesFrom : List ℕ → ℕ → Form (List (List (List Listed)))
-facesFrom s k = many s (bytes "[face") (face s) k
+facesFrom s k = many s (bytes "[face") (faceForm s) k
 
 -- lines and listed points counted on from k and c
-abbrev pub linesFrom : ℕ → ℕ → Found (List (List (List Listed))) → Lines
-linesFrom k c x = given (λ fs n. Lines.Are (k + length fs) (c + length (flat (flat sidePoints) fs)) n) Lines.None x
+abbrev pub linesFrom : ℕ → ℕ → Parsed (List (List (List Listed))) → Lines
+linesFrom k c x = ifParsed (λ fs n. Lines.Are (k + length fs) (c + length (flat (flat sidePoints) fs)) n) Lines.None x
 
-lines-start : (x : Found (List (List (List Listed)))) → linesFrom 0 0 x ≡ linesOf x
-lines-start (found fs n) = rw (zero-add (length fs), zero-add (length (flat (flat sidePoints) fs)))
-lines-start none = refl
+lines-start : (x : Parsed (List (List (List Listed)))) → linesFrom 0 0 x ≡ linesAnswer x
+lines-start (parsed fs n) = rw (zero-add (length fs), zero-add (length (flat (flat sidePoints) fs)))
+lines-start unparsed = refl
 
-lines-next : (k c : ℕ) (a : List (List Listed)) (x : Found (List (List (List Listed)))) → linesFrom k c (onward (λ l. pure (a ∷ l)) x) ≡ linesFrom (k + 1) (c + listedIn a) x
+lines-next : (k c : ℕ) (a : List (List Listed)) (x : Parsed (List (List (List Listed)))) → linesFrom k c (onward (λ l. pure (a ∷ l)) x) ≡ linesFrom (k + 1) (c + listedIn a) x
 unfolding flat
-lines-next k c a (found fs n) =
+lines-next k c a (parsed fs n) =
     let e : k + suc (length fs) ≡ k + 1 + length fs = omega arith in
     let l = length-append (flat sidePoints a) (flat (flat sidePoints) fs) in
     let g : c + length (flat sidePoints a ++ flat (flat sidePoints) fs) ≡ c + listedIn a + length (flat (flat sidePoints) fs) = omega arith in
     rw (e, g)
-lines-next k c a none = refl
+lines-next k c a unparsed = refl
 
 pub record FacesSoFar (s : List ℕ) (at : ℕ) (ls₀ ps₀ : List ℕ) (ds₀ : List Float) (ls ps : List ℕ) (ds : List Float) (i k c : ℕ) : Type 0 where
   pub inside : i ≤ length s
@@ -48,7 +48,7 @@ pub record FacesSoFar (s : List ℕ) (at : ℕ) (ls₀ ps₀ : List ℕ) (ds₀ 
   pub same-lengths : length ls ≡ length ls₀
   pub same-points : length ps ≡ length ps₀
   pub same-intervals : length ds ≡ length ds₀
-  pub lines : linesFrom k c (facesFrom s (length s - k) i) ≡ linesOf (facesFrom s (length s) at)
+  pub lines : linesFrom k c (facesFrom s (length s - k) i) ≡ linesAnswer (facesFrom s (length s) at)
   pub lengths : stored (flat (map lengthWord)) ls (4 * k) (facesFrom s (length s - k) i) ≡ stored (flat (map lengthWord)) ls₀ 0 (facesFrom s (length s) at)
   pub points : stored (flat (flat sidePoints)) ps c (facesFrom s (length s - k) i) ≡ stored (flat (flat sidePoints)) ps₀ 0 (facesFrom s (length s) at)
   pub intervals : stored (flat (flat sideIntervals)) ds c (facesFrom s (length s - k) i) ≡ stored (flat (flat sideIntervals)) ds₀ 0 (facesFrom s (length s) at)
@@ -72,12 +72,12 @@ start s at ls₀ ps₀ ds₀ h =
 module _ (s : List ℕ) (at : ℕ) (ls₀ ps₀ : List ℕ) (ds₀ : List Float) (ls ps : List ℕ) (ds : List Float) (i k c : ℕ)
     (inv : FacesSoFar s at ls₀ ps₀ ds₀ ls ps ds i k c) where
   pub end : stands s i (bytes "[face") ≡ false
-      → (Lines.Are k c i ≡ linesOf (facesFrom s (length s) at))
+      → (Lines.Are k c i ≡ linesAnswer (facesFrom s (length s) at))
       × ((ls ≡ stored (flat (map lengthWord)) ls₀ 0 (facesFrom s (length s) at))
       × ((ps ≡ stored (flat (flat sidePoints)) ps₀ 0 (facesFrom s (length s) at)) × (ds ≡ stored (flat (flat sideIntervals)) ds₀ 0 (facesFrom s (length s) at))))
   unfolding flat
   end e =
-      let m = many-stop s (bytes "[face") (face s) i (length s - k) e in
+      let m = many-stop s (bytes "[face") (faceForm s) i (length s - k) e in
       (rw (add-zero k, add-zero c) at (rw m at (inv .lines)), (rw m at (inv .lengths), (rw m at (inv .points), rw m at (inv .intervals))))
 
   module _ (e : stands s i (bytes "[face") ≡ true) where
@@ -87,13 +87,13 @@ module _ (s : List ℕ) (at : ℕ) (ls₀ ps₀ : List ℕ) (ds₀ : List Float)
     fuel : length s - k ≡ suc (length s - (k + 1))
     fuel = let h = head-inside in let n = inv .counted in omega arith
 
-    pub stop : {r : Run} → r ≡ run listedIn (face s (i + 5)) → r ≡ Run.None → Lines.None ≡ linesOf (facesFrom s (length s) at)
+    pub stop : {r : Run} → r ≡ runAnswer listedIn (faceForm s (i + 5)) → r ≡ Run.None → Lines.None ≡ linesAnswer (facesFrom s (length s) at)
     stop er en =
-        rw (fuel, many-none s (bytes "[face") (face s) i (length s - (k + 1)) e (run-none listedIn (face s (i + 5)) (sym er ∙ en))) at (inv .lines)
+        rw (fuel, many-none s (bytes "[face") (faceForm s) i (length s - (k + 1)) e (run-none listedIn (faceForm s (i + 5)) (sym er ∙ en))) at (inv .lines)
 
-    module _ {r : Run} {m j : ℕ} (er : r ≡ run listedIn (face s (i + 5))) (em : r ≡ Run.Of m j) where
-      line : (a : List (List Listed)) × (face s (i + 5) ≡ found a j) × (listedIn a ≡ m)
-      line = run-of listedIn (face s (i + 5)) (sym er ∙ em)
+    module _ {r : Run} {m j : ℕ} (er : r ≡ runAnswer listedIn (faceForm s (i + 5))) (em : r ≡ Run.Of m j) where
+      line : (a : List (List Listed)) × (faceForm s (i + 5) ≡ parsed a j) × (listedIn a ≡ m)
+      line = run-of listedIn (faceForm s (i + 5)) (sym er ∙ em)
 
       pub line-longer : (i + 5 + m ≤ j) × (j ≤ length s)
       line-longer =
@@ -102,9 +102,9 @@ module _ (s : List ℕ) (at : ℕ) (ls₀ ps₀ : List ℕ) (ds₀ : List Float)
           omega arith
 
       pub turn : {ls′ ps′ : List ℕ} {ds′ : List Float}
-          → AtRun r (ls′ ≡ stored (map lengthWord) ls (4 * k) (face s (i + 5)))
-          → AtRun r (ps′ ≡ stored (flat sidePoints) ps c (face s (i + 5)))
-          → AtRun r (ds′ ≡ stored (flat sideIntervals) ds c (face s (i + 5)))
+          → AtRun r (ls′ ≡ stored (map lengthWord) ls (4 * k) (faceForm s (i + 5)))
+          → AtRun r (ps′ ≡ stored (flat sidePoints) ps c (faceForm s (i + 5)))
+          → AtRun r (ds′ ≡ stored (flat sideIntervals) ds c (faceForm s (i + 5)))
           → FacesSoFar s at ls₀ ps₀ ds₀ ls′ ps′ ds′ j (k + 1) (c + m)
       unfolding flat
       turn {ls′} {ps′} {ds′} el ep ed =
@@ -112,7 +112,7 @@ module _ (s : List ℕ) (at : ℕ) (ls₀ ps₀ : List ℕ) (ds₀ : List Float)
           let ea = line .1 in
           let la = line .2 in
           let rest = facesFrom s (length s - (k + 1)) j in
-          let t = many-found s (bytes "[face") (face s) i (length s - (k + 1)) e ea in
+          let t = many-found s (bytes "[face") (faceForm s) i (length s - (k + 1)) e ea in
           let lo = line-longer in
           let n = inv .counted in
           let co = inv .listed in

@@ -7,10 +7,10 @@ use native.Mathlib.Nat.{add-zero}
 use native.Mathlib.Omega.{arith}
 use lib.ListN.{length, set, length-set}
 use lib.Ieee.{Float}
-use Rattle.text_numbers.specs.Form.{bytes, found, none, Form, many, stands}
-use Rattle.mesh_lines.specs.Grammar.{Listed, listed, sidePoints, sideIntervals}
+use Rattle.text_numbers.specs.Form.{bytes, parsed, unparsed, Form, many, stands}
+use Rattle.mesh_lines.specs.Grammar.{Listed, listedForm, sidePoints, sideIntervals}
 use Rattle.text_numbers.specs.Numbers.{float}
-use Rattle.mesh_lines.specs.Parts.{run, stored}
+use Rattle.mesh_lines.specs.Parts.{runAnswer, stored}
 use Rattle.mesh_lines.specs.declared.Run.the-variants as Run
 use Rattle.mesh_lines.proofs.Laws.{takes-listed}
 use Rattle.text_numbers.proofs.Laws.{stands-inside}
@@ -19,14 +19,14 @@ use Rattle.mesh_lines.proofs.Answers.{runFrom, run-next, run-start, sto
 
 -- the listed points from a place on, at most k of them
 abbrev pub listedFrom : List ℕ → ℕ → Form (List Listed)
-listedFrom s k = many s (bytes " [") (listed s) k
+listedFrom s k = many s (bytes " [") (listedForm s) k
 
 pub record ListedSoFar (s : List ℕ) (at : ℕ) (ps₀ : List ℕ) (ds₀ : List Float) (n : ℕ) (ps : List ℕ) (ds : List Float) (i k : ℕ) : Type 0 where
   pub inside : i ≤ length s
   pub counted : n + k ≤ i
   pub same-points : length ps ≡ length ps₀
   pub same-intervals : length ds ≡ length ds₀
-  pub run : runFrom length k (listedFrom s (length s - k) i) ≡ run length (listedFrom s (length s) at)
+  pub run : runFrom length k (listedFrom s (length s - k) i) ≡ runAnswer length (listedFrom s (length s) at)
   pub points : stored sidePoints ps (n + k) (listedFrom s (length s - k) i) ≡ stored sidePoints ps₀ n (listedFrom s (length s) at)
   pub intervals : stored sideIntervals ds (n + k) (listedFrom s (length s - k) i) ≡ stored sideIntervals ds₀ n (listedFrom s (length s) at)
 
@@ -46,10 +46,10 @@ start s at ps₀ ds₀ n h hn =
 module _ (s : List ℕ) (at : ℕ) (ps₀ : List ℕ) (ds₀ : List Float) (n : ℕ) (ps : List ℕ) (ds : List Float) (i k : ℕ)
     (inv : ListedSoFar s at ps₀ ds₀ n ps ds i k) where
   pub end : stands s i (bytes " [") ≡ false
-      → (Run.Of k i ≡ run length (listedFrom s (length s) at))
+      → (Run.Of k i ≡ runAnswer length (listedFrom s (length s) at))
       × ((ps ≡ stored sidePoints ps₀ n (listedFrom s (length s) at)) × (ds ≡ stored sideIntervals ds₀ n (listedFrom s (length s) at)))
   end e =
-      let m = many-stop s (bytes " [") (listed s) i (length s - k) e in
+      let m = many-stop s (bytes " [") (listedForm s) i (length s - k) e in
       (ap (λ c. Run.Of c i) (sym (add-zero k)) ∙ (rw m at (inv .run)), (rw m at (inv .points), rw m at (inv .intervals)))
 
   module _ (e : stands s i (bytes " [") ≡ true) where
@@ -59,10 +59,10 @@ module _ (s : List ℕ) (at : ℕ) (ps₀ : List ℕ) (ds₀ : List Float) (n : 
     fuel : length s - k ≡ suc (length s - (k + 1))
     fuel = let h = head-inside in let c = inv .counted in omega arith
 
-    pub stop : listed s (i + 2) ≡ none → Run.None ≡ run length (listedFrom s (length s) at)
-    stop en = rw (fuel, many-none s (bytes " [") (listed s) i (length s - (k + 1)) e en) at (inv .run)
+    pub stop : listedForm s (i + 2) ≡ unparsed → Run.None ≡ runAnswer length (listedFrom s (length s) at)
+    stop en = rw (fuel, many-none s (bytes " [") (listedForm s) i (length s - (k + 1)) e en) at (inv .run)
 
-    module _ {p d j : ℕ} (el : listed s (i + 2) ≡ found (record { point = p; interval = d }) j) where
+    module _ {p d j : ℕ} (el : listedForm s (i + 2) ≡ parsed (record { point = p; interval = d }) j) where
       pub listed-longer : (i + 2 ≤ j) × (j ≤ length s)
       listed-longer = let t = takes-listed s (i + 2) head-inside _ j el in omega arith
 
@@ -71,7 +71,7 @@ module _ (s : List ℕ) (at : ℕ) (ps₀ : List ℕ) (ds₀ : List Float) (n : 
       turn {ps′} ep {x} ex {ds′} ed =
           let a : Listed = record { point = p; interval = d } in
           let rest = listedFrom s (length s - (k + 1)) j in
-          let t = many-found s (bytes " [") (listed s) i (length s - (k + 1)) e el in
+          let t = many-found s (bytes " [") (listedForm s) i (length s - (k + 1)) e el in
           let lo = listed-longer in
           let c = inv .counted in
           let en : n + (k + 1) ≡ n + k + 1 = omega arith in

@@ -8,10 +8,10 @@ use native.Mathlib.Omega.{arith}
 use lib.ListN.{length, length-map}
 use lib.Seq.{sets, length-sets}
 use lib.Ieee.{Float}
-use Rattle.text_numbers.specs.Form.{bytes, found, Form, many, stands}
-use Rattle.mesh_lines.specs.Grammar.{point, flat}
+use Rattle.text_numbers.specs.Form.{bytes, parsed, Form, many, stands}
+use Rattle.mesh_lines.specs.Grammar.{pointForm, flat}
 use Rattle.text_numbers.specs.Numbers.{float}
-use Rattle.mesh_lines.specs.Parts.{place, run, stored, AtPlace}
+use Rattle.mesh_lines.specs.Parts.{placeAnswer, runAnswer, stored, AtPlace}
 use Rattle.mesh_lines.specs.declared.Place.{Place}
 use Rattle.mesh_lines.specs.declared.Place.the-variants as Place
 use Rattle.mesh_lines.specs.declared.Run.the-variants as Run
@@ -22,15 +22,15 @@ use Rattle.mesh_lines.proofs.Answers.{place-at, place-none, runFrom, ru
 
 -- the point lines from i on, at most k of them
 abbrev lines : List ℕ → ℕ → Form (List (List ℕ))
-lines s k = many s (bytes "[point") (point s) k
+lines s k = many s (bytes "[point") (pointForm s) k
 
 pub record Points (s : List ℕ) (at : ℕ) (xs₀ : List Float) (xs : List Float) (i k : ℕ) : Type 0 where
   pub inside : i ≤ length s
   pub counted : 6 * k ≤ i
   pub same : length xs ≡ length xs₀
-  pub run : runFrom length k (many s (bytes "[point") (point s) (length s - k) i) ≡ run length (many s (bytes "[point") (point s) (length s) at)
-  pub list : stored (flat (map float)) xs (3 * k) (many s (bytes "[point") (point s) (length s - k) i)
-      ≡ stored (flat (map float)) xs₀ 0 (many s (bytes "[point") (point s) (length s) at)
+  pub run : runFrom length k (many s (bytes "[point") (pointForm s) (length s - k) i) ≡ runAnswer length (many s (bytes "[point") (pointForm s) (length s) at)
+  pub list : stored (flat (map float)) xs (3 * k) (many s (bytes "[point") (pointForm s) (length s - k) i)
+      ≡ stored (flat (map float)) xs₀ 0 (many s (bytes "[point") (pointForm s) (length s) at)
 
 pub start : (s : List ℕ) (at : ℕ) (xs₀ : List Float) → at ≤ length s → Points s at xs₀ xs₀ at 0
 start s at xs₀ h =
@@ -39,10 +39,10 @@ start s at xs₀ h =
 
 module _ (s : List ℕ) (at : ℕ) (xs₀ : List Float) (xs : List Float) (i k : ℕ) (inv : Points s at xs₀ xs i k) where
   pub end : stands s i (bytes "[point") ≡ false
-      → (Run.Of k i ≡ run length (lines s (length s) at)) × (xs ≡ stored (flat (map float)) xs₀ 0 (lines s (length s) at))
+      → (Run.Of k i ≡ runAnswer length (lines s (length s) at)) × (xs ≡ stored (flat (map float)) xs₀ 0 (lines s (length s) at))
   unfolding flat
   end e =
-      let m = many-stop s (bytes "[point") (point s) i (length s - k) e in
+      let m = many-stop s (bytes "[point") (pointForm s) i (length s - k) e in
       (ap (λ c. Run.Of c i) (sym (add-zero k)) ∙ (rw m at (inv .run)), rw m at (inv .list))
 
   module _ (e : stands s i (bytes "[point") ≡ true) where
@@ -52,23 +52,23 @@ module _ (s : List ℕ) (at : ℕ) (xs₀ : List Float) (xs : List Float) (i k :
     fuel : length s - k ≡ suc (length s - (k + 1))
     fuel = let h = head-inside in let c = inv .counted in omega arith
 
-    pub stop : {r : Place} → r ≡ place (point s (i + 6)) → r ≡ Place.None → Run.None ≡ run length (lines s (length s) at)
+    pub stop : {r : Place} → r ≡ placeAnswer (pointForm s (i + 6)) → r ≡ Place.None → Run.None ≡ runAnswer length (lines s (length s) at)
     stop {r} er en =
-        rw (fuel, many-none s (bytes "[point") (point s) i (length s - (k + 1)) e (place-none (point s (i + 6)) (sym er ∙ en))) at (inv .run)
+        rw (fuel, many-none s (bytes "[point") (pointForm s) i (length s - (k + 1)) e (place-none (pointForm s (i + 6)) (sym er ∙ en))) at (inv .run)
 
-    module _ {r : Place} {j : ℕ} (er : r ≡ place (point s (i + 6))) (ej : r ≡ Place.At j) where
-      line : (a : List ℕ) × (point s (i + 6) ≡ found a j)
-      line = place-at (point s (i + 6)) (sym er ∙ ej)
+    module _ {r : Place} {j : ℕ} (er : r ≡ placeAnswer (pointForm s (i + 6))) (ej : r ≡ Place.At j) where
+      line : (a : List ℕ) × (pointForm s (i + 6) ≡ parsed a j)
+      line = place-at (pointForm s (i + 6)) (sym er ∙ ej)
 
       pub line-longer : (i + 6 ≤ j) × (j ≤ length s)
       line-longer = let t = takes-point s (i + 6) head-inside (line .0) j (line .1) in omega arith
 
-      pub turn : {ys : List Float} → AtPlace r (ys ≡ stored (map float) xs (3 * k) (point s (i + 6))) → Points s at xs₀ ys j (k + 1)
+      pub turn : {ys : List Float} → AtPlace r (ys ≡ stored (map float) xs (3 * k) (pointForm s (i + 6))) → Points s at xs₀ ys j (k + 1)
       unfolding flat
       turn {ys} el =
           let a = line .0 in
           let rest = lines s (length s - (k + 1)) j in
-          let t = many-found s (bytes "[point") (point s) i (length s - (k + 1)) e (line .1) in
+          let t = many-found s (bytes "[point") (pointForm s) i (length s - (k + 1)) e (line .1) in
           let ey : ys ≡ sets xs (3 * k) (map float a) = rw (ej, line .1) at el in
           let l3 : length (map float a) ≡ 3 = length-map a float ∙ length-point s (i + 6) a j (line .1) in
           let en : 3 * (k + 1) ≡ 3 * k + length (map float a) = omega arith in

@@ -6,10 +6,10 @@ use Prim.Native.Nat.{ℕ, _+_, _≤_}
 use native.Mathlib.Omega.{arith}
 use lib.ListN.{length}
 use lib.Ieee.{Float}
-use Rattle.text_numbers.specs.Form.{bytes, Form, found, none, many, stands}
-use Rattle.mesh_lines.specs.Grammar.{Listed, listed, side, sidePoints, sideIntervals}
+use Rattle.text_numbers.specs.Form.{bytes, Form, parsed, unparsed, many, stands}
+use Rattle.mesh_lines.specs.Grammar.{Listed, listedForm, sideForm, sidePoints, sideIntervals}
 use Rattle.text_numbers.specs.Numbers.{decimal}
-use Rattle.mesh_lines.specs.Parts.{run, stored, AtRun}
+use Rattle.mesh_lines.specs.Parts.{runAnswer, stored, AtRun}
 use Rattle.mesh_lines.specs.declared.Run.{Run}
 use Rattle.mesh_lines.specs.declared.Run.the-variants as Run
 use Rattle.text_numbers.proofs.Laws.{takes-decimal, takes-many, stands-inside}
@@ -18,43 +18,43 @@ use Rattle.text_numbers.proofs.Turns.{literal-found, literal-none}
 use Rattle.mesh_lines.proofs.Answers.{run-of, run-none}
 
 abbrev points : List ℕ → Form (List Listed)
-points s = many s (bytes " [") (listed s) (length s)
+points s = many s (bytes " [") (listedForm s) (length s)
 
 module _ (s : List ℕ) (at : ℕ) where
-  pub no-start : stands s at (bytes " [") ≡ false → Run.None ≡ run length (side s at)
-  unfolding side
+  pub no-start : stands s at (bytes " [") ≡ false → Run.None ≡ runAnswer length (sideForm s at)
+  unfolding sideForm
   no-start e = rw (literal-none s (bytes " [") at e)
 
-  pub no-first : stands s at (bytes " [") ≡ true → decimal s (at + 2) ≡ none → Run.None ≡ run length (side s at)
-  unfolding side
+  pub no-first : stands s at (bytes " [") ≡ true → decimal s (at + 2) ≡ unparsed → Run.None ≡ runAnswer length (sideForm s at)
+  unfolding sideForm
   no-first e f = rw (literal-found s (bytes " [") at e, f)
 
-  pub first-inside : at ≤ length s → {v i : ℕ} → stands s at (bytes " [") ≡ true → decimal s (at + 2) ≡ found v i → (at ≤ i) × (i ≤ length s)
+  pub first-inside : at ≤ length s → {v i : ℕ} → stands s at (bytes " [") ≡ true → decimal s (at + 2) ≡ parsed v i → (at ≤ i) × (i ≤ length s)
   first-inside h {v} {i} e f = let t = takes-decimal s (at + 2) (stands-inside s (bytes " [") at refl h e) v i f in omega arith
 
   module _ {v i : ℕ} {r : Run} where
-    pub no-points : stands s at (bytes " [") ≡ true → decimal s (at + 2) ≡ found v i → r ≡ run length (points s i) → r ≡ Run.None → Run.None ≡ run length (side s at)
-    unfolding side
+    pub no-points : stands s at (bytes " [") ≡ true → decimal s (at + 2) ≡ parsed v i → r ≡ runAnswer length (points s i) → r ≡ Run.None → Run.None ≡ runAnswer length (sideForm s at)
+    unfolding sideForm
     no-points e f er en = rw (literal-found s (bytes " [") at e, f, run-none length (points s i) (sym er ∙ en))
 
     module _ {k j : ℕ} where
-      pub points-inside : at ≤ length s → stands s at (bytes " [") ≡ true → decimal s (at + 2) ≡ found v i → r ≡ run length (points s i) → r ≡ Run.Of k j → j ≤ length s
+      pub points-inside : at ≤ length s → stands s at (bytes " [") ≡ true → decimal s (at + 2) ≡ parsed v i → r ≡ runAnswer length (points s i) → r ≡ Run.Of k j → j ≤ length s
       points-inside h e f er ek =
           let a = run-of length (points s i) (sym er ∙ ek) in
-          takes-many s (bytes " [") (λ p. 0) (listed s) (length s) refl (takes-listed s) i (first-inside h e f .1) (a .0) j (a .1) .1
+          takes-many s (bytes " [") (λ p. 0) (listedForm s) (length s) refl (takes-listed s) i (first-inside h e f .1) (a .0) j (a .1) .1
 
-      pub no-end : stands s at (bytes " [") ≡ true → decimal s (at + 2) ≡ found v i → r ≡ run length (points s i) → r ≡ Run.Of k j
-          → stands s j (bytes "]") ≡ false → Run.None ≡ run length (side s at)
-      unfolding side
+      pub no-end : stands s at (bytes " [") ≡ true → decimal s (at + 2) ≡ parsed v i → r ≡ runAnswer length (points s i) → r ≡ Run.Of k j
+          → stands s j (bytes "]") ≡ false → Run.None ≡ runAnswer length (sideForm s at)
+      unfolding sideForm
       no-end e f er ek g =
           let a = run-of length (points s i) (sym er ∙ ek) in
           rw (literal-found s (bytes " [") at e, f, a .1, literal-none s (bytes "]") j g)
 
       pub whole : (ps : List ℕ) (ds : List Float) (n : ℕ) {ps′ : List ℕ} {ds′ : List Float}
-          → stands s at (bytes " [") ≡ true → decimal s (at + 2) ≡ found v i → r ≡ run length (points s i) → r ≡ Run.Of k j
+          → stands s at (bytes " [") ≡ true → decimal s (at + 2) ≡ parsed v i → r ≡ runAnswer length (points s i) → r ≡ Run.Of k j
           → AtRun r (ps′ ≡ stored sidePoints ps n (points s i)) → AtRun r (ds′ ≡ stored sideIntervals ds n (points s i)) → stands s j (bytes "]") ≡ true
-          → (Run.Of k (j + 1) ≡ run length (side s at)) × ((ps′ ≡ stored sidePoints ps n (side s at)) × (ds′ ≡ stored sideIntervals ds n (side s at)))
-      unfolding side
+          → (Run.Of k (j + 1) ≡ runAnswer length (sideForm s at)) × ((ps′ ≡ stored sidePoints ps n (sideForm s at)) × (ds′ ≡ stored sideIntervals ds n (sideForm s at)))
+      unfolding sideForm
       whole ps ds n e f er ek ep ed g =
           let a = run-of length (points s i) (sym er ∙ ek) in
           let l1 = literal-found s (bytes " [") at e in

@@ -8,9 +8,9 @@ use native.Mathlib.Omega.{arith}
 use lib.ListN.{length, set, length-set, length-map, length-append}
 use lib.Seq.{sets, length-sets}
 use lib.Ieee.{Float}
-use Rattle.text_numbers.specs.Form.{found, times}
-use Rattle.mesh_lines.specs.Grammar.{Listed, side, flat, sidePoints, sideIntervals}
-use Rattle.mesh_lines.specs.Parts.{run, stored, lengthWord, listedIn, AtRun}
+use Rattle.text_numbers.specs.Form.{parsed, times}
+use Rattle.mesh_lines.specs.Grammar.{Listed, sideForm, flat, sidePoints, sideIntervals}
+use Rattle.mesh_lines.specs.Parts.{runAnswer, stored, lengthWord, listedIn, AtRun}
 use Rattle.mesh_lines.specs.declared.Run.{Run}
 use Rattle.mesh_lines.specs.declared.Run.the-variants as Run
 use Rattle.mesh_lines.proofs.Laws.{takes-side}
@@ -25,10 +25,10 @@ pub record SidesSoFar (s : List ℕ) (at : ℕ) (ls₀ : List ℕ) (f : ℕ) (ps
   pub same-lengths : length ls ≡ length ls₀
   pub same-points : length ps ≡ length ps₀
   pub same-intervals : length ds ≡ length ds₀
-  pub run : runFrom listedIn c (times (4 - k) (side s) i) ≡ run listedIn (times 4 (side s) at)
-  pub lengths : stored (map lengthWord) ls (f + k) (times (4 - k) (side s) i) ≡ stored (map lengthWord) ls₀ f (times 4 (side s) at)
-  pub points : stored (flat sidePoints) ps (n + c) (times (4 - k) (side s) i) ≡ stored (flat sidePoints) ps₀ n (times 4 (side s) at)
-  pub intervals : stored (flat sideIntervals) ds (n + c) (times (4 - k) (side s) i) ≡ stored (flat sideIntervals) ds₀ n (times 4 (side s) at)
+  pub run : runFrom listedIn c (times (4 - k) (sideForm s) i) ≡ runAnswer listedIn (times 4 (sideForm s) at)
+  pub lengths : stored (map lengthWord) ls (f + k) (times (4 - k) (sideForm s) i) ≡ stored (map lengthWord) ls₀ f (times 4 (sideForm s) at)
+  pub points : stored (flat sidePoints) ps (n + c) (times (4 - k) (sideForm s) i) ≡ stored (flat sidePoints) ps₀ n (times 4 (sideForm s) at)
+  pub intervals : stored (flat sideIntervals) ds (n + c) (times (4 - k) (sideForm s) i) ≡ stored (flat sideIntervals) ds₀ n (times 4 (sideForm s) at)
 
 pub start : (s : List ℕ) (at : ℕ) (ls₀ : List ℕ) (f : ℕ) (ps₀ : List ℕ) (ds₀ : List Float) (n : ℕ) → at ≤ length s → n ≤ at
     → SidesSoFar s at ls₀ f ps₀ ds₀ n ls₀ ps₀ ds₀ at 0 0
@@ -40,7 +40,7 @@ start s at ls₀ f ps₀ ds₀ n h hn =
       same-lengths = refl;
       same-points = refl;
       same-intervals = refl;
-      run = run-start listedIn (times 4 (side s) at);
+      run = run-start listedIn (times 4 (sideForm s) at);
       lengths = rw add-zero refl;
       points = rw add-zero refl;
       intervals = rw add-zero refl;
@@ -49,9 +49,9 @@ start s at ls₀ f ps₀ ds₀ n h hn =
 module _ (s : List ℕ) (at : ℕ) (ls₀ : List ℕ) (f : ℕ) (ps₀ : List ℕ) (ds₀ : List Float) (n : ℕ) (ls ps : List ℕ) (ds : List Float) (i c k : ℕ)
     (inv : SidesSoFar s at ls₀ f ps₀ ds₀ n ls ps ds i c k) where
   pub end : 4 ≤ k
-      → (Run.Of c i ≡ run listedIn (times 4 (side s) at))
-      × ((ls ≡ stored (map lengthWord) ls₀ f (times 4 (side s) at))
-      × ((ps ≡ stored (flat sidePoints) ps₀ n (times 4 (side s) at)) × (ds ≡ stored (flat sideIntervals) ds₀ n (times 4 (side s) at))))
+      → (Run.Of c i ≡ runAnswer listedIn (times 4 (sideForm s) at))
+      × ((ls ≡ stored (map lengthWord) ls₀ f (times 4 (sideForm s) at))
+      × ((ps ≡ stored (flat sidePoints) ps₀ n (times 4 (sideForm s) at)) × (ds ≡ stored (flat sideIntervals) ds₀ n (times 4 (sideForm s) at))))
   unfolding times flat
   end hk =
       let e : 4 - k ≡ 0 = omega arith in (
@@ -63,12 +63,12 @@ module _ (s : List ℕ) (at : ℕ) (ls₀ : List ℕ) (f : ℕ) (ps₀ : List �
     fuel : 4 - k ≡ suc (4 - (k + 1))
     fuel = omega arith
 
-    pub stop : {r : Run} → r ≡ run length (side s i) → r ≡ Run.None → Run.None ≡ run listedIn (times 4 (side s) at)
-    stop er en = rw (fuel, times-none (side s) i (4 - (k + 1)) (run-none length (side s i) (sym er ∙ en))) at (inv .run)
+    pub stop : {r : Run} → r ≡ runAnswer length (sideForm s i) → r ≡ Run.None → Run.None ≡ runAnswer listedIn (times 4 (sideForm s) at)
+    stop er en = rw (fuel, times-none (sideForm s) i (4 - (k + 1)) (run-none length (sideForm s i) (sym er ∙ en))) at (inv .run)
 
-    module _ {r : Run} {m j : ℕ} (er : r ≡ run length (side s i)) (em : r ≡ Run.Of m j) where
-      found-side : (a : List Listed) × (side s i ≡ found a j) × (length a ≡ m)
-      found-side = run-of length (side s i) (sym er ∙ em)
+    module _ {r : Run} {m j : ℕ} (er : r ≡ runAnswer length (sideForm s i)) (em : r ≡ Run.Of m j) where
+      found-side : (a : List Listed) × (sideForm s i ≡ parsed a j) × (length a ≡ m)
+      found-side = run-of length (sideForm s i) (sym er ∙ em)
 
       pub side-longer : (i + m ≤ j) × (j ≤ length s)
       side-longer =
@@ -77,15 +77,15 @@ module _ (s : List ℕ) (at : ℕ) (ls₀ : List ℕ) (f : ℕ) (ps₀ : List �
           omega arith
 
       pub turn : {ls′ ps′ : List ℕ} {ds′ : List Float} → ls′ ≡ set ls (f + k) (m % 4294967296)
-          → AtRun r (ps′ ≡ stored sidePoints ps (n + c) (side s i)) → AtRun r (ds′ ≡ stored sideIntervals ds (n + c) (side s i))
+          → AtRun r (ps′ ≡ stored sidePoints ps (n + c) (sideForm s i)) → AtRun r (ds′ ≡ stored sideIntervals ds (n + c) (sideForm s i))
           → SidesSoFar s at ls₀ f ps₀ ds₀ n ls′ ps′ ds′ j (c + m) (k + 1)
       unfolding flat
       turn {ls′} {ps′} {ds′} el ep ed =
           let a = found-side .0 in
           let ea = found-side .1 in
           let la = found-side .2 in
-          let rest = times (4 - (k + 1)) (side s) j in
-          let t = times-found (side s) i (4 - (k + 1)) ea in
+          let rest = times (4 - (k + 1)) (sideForm s) j in
+          let t = times-found (sideForm s) i (4 - (k + 1)) ea in
           let lo = side-longer in
           let co = inv .counted in
           let el′ : ls′ ≡ set ls (f + k) (lengthWord a) = el ∙ ap (λ (v : ℕ). set ls (f + k) (v % 4294967296)) (sym la) in

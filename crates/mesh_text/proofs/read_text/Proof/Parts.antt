@@ -10,10 +10,10 @@ use lib.Seq.{sets}
 use lib.Dec.{leb}
 use lib.Ieee.{Float}
 use borrow.Author.Tests.{leb-true}
-use Rattle.text_numbers.specs.Form.{Found, found, none}
+use Rattle.text_numbers.specs.Form.{Parsed, parsed, unparsed}
 use Rattle.mesh_lines.specs.Grammar.{Listed, flat, sidePoints}
-use Rattle.mesh_text.specs.Text.{Mesh, text}
-use Rattle.mesh_text.specs.Reading.{counts, Lists, within, readInto}
+use Rattle.mesh_text.specs.Text.{TextMesh, text}
+use Rattle.mesh_text.specs.Reading.{counts, TextLists, within, readInto}
 use Rattle.mesh_text.specs.Lists.{coordinates, lengths, listedPoints, intervals}
 use Rattle.mesh_lines.specs.Parts.{lengthWord, stored}
 use Rattle.mesh_text.specs.Parts.{lengthWords, totalOf, AtTotal}
@@ -23,17 +23,17 @@ use Rattle.mesh_text.specs.declared.Total.the-variants as Total
 use Rattle.tables.specs.declared.Sizes.{Sizes}
 use Rattle.mesh_text.specs.declared.Reading.the-variants as Reading
 
-total-of : (x : Found Mesh) {p f c : ℕ} → totalOf x ≡ Total.Of p f c → (m : Mesh) × (n : ℕ) × (x ≡ found m n) × (counts m ≡ record { points = p; faces = f; listed = c })
-total-of (found m n) {p} {f} {c} e =
+total-of : (x : Parsed TextMesh) {p f c : ℕ} → totalOf x ≡ Total.Of p f c → (m : TextMesh) × (n : ℕ) × (x ≡ parsed m n) × (counts m ≡ record { points = p; faces = f; listed = c })
+total-of (parsed m n) {p} {f} {c} e =
     let ep : length (m .points) ≡ p = cc in
     let ef : length (m .faces) ≡ f = cc in
     let ec : length (listedPoints m) ≡ c = cc in
     (m, n, refl, λ i. record { points = ep i; faces = ef i; listed = ec i })
-total-of none e = let z : _≡_ {A = ℕ} 0 1 = cc in absurd (omega arith)
+total-of unparsed e = let z : _≡_ {A = ℕ} 0 1 = cc in absurd (omega arith)
 
-total-none : (x : Found Mesh) → totalOf x ≡ Total.None → x ≡ none
-total-none (found m n) e = cc
-total-none none e = refl
+total-none : (x : Parsed TextMesh) → totalOf x ≡ Total.None → x ≡ unparsed
+total-none (parsed m n) e = cc
+total-none unparsed e = refl
 
 -- lengths that fit a word are that word
 side-words : (sides : List (List Listed)) → length (flat sidePoints sides) ≤ 4294967295 → map lengthWord sides ≡ map length sides
@@ -63,7 +63,7 @@ listed-fits c limits xs ls ps ds e =
     let e3 = and-both (leb (c .listed) (limits .listed)) _ e2 .1 in
     leb-true (c .listed) 4294967295 (and-both (leb (c .listed) 4294967295) _ e3 .0)
 
-module _ (s : List ℕ) (limits : Sizes) (l : Lists) {r : Total} (er : r ≡ totalOf (text s)) where
+module _ (s : List ℕ) (limits : Sizes) (l : TextLists) {r : Total} (er : r ≡ totalOf (text s)) where
   pub not-text : r ≡ Total.None → record { reading = Reading.NotText; lists = l } ≡ readInto s limits l
   unfolding readInto
   not-text en = rw (total-none (text s) (sym er ∙ en))

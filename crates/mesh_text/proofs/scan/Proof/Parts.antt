@@ -7,12 +7,12 @@ use Prim.Native.Nat.{ℕ, _≤_}
 use native.Mathlib.Omega.{arith}
 use lib.ListN.{length}
 use lib.Ieee.{Float}
-use Rattle.text_numbers.specs.Form.{bytes, found, Form, many, stands}
-use Rattle.mesh_lines.specs.Grammar.{Listed, point, face, flat, sidePoints, sideIntervals}
+use Rattle.text_numbers.specs.Form.{bytes, parsed, Form, many, stands}
+use Rattle.mesh_lines.specs.Grammar.{Listed, pointForm, faceForm, flat, sidePoints, sideIntervals}
 use Rattle.mesh_text.specs.Text.{ends, mesh, text}
 use Rattle.text_numbers.specs.Numbers.{float}
 use Rattle.mesh_text.specs.Lists.{coordinates, listedPoints, intervals}
-use Rattle.mesh_lines.specs.Parts.{lengthWord, run, linesOf, stored, AtRun, AtLines}
+use Rattle.mesh_lines.specs.Parts.{lengthWord, runAnswer, linesAnswer, stored, AtRun, AtLines}
 use Rattle.mesh_text.specs.Parts.{lengthWords, totalOf}
 use Rattle.mesh_lines.specs.declared.Run.{Run}
 use Rattle.mesh_lines.specs.declared.Run.the-variants as Run
@@ -25,10 +25,10 @@ use Rattle.text_numbers.proofs.Turns.{literal-found, literal-none}
 use Rattle.mesh_lines.proofs.Answers.{run-of, run-none, lines-are, lines-none}
 
 abbrev pointLines : List ℕ → Form (List (List ℕ))
-pointLines s = many s (bytes "[point") (point s) (length s)
+pointLines s = many s (bytes "[point") (pointForm s) (length s)
 
 abbrev faceLines : List ℕ → Form (List (List (List Listed)))
-faceLines s = many s (bytes "[face") (face s) (length s)
+faceLines s = many s (bytes "[face") (faceForm s) (length s)
 
 module _ (s : List ℕ) where
   pub no-head : stands s 0 (bytes "[mesh 1]\n") ≡ false → Total.None ≡ totalOf (text s)
@@ -39,36 +39,36 @@ module _ (s : List ℕ) where
     pub head-inside : 9 ≤ length s
     head-inside = stands-inside s (bytes "[mesh 1]\n") 0 refl (omega arith) e
 
-    module _ {r : Run} (er : r ≡ run length (pointLines s 9)) where
+    module _ {r : Run} (er : r ≡ runAnswer length (pointLines s 9)) where
       pub no-points : r ≡ Run.None → Total.None ≡ totalOf (text s)
       unfolding mesh text
       no-points en = rw (literal-found s (bytes "[mesh 1]\n") 0 e, run-none length (pointLines s 9) (sym er ∙ en))
 
       module _ {p i : ℕ} (ep : r ≡ Run.Of p i) where
-        points-read : (a : List (List ℕ)) × (pointLines s 9 ≡ found a i) × (length a ≡ p)
+        points-read : (a : List (List ℕ)) × (pointLines s 9 ≡ parsed a i) × (length a ≡ p)
         points-read = run-of length (pointLines s 9) (sym er ∙ ep)
 
         pub points-inside : i ≤ length s
         points-inside =
-            takes-many s (bytes "[point") (λ l. 0) (point s) (length s) refl (takes-point s) 9 head-inside (points-read .0) i (points-read .1) .1
+            takes-many s (bytes "[point") (λ l. 0) (pointForm s) (length s) refl (takes-point s) 9 head-inside (points-read .0) i (points-read .1) .1
 
-        module _ {q : Lines} (eq : q ≡ linesOf (faceLines s i)) where
+        module _ {q : Lines} (eq : q ≡ linesAnswer (faceLines s i)) where
           pub no-faces : q ≡ Lines.None → Total.None ≡ totalOf (text s)
           unfolding mesh text
           no-faces en = rw (literal-found s (bytes "[mesh 1]\n") 0 e, points-read .1, lines-none (faceLines s i) (sym eq ∙ en))
 
           module _ {f c j : ℕ} (ef : q ≡ Lines.Are f c j) where
-            faces-read : (a : List (List (List Listed))) × (faceLines s i ≡ found a j) × (length a ≡ f) × (length (flat (flat sidePoints) a) ≡ c)
+            faces-read : (a : List (List (List Listed))) × (faceLines s i ≡ parsed a j) × (length a ≡ f) × (length (flat (flat sidePoints) a) ≡ c)
             faces-read = lines-are (faceLines s i) (sym eq ∙ ef)
 
             pub faces-inside : j ≤ length s
-            faces-inside = takes-many s (bytes "[face") _ (face s) (length s) refl (takes-face s) i points-inside (faces-read .0) j (faces-read .1) .1
+            faces-inside = takes-many s (bytes "[face") _ (faceForm s) (length s) refl (takes-face s) i points-inside (faces-read .0) j (faces-read .1) .1
 
             pub no-end : ends s j ≡ false → Total.None ≡ totalOf (text s)
             unfolding mesh text
             no-end en = rw (literal-found s (bytes "[mesh 1]\n") 0 e, points-read .1, faces-read .1, en)
 
-            read : ends s j ≡ true → text s ≡ found (record { points = points-read .0; faces = faces-read .0 }) j
+            read : ends s j ≡ true → text s ≡ parsed (record { points = points-read .0; faces = faces-read .0 }) j
             unfolding mesh text
             read ee = rw (literal-found s (bytes "[mesh 1]\n") 0 e, points-read .1, faces-read .1, ee)
 

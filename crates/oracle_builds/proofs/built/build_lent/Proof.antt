@@ -6,19 +6,34 @@ use Rattle.oracle_builds.proofs.built.build_lent.Statement.{statement}
 use Rattle.oracle_builds.proofs.built.build_lent.Tie as tie
 
 slice-aggregate-build-text : tie.Need-slice-aggregate-build-text
-slice-aggregate-build-text c = sym (length-take-le _ (c .before .before .before .before .before .before .before .before .before .before .before .before .args .positions .now) (c .before .before .before .before .before .least .ensures .1))
+slice-aggregate-build-text c =
+    let c8 = c .before .before .before .before .before .before .before .before in
+    let args = c8 .before .before .before .before .args in
+    sym (length-take-le _ (args .positions .now) (c .before .before .before .before .before .least .ensures .1))
 
 slice-aggregate-build-text-2 : tie.Need-slice-aggregate-build-text-2
-slice-aggregate-build-text-2 c = sym (length-take-le _ (c .before .before .before .before .before .before .before .before .before .before .before .before .before .args .points .now) (c .before .before .before .before .before .least2 .ensures .1))
+slice-aggregate-build-text-2 c =
+    let c8 = c .before .before .before .before .before .before .before .before in
+    let args = c8 .before .before .before .before .before .args in
+    sym (length-take-le _ (args .points .now) (c .before .before .before .before .before .least2 .ensures .1))
 
 slice-aggregate-build-text-3 : tie.Need-slice-aggregate-build-text-3
-slice-aggregate-build-text-3 c = sym (length-take-le _ (c .before .before .before .before .before .before .before .before .before .before .before .before .before .before .args .edges .now) (c .before .before .before .before .before .least3 .ensures .1))
+slice-aggregate-build-text-3 c =
+    let c8 = c .before .before .before .before .before .before .before .before in
+    let args = c8 .before .before .before .before .before .before .args in
+    sym (length-take-le _ (args .edges .now) (c .before .before .before .before .before .least3 .ensures .1))
 
 slice-aggregate-build-text-4 : tie.Need-slice-aggregate-build-text-4
-slice-aggregate-build-text-4 c = sym (length-take-le _ (c .before .before .before .before .before .before .before .before .before .before .before .before .before .before .before .args .intervals .now) (c .before .before .before .before .before .least4 .ensures .1))
+slice-aggregate-build-text-4 c =
+    let c8 = c .before .before .before .before .before .before .before .before in
+    let args = c8 .before .before .before .before .before .before .before .args in
+    sym (length-take-le _ (args .intervals .now) (c .before .before .before .before .before .least4 .ensures .1))
 
 slice-aggregate-build-text-5 : tie.Need-slice-aggregate-build-text-5
-slice-aggregate-build-text-5 c = sym (length-take-le _ (c .before .before .before .before .before .before .before .before .before .before .before .before .before .before .before .before .args .faces .now) (c .before .before .before .before .before .least5 .ensures .1))
+slice-aggregate-build-text-5 c =
+    let c8 = c .before .before .before .before .before .before .before .before in
+    let args = c8 .before .before .before .before .before .before .before .before .args in
+    sym (length-take-le _ (args .faces .now) (c .before .before .before .before .before .least5 .ensures .1))
 
 pub build-lent-spec : {M : Type 1} → statement M
 build-lent-spec =

@@ -6,16 +6,28 @@ use Rattle.oracle_builds.proofs.built.build_lists.Statement.{statement}
 use Rattle.oracle_builds.proofs.built.build_lists.Tie as tie
 
 slice-aggregate-build : tie.Need-slice-aggregate-build
-slice-aggregate-build c = sym (length-take-le _ (c .before .before .before .before .before .before .before .before .before .before .before .before .before .before .args .coordinates .now) (c .before .before .before .before .least .ensures .1))
+slice-aggregate-build c =
+    let c8 = c .before .before .before .before .before .before .before .before in
+    let args = c8 .before .before .before .before .before .before .args in
+    sym (length-take-le _ (args .coordinates .now) (c .before .before .before .before .least .ensures .1))
 
 slice-aggregate-build-2 : tie.Need-slice-aggregate-build-2
-slice-aggregate-build-2 c = sym (length-take-le _ (c .before .before .before .before .before .before .before .before .before .before .before .before .before .before .before .args .sides .now) (c .before .before .before .before .least2 .ensures .1))
+slice-aggregate-build-2 c =
+    let c8 = c .before .before .before .before .before .before .before .before in
+    let args = c8 .before .before .before .before .before .before .before .args in
+    sym (length-take-le _ (args .sides .now) (c .before .before .before .before .least2 .ensures .1))
 
 slice-aggregate-build-3 : tie.Need-slice-aggregate-build-3
-slice-aggregate-build-3 c = sym (length-take-le _ (c .before .before .before .before .before .before .before .before .before .before .before .before .before .before .before .before .args .listed .now) (c .before .before .before .before .least3 .ensures .1))
+slice-aggregate-build-3 c =
+    let c8 = c .before .before .before .before .before .before .before .before in
+    let args = c8 .before .before .before .before .before .before .before .before .args in
+    sym (length-take-le _ (args .listed .now) (c .before .before .before .before .least3 .ensures .1))
 
 slice-aggregate-build-4 : tie.Need-slice-aggregate-build-4
-slice-aggregate-build-4 c = sym (length-take-le _ (c .before .before .before .before .before .before .before .before .before .before .before .before .before .before .before .before .before .args .beside .now) (c .before .before .before .before .least4 .ensures .1))
+slice-aggregate-build-4 c =
+    let c8 = c .before .before .before .before .before .before .before .before in
+    let c16 = c8 .before .before .before .before .before .before .before .before in
+    sym (length-take-le _ (c16 .before .args .beside .now) (c .before .before .before .before .least4 .ensures .1))
 
 pub build-lists-spec : {M : Type 1} → statement M
 build-lists-spec =

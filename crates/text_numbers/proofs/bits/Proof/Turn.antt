@@ -6,7 +6,7 @@ use native.Mathlib.Nat.{pow-suc, pow-le-pow-right, zero-lt-suc}
 use native.Mathlib.Numerals.{add-one}
 use native.Mathlib.Omega.{arith}
 use lib.ListN.{length, getD}
-use Rattle.text_numbers.specs.Form.{Found, given, times}
+use Rattle.text_numbers.specs.Form.{Parsed, ifParsed, times}
 use Rattle.text_numbers.specs.Numbers.{bits, digit, digitValue, value}
 use Rattle.text_numbers.specs.Answers.{number}
 use Rattle.text_numbers.specs.declared.Number.{Number}
@@ -15,8 +15,8 @@ use Rattle.text_numbers.proofs.Laws.{digit-inside}
 use Rattle.text_numbers.proofs.Turns.{given-pure, times-found, times-none, digit-found, digit-none}
 
 -- the number that digits of value v make with those that were found
-abbrev pub numberOf : ℕ → Found (List ℕ) → Number
-numberOf v x = given (λ ds n. Number.Is (value 16 v ds) n) Number.None x
+abbrev pub numberOf : ℕ → Parsed (List ℕ) → Number
+numberOf v x = ifParsed (λ ds n. Number.Is (value 16 v ds) n) Number.None x
 
 pub bits-start : (s : List ℕ) (at : ℕ) → numberOf 0 (times 16 (digit s 16) at) ≡ number (bits s at)
 unfolding bits

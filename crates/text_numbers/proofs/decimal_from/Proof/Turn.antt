@@ -9,8 +9,8 @@ use native.Mathlib.Omega.{arith}
 use lib.ListN.{length, getD}
 use lib.Dec.{ltb}
 use borrow.Author.Tests.{lt-ltb, le-ltb, ltb-true, ltb-false}
-use Rattle.text_numbers.specs.Form.{Found, found, none, Form, onward, _>>=_, pure, choose}
-use Rattle.text_numbers.specs.Numbers.{digits, decimalFrom, digitValue}
+use Rattle.text_numbers.specs.Form.{Parsed, parsed, unparsed, Form, onward, _>>=_, pure, choose}
+use Rattle.text_numbers.specs.Numbers.{digitsFrom, decimalFrom, digitValue}
 use Rattle.text_numbers.specs.Answers.{number}
 use Rattle.text_numbers.specs.declared.Number.{Number}
 use Rattle.text_numbers.specs.declared.Number.the-variants as Number
@@ -18,28 +18,28 @@ use Rattle.text_numbers.proofs.Laws.{digit-inside}
 use Rattle.text_numbers.proofs.Turns.{digits-turn, digits-stop}
 
 abbrev pub rest : List ℕ → ℕ → ℕ → Form ℕ
-rest s k v = digits s k v >>= λ w. choose (ltb w 4294967296) (pure w) (λ at. none)
+rest s k v = digitsFrom s k v >>= λ w. choose (ltb w 4294967296) (pure w) (λ at. unparsed)
 
 pub rest-start : (s : List ℕ) (first at : ℕ) → number (rest s (length s - (at - at)) first at) ≡ number (decimalFrom s first at)
 unfolding decimalFrom
 rest-start s first at = let e : length s - (at - at) ≡ length s = omega arith in rw e
 
 -- digits only make a number larger
-digits-grow : (s : List ℕ) (k v i w n : ℕ) → digits s k v i ≡ found w n → v ≤ w
-unfolding digits
+digits-grow : (s : List ℕ) (k v i w n : ℕ) → digitsFrom s k v i ≡ parsed w n → v ≤ w
+unfolding digitsFrom
 digits-grow s zero v i w n e = let ew : v ≡ w = cc in omega arith
 digits-grow s (suc k) v i w n e = go (ltb (digitValue (getD s i 0)) 10) refl (digits-grow s k (v * 10 + digitValue (getD s i 0)) (i + 1) w n)
   where
-    go : (b : Bool) → ltb (digitValue (getD s i 0)) 10 ≡ b → (digits s k (v * 10 + digitValue (getD s i 0)) (i + 1) ≡ found w n → v * 10 + digitValue (getD s i 0) ≤ w) → v ≤ w
+    go : (b : Bool) → ltb (digitValue (getD s i 0)) 10 ≡ b → (digitsFrom s k (v * 10 + digitValue (getD s i 0)) (i + 1) ≡ parsed w n → v * 10 + digitValue (getD s i 0) ≤ w) → v ≤ w
     go true eb ih = let r = ih (sym (digits-turn s v i k (ltb-true _ _ eb)) ∙ e) in omega arith
     go false eb ih = let ew : v ≡ w = cc (digits-stop s v i (suc k) (ltb-false _ _ eb)) in omega arith
 
-large : (s : List ℕ) (k v i : ℕ) → 4294967296 ≤ v → rest s k v i ≡ none
-large s k v i h = go (digits s k v i) refl
+large : (s : List ℕ) (k v i : ℕ) → 4294967296 ≤ v → rest s k v i ≡ unparsed
+large s k v i h = go (digitsFrom s k v i) refl
   where
-    go : (x : Found ℕ) → digits s k v i ≡ x → onward (λ w. choose (ltb w 4294967296) (pure w) (λ at. none)) x ≡ none
-    go (found w n) e = let g = digits-grow s k v i w n e in rw (le-ltb w 4294967296 (omega arith))
-    go none e = refl
+    go : (x : Parsed ℕ) → digitsFrom s k v i ≡ x → onward (λ w. choose (ltb w 4294967296) (pure w) (λ at. unparsed)) x ≡ unparsed
+    go (parsed w n) e = let g = digits-grow s k v i w n e in rw (le-ltb w 4294967296 (omega arith))
+    go unparsed e = refl
 
 module _ (s : List ℕ) (at first v i : ℕ) (inv : number (rest s (length s - (i - at)) v i) ≡ number (decimalFrom s first at)) where
   pub rest-turn : at ≤ i → i < length s → {d b : ℕ} → d ≡ digitValue b → b ≡ getD s i 0 → d < 10
