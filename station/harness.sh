@@ -6,6 +6,7 @@
 #     station/harness.sh fuzz [CASES [SEED]]        random and damaged lists, texts and tables (50,000, seed 1)
 #     station/harness.sh tampered                   changed bits in what the library leaves, which must be found
 #     station/harness.sh bench [FACES]              times; the Rust is run on meshes of up to so many faces (all)
+#     station/harness.sh obj [FACES]                a shuffled mesh of about so many faces as an OBJ (3,000)
 #     station/harness.sh profile [STEPS]            steps of the torus of 64 by 64, for a profiler
 #     station/harness.sh stack                      the stack that each function takes
 #

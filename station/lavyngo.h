@@ -140,6 +140,112 @@ uint32_t lavyngo_find_depth(
     const uint32_t *edges, size_t edges_length, const double *intervals, size_t intervals_length,
     const uint32_t *faces, size_t faces_length, const size_t counts[3], double depth, size_t *edge);
 
+/* THE SAME BY TABLES
+   Nobody needs to write a row's width or to count elements: struct lavyngo_tables holds the five tables of a mesh with their
+   rows, and a wrapper for each function takes it. */
+
+struct lavyngo_tables {
+    double *positions;
+    uint32_t *points;
+    uint32_t *edges;
+    double *intervals;
+    uint32_t *faces;
+    size_t point_rows, edge_rows, face_rows;
+};
+
+/* Five tables with so many rows, that the caller has made. */
+static inline struct lavyngo_tables lavyngo_tables_of(
+    double *positions, uint32_t *points, uint32_t *edges, double *intervals, uint32_t *faces,
+    size_t point_rows, size_t edge_rows, size_t face_rows) {
+    struct lavyngo_tables t = {positions, points, edges, intervals, faces, point_rows, edge_rows, face_rows};
+    return t;
+}
+
+/* Makes five arrays with so many rows and `name`, the struct of them: LAVYNGO_TABLES(mesh, 98, 192, 96); */
+#define LAVYNGO_TABLES(name, point_rows, edge_rows, face_rows)                                                          \
+    static double name##_positions[LAVYNGO_POSITION * (point_rows)], name##_intervals[LAVYNGO_INTERVAL * (edge_rows)];  \
+    static uint32_t name##_points[LAVYNGO_POINT * (point_rows)], name##_edges[LAVYNGO_EDGE * (edge_rows)];              \
+    static uint32_t name##_faces[LAVYNGO_FACE * (face_rows)];                                                           \
+    static const struct lavyngo_tables name = {name##_positions, name##_points, name##_edges, name##_intervals,         \
+                                               name##_faces, (point_rows), (edge_rows), (face_rows)}
+
+/* The five tables of t as the functions take them: a pointer and its number of elements each. */
+#define LAVYNGO_LENT(t)                                                                                       \
+    (t)->positions, LAVYNGO_POSITION * (t)->point_rows, (t)->points, LAVYNGO_POINT * (t)->point_rows,         \
+        (t)->edges, LAVYNGO_EDGE * (t)->edge_rows, (t)->intervals, LAVYNGO_INTERVAL * (t)->edge_rows,         \
+        (t)->faces, LAVYNGO_FACE * (t)->face_rows
+
+static inline uint32_t lavyngo_tables_build(
+    const double *coordinates, size_t coordinates_length, const uint32_t *sides, size_t sides_length,
+    const uint32_t *listed, size_t listed_length, const double *beside, size_t beside_length,
+    const struct lavyngo_tables *t, size_t counts[3]) {
+    return lavyngo_build(coordinates, coordinates_length, sides, sides_length, listed, listed_length, beside, beside_length,
+                         LAVYNGO_LENT(t), counts);
+}
+
+static inline uint32_t lavyngo_tables_build_text(
+    const uint8_t *text, size_t text_length, const struct lavyngo_tables *t, size_t counts[3]) {
+    return lavyngo_build_text(text, text_length, LAVYNGO_LENT(t), counts);
+}
+
+static inline uint32_t lavyngo_tables_audit(const struct lavyngo_tables *t, const size_t counts[3]) {
+    return lavyngo_audit(LAVYNGO_LENT(t), counts);
+}
+
+static inline uint32_t lavyngo_tables_step(
+    const struct lavyngo_tables *t, size_t counts[3], const uint32_t *order, size_t order_length,
+    const struct lavyngo_tables *scratch) {
+    return lavyngo_step(LAVYNGO_LENT(t), counts, order, order_length, LAVYNGO_LENT(scratch));
+}
+
+/* The rows that a step of a mesh with these counts needs, in the tables and in scratch. */
+static inline void lavyngo_counts_after(const size_t counts[3], size_t after[3]) {
+    const size_t points = counts[LAVYNGO_POINTS], edges = counts[LAVYNGO_EDGES], faces = counts[LAVYNGO_FACES];
+    after[LAVYNGO_POINTS] = points + edges + faces;
+    after[LAVYNGO_EDGES] = 4 * edges;
+    after[LAVYNGO_FACES] = 2 * edges;
+}
+
+/* What an answer means, in words. */
+static inline const char *lavyngo_ground_words(uint32_t answer) {
+    switch (answer) {
+    case LAVYNGO_ACCEPTED: return "accepted";
+    case LAVYNGO_NOT_TEXT: return "the text is not of the form of a mesh text";
+    case LAVYNGO_OVER_COUNTS: return "too many points, faces or listed points, or list lengths that disagree";
+    case LAVYNGO_UNFIT_NUMBER: return "a number that is not finite, or an interval with the sign bit set";
+    case LAVYNGO_FEW_ROWS: return "fewer rows are lent than are needed";
+    case LAVYNGO_FACE_SIZE: return "a face of fewer than 3 or more than 64 points";
+    case LAVYNGO_OUT_OF_RANGE: return "a listed point that is no point";
+    case LAVYNGO_POINT_TWICE: return "a point twice in a face";
+    case LAVYNGO_NON_RECTANGULAR_FACE: return "the intervals of opposite sides of a face do not sum up alike";
+    case LAVYNGO_EDGE_TRIPLE_FACE: return "an edge that has two faces already";
+    case LAVYNGO_SAME_WAY: return "the second face of an edge runs the same way as the first";
+    case LAVYNGO_MISSING_FACE: return "an edge with one face: the surface has a hole";
+    case LAVYNGO_NO_EDGE: return "a point with no edge";
+    case LAVYNGO_MISSED_EDGE: return "the walk about a point misses an edge: surfaces that meet in one point";
+    case LAVYNGO_NOT_CLOSED: return "the tables with these counts are no closed mesh";
+    case LAVYNGO_NOT_EACH_FACE_ONCE: return "the order is not each face once";
+    case LAVYNGO_NO_ROOM: return "too few rows for the mesh after the step, or that mesh is too large";
+    case LAVYNGO_NOT_FINITE: return "a number of the mesh after the step would not be finite";
+    default: return "no answer of this library";
+    }
+}
+
+/* Whether this thread works out binary64 as the proofs of the library begin with it: rounded to nearest, numbers below the
+   normal ones kept. A program linked with -ffast-math is not fit: with the numbers below the normal ones taken for 0 the
+   library answers other bits, and no refusal says so. Ask it once, before the first call. */
+static inline int lavyngo_numbers_fit(void) {
+    volatile double least = 4.9406564584124654e-324, one = 1.0, half_unit = 1.1102230246251565e-16, unit = 2.220446049250313e-16;
+    const volatile double kept = least * one;
+    const volatile double down = one + half_unit, up = (one + unit) + half_unit, below = -one - half_unit;
+    double seen = kept;
+    uint64_t bits = 0;
+    unsigned char *to = (unsigned char *)&bits;
+    const unsigned char *from = (const unsigned char *)&seen;
+    for (size_t k = 0; k < sizeof bits; k++) to[k] = from[k];
+    return bits == 1 && down == 1.0 && up == 1.0 + 2 * unit && below == -1.0;
+}
+
 #ifdef __cplusplus
 }
 #endif

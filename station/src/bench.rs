@@ -183,3 +183,17 @@ pub fn profile(steps: usize) {
         assert_eq!(library::step(&mut tables, &mut counts.array(), &order, &mut scratch), 0);
     }
 }
+
+/// A shuffled mesh as an OBJ: its points and its faces.
+pub fn obj(faces: usize) {
+    let lists = shuffled(faces).lists;
+    for point in lists.coordinates.chunks(3) {
+        println!("v {:?} {:?} {:?}", point[0], point[1], point[2]);
+    }
+    let mut rest = &lists.listed[..];
+    for sides in lists.sides.chunks(4) {
+        let (face, more) = rest.split_at(sides.iter().sum::<u32>() as usize);
+        println!("f {}", face.iter().map(|p| (p + 1).to_string()).collect::<Vec<_>>().join(" "));
+        rest = more;
+    }
+}

@@ -4,6 +4,7 @@
 //!                                        20,000 and more, also the largest mesh, up to the ceilings
 //!     station fuzz [CASES [SEED]]        random and damaged lists, texts and tables
 //!     station bench [FACES]              times; the Rust is run on meshes of up to so many faces
+//!     station obj [FACES]                a shuffled mesh of about so many faces as an OBJ, for other libraries
 //!     station profile [STEPS]            steps of the torus of 64 by 64, for a profiler
 //!     station stack                      the stack that each function takes
 //!     station tampered                   the same with a bit changed in what the library leaves: it must be found
@@ -168,6 +169,10 @@ fn command() -> ExitCode {
         }
         Some("stack-call") => {
             stack::call(&words[1], number(2, 0) as usize);
+            ExitCode::SUCCESS
+        }
+        Some("obj") => {
+            bench::obj(number(1, 3000) as usize);
             ExitCode::SUCCESS
         }
         Some("profile") => {

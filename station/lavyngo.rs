@@ -1,0 +1,166 @@
+//! The library for stations in Rust: safe functions over slices, and tables to lend. lavyngo.h says what each function does, what
+//! the words of a row are and what an answer means; link with target/staticlib/libstation.a (`rt staticlib station`).
+
+#![allow(dead_code)]
+
+/// Elements of a row of each table.
+pub const POSITION: usize = 3;
+pub const POINT: usize = 3;
+pub const EDGE: usize = 8;
+pub const FACE: usize = 5;
+
+/// A corner that is no point.
+pub const NONE: u32 = u32::MAX;
+
+/// Document 01's number of a refusal.
+#[derive(Clone, Copy, PartialEq, Eq, Debug)]
+pub struct Ground(pub u32);
+
+/// How many points, edges and faces a mesh has.
+#[derive(Clone, Copy, PartialEq, Eq, Debug, Default)]
+pub struct Counts {
+    pub points: usize,
+    pub edges: usize,
+    pub faces: usize,
+}
+
+impl Counts {
+    /// The counts after a step.
+    pub fn refined(self) -> Self {
+        Counts { points: self.points + self.edges + self.faces, edges: 4 * self.edges, faces: 2 * self.edges }
+    }
+
+    fn array(self) -> [usize; 3] {
+        [self.points, self.edges, self.faces]
+    }
+
+    fn of(counts: [usize; 3]) -> Self {
+        Counts { points: counts[0], edges: counts[1], faces: counts[2] }
+    }
+}
+
+/// The five tables of a mesh.
+#[derive(Clone, Debug, Default, PartialEq)]
+pub struct Tables {
+    pub positions: Vec<f64>,
+    pub points: Vec<u32>,
+    pub edges: Vec<u32>,
+    pub intervals: Vec<f64>,
+    pub faces: Vec<u32>,
+}
+
+/// What building is handed: 3 coordinates a point, 4 side lengths a face, the listed points and the interval beside each.
+#[derive(Clone, Copy, Debug)]
+pub struct Lists<'a> {
+    pub coordinates: &'a [f64],
+    pub sides: &'a [u32],
+    pub listed: &'a [u32],
+    pub beside: &'a [f64],
+}
+
+impl Tables {
+    /// Tables of zeros with rows for these counts.
+    pub fn with_rows(counts: Counts) -> Self {
+        Tables {
+            positions: vec![0.0; POSITION * counts.points],
+            points: vec![0; POINT * counts.points],
+            edges: vec![0; EDGE * counts.edges],
+            intervals: vec![0.0; counts.edges],
+            faces: vec![0; FACE * counts.faces],
+        }
+    }
+
+    /// Builds a mesh from lists.
+    pub fn build(&mut self, lists: Lists) -> Result<Counts, Ground> {
+        let mut counts = [0; 3];
+        // SAFETY: every pointer goes with its length, and no two tables overlap.
+        let answer = unsafe {
+            lavyngo_build(
+                lists.coordinates.as_ptr(), lists.coordinates.len(), lists.sides.as_ptr(), lists.sides.len(),
+                lists.listed.as_ptr(), lists.listed.len(), lists.beside.as_ptr(), lists.beside.len(),
+                self.positions.as_mut_ptr(), self.positions.len(), self.points.as_mut_ptr(), self.points.len(),
+                self.edges.as_mut_ptr(), self.edges.len(), self.intervals.as_mut_ptr(), self.intervals.len(),
+                self.faces.as_mut_ptr(), self.faces.len(), &mut counts,
+            )
+        };
+        accepted(answer, counts)
+    }
+
+    /// Builds a mesh from a text.
+    pub fn build_text(&mut self, text: &[u8]) -> Result<Counts, Ground> {
+        let mut counts = [0; 3];
+        // SAFETY: as above.
+        let answer = unsafe {
+            lavyngo_build_text(
+                text.as_ptr(), text.len(),
+                self.positions.as_mut_ptr(), self.positions.len(), self.points.as_mut_ptr(), self.points.len(),
+                self.edges.as_mut_ptr(), self.edges.len(), self.intervals.as_mut_ptr(), self.intervals.len(),
+                self.faces.as_mut_ptr(), self.faces.len(), &mut counts,
+            )
+        };
+        accepted(answer, counts)
+    }
+
+    /// Whether the tables are a closed mesh with these counts.
+    pub fn audit(&self, counts: Counts) -> Result<(), Ground> {
+        // SAFETY: every pointer goes with its length; nothing is written.
+        let answer = unsafe {
+            lavyngo_audit(
+                self.positions.as_ptr(), self.positions.len(), self.points.as_ptr(), self.points.len(),
+                self.edges.as_ptr(), self.edges.len(), self.intervals.as_ptr(), self.intervals.len(),
+                self.faces.as_ptr(), self.faces.len(), &counts.array(),
+            )
+        };
+        accepted(answer, counts.array()).map(|_| ())
+    }
+
+    /// Refines the mesh once, visiting the faces in this order: the counts after the step.
+    pub fn step(&mut self, counts: Counts, order: &[u32], scratch: &mut Tables) -> Result<Counts, Ground> {
+        let mut after = counts.array();
+        // SAFETY: every pointer goes with its length, and no two tables overlap.
+        let answer = unsafe {
+            lavyngo_step(
+                self.positions.as_mut_ptr(), self.positions.len(), self.points.as_mut_ptr(), self.points.len(),
+                self.edges.as_mut_ptr(), self.edges.len(), self.intervals.as_mut_ptr(), self.intervals.len(),
+                self.faces.as_mut_ptr(), self.faces.len(), &mut after, order.as_ptr(), order.len(),
+                scratch.positions.as_mut_ptr(), scratch.positions.len(), scratch.points.as_mut_ptr(), scratch.points.len(),
+                scratch.edges.as_mut_ptr(), scratch.edges.len(), scratch.intervals.as_mut_ptr(), scratch.intervals.len(),
+                scratch.faces.as_mut_ptr(), scratch.faces.len(),
+            )
+        };
+        accepted(answer, after)
+    }
+}
+
+fn accepted(answer: u32, counts: [usize; 3]) -> Result<Counts, Ground> {
+    if answer == 0 { Ok(Counts::of(counts)) } else { Err(Ground(answer)) }
+}
+
+unsafe extern "C" {
+    fn lavyngo_build(
+        coordinates: *const f64, coordinates_length: usize, sides: *const u32, sides_length: usize,
+        listed: *const u32, listed_length: usize, beside: *const f64, beside_length: usize,
+        positions: *mut f64, positions_length: usize, points: *mut u32, points_length: usize,
+        edges: *mut u32, edges_length: usize, intervals: *mut f64, intervals_length: usize,
+        faces: *mut u32, faces_length: usize, counts: *mut [usize; 3],
+    ) -> u32;
+    fn lavyngo_build_text(
+        text: *const u8, text_length: usize,
+        positions: *mut f64, positions_length: usize, points: *mut u32, points_length: usize,
+        edges: *mut u32, edges_length: usize, intervals: *mut f64, intervals_length: usize,
+        faces: *mut u32, faces_length: usize, counts: *mut [usize; 3],
+    ) -> u32;
+    fn lavyngo_audit(
+        positions: *const f64, positions_length: usize, points: *const u32, points_length: usize,
+        edges: *const u32, edges_length: usize, intervals: *const f64, intervals_length: usize,
+        faces: *const u32, faces_length: usize, counts: *const [usize; 3],
+    ) -> u32;
+    fn lavyngo_step(
+        positions: *mut f64, positions_length: usize, points: *mut u32, points_length: usize,
+        edges: *mut u32, edges_length: usize, intervals: *mut f64, intervals_length: usize,
+        faces: *mut u32, faces_length: usize, counts: *mut [usize; 3], order: *const u32, order_length: usize,
+        places: *mut f64, places_length: usize, rows: *mut u32, rows_length: usize,
+        halves: *mut u32, halves_length: usize, lengths: *mut f64, lengths_length: usize,
+        quads: *mut u32, quads_length: usize,
+    ) -> u32;
+}
