@@ -37,6 +37,9 @@ fn example() -> Result<(), Ground> {
     let mut counts = build_cube(&mut tables)?;
     for stage in 0..3 {
         tables.audit(counts)?;
+        // An edge crosses the middle of the cube, and none its far side.
+        tables.find_depth(counts, 0.0)?;
+        assert_eq!(tables.find_depth(counts, 2.0), Err(Ground(41)));
         println!("[stage {stage}]");
         print(&tables, counts);
         if stage < 2 {

@@ -1,5 +1,6 @@
 /* Lavyngo for stations: closed meshes of points, edges and faces in tables that the caller lends, built from lists or from
-   a text, audited, refined, and asked for an edge at a depth. The functions are those of libstation.a (`rt staticlib station`), for x86-64 Linux.
+   a text, audited, refined, and asked for an edge at a depth. The functions are those of libstation.a (`rt staticlib station`),
+   for x86-64 Linux.
 
    Link with: cc program.c target/staticlib/libstation.a
 
@@ -198,6 +199,11 @@ static inline uint32_t lavyngo_tables_step(
     return lavyngo_step(LAVYNGO_LENT(t), counts, order, order_length, LAVYNGO_LENT(scratch));
 }
 
+static inline uint32_t lavyngo_tables_find_depth(
+    const struct lavyngo_tables *t, const size_t counts[3], double depth, size_t *edge) {
+    return lavyngo_find_depth(LAVYNGO_LENT(t), counts, depth, edge);
+}
+
 /* The rows that a step of a mesh with these counts needs, in the tables and in scratch. */
 static inline void lavyngo_counts_after(const size_t counts[3], size_t after[3]) {
     const size_t points = counts[LAVYNGO_POINTS], edges = counts[LAVYNGO_EDGES], faces = counts[LAVYNGO_FACES];
@@ -227,6 +233,8 @@ static inline const char *lavyngo_ground_words(uint32_t answer) {
     case LAVYNGO_NOT_EACH_FACE_ONCE: return "the order is not each face once";
     case LAVYNGO_NO_ROOM: return "too few rows for the mesh after the step, or that mesh is too large";
     case LAVYNGO_NOT_FINITE: return "a number of the mesh after the step would not be finite";
+    case LAVYNGO_NOWHERE: return "no edge crosses the depth";
+    case LAVYNGO_NOT_FINITE_DEPTH: return "the depth is not finite";
     default: return "no answer of this library";
     }
 }

@@ -114,6 +114,20 @@ impl Tables {
         accepted(answer, counts.array()).map(|_| ())
     }
 
+    /// The lowest-numbered edge that crosses a depth.
+    pub fn find_depth(&self, counts: Counts, depth: f64) -> Result<usize, Ground> {
+        let mut edge = 0;
+        // SAFETY: every pointer goes with its length; nothing but the edge is written.
+        let answer = unsafe {
+            lavyngo_find_depth(
+                self.positions.as_ptr(), self.positions.len(), self.points.as_ptr(), self.points.len(),
+                self.edges.as_ptr(), self.edges.len(), self.intervals.as_ptr(), self.intervals.len(),
+                self.faces.as_ptr(), self.faces.len(), &counts.array(), depth, &mut edge,
+            )
+        };
+        accepted(answer, counts.array()).map(|_| edge)
+    }
+
     /// Refines the mesh once, visiting the faces in this order: the counts after the step.
     pub fn step(&mut self, counts: Counts, order: &[u32], scratch: &mut Tables) -> Result<Counts, Ground> {
         let mut after = counts.array();
@@ -159,8 +173,13 @@ unsafe extern "C" {
         positions: *mut f64, positions_length: usize, points: *mut u32, points_length: usize,
         edges: *mut u32, edges_length: usize, intervals: *mut f64, intervals_length: usize,
         faces: *mut u32, faces_length: usize, counts: *mut [usize; 3], order: *const u32, order_length: usize,
-        places: *mut f64, places_length: usize, rows: *mut u32, rows_length: usize,
-        halves: *mut u32, halves_length: usize, lengths: *mut f64, lengths_length: usize,
-        quads: *mut u32, quads_length: usize,
+        newpositions: *mut f64, newpositions_length: usize, newpoints: *mut u32, newpoints_length: usize,
+        newedges: *mut u32, newedges_length: usize, newintervals: *mut f64, newintervals_length: usize,
+        newfaces: *mut u32, newfaces_length: usize,
+    ) -> u32;
+    fn lavyngo_find_depth(
+        positions: *const f64, positions_length: usize, points: *const u32, points_length: usize,
+        edges: *const u32, edges_length: usize, intervals: *const f64, intervals_length: usize,
+        faces: *const u32, faces_length: usize, counts: *const [usize; 3], depth: f64, edge: *mut usize,
     ) -> u32;
 }
