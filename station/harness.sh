@@ -23,7 +23,7 @@ oracle=$root/oracle/target/liboracle.rlib
 "$here/library.sh"
 "$root/oracle/build.sh"
 mkdir -p "$out"
-if [ ! -f "$out/station" ] || [ -n "$(find "$here/src" "$library" "$oracle" -newer "$out/station" -type f)" ]; then
+if [ ! -f "$out/station" ] || [ -n "$(find "$here/src" "$here/lavyngo.rs" "$library" "$oracle" -newer "$out/station" -type f)" ]; then
     rustc --edition 2024 -O --crate-name station --extern oracle="$oracle" -C link-arg="$library" \
         -o "$out/station" "$here/src/main.rs"
 fi

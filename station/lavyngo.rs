@@ -3,6 +3,8 @@
 
 #![allow(dead_code)]
 
+use raw::*;
+
 /// Elements of a row of each table.
 pub const POSITION: usize = 3;
 pub const POINT: usize = 3;
@@ -150,36 +152,39 @@ fn accepted(answer: u32, counts: [usize; 3]) -> Result<Counts, Ground> {
     if answer == 0 { Ok(Counts::of(counts)) } else { Err(Ground(answer)) }
 }
 
-unsafe extern "C" {
-    fn lavyngo_build(
-        coordinates: *const f64, coordinates_length: usize, sides: *const u32, sides_length: usize,
-        listed: *const u32, listed_length: usize, beside: *const f64, beside_length: usize,
-        positions: *mut f64, positions_length: usize, points: *mut u32, points_length: usize,
-        edges: *mut u32, edges_length: usize, intervals: *mut f64, intervals_length: usize,
-        faces: *mut u32, faces_length: usize, counts: *mut [usize; 3],
-    ) -> u32;
-    fn lavyngo_build_text(
-        text: *const u8, text_length: usize,
-        positions: *mut f64, positions_length: usize, points: *mut u32, points_length: usize,
-        edges: *mut u32, edges_length: usize, intervals: *mut f64, intervals_length: usize,
-        faces: *mut u32, faces_length: usize, counts: *mut [usize; 3],
-    ) -> u32;
-    fn lavyngo_audit(
-        positions: *const f64, positions_length: usize, points: *const u32, points_length: usize,
-        edges: *const u32, edges_length: usize, intervals: *const f64, intervals_length: usize,
-        faces: *const u32, faces_length: usize, counts: *const [usize; 3],
-    ) -> u32;
-    fn lavyngo_step(
-        positions: *mut f64, positions_length: usize, points: *mut u32, points_length: usize,
-        edges: *mut u32, edges_length: usize, intervals: *mut f64, intervals_length: usize,
-        faces: *mut u32, faces_length: usize, counts: *mut [usize; 3], order: *const u32, order_length: usize,
-        newpositions: *mut f64, newpositions_length: usize, newpoints: *mut u32, newpoints_length: usize,
-        newedges: *mut u32, newedges_length: usize, newintervals: *mut f64, newintervals_length: usize,
-        newfaces: *mut u32, newfaces_length: usize,
-    ) -> u32;
-    fn lavyngo_find_depth(
-        positions: *const f64, positions_length: usize, points: *const u32, points_length: usize,
-        edges: *const u32, edges_length: usize, intervals: *const f64, intervals_length: usize,
-        faces: *const u32, faces_length: usize, counts: *const [usize; 3], depth: f64, edge: *mut usize,
-    ) -> u32;
+/// The functions as lavyngo.h declares them.
+pub mod raw {
+    unsafe extern "C" {
+        pub fn lavyngo_build(
+            coordinates: *const f64, coordinates_length: usize, sides: *const u32, sides_length: usize,
+            listed: *const u32, listed_length: usize, beside: *const f64, beside_length: usize,
+            positions: *mut f64, positions_length: usize, points: *mut u32, points_length: usize,
+            edges: *mut u32, edges_length: usize, intervals: *mut f64, intervals_length: usize,
+            faces: *mut u32, faces_length: usize, counts: *mut [usize; 3],
+        ) -> u32;
+        pub fn lavyngo_build_text(
+            text: *const u8, text_length: usize,
+            positions: *mut f64, positions_length: usize, points: *mut u32, points_length: usize,
+            edges: *mut u32, edges_length: usize, intervals: *mut f64, intervals_length: usize,
+            faces: *mut u32, faces_length: usize, counts: *mut [usize; 3],
+        ) -> u32;
+        pub fn lavyngo_audit(
+            positions: *const f64, positions_length: usize, points: *const u32, points_length: usize,
+            edges: *const u32, edges_length: usize, intervals: *const f64, intervals_length: usize,
+            faces: *const u32, faces_length: usize, counts: *const [usize; 3],
+        ) -> u32;
+        pub fn lavyngo_step(
+            positions: *mut f64, positions_length: usize, points: *mut u32, points_length: usize,
+            edges: *mut u32, edges_length: usize, intervals: *mut f64, intervals_length: usize,
+            faces: *mut u32, faces_length: usize, counts: *mut [usize; 3], order: *const u32, order_length: usize,
+            newpositions: *mut f64, newpositions_length: usize, newpoints: *mut u32, newpoints_length: usize,
+            newedges: *mut u32, newedges_length: usize, newintervals: *mut f64, newintervals_length: usize,
+            newfaces: *mut u32, newfaces_length: usize,
+        ) -> u32;
+        pub fn lavyngo_find_depth(
+            positions: *const f64, positions_length: usize, points: *const u32, points_length: usize,
+            edges: *const u32, edges_length: usize, intervals: *const f64, intervals_length: usize,
+            faces: *const u32, faces_length: usize, counts: *const [usize; 3], depth: f64, edge: *mut usize,
+        ) -> u32;
+    }
 }

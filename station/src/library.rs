@@ -1,42 +1,9 @@
-//! The static library, and tables to lend to it. The declarations are those of lavyngo.h.
+//! The static library, and tables to lend to it.
 
+use crate::lavyngo::raw::*;
 use crate::lists::Lists;
 
 pub const NONE: u32 = u32::MAX;
-
-unsafe extern "C" {
-    fn lavyngo_build(
-        coordinates: *const f64, coordinates_length: usize, sides: *const u32, sides_length: usize,
-        listed: *const u32, listed_length: usize, beside: *const f64, beside_length: usize,
-        positions: *mut f64, positions_length: usize, points: *mut u32, points_length: usize,
-        edges: *mut u32, edges_length: usize, intervals: *mut f64, intervals_length: usize,
-        faces: *mut u32, faces_length: usize, counts: *mut [usize; 3],
-    ) -> u32;
-    fn lavyngo_build_text(
-        text: *const u8, text_length: usize,
-        positions: *mut f64, positions_length: usize, points: *mut u32, points_length: usize,
-        edges: *mut u32, edges_length: usize, intervals: *mut f64, intervals_length: usize,
-        faces: *mut u32, faces_length: usize, counts: *mut [usize; 3],
-    ) -> u32;
-    fn lavyngo_audit(
-        positions: *const f64, positions_length: usize, points: *const u32, points_length: usize,
-        edges: *const u32, edges_length: usize, intervals: *const f64, intervals_length: usize,
-        faces: *const u32, faces_length: usize, counts: *const [usize; 3],
-    ) -> u32;
-    fn lavyngo_find_depth(
-        positions: *const f64, positions_length: usize, points: *const u32, points_length: usize,
-        edges: *const u32, edges_length: usize, intervals: *const f64, intervals_length: usize,
-        faces: *const u32, faces_length: usize, counts: *const [usize; 3], depth: f64, edge: *mut usize,
-    ) -> u32;
-    fn lavyngo_step(
-        positions: *mut f64, positions_length: usize, points: *mut u32, points_length: usize,
-        edges: *mut u32, edges_length: usize, intervals: *mut f64, intervals_length: usize,
-        faces: *mut u32, faces_length: usize, counts: *mut [usize; 3], order: *const u32, order_length: usize,
-        places: *mut f64, places_length: usize, rows: *mut u32, rows_length: usize,
-        halves: *mut u32, halves_length: usize, lengths: *mut f64, lengths_length: usize,
-        quads: *mut u32, quads_length: usize,
-    ) -> u32;
-}
 
 /// How many points, edges and faces.
 #[derive(Clone, Copy, PartialEq, Eq, Debug, Default)]

@@ -14,6 +14,8 @@ mod compare;
 mod depths;
 mod fuzz;
 mod grounds;
+#[path = "../lavyngo.rs"]
+mod lavyngo;
 mod library;
 mod lists;
 mod memory;
