@@ -15,7 +15,7 @@ use lib.Ieee.{Float}
 use borrow.Author.Tests.{le-leb, lt-leb}
 use Rattle.closed_meshes.specs.Renumbering.{sumTo}
 use Rattle.tables.specs.Counted.{countsOf, rowsFor}
-use Rattle.tables.specs.Mesh.{Mesh, valence, start, origin, dest, leftFace, rightFace, interval, meshOf, positionTables as pointsOf, edgeTables as edgesOf, faceRows as facesOf}
+use Rattle.tables.specs.Mesh.{Mesh, valence, start, origin, dest, leftFace, rightFace, interval, meshOf, pointRows as pointsOf, edgeRows as edgesOf, faceRows as facesOf}
 use Rattle.audited_meshes.specs.Folds.{every}
 use Rattle.audited_meshes.specs.Walks.{Walk, back, lost, passed, acwOfPoint, faceWalk, pointWalk}
 use Rattle.audited_meshes.specs.Audit.{edgeInRange, intervalFit, linked, audit}

@@ -20,7 +20,7 @@ use Rattle.audited_meshes.proofs.Holds.{audit-is-closed}
 use Rattle.refined_meshes.specs.Order.{EachOnce}
 use Rattle.steps.specs.declared.Stepped.{Stepped}
 use Rattle.steps.specs.declared.Stepped.the-variants.{Refined, NotClosed, NotEachFaceOnce, NoRoom, NotFinite}
-use Rattle.steps.specs.Step.{refinedCounts, eachFaceOnce, withinCeilings, roomFor, Made, whole, notFinite, ended, stepIf, step}
+use Rattle.steps.specs.Step.{refinedCounts, eachFaceOnce, withinCeilings, roomFor, Made, whole, notFinite, ended, stepBy, step}
 use Rattle.tables.specs.Counted.{rowsFor, firstRows}
 use Rattle.steps.specs.FirstGround.{Short, No-room, Due, First-ground}
 use Rattle.steps.proofs.Rows.{exact-firstRows, holds-firstRows}
@@ -121,7 +121,7 @@ module _ (m : Mesh) (c : Counts) (order : List ℕ) (t : Mesh) where
   due-once (Refined k) (Refined n) x y = ap Refined (x .4 ∙ sym (y .4))
 
   answer-due : Due m c order t (step m c order t .answer)
-  unfolding stepIf ended begun
+  unfolding stepBy ended begun
   answer-due = go _ refl _ refl _ refl
     where
       fails : {A : Type 0} {b : Bool} → b ≡ false → (A → b ≡ true) → ¬ A
