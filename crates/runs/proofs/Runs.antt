@@ -23,7 +23,7 @@ use Rattle.audited_meshes.proofs.Holds.{audited-of-closed, audit-is-closed}
 use Rattle.tables.specs.Counted.{firstRows}
 use Rattle.steps.specs.OneStep.{Binary64}
 use Rattle.steps.proofs.Rows.{SameRows, same-of-firstRows, room-of-firstRows, room-of-holds, holds-same, position-same}
-use Rattle.runs.specs.Runs.{Lent, Handed, run, accepted, lent, NamedMesh, stage, SameNames, NamedRun, TwoRuns, Demand3, AnyOrders}
+use Rattle.runs.specs.Runs.{Lent, Handed, run, accepted, lent, NamedMesh, stage, SameNames, NamedRun, TwoRuns, Demand3}
 use Rattle.runs.proofs.Readings.{matching-same, first-reading, first-points-first}
 use Rattle.runs.proofs.Steps.{each-step}
 use Rattle.runs.proofs.Naming.{same-names-refl, same-names-sym, same-names-trans, Reached, reached, named, settled}
@@ -215,8 +215,5 @@ two-runs c a b h na e hsA hsB =
       positions = λ k l n n' p p' q. positions-agree e na nb n n' k p p' q l;
     }
 
-pub any-orders : AnyOrders
-any-orders c a b h numbers e hsA hsB = two-runs c a b (audit-is-closed _ _ _ _ .0 h) numbers e hsA hsB
-
 pub theorem : Demand3
-theorem c a b h numbers e hsA hsB order = any-orders c a b h numbers e hsA hsB
+theorem c a b h numbers e hsA hsB order = two-runs c a b (audit-is-closed _ _ _ _ .0 h) numbers e hsA hsB

@@ -23,7 +23,6 @@
 --     NamedRun c m hs          the names that a run makes, begun with row numbers
 --     TwoRuns c a b hsA hsB    what is claimed of two runs
 --     Demand3                  the claim
---     AnyOrders                the same of two lists of any steps
 use mathlib.Core.Path.{_≡_}
 use mathlib.Core.Bool.{true}
 use mathlib.Core.List.{List, [], _∷_, _++_}
@@ -229,9 +228,3 @@ abbrev pub Demand3 : Type 0
 Demand3 =
     (c : Counts) (a b : Mesh) → audit a (c .points) (c .edges) (c .faces) ≡ true → Binary64 c a → firstRows c a ≡ firstRows c b →
     (hsA hsB : List Handed) → NumberedOrder (lent a c) hsA → TwoRuns c a b hsA hsB
-
--- More holds: A too may be handed any orders.
-abbrev pub AnyOrders : Type 0
-AnyOrders =
-    (c : Counts) (m n : Mesh) → audit m (c .points) (c .edges) (c .faces) ≡ true → Binary64 c m → firstRows c m ≡ firstRows c n →
-    (hs hs' : List Handed) → TwoRuns c m n hs hs'
