@@ -7,7 +7,9 @@ use Rattle.oracle_builds.proofs.trials.count_changes.Statement.{stateme
 use Rattle.oracle_builds.proofs.trials.count_changes.Tie as tie
 
 slice-aggregate-count-changes-in : tie.Need-slice-aggregate-count-changes-in
-slice-aggregate-count-changes-in c = sym (length-take-le _ (c .before .before .copy-bytes .last .1 .0) (omega (arith, c .before .before .copy-bytes .ensures)))
+slice-aggregate-count-changes-in c =
+    sym (length-take-le _ (c .before .before .copy-bytes .last .1 .0)
+    (omega (arith, c .before .before .copy-bytes .ensures)))
 
 pub count-changes-spec : {M : Type 1} → statement M
 count-changes-spec =
