@@ -8,9 +8,10 @@ use mathlib.Core.List.{List}
 use Prim.Native.Nat.{ℕ}
 use native.Mathlib.Omega.{arith}
 use Rattle.tables.specs.Mesh.{Mesh}
+use Rattle.tables.specs.Counted.{firstRows}
 use Rattle.tables.specs.declared.Counts.{Counts}
 use Rattle.audited_meshes.specs.Audit.{audit}
-use Rattle.steps.specs.declared.Stepped.the-variants.{Refined, NotClosed, NotEachFaceOnce, NoRoom}
+use Rattle.steps.specs.declared.Stepped.the-variants.{Refined, NotClosed, NotEachFaceOnce, NoRoom, NotFinite}
 use Rattle.steps.specs.Step.{stepRefusal, refinedCounts, eachFaceOnce, roomFor, testedIf, tested, stepBy, step}
 use Rattle.steps.specs.declared.Stepped.{Stepped}
 use Rattle.steps.proofs.Rows.{room-of-holds, holds-firstRows, room-firstRows, points-fit, edges-fit, faces-fit}
