@@ -3,7 +3,7 @@ use borrow.Author.Needs.{needs}
 use native.Mathlib.Omega.{arith}
 use mathlib.Core.Path.{_∙_}
 use lib.ListN.{length-set}
-use Rattle.mesh_answers.proofs.Laws.{length-decimal, decimal-none, decimal-one, decimal-last}
+use Rattle.mesh_answers.proofs.Laws.{length-short, length-long, decimal-none, decimal-one, decimal-last}
 use Prim.Native.Nat.{ℕ, _<_, _-_, _/_}
 use borrow.Fn.Kinds.{In}
 use borrow.Fn.PlainCycle.{Measures, is, falls, and}
@@ -63,7 +63,10 @@ write-decimal-slice-write-out : (t : ℕ) → write-decimal-lts.Need-slice-write
   write-decimal-below t,
   write-decimal.Post,
 ) (write-decimal-at t) write-decimal.Post
-write-decimal-slice-write-out t c = let h = c .before .before .if1 .left in let p = c .before .before .before .before .pre .1 in omega arith
+write-decimal-slice-write-out t c = 
+    let l = length-short (c .before .before .before .before .args .k) (c .before .before .before .before .args .n) (c .before .before .if1 .left) (c .before .if2 .taken) in
+    let p = c .before .before .before .before .pre .1 in
+    omega arith
 
 -- src/lib.rt:54:16
 write-decimal-add-result : (t : ℕ) → write-decimal-lts.Need-add-result (
@@ -72,7 +75,10 @@ write-decimal-add-result : (t : ℕ) → write-decimal-lts.Need-add-result (
   write-decimal-below t,
   write-decimal.Post,
 ) (write-decimal-at t) write-decimal.Post
-write-decimal-add-result t c = let h = c .before .before .if1 .left in let p = c .before .before .before .before .pre .1 in omega arith
+write-decimal-add-result t c = 
+    let l = length-short (c .before .before .before .before .args .k) (c .before .before .before .before .args .n) (c .before .before .if1 .left) (c .before .if2 .taken) in
+    let p = c .before .before .before .before .pre .1 in
+    omega arith
 
 -- src/lib.rt:54:9
 write-decimal-same-length : (t : ℕ) → write-decimal-lts.Need-same-length (
@@ -110,6 +116,7 @@ write-decimal-write-decimal-requires : (t : ℕ) → write-decimal-lts.Need-writ
 ) (write-decimal-at t) write-decimal.Post
 write-decimal-write-decimal-requires t c κs =
     let h = c .before .before .if1 .left in
+    let l = length-long (c .before .before .before .before .args .k) (c .before .before .before .before .args .n) h (c .before .if2 .left) in
     let m = c .before .before .before .before .pre .0 in
     let p = c .before .before .before .before .pre .1 in
     omega arith
@@ -142,7 +149,7 @@ write-decimal-slice-write-out-2 : (t : ℕ) → write-decimal-lts.Need-slice-wri
 write-decimal-slice-write-out-2 t c =
     let h = c .before .before .before .before .before .before .if1 .left in
     let e = c .before .before .before .write-decimal .ensures .place in
-    let l = length-decimal (c .before .before .before .before .before .before .before .before .args .k - 1) (c .before .before .before .before .before .before .before .before .args .n / 10) in
+    let l = length-long (c .before .before .before .before .before .before .before .before .args .k) (c .before .before .before .before .before .before .before .before .args .n) h (c .before .before .before .before .before .if2 .left) in
     let s = c .before .before .before .write-decimal .kept .0 in
     let p = c .before .before .before .before .before .before .before .before .pre .1 in
     omega arith
@@ -157,7 +164,7 @@ write-decimal-add-result-2 : (t : ℕ) → write-decimal-lts.Need-add-result-2 (
 write-decimal-add-result-2 t c =
     let h = c .before .before .before .before .before .before .if1 .left in
     let e = c .before .before .before .write-decimal .ensures .place in
-    let l = length-decimal (c .before .before .before .before .before .before .before .before .args .k - 1) (c .before .before .before .before .before .before .before .before .args .n / 10) in
+    let l = length-long (c .before .before .before .before .before .before .before .before .args .k) (c .before .before .before .before .before .before .before .before .args .n) h (c .before .before .before .before .before .if2 .left) in
     let s = c .before .before .before .write-decimal .kept .0 in
     let p = c .before .before .before .before .before .before .before .before .pre .1 in
     omega arith

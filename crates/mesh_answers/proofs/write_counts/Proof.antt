@@ -15,7 +15,7 @@ write-requires c κs = search needs
 
 -- src/lib.rt:95:9
 write-number-requires : tie.Need-write-number-requires
-write-number-requires c κs = search needs
+write-number-requires c κs = let l1 = length-number (c .before .before .before .before .before .before .before .args .p) in omega arith
 
 -- src/lib.rt:96:9
 write-number-requires-2 : tie.Need-write-number-requires-2
@@ -26,6 +26,7 @@ write-number-requires-2 c κs =
     let e1 = c .before .before .before .write-number .ensures .place in
     let k1 = c .before .before .before .write-number .kept .0 in
     let l1 = length-number (c .before .before .before .before .before .before .before .before .before .before .before .args .p) in
+    let l2 = length-number (c .before .before .before .before .before .before .before .before .before .before .before .args .e) in
     omega arith
 
 -- src/lib.rt:97:9
@@ -40,6 +41,7 @@ write-number-requires-3 c κs =
     let e2 = c .before .before .before .write-number2 .ensures .place in
     let k2 = c .before .before .before .write-number2 .kept .0 in
     let l2 = length-number (c .before .before .before .before .before .before .before .before .before .before .before .before .before .before .before .args .e) in
+    let l3 = length-number (c .before .before .before .before .before .before .before .before .before .before .before .before .before .before .before .args .f) in
     omega arith
 
 -- src/lib.rt:98:19

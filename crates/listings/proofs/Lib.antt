@@ -1,0 +1,4 @@
+pub mod Exact
+pub mod Lines
+pub mod Whole
+pub mod Theorem

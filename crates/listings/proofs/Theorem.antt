@@ -1,0 +1,85 @@
+-- The claims about the handover listing hold. Assumes nothing.
+use mathlib.Core.Path.{_≡_, refl, sym, ap, _∙_}
+use mathlib.Core.Bool.{Bool, true, false}
+use mathlib.Core.List.{List}
+use Prim.Native.Nat.{ℕ}
+use native.Mathlib.Omega.{arith}
+use Rattle.tables.specs.Mesh.{Mesh}
+use Rattle.steps.specs.Step.{rowsFor, withinCeilings, zeroedRows}
+use Rattle.text_numbers.specs.Form.{Found, found, none}
+use Rattle.listings.specs.Printing.{Rows, FitRows, printed}
+use Rattle.listings.specs.Grammar.{listing}
+use Rattle.listings.specs.Handing.{countsOf, stored, audited, ReadingOutcome, readRows, readFound, readListing}
+use Rattle.listings.specs.Claims.{Listing-exactly, Not-listing-exactly, Reads-rows, Refusals-leave}
+use Rattle.listings.specs.declared.Reading.{Reading}
+use Rattle.listings.specs.declared.Reading.the-variants as Reading
+use Rattle.listings.proofs.Whole.{printed-of-listing, listing-at}
+
+pub listing-exactly : Listing-exactly
+listing-exactly s t = (λ h. printed-of-listing s t (h .0) (h .1), λ h. listing-at s t (h .0) (h .1))
+
+-- rows that were found are never answered by 40
+found-is-read : (a b c : Bool) (t : Rows) (m : Mesh) → readRows a b c t m .answer ≡ Reading.NotListing → ⊥
+found-is-read false b c t m e = let z : _≡_ {A = ℕ} 0 1 = cc in omega arith
+found-is-read true false c t m e = let z : _≡_ {A = ℕ} 0 1 = cc in omega arith
+found-is-read true true false t m e = let z : _≡_ {A = ℕ} 0 1 = cc in omega arith
+found-is-read true true true t m e = let z : _≡_ {A = ℕ} 0 1 = cc in omega arith
+
+-- nothing was found where 40 is answered
+none-of-answer : (x : Found Rows) (m : Mesh) → readFound x m .answer ≡ Reading.NotListing → x ≡ none
+unfolding readFound
+none-of-answer (found t n) m e =
+    absurd (found-is-read (withinCeilings (countsOf t)) (rowsFor (countsOf t) m) (audited (stored t m) (countsOf t)) t m e)
+none-of-answer none m e = refl
+
+answer-of-none : (x : Found Rows) (m : Mesh) → x ≡ none → readFound x m .answer ≡ Reading.NotListing
+unfolding readFound
+answer-of-none x m e = rw e
+
+-- nothing is found where no rows have this printing
+none-found : (s : List ℕ) (x : Found Rows) → listing s ≡ x → ((t : Rows) → FitRows t → s ≡ printed t → ⊥) → x ≡ none
+none-found s (found t n) e h = let (f, p) = printed-of-listing s t n e in absurd (h t f p)
+none-found s none e h = refl
+
+found-not-none : (t : Rows) (n : ℕ) → found t n ≡ none → ⊥
+found-not-none t n e = let z : _≡_ {A = ℕ} 0 1 = cc in omega arith
+
+pub not-listing-exactly : Not-listing-exactly
+not-listing-exactly s m =
+    (
+      λ e t f p. let (n, g) = listing-at s t f p in found-not-none t n (sym g ∙ none-of-answer (listing s) m e),
+      λ h. answer-of-none (listing s) m (none-found s (listing s) refl h),
+    )
+
+pub reads-rows : Reads-rows
+unfolding readFound
+reads-rows t m f = let (n, e) = listing-at (printed t) t f refl in rw e
+
+-- what the answers leave
+module _ (m : Mesh) where
+  over-leaves : (a b c : Bool) (t : Rows) → readRows a b c t m .answer ≡ Reading.OverCeilings → readRows a b c t m .tables ≡ m
+  over-leaves false b c t e = refl
+  over-leaves true false c t e = refl
+  over-leaves true true false t e = absurd (let z : _≡_ {A = ℕ} 0 1 = cc in omega arith)
+  over-leaves true true true t e = absurd (let z : _≡_ {A = ℕ} 0 1 = cc in omega arith)
+
+  room-leaves : (a b c : Bool) (t : Rows) → readRows a b c t m .answer ≡ Reading.NoRoom → readRows a b c t m .tables ≡ m
+  room-leaves false b c t e = refl
+  room-leaves true false c t e = refl
+  room-leaves true true false t e = absurd (let z : _≡_ {A = ℕ} 0 1 = cc in omega arith)
+  room-leaves true true true t e = absurd (let z : _≡_ {A = ℕ} 0 1 = cc in omega arith)
+
+  leaves : (x : Found Rows)
+      → ((readFound x m .answer ≡ Reading.NotListing) → readFound x m .tables ≡ m)
+      × ((readFound x m .answer ≡ Reading.OverCeilings) → readFound x m .tables ≡ m)
+      × ((readFound x m .answer ≡ Reading.NoRoom) → readFound x m .tables ≡ m)
+  unfolding readFound
+  leaves none = (λ e. refl, λ e. refl, λ e. refl)
+  leaves (found t n) =
+      let a = withinCeilings (countsOf t) in
+      let b = rowsFor (countsOf t) m in
+      let c = audited (stored t m) (countsOf t) in
+      (λ e. absurd (found-is-read a b c t m e), over-leaves a b c t, room-leaves a b c t)
+
+pub refusals-leave : Refusals-leave
+refusals-leave s m = leaves m (listing s)
