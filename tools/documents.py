@@ -12,12 +12,12 @@ from pathlib import Path
 
 ROOT = Path(__file__).resolve().parent.parent
 
-# The files that state the claims, and those that the contracts of `build`, `build_text`, `audit`, `step`, `refine` and of the
-# functions for C cite.
+# The files that state the claims, and those that the contracts of `build`, `build_text`, `audit`, `step`, `write_listing`,
+# `read_listing`, `refine` and of the functions for C cite.
 STATED = """
     audited_meshes/Audit audited_meshes/Claims built_meshes/Building built_meshes/Claims building_tests/Lent
-    closed_meshes/Refinement closed_meshes/Renumbering filed_pieces/Pieces refine_outputs/Claims refine_outputs/Output
-    refined_meshes/Refines runs/Runs station/Station steps/OneStep steps/Step text_meshes/Claims text_meshes/TextBuilding
+    closed_meshes/Refinement closed_meshes/Renumbering filed_pieces/Pieces listings/Claims listings/Handing refine_outputs/Claims
+    refine_outputs/Output refined_meshes/Refines runs/Runs station/Station steps/OneStep steps/Step text_meshes/Claims text_meshes/TextBuilding
 """.split()
 
 # What each crate's definitions are about, in the order of the table.
@@ -41,6 +41,7 @@ ABOUT = {
     "steps": "the step",
     "runs": "demand 3",
     "mesh_answers": "the lines of an answer",
+    "listings": "the handover listing",
     "refine_outputs": "what the program `refine` writes",
     "station_answers": "how an answer is told to a C caller",
     "station": "what the C functions answer and leave",

@@ -1,6 +1,6 @@
 -- How far the lines of a listing go, and how many numbers and words they have. Assumes nothing.
 --     takes-word takes-point takes-edge takes-face
---     length-point length-edge length-face
+--     word-below fits-point fits-edge fits-face
 --     last-is last-none last-next         what an answer of `words` says
 use mathlib.Core.Path.{_≡_, refl, sym, ap, _∙_}
 use mathlib.Core.List.{List, [], _∷_}
@@ -17,7 +17,7 @@ use Rattle.mesh_lines.specs.Grammar.{coordinate}
 use Rattle.mesh_lines.proofs.Laws.{takes-coordinate}
 use Rattle.listings.specs.Printing.{Row, last, Fits}
 use Rattle.listings.specs.Grammar.{word, point, edge, face}
-use Rattle.listings.proofs.Exact.{Exact}
+use Rattle.listings.proofs.Exact.{Exact, exact-word}
 use Rattle.listings.proofs.Lines.{exact-point, exact-edge, exact-face}
 use Rattle.listing_lines.specs.Parts.{lastWord}
 
@@ -25,9 +25,9 @@ pub last-is : (x : Found (List ℕ)) {v b n : ℕ} → lastWord v x ≡ Number.I
 last-is (found ws m) e = (ws, cc, cc)
 last-is none e = let z : _≡_ {A = ℕ} 0 1 = cc in absurd (omega arith)
 
-pub last-none : (x : Found (List ℕ)) {v : ℕ} → lastWord v x ≡ Number.None → x ≡ none
-last-none (found ws n) e = cc
-last-none none e = refl
+pub last-none : (v : ℕ) (x : Found (List ℕ)) → lastWord v x ≡ Number.None → x ≡ none
+last-none v (found ws n) e = cc
+last-none v none e = refl
 
 -- the same after one more word was found
 pub last-next : (v b : ℕ) (x : Found (List ℕ)) → lastWord v (onward (λ ws. pure (b ∷ ws)) x) ≡ lastWord b x
@@ -35,6 +35,9 @@ last-next v b (found ws n) = refl
 last-next v b none = refl
 
 module _ (s : List ℕ) where
+  pub word-below : (at v n : ℕ) → word s at ≡ found v n → v < 4294967296
+  word-below at v n e = exact-word s .sound at v n e .0
+
   pub takes-word : Takes s 0 (λ v. 1) (word s)
   unfolding word
   takes-word =

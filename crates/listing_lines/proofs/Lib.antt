@@ -1,6 +1,6 @@
 pub mod Laws
-pub mod Words
-pub mod Point
-pub mod Edge
-pub mod Face
+pub mod WordRun
+pub mod PointLine
+pub mod EdgeLine
+pub mod FaceLine
 pub mod Progress

@@ -2,7 +2,7 @@
 -- h bytes long, and a line takes at least c bytes after it. Assumes nothing.
 --     Progress              where the loop stands
 --     Table                 what is stored in one table: w elements a row
-use mathlib.Core.Path.{_≡_, refl, sym, ap, _∙_}
+use mathlib.Core.Path.{_≡_, refl, sym, ap, _∙_, subst}
 use mathlib.Core.List.{List, _∷_}
 use mathlib.Core.Bool.{true, false}
 use Prim.Native.Nat.{ℕ, suc, _+_, _-_, _*_, _≤_}
@@ -102,3 +102,10 @@ module _ (s t : List ℕ) (p : Form Row) (c at : ℕ) where
                 ∙ sym (stored-next (flat G) G xs (k * w) a rest (λ l. refl))
                 ∙ (rw (fuel, many-found s t p i (length s - (k + 1)) e (line .1)) at (tb .list));
           }
+
+      -- the same for one element a row
+      pub table-turn-one : {B : Type 0} (G : Row → List B) → ((a : Row) (n : ℕ) → p (i + length t) ≡ found a n → length (G a) ≡ 1)
+          → {xs₀ xs ys : List B} → Table G 1 xs₀ xs i k → AtPlace r (ys ≡ stored G xs k (p (i + length t))) → Table G 1 xs₀ ys j (k + 1)
+      table-turn-one {B} G lw {xs₀} {xs} {ys} tb el =
+          let one : k ≡ k * 1 = omega arith in
+          table-turn G 1 lw tb (subst (λ (q : ℕ). AtPlace r (ys ≡ stored G xs q (p (i + length t)))) one el)

@@ -1,13 +1,12 @@
 -- Fields and lines written one after another. Assumes nothing.
 --     fields-more fields-room     one field more, and that there is room for it
 --     lines-more lines-room       one line more, and that there is room for it
---     part-cells                  the elements of a part one by one
 --     fields-start fields-turn    what a loop over fields has written before its first turn, and after one turn more
 --     lines-start lines-turn      the same for a loop over lines
 --     line-of                     a line from its parts
 use mathlib.Core.Path.{_≡_, refl, sym, ap, _∙_, subst}
 use mathlib.Core.Bool.{Bool, true, false}
-use mathlib.Core.List.{List, [], _∷_, _++_, append-assoc, append-nil}
+use mathlib.Core.List.{List, [], _∷_, _++_}
 use Prim.Native.Nat.{ℕ, zero, suc, _+_, _-_, _*_, _≤_, _<_}
 use native.Mathlib.Nat.{add-zero}
 use native.Mathlib.Numerals.{add-one}
@@ -15,7 +14,7 @@ use native.Mathlib.Omega.{arith}
 use lib.ListN.{length, getD, take, drop, length-append, length-drop}
 use lib.Dec.{ltb}
 use borrow.Author.Tests.{ltb-true, ltb-false}
-use lib.Seq.{drop-cons, take-suc, getD-drop, take-add}
+use lib.Seq.{take-suc, getD-drop, take-add}
 use Rattle.mesh_lines.specs.Grammar.{flat}
 use lib.Ieee.{Float, nan}
 use Rattle.text_numbers.specs.Form.{bytes}
@@ -24,18 +23,10 @@ use Rattle.mesh_answers.specs.Lines.{numberField, bitsField, Written}
 use Rattle.mesh_answers.proofs.Laws.{written-append}
 use Rattle.listings.specs.Printing.{pointLine, edgeLine, faceLine}
 use Rattle.listings.specs.Handing.{upTo, bitsOf, pointRow, edgeRow, faceRow}
+use Rattle.listings.proofs.Parts.{flat-append, flat-one, part-cells}
 use Rattle.listing_printing.specs.Fields.{part, wordFields, numberFields}
 
 module _ {A : Type 0} (f : A → List ℕ) where
-  pub flat-append : (xs ys : List A) → flat f (xs ++ ys) ≡ flat f xs ++ flat f ys
-  unfolding flat
-  flat-append [] ys = refl
-  flat-append (a ∷ xs) ys = ap (λ (l : List ℕ). f a ++ l) (flat-append xs ys) ∙ sym (append-assoc (f a) (flat f xs) (flat f ys))
-
-  pub flat-one : (a : A) → flat f (a ∷ []) ≡ f a
-  unfolding flat
-  flat-one a = append-nil (f a)
-
   module _ (d : A) (xs : List A) (b : ℕ) where
     part-more : (j : ℕ) → b + j < length xs → part xs b (j + 1) ≡ part xs b j ++ (getD xs (b + j) d ∷ [])
     part-more j h =
@@ -45,8 +36,8 @@ module _ {A : Type 0} (f : A → List ℕ) where
 
     pub fields-more : (j : ℕ) → b + j < length xs → flat f (part xs b (j + 1)) ≡ flat f (part xs b j) ++ f (getD xs (b + j) d)
     fields-more j h =
-        ap (flat f) (part-more j h) ∙ flat-append (part xs b j) (getD xs (b + j) d ∷ [])
-        ∙ ap (λ (l : List ℕ). flat f (part xs b j) ++ l) (flat-one (getD xs (b + j) d))
+        ap (flat f) (part-more j h) ∙ flat-append f (part xs b j) (getD xs (b + j) d ∷ [])
+        ∙ ap (λ (l : List ℕ). flat f (part xs b j) ++ l) (flat-one f (getD xs (b + j) d))
 
     pub fields-room : (j k : ℕ) → j < k → b + k ≤ length xs
         → length (flat f (part xs b j)) + length (f (getD xs (b + j) d)) ≤ length (flat f (part xs b k))
@@ -55,7 +46,7 @@ module _ {A : Type 0} (f : A → List ℕ) where
         let t : part xs b k ≡ part xs b (j + 1) ++ take (k - (j + 1)) (drop (j + 1) (drop b xs)) =
         ap (λ (i : ℕ). take i (drop b xs)) (sym e) ∙ take-add (j + 1) (k - (j + 1)) (drop b xs) in
         let u = ap (λ (l : List A). length (flat f l)) t in
-        let v = ap length (flat-append (part xs b (j + 1)) (take (k - (j + 1)) (drop (j + 1) (drop b xs)))) in
+        let v = ap length (flat-append f (part xs b (j + 1)) (take (k - (j + 1)) (drop (j + 1) (drop b xs)))) in
         let w = length-append (flat f (part xs b (j + 1))) (flat f (take (k - (j + 1)) (drop (j + 1) (drop b xs)))) in
         let m = ap length (fields-more j (omega arith)) in
         let n = length-append (flat f (part xs b j)) (f (getD xs (b + j) d)) in
@@ -65,7 +56,7 @@ module _ {A : Type 0} (f : A → List ℕ) where
     pub lines-more : (p : ℕ) → flat f (upTo (p + 1) g) ≡ flat f (upTo p g) ++ f (g p)
     unfolding upTo
     lines-more p =
-        ap (λ (k : ℕ). flat f (upTo k g)) (add-one p) ∙ flat-append (upTo p g) (g p ∷ []) ∙ ap (λ (l : List ℕ). flat f (upTo p g) ++ l) (flat-one (g p))
+        ap (λ (k : ℕ). flat f (upTo k g)) (add-one p) ∙ flat-append f (upTo p g) (g p ∷ []) ∙ ap (λ (l : List ℕ). flat f (upTo p g) ++ l) (flat-one f (g p))
 
     pub lines-room : (n p : ℕ) → p < n → length (flat f (upTo p g)) + length (f (g p)) ≤ length (flat f (upTo n g))
     unfolding upTo
@@ -74,8 +65,8 @@ module _ {A : Type 0} (f : A → List ℕ) where
       where
         step : length (flat f (upTo (suc n) g)) ≡ length (flat f (upTo n g)) + length (f (g n))
         step =
-            ap length (flat-append (upTo n g) (g n ∷ [])) ∙ length-append (flat f (upTo n g)) (flat f (g n ∷ []))
-            ∙ ap (λ (l : List ℕ). length (flat f (upTo n g)) + length l) (flat-one (g n))
+            ap length (flat-append f (upTo n g) (g n ∷ [])) ∙ length-append (flat f (upTo n g)) (flat f (g n ∷ []))
+            ∙ ap (λ (l : List ℕ). length (flat f (upTo n g)) + length l) (flat-one f (g n))
 
         go : (b : Bool) → ltb p n ≡ b → (p < n → length (flat f (upTo p g)) + length (f (g p)) ≤ length (flat f (upTo n g)))
             → length (flat f (upTo p g)) + length (f (g p)) ≤ length (flat f (upTo (suc n) g))
@@ -86,30 +77,6 @@ module _ {A : Type 0} (f : A → List ℕ) where
             let q = step in
             let r = ap (λ (k : ℕ). length (flat f (upTo k g)) + length (f (g k))) pn in
             omega arith
-
--- the elements at b + j, b + (j + 1), ..
-abbrev cellsFrom : {A : Type 0} → A → List A → ℕ → ℕ → ℕ → List A
-cellsFrom d xs b j zero = []
-cellsFrom d xs b j (suc k) = getD xs (b + j) d ∷ cellsFrom d xs b (suc j) k
-
-abbrev pub cells : {A : Type 0} → A → List A → ℕ → ℕ → List A
-cells d xs b zero = []
-cells d xs b (suc k) = getD xs b d ∷ cellsFrom d xs b 1 k
-
-module _ {A : Type 0} (d : A) (xs : List A) (b : ℕ) where
-  part-from : (k j : ℕ) → b + j + k ≤ length xs → take k (drop (b + j) xs) ≡ cellsFrom d xs b j k
-  part-from zero j h = refl
-  part-from (suc k) j h =
-      let e : suc (b + j) ≡ b + suc j = omega arith in
-      ap (take (suc k)) (drop-cons xs (b + j) d (omega arith)) ∙ ap (λ (i : ℕ). getD xs (b + j) d ∷ take k (drop i xs)) e
-      ∙ ap (λ (l : List A). getD xs (b + j) d ∷ l) (part-from k (suc j) (omega arith))
-
-  pub part-cells : (k : ℕ) → b + k ≤ length xs → part xs b k ≡ cells d xs b k
-  part-cells zero h = refl
-  part-cells (suc k) h =
-      let e : suc b ≡ b + 1 = omega arith in
-      ap (take (suc k)) (drop-cons xs b d (omega arith)) ∙ ap (λ (i : ℕ). getD xs b d ∷ take k (drop i xs)) e
-      ∙ ap (λ (l : List A). getD xs b d ∷ l) (part-from k 1 (omega arith))
 
 pub written-same : {out : List ℕ} {at : ℕ} {xs ys : List ℕ} {r : ℕ} {o : List ℕ} → xs ≡ ys → Written out at xs r o → Written out at ys r o
 written-same {out} {at} {xs} {ys} {r} {o} e w = subst (λ (l : List ℕ). Written out at l r o) e w

@@ -17,7 +17,8 @@ use Rattle.mesh_answers.proofs.Laws.{length-number, length-bits}
 use Rattle.listings.specs.Printing.{Row, pointLine, edgeLine, faceLine}
 use Rattle.listings.specs.Handing.{upTo, pointRow, edgeRow, faceRow}
 use Rattle.listing_printing.specs.Fields.{part, wordFields}
-use Rattle.listing_printing.proofs.Laws.{flat-append, flat-one, fields-more, cells, part-cells}
+use Rattle.listings.proofs.Parts.{flat-append, flat-one, cells, part-cells}
+use Rattle.listing_printing.proofs.Laws.{fields-more}
 
 -- no words
 pub words-start : (ws : List ℕ) → 0 ≡ length (wordFields ws 0 0)

@@ -1,7 +1,7 @@
 // A handover listing (document 02, §1), of bytes of any kind, read into lent tables of any length. It is linear in the listing and
 // has no memory but locals: a first scan tests the form of the whole and counts, a second stores the rows.
 // Not here: its lines (`listing_lines`), writing (`listing_writing`).
-// Contract: `read_listing`. Definition: `readListing` of `listings`, specs/Handing.antt. Laws: `proofs/Scan.antt`, `proofs/Outcomes.antt`.
+// Contract: `read_listing`. Definition: `readListing` of `listings`, specs/Handing.antt. Laws: `proofs/Scanned.antt`, `proofs/Outcomes.antt`.
 ghost use mathlib.Core.Path.{_≡_};
 ghost use Rattle.tables.specs.Mesh.{meshOf};
 ghost use Rattle.mesh_lines.specs.Parts.{stored};

@@ -12,14 +12,14 @@ use native.Mathlib.Omega.{arith}
 use lib.Dec.{leb}
 use lib.ListN.{length, getD, length-append}
 use lib.Seq.{sets}
-use lib.Ieee.{Float, nan, inf, fin}
+use lib.Ieee.{nan}
 use lib.Ieee.Scale.{finite}
 use borrow.Author.Tests.{leb-true, le-leb, lt-leb}
 use Rattle.text_numbers.specs.Form.{bytes}
 use Rattle.text_numbers.proofs.Laws.{and-both}
 use Rattle.tables.specs.Mesh.{Mesh, meshOf}
 use Rattle.tables.specs.declared.Counts.{Counts}
-use Rattle.audited_meshes.specs.Audit.{intervalFit, audit}
+use Rattle.audited_meshes.specs.Audit.{audit}
 use Rattle.audited_meshes.specs.Audited.{Audited}
 use Rattle.audited_meshes.proofs.Audited.{audit-is-audited}
 use Rattle.steps.specs.Step.{withinCeilings}
@@ -32,6 +32,7 @@ use Rattle.listings.specs.Printing.{pointLine, edgeLine, faceLine, printed}
 use Rattle.listings.specs.Handing.{upTo, pointRow, edgeRow, faceRow, rowsOf, listingOf, audited, WritingOutcome, written, writeListing}
 use Rattle.listings.specs.declared.Writing.{Writing}
 use Rattle.listings.specs.declared.Writing.the-variants as Writing
+use Rattle.listings.proofs.ReadBack.{finite-fit}
 use Rattle.listing_printing.specs.Fields.{wordFields}
 use Rattle.listing_printing.proofs.Laws.{written-same}
 use Rattle.listing_printing.proofs.Lengths.{points-length, edges-length, faces-length}
@@ -44,12 +45,6 @@ few c h =
     let (a, f) = and-both (leb (c .points) 65536 && leb (c .edges) 131072) (leb (c .faces) 65536) h in
     let (p, e) = and-both (leb (c .points) 65536) (leb (c .edges) 131072) a in
     (leb-true (c .points) 65536 p, leb-true (c .edges) 131072 e, leb-true (c .faces) 65536 f)
-
--- a number that is fit for an interval is finite
-finite-interval : (v : Float) → intervalFit v ≡ true → finite v ≡ true
-finite-interval nan e = e
-finite-interval (inf s) e = e
-finite-interval (fin s n k) e = refl
 
 module _ (c : Counts) (m : Mesh) where
   -- three coordinates of each point
@@ -74,7 +69,7 @@ module _ (c : Counts) (m : Mesh) where
       record {
         room = room-of-rows c m (a .points-fit) (a .edges-fit) (a .faces-fit);
         positions-finite = coordinate-finite a;
-        intervals-finite = λ i k. finite-interval (getD (m .intervals) i nan) (a .interval-fit i k);
+        intervals-finite = λ i k. finite-fit (getD (m .intervals) i nan) (a .interval-fit i k);
       }
 
   pub sizes-of : audited m c ≡ true → withinCeilings c ≡ true → Sizes c (m .points) (m .edges) (m .faces)

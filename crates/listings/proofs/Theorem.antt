@@ -4,15 +4,21 @@ use mathlib.Core.Bool.{Bool, true, false}
 use mathlib.Core.List.{List}
 use Prim.Native.Nat.{ℕ}
 use native.Mathlib.Omega.{arith}
+use lib.ListN.{length}
 use Rattle.tables.specs.Mesh.{Mesh}
+use Rattle.tables.specs.declared.Counts.{Counts}
+use Rattle.audited_meshes.proofs.Audited.{audit-is-audited}
+use Rattle.steps.proofs.Rows.{room-of-rows}
 use Rattle.steps.specs.Step.{rowsFor, withinCeilings, zeroedRows}
 use Rattle.text_numbers.specs.Form.{Found, found, none}
 use Rattle.listings.specs.Printing.{Rows, FitRows, printed}
 use Rattle.listings.specs.Grammar.{listing}
-use Rattle.listings.specs.Handing.{countsOf, stored, audited, ReadingOutcome, readRows, readFound, readListing}
-use Rattle.listings.specs.Claims.{Listing-exactly, Not-listing-exactly, Reads-rows, Refusals-leave}
+use Rattle.listings.specs.Handing.{rowsOf, listingOf, countsOf, stored, audited, ReadingOutcome, readRows, readFound, readListing}
+use Rattle.listings.specs.Claims.{Listing-exactly, Not-listing-exactly, Reads-rows, Refusals-leave, Read-back, Written-back}
 use Rattle.listings.specs.declared.Reading.{Reading}
 use Rattle.listings.specs.declared.Reading.the-variants as Reading
+use Rattle.listings.proofs.ReadBack.{rows-fit, counts-rows, stored-rows, audited-again, room-of}
+use Rattle.listings.proofs.WrittenBack.{rows-again}
 use Rattle.listings.proofs.Whole.{printed-of-listing, listing-at}
 
 pub listing-exactly : Listing-exactly
@@ -83,3 +89,44 @@ module _ (m : Mesh) where
 
 pub refusals-leave : Refusals-leave
 refusals-leave s m = leaves m (listing s)
+
+-- rows that pass the three tests are read
+accepted : (a b d : Bool) (t : Rows) (m : Mesh) → a ≡ true → b ≡ true → d ≡ true
+    → readRows a b d t m ≡ record { answer = Reading.Read (countsOf t); tables = stored t m }
+accepted a b d t m ea eb ed = rw (ea, eb, ed)
+
+pub read-back : Read-back
+read-back m m′ c h ea ew er =
+    let a = audit-is-audited m (c .points) (c .edges) (c .faces) .0 ea in
+    let r = room-of-rows c m (a .points-fit) (a .edges-fit) (a .faces-fit) in
+    let st = stored-rows m m′ c h r (room-of c m′ er) in
+    let ea′ = audited-again m m′ c h r (room-of c m′ er) ea in
+    let t = rowsOf m c in
+    let ec = counts-rows m c h in
+    reads-rows t m′ (rows-fit m c h a)
+    ∙ accepted (withinCeilings (countsOf t)) (rowsFor (countsOf t) m′) (audited (stored t m′) (countsOf t)) t m′
+    (ap withinCeilings ec ∙ ew) (ap (λ (k : Counts). rowsFor k m′) ec ∙ er)
+    (ap (audited (stored t m′)) ec ∙ ap (λ (n : Mesh). audited n c) st ∙ ea′)
+    ∙ (λ i. record { answer = Reading.Read (ec i); tables = st i })
+
+-- rows that were read, by the three tests
+read-written : (s : List ℕ) (t : Rows) (m : Mesh) (c : Counts) (n : ℕ) → listing s ≡ found t n → (a b d : Bool)
+    → rowsFor (countsOf t) m ≡ b → audited (stored t m) (countsOf t) ≡ d → readRows a b d t m .answer ≡ Reading.Read c
+    → listingOf (readRows a b d t m .tables) c ≡ s
+read-written s t m c n es false b d eb ed e = absurd (let z : _≡_ {A = ℕ} 0 1 = cc in omega arith)
+read-written s t m c n es true false d eb ed e = absurd (let z : _≡_ {A = ℕ} 0 1 = cc in omega arith)
+read-written s t m c n es true true false eb ed e = absurd (let z : _≡_ {A = ℕ} 0 1 = cc in omega arith)
+read-written s t m c n es true true true eb ed e =
+    let ec : countsOf t ≡ c = cc in
+    let (f, p) = printed-of-listing s t n es in
+    let a = audit-is-audited (stored t m) (length (t .points)) (length (t .edges)) (length (t .faces)) .0 ed in
+    ap (listingOf (stored t m)) (sym ec) ∙ ap printed (rows-again t m f (room-of (countsOf t) m eb) a) ∙ sym p
+
+pub written-back : Written-back
+unfolding readFound
+written-back s m c e = go (listing s) refl e
+  where
+    go : (x : Found Rows) → listing s ≡ x → readFound x m .answer ≡ Reading.Read c → listingOf (readFound x m .tables) c ≡ s
+    go (found t n) es g =
+        read-written s t m c n es (withinCeilings (countsOf t)) (rowsFor (countsOf t) m) (audited (stored t m) (countsOf t)) refl refl g
+    go none es g = absurd (let z : _≡_ {A = ℕ} 0 1 = cc in omega arith)

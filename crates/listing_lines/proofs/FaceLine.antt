@@ -18,7 +18,7 @@ use Rattle.listing_lines.proofs.Laws.{last-is, last-none, takes-words}
 module _ (s : List ℕ) (at : ℕ) {q : Number} (eq : q ≡ lastWord 0 (times 5 (word s) at)) where
   pub no-words : q ≡ Number.None → Place.None ≡ place (face s at)
   unfolding face
-  no-words en = rw (last-none (times 5 (word s) at) (sym eq ∙ en))
+  no-words en = rw (last-none 0 (times 5 (word s) at) (sym eq ∙ en))
 
   module _ {v i : ℕ} (ev : q ≡ Number.Is v i) where
     words : (ws : List ℕ) × (times 5 (word s) at ≡ found ws i) × (last 0 ws ≡ v)

@@ -39,7 +39,7 @@ module _ (s : List ℕ) (at : ℕ) {r : Place} (er : r ≡ place (times 3 (coord
     module _ {q : Number} (eq : q ≡ lastWord 0 (times 3 (word s) i)) where
       pub no-words : q ≡ Number.None → Place.None ≡ place (point s at)
       unfolding point
-      no-words en = rw (numbers .1, last-none (times 3 (word s) i) (sym eq ∙ en))
+      no-words en = rw (numbers .1, last-none 0 (times 3 (word s) i) (sym eq ∙ en))
 
       module _ {v j : ℕ} (ev : q ≡ Number.Is v j) where
         words : (ws : List ℕ) × (times 3 (word s) i ≡ found ws j) × (last 0 ws ≡ v)
