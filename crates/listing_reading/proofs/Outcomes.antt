@@ -2,11 +2,10 @@
 -- second scan leaves.
 use mathlib.Core.List.{List, [], _∷_, _++_, map}
 use mathlib.Core.Path.{_≡_, refl, sym, ap, _∙_}
-use mathlib.Core.Bool.{true, false}
+use mathlib.Core.Bool.{Bool, true, false}
 use Prim.Native.Nat.{ℕ, suc, _+_, _*_, _≤_}
-use native.Mathlib.Nat.{suc-mul}
 use native.Mathlib.Omega.{arith}
-use lib.ListN.{length, set, drop, replicate, length-append, length-map}
+use lib.ListN.{length, set, drop, replicate}
 use lib.Seq.{sets, drop-set-lt}
 use lib.Ieee.{Float, binary64, ofBits}
 use Rattle.text_numbers.specs.Form.{Found, found, none}
@@ -17,10 +16,12 @@ use Rattle.tables.specs.declared.Counts.{Counts}
 use Rattle.steps.specs.Step.{rowsFor, withinCeilings, zeroedRows}
 use Rattle.mesh_lines.specs.Parts.{stored}
 use Rattle.mesh_lines.specs.Grammar.{flat}
-use Rattle.listings.specs.Printing.{Row, Rows, All, FitPoint, FitEdge, FitFace, FitRows}
+use Rattle.listings.specs.Printing.{Row, Rows, FitPoint, FitEdge, FitFace, FitRows}
+use Rattle.listings.proofs.Parts.{all-to, numbers-count, length-flat}
+use Rattle.listings.proofs.Theorem.{accepted}
 use Rattle.listings.proofs.Whole.{printed-of-listing}
 use Rattle.listings.specs.Grammar.{listing}
-use Rattle.listings.specs.Handing.{countsOf, stored as storedRows, audited, ReadingOutcome, readFound, readListing}
+use Rattle.listings.specs.Handing.{countsOf, stored as storedRows, audited, ReadingOutcome, readRows, readFound, readListing}
 use Rattle.listings.specs.declared.Reading.the-variants as Reading
 use Rattle.listing_reading.specs.Parts.{totalOf, AtTotal, positionsIn, pointsIn, edgesIn, intervalsIn, facesIn}
 use Rattle.listing_reading.specs.declared.Total.{Total}
@@ -48,30 +49,21 @@ zeroed-sets : {A : Type 0} (n : ℕ) (z : A) (xs vs : List A) → length vs ≡ 
 unfolding zeroed
 zeroed-sets n z xs vs e = ap (λ l. replicate n z ++ l) (drop-sets vs xs 0 n (omega arith))
 
--- how many elements the rows of a kind have
-length-flat : {B : Type 0} (G : Row → List B) (P : Row → Type 0) (w : ℕ) → ((r : Row) → P r → length (G r) ≡ w) → (l : List Row) → All P l
-    → length (flat G l) ≡ length l * w
-unfolding flat
-length-flat G P w h [] a = let z : 0 * w ≡ 0 = omega arith in sym z
-length-flat G P w h (r ∷ l) a =
-    let e = h r (a .0) in
-    let i = length-flat G P w h l (a .1) in
-    let j = length-append (G r) (flat G l) in
-    let k = suc-mul (length l) w in
-    omega arith
-
 zeroed-stored : (t : Rows) (m : Mesh) → FitRows t → zeroedRows (countsOf t) (storedRows t m) ≡ zeroedRows (countsOf t) m
 unfolding zeroedRows
 zeroed-stored t m f =
-    let n3 = λ (r : Row) (o : FitPoint r). length-map (r .numbers) float ∙ o .0 .number-count in
-    let n1 = λ (r : Row) (o : FitEdge r). length-map (r .numbers) float ∙ o .number-count in
-    let a = zeroed-sets (length (t .points) * 3) (ofBits binary64 0) (m .positions) (positionsIn t) (length-flat (λ r. map float (r .numbers)) FitPoint 3 n3 (t .points) (f .points-fit)) in
-    let b = zeroed-sets (length (t .points) * 3) 0 (m .points) (pointsIn t) (length-flat (λ r. r .words) FitPoint 3 (λ r o. o .0 .word-count) (t .points) (f .points-fit)) in
-    let c = zeroed-sets (length (t .edges) * 8) 0 (m .edges) (edgesIn t) (length-flat (λ r. r .words) FitEdge 8 (λ r o. o .word-count) (t .edges) (f .edges-fit)) in
-    let d1 = length-flat (λ r. map float (r .numbers)) FitEdge 1 n1 (t .edges) (f .edges-fit) in
+    let a = zeroed-sets (length (t .points) * 3) (ofBits binary64 0) (m .positions) (positionsIn t) (length-flat (λ (r : Row). map float (r .numbers)) 3 (t .points) (all-to FitPoint (λ (r : Row). length (map float (r .numbers)) ≡ 3) (λ r o. numbers-count r (o .0)) (t .points) (f .points-fit))) in
+    let b = zeroed-sets (length (t .points) * 3) 0 (m .points) (pointsIn t) (length-flat (λ (r : Row). r .words) 3 (t .points) (all-to FitPoint (λ (r : Row). length (r .words) ≡ 3) (λ r o. o .0 .word-count) (t .points) (f .points-fit))) in
+    let c = zeroed-sets (length (t .edges) * 8) 0 (m .edges) (edgesIn t) (length-flat (λ (r : Row). r .words) 8 (t .edges) (all-to FitEdge (λ (r : Row). length (r .words) ≡ 8) (λ r o. o .word-count) (t .edges) (f .edges-fit))) in
+    let d1 = length-flat (λ (r : Row). map float (r .numbers)) 1 (t .edges) (all-to FitEdge (λ (r : Row). length (map float (r .numbers)) ≡ 1) (λ r o. numbers-count r o) (t .edges) (f .edges-fit)) in
     let d = zeroed-sets (length (t .edges)) (ofBits binary64 0) (m .intervals) (intervalsIn t) (omega arith) in
-    let e = zeroed-sets (length (t .faces) * 5) 0 (m .faces) (facesIn t) (length-flat (λ r. r .words) FitFace 5 (λ r o. o .word-count) (t .faces) (f .faces-fit)) in
+    let e = zeroed-sets (length (t .faces) * 5) 0 (m .faces) (facesIn t) (length-flat (λ (r : Row). r .words) 5 (t .faces) (all-to FitFace (λ (r : Row). length (r .words) ≡ 5) (λ r o. o .word-count) (t .faces) (f .faces-fit))) in
     λ i. record { positions = a i; points = b i; edges = c i; intervals = d i; faces = e i }
+
+-- rows that fail the audit are zeroed
+refused : (a b d : Bool) (t : Rows) (m : Mesh) → a ≡ true → b ≡ true → d ≡ false
+    → readRows a b d t m ≡ record { answer = Reading.NotClosed; tables = zeroedRows (countsOf t) m }
+refused a b d t m ea eb ed = rw (ea, eb, ed)
 
 module _ (s : List ℕ) (m : Mesh) {r : Total} (er : r ≡ totalOf (listing s)) where
   pub not-listing : r ≡ Total.None → record { answer = Reading.NotListing; tables = m } ≡ readListing s m
@@ -91,7 +83,7 @@ module _ (s : List ℕ) (m : Mesh) {r : Total} (er : r ≡ totalOf (listing s)) 
       no-room em = let (t, n, et, ec) = total-of (listing s) (sym er ∙ ep) in rw (et, ec, ew, em)
 
       module _ (em : rowsFor (record { points = p; edges = e; faces = f }) m ≡ true)
-          {q : Total} (eq : q ≡ totalOf (listing s)) {xs : List Float} {ps es : List ℕ} {ds : List Float} {fs : List ℕ}
+          {q : Total} (eq : q ≡ totalOf (listing s)) (xs : List Float) (ps es : List ℕ) (ds : List Float) (fs : List ℕ)
           (ex : AtTotal q (xs ≡ stored positionsIn (m .positions) 0 (listing s))) (epp : AtTotal q (ps ≡ stored pointsIn (m .points) 0 (listing s)))
           (ee : AtTotal q (es ≡ stored edgesIn (m .edges) 0 (listing s))) (ed : AtTotal q (ds ≡ stored intervalsIn (m .intervals) 0 (listing s)))
           (ef : AtTotal q (fs ≡ stored facesIn (m .faces) 0 (listing s))) where
@@ -113,7 +105,10 @@ module _ (s : List ℕ) (m : Mesh) {r : Total} (er : r ≡ totalOf (listing s)) 
             let (t, n, et, ec) = total-of (listing s) (sym er ∙ ep) in
             let es′ = scanned t n et in
             let ea′ : audited (storedRows t m) (record { points = p; edges = e; faces = f }) ≡ true = rw es′ at ea in
-            rw (et, ec, ew, em, ea′) (λ i. record { answer = Reading.Read (record { points = p; edges = e; faces = f }); tables = es′ i })
+            sym (ap (λ (x : Found Rows). readFound x m) et
+            ∙ accepted (withinCeilings (countsOf t)) (rowsFor (countsOf t) m) (audited (storedRows t m) (countsOf t)) t m
+            (ap withinCeilings ec ∙ ew) (ap (λ (k : Counts). rowsFor k m) ec ∙ em) (ap (audited (storedRows t m)) ec ∙ ea′)
+            ∙ (λ i. record { answer = Reading.Read (ec i); tables = sym es′ i }))
 
         pub zeroes : audited (meshOf xs ps es ds fs) (record { points = p; edges = e; faces = f }) ≡ false
             → (m′ : Mesh) → m′ ≡ zeroedRows (record { points = p; edges = e; faces = f }) (meshOf xs ps es ds fs)
@@ -124,7 +119,10 @@ module _ (s : List ℕ) (m : Mesh) {r : Total} (er : r ≡ totalOf (listing s)) 
             let es′ = scanned t n et in
             let ea′ : audited (storedRows t m) (record { points = p; edges = e; faces = f }) ≡ false = rw es′ at ea in
             let fit = printed-of-listing s t n et .0 in
-            let z : m′ ≡ zeroedRows (record { points = p; edges = e; faces = f }) m =
+            let z : m′ ≡ zeroedRows (countsOf t) m =
             e′ ∙ ap (zeroedRows (record { points = p; edges = e; faces = f })) es′ ∙ ap (λ (c : Counts). zeroedRows c (storedRows t m)) (sym ec)
-            ∙ zeroed-stored t m fit ∙ ap (λ (c : Counts). zeroedRows c m) ec in
-            rw (et, ec, ew, em, ea′) (λ i. record { answer = Reading.NotClosed; tables = z i })
+            ∙ zeroed-stored t m fit in
+            sym (ap (λ (x : Found Rows). readFound x m) et
+            ∙ refused (withinCeilings (countsOf t)) (rowsFor (countsOf t) m) (audited (storedRows t m) (countsOf t)) t m
+            (ap withinCeilings ec ∙ ew) (ap (λ (k : Counts). rowsFor k m) ec ∙ em) (ap (audited (storedRows t m)) ec ∙ ea′)
+            ∙ (λ i. record { answer = Reading.NotClosed; tables = sym z i }))

@@ -1,14 +1,19 @@
 -- Lists joined, and the elements of a part of a list one by one. Assumes nothing.
 --     flat-append flat-one     lists joined, of one list after another and of one
+--     length-flat              how long they are, of lists of one length
+--     all-to                   what holds of each element
 --     cells d xs b k           the k elements from b on
 --     part-cells               they are that part of the list
 use mathlib.Core.Path.{_≡_, refl, sym, ap, _∙_}
-use mathlib.Core.List.{List, [], _∷_, _++_, append-assoc, append-nil}
-use Prim.Native.Nat.{ℕ, zero, suc, _+_, _≤_}
+use mathlib.Core.List.{List, [], _∷_, _++_, map, append-assoc, append-nil}
+use Prim.Native.Nat.{ℕ, zero, suc, _+_, _*_, _≤_}
+use native.Mathlib.Nat.{suc-mul}
 use native.Mathlib.Omega.{arith}
-use lib.ListN.{length, getD, take, drop}
+use lib.ListN.{length, getD, take, drop, length-append, length-map}
 use lib.Seq.{drop-cons}
+use Rattle.text_numbers.specs.Numbers.{float}
 use Rattle.mesh_lines.specs.Grammar.{flat}
+use Rattle.listings.specs.Printing.{Row, All, Fits}
 
 module _ {A B : Type 0} (f : A → List B) where
   pub flat-append : (xs ys : List A) → flat f (xs ++ ys) ≡ flat f xs ++ flat f ys
@@ -19,6 +24,24 @@ module _ {A B : Type 0} (f : A → List B) where
   pub flat-one : (a : A) → flat f (a ∷ []) ≡ f a
   unfolding flat
   flat-one a = append-nil (f a)
+
+pub all-to : {A : Type 0} (P Q : A → Type 0) → ((a : A) → P a → Q a) → (l : List A) → All P l → All Q l
+all-to P Q h [] a = tt
+all-to P Q h (x ∷ l) a = (h x (a .0), all-to P Q h l (a .1))
+
+-- a row has as many numbers as patterns
+pub numbers-count : {nn nw : ℕ} (r : Row) → Fits nn nw r → length (map float (r .numbers)) ≡ nn
+numbers-count r o = length-map (r .numbers) float ∙ o .number-count
+
+pub length-flat : {A B : Type 0} (f : A → List B) (w : ℕ) (l : List A) → All (λ a. length (f a) ≡ w) l → length (flat f l) ≡ length l * w
+unfolding flat
+length-flat f w [] h = let z : 0 * w ≡ 0 = omega arith in sym z
+length-flat f w (a ∷ l) h =
+    let e = h .0 in
+    let i = length-flat f w l (h .1) in
+    let j = length-append (f a) (flat f l) in
+    let k = suc-mul (length l) w in
+    omega arith
 
 -- the elements at b + j, b + (j + 1), ..
 abbrev cellsFrom : {A : Type 0} → A → List A → ℕ → ℕ → ℕ → List A

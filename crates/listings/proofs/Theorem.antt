@@ -91,7 +91,7 @@ pub refusals-leave : Refusals-leave
 refusals-leave s m = leaves m (listing s)
 
 -- rows that pass the three tests are read
-accepted : (a b d : Bool) (t : Rows) (m : Mesh) → a ≡ true → b ≡ true → d ≡ true
+pub accepted : (a b d : Bool) (t : Rows) (m : Mesh) → a ≡ true → b ≡ true → d ≡ true
     → readRows a b d t m ≡ record { answer = Reading.Read (countsOf t); tables = stored t m }
 accepted a b d t m ea eb ed = rw (ea, eb, ed)
 

@@ -7,7 +7,7 @@ use Prim.Native.Nat.{ℕ, zero, suc, _+_, _*_, _≤_, _<_}
 use native.Mathlib.Nat.{suc-mul, mul-le-mul-right}
 use native.Mathlib.Omega.{arith}
 use lib.Dec.{T, ltb}
-use lib.ListN.{length, getD, take, drop, length-append, length-drop, length-map, List·getD-append}
+use lib.ListN.{length, getD, take, drop, length-drop, List·getD-append}
 use lib.Seq.{sets, sets-eq, length-sets, ext-getD, getD-at, getD-append-add, getD-take, getD-drop, length-take-le, take-all}
 use lib.Ieee.{Float, nan, binary64}
 use lib.Ieee.Bits.{toBits-ofBits}
@@ -20,9 +20,9 @@ use Rattle.audited_meshes.specs.Audited.{Audited}
 use Rattle.intervals.proofs.Laws.{finite-number}
 use Rattle.steps.specs.Rows.{Room}
 use Rattle.mesh_lines.specs.Grammar.{flat}
-use Rattle.listings.specs.Printing.{Row, Rows, All, Fits, FitPoint, FitEdge, FitFace, FitRows}
+use Rattle.listings.specs.Printing.{Row, Rows, All, FitPoint, FitEdge, FitFace, FitRows}
 use Rattle.listings.specs.Handing.{upTo, bitsOf, pointRow, edgeRow, faceRow, rowsOf, countsOf, stored}
-use Rattle.listings.proofs.Parts.{cells, part-cells}
+use Rattle.listings.proofs.Parts.{all-to, numbers-count, length-flat, cells, part-cells}
 use Rattle.listings.proofs.ReadBack.{length-upTo, finite-fit}
 
 module _ {A : Type 0} (f : ℕ → A) (d : A) where
@@ -55,16 +55,6 @@ module _ {B : Type 0} (G : Row → List B) (w : ℕ) (d : B) (r0 : Row) where
   abbrev Wide : Row → Type 0
   Wide r = length (G r) ≡ w
 
-  length-rows : (l : List Row) → All Wide l → length (flat G l) ≡ length l * w
-  unfolding flat
-  length-rows [] a = let z : 0 * w ≡ 0 = omega arith in sym z
-  length-rows (r ∷ l) a =
-      let e = a .0 in
-      let i = length-rows l (a .1) in
-      let j = length-append (G r) (flat G l) in
-      let k = suc-mul (length l) w in
-      omega arith
-
   flat-cell : (l : List Row) → All Wide l → (p j : ℕ) → p < length l → j < w → getD (flat G l) (p * w + j) d ≡ getD (G (getD l p r0)) j d
   unfolding flat
   flat-cell [] a p j h k = absurd (omega arith)
@@ -95,7 +85,7 @@ module _ {B : Type 0} (G : Row → List B) (w : ℕ) (d : B) (r0 : Row) where
   row-again xs l a h p k =
       let ys = sets xs 0 (flat G l) in
       let ly = length-sets xs 0 (flat G l) in
-      let lf = length-rows l a in
+      let lf = length-flat G w l a in
       let re = row-end (length l) p k in
       let ld = length-drop (p * w) ys in
       let lw : length (take w (drop (p * w) ys)) ≡ w = length-take-le w (drop (p * w) ys) (omega arith) in
@@ -114,10 +104,6 @@ bits-again (n ∷ ns) b f =
     let r = bits-again ns (b .1) (f .1) in
     λ i. e i ∷ r i
 
-all-to : {A : Type 0} (P Q : A → Type 0) → ((a : A) → P a → Q a) → (l : List A) → All P l → All Q l
-all-to P Q h [] a = tt
-all-to P Q h (x ∷ l) a = (h x (a .0), all-to P Q h l (a .1))
-
 all-at : {A : Type 0} (P : A → Type 0) (d : A) (l : List A) → All P l → (p : ℕ) → p < length l → P (getD l p d)
 all-at P d [] a p h = absurd (omega arith)
 all-at P d (x ∷ l) a zero h = a .0
@@ -127,14 +113,11 @@ none : Row
 none = record { numbers = []; words = [] }
 
 module _ (t : Rows) (m : Mesh) (f : FitRows t) (r : Room (countsOf t) m) (a : Audited (stored t m) (length (t .points)) (length (t .edges)) (length (t .faces))) where
-  numbers-wide : (nn nw : ℕ) (q : Row) → Fits nn nw q → length (map float (q .numbers)) ≡ nn
-  numbers-wide nn nw q o = length-map (q .numbers) float ∙ o .number-count
-
   point-again : (p : ℕ) → p < length (t .points) → pointRow (stored t m) p ≡ getD (t .points) p none
   point-again p h =
       let l = t .points in
       let o = all-at FitPoint none l (f .points-fit) p h .0 in
-      let xs = row-again (λ q. map float (q .numbers)) 3 nan none (m .positions) l (all-to FitPoint _ (λ q o. numbers-wide 3 3 q (o .0)) l (f .points-fit)) (r .positions) p h in
+      let xs = row-again (λ q. map float (q .numbers)) 3 nan none (m .positions) l (all-to FitPoint _ (λ q o. numbers-count q (o .0)) l (f .points-fit)) (r .positions) p h in
       let ws = row-again (λ q. q .words) 3 0 none (m .points) l (all-to FitPoint _ (λ q o. o .0 .word-count) l (f .points-fit)) (r .points) p h in
       let fin : All (λ v. finite v ≡ true) (map float (getD l p none .numbers)) = subst (All (λ v. finite v ≡ true)) xs (a .x-finite p h, (a .y-finite p h, (a .z-finite p h, tt))) in
       let ns = ap (map bitsOf) xs ∙ bits-again (getD l p none .numbers) (o .numbers-below) fin in
@@ -146,7 +129,7 @@ module _ (t : Rows) (m : Mesh) (f : FitRows t) (r : Room (countsOf t) m) (a : Au
       let o = all-at FitEdge none l (f .edges-fit) e h in
       let one : e * 1 ≡ e = omega arith in
       let room : length l * 1 ≤ length (m .intervals) = let q = r .intervals in omega arith in
-      let xs1 = row-again (λ q. map float (q .numbers)) 1 nan none (m .intervals) l (all-to FitEdge _ (λ q o. numbers-wide 1 8 q o) l (f .edges-fit)) room e h in
+      let xs1 = row-again (λ q. map float (q .numbers)) 1 nan none (m .intervals) l (all-to FitEdge _ (λ q o. numbers-count q o) l (f .edges-fit)) room e h in
       let xs = rw one at xs1 in
       let ws = row-again (λ q. q .words) 8 0 none (m .edges) l (all-to FitEdge _ (λ q o. o .word-count) l (f .edges-fit)) (r .edges) e h in
       let fin : All (λ v. finite v ≡ true) (map float (getD l e none .numbers)) = subst (All (λ v. finite v ≡ true)) xs (finite-fit (getD (stored t m .intervals) e nan) (a .interval-fit e h), tt) in
