@@ -28,7 +28,14 @@ enum Total {
 }
 
 // The whole listing, its rows stored in the tables as far as these have rows.
-fn scan(s: &[u8], xs: &mut [f64], ps: &mut [u32], es: &mut [u32], ds: &mut [f64], fs: &mut [u32]) -> Total
+fn scan(
+    s: &[u8],
+    xs: &mut [f64],
+    ps: &mut [u32],
+    es: &mut [u32],
+    ds: &mut [f64],
+    fs: &mut [u32],
+) -> Total
     ensures sizes { λ r. ⌜ r ≡ totalOf (listing (now (s .entry))) ⌝ }
     ensures positions { λ r. ⌜ AtTotal r (now (xs .exit) ≡ stored positionsIn (now (xs .entry)) 0 (listing (now (s .entry)))) ⌝ }
     ensures points { λ r. ⌜ AtTotal r (now (ps .exit) ≡ stored pointsIn (now (ps .entry)) 0 (listing (now (s .entry)))) ⌝ }

@@ -51,11 +51,10 @@ found-not-none : (t : Rows) (n : ℕ) → found t n ≡ none → ⊥
 found-not-none t n e = let z : _≡_ {A = ℕ} 0 1 = cc in omega arith
 
 pub not-listing-exactly : Not-listing-exactly
-not-listing-exactly s m =
-    (
-      λ e t f p. let (n, g) = listing-at s t f p in found-not-none t n (sym g ∙ none-of-answer (listing s) m e),
-      λ h. answer-of-none (listing s) m (none-found s (listing s) refl h),
-    )
+not-listing-exactly s m = (
+  λ e t f p. let (n, g) = listing-at s t f p in found-not-none t n (sym g ∙ none-of-answer (listing s) m e),
+  λ h. answer-of-none (listing s) m (none-found s (listing s) refl h),
+)
 
 pub reads-rows : Reads-rows
 unfolding readFound

@@ -79,7 +79,6 @@ module _ (k n : ℕ) (e : k ≡ 0 → ⊥) where
       ap (λ (j : ℕ). length (decimalDigits j n)) from-one ∙ ap length (decimal-long (k - 1) n h) ∙ length-append (decimalDigits (k - 1) (n / 10)) ((48 + n % 10) ∷ [])
 
 module _ (out : List ℕ) (at k n : ℕ) (e : k ≡ 0 → ⊥) where
-
   pub hex-last : {i b : ℕ} {out′ : List ℕ} → Written out at (hexBytes (k - 1) (n / 16)) i out′ → b ≡ hexByte (n % 16) → Written out at (hexBytes k n) (i + 1) (set out′ i b)
   unfolding hexBytes
   hex-last {i} {b} {out′} h eb =

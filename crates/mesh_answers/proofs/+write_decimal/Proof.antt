@@ -63,7 +63,7 @@ write-decimal-slice-write-out : (t : ℕ) → write-decimal-lts.Need-slice-write
   write-decimal-below t,
   write-decimal.Post,
 ) (write-decimal-at t) write-decimal.Post
-write-decimal-slice-write-out t c = 
+write-decimal-slice-write-out t c =
     let l = length-short (c .before .before .before .before .args .k) (c .before .before .before .before .args .n) (c .before .before .if1 .left) (c .before .if2 .taken) in
     let p = c .before .before .before .before .pre .1 in
     omega arith
@@ -75,7 +75,7 @@ write-decimal-add-result : (t : ℕ) → write-decimal-lts.Need-add-result (
   write-decimal-below t,
   write-decimal.Post,
 ) (write-decimal-at t) write-decimal.Post
-write-decimal-add-result t c = 
+write-decimal-add-result t c =
     let l = length-short (c .before .before .before .before .args .k) (c .before .before .before .before .args .n) (c .before .before .if1 .left) (c .before .if2 .taken) in
     let p = c .before .before .before .before .pre .1 in
     omega arith
