@@ -32,11 +32,13 @@ impl Counts {
         Counts { points: self.points + self.edges + self.faces, edges: 4 * self.edges, faces: 2 * self.edges }
     }
 
-    fn array(self) -> [usize; 3] {
+    /// The counts as the functions take them.
+    pub fn array(self) -> [usize; 3] {
         [self.points, self.edges, self.faces]
     }
 
-    fn of(counts: [usize; 3]) -> Self {
+    /// The counts that a function has written.
+    pub fn of(counts: [usize; 3]) -> Self {
         Counts { points: counts[0], edges: counts[1], faces: counts[2] }
     }
 }

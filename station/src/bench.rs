@@ -60,7 +60,7 @@ fn least<T>(runs: usize, mut make: impl FnMut() -> T, mut work: impl FnMut(&mut 
 
 fn built(lists: &Lists) -> (Tables, Counts) {
     let room = Counts { points: lists.points(), edges: lists.listed.len(), faces: lists.faces() };
-    let mut tables = Tables::zero(room);
+    let mut tables = Tables::with_rows(room);
     let mut counts = [0; 3];
     let answer = library::build(lists, &mut tables, &mut counts);
     assert_eq!(answer, 0, "the sample is built");
@@ -131,7 +131,7 @@ fn step(name: &str, mesh: &Tables, counts: Counts, rust_most: usize) {
     let audit = least(runs, || (), |()| assert_eq!(library::audit(mesh, counts.array()), 0, "the sample is closed"));
     let plain = least(runs, lent, |(tables, scratch)| write_and_copy(tables, scratch, after));
     let per = |time: f64| time / after.faces as f64;
-    let bytes = 2 * Tables::zero(after).bytes();
+    let bytes = 2 * Tables::with_rows(after).bytes();
     print!(
         "| {name} | {} | {:.0} | {:.1} | {:.0} % | {:.1} | {:.2} | {:.2} |",
         after.faces, ours / 1e3, per(ours), 100.0 * audit / ours, per(plain), ours / plain, bytes as f64 / 1e6
@@ -167,9 +167,9 @@ pub fn run(rust_most: usize) {
     // Building takes no more than 4,096 faces: the largest torus is the refined one of 64 by 64.
     let (mesh, counts) = built(&samples[3].lists);
     let after = counts.refined();
-    let mut tables = Tables::zero(after).over(&mesh);
+    let mut tables = Tables::with_rows(after).over(&mesh);
     let order: Vec<u32> = (0..counts.faces as u32).collect();
-    assert_eq!(library::step(&mut tables, &mut counts.array(), &order, &mut Tables::zero(after)), 0);
+    assert_eq!(library::step(&mut tables, &mut counts.array(), &order, &mut Tables::with_rows(after)), 0);
     step("torus 128 x 128", &tables, after, rust_most);
 }
 
@@ -177,9 +177,9 @@ pub fn run(rust_most: usize) {
 pub fn profile(steps: usize) {
     let (mesh, counts) = built(&torus(64).lists);
     let order: Vec<u32> = (0..counts.faces as u32).collect();
-    let mut scratch = Tables::zero(counts.refined());
+    let mut scratch = Tables::with_rows(counts.refined());
     for _ in 0..steps {
-        let mut tables = Tables::zero(counts.refined()).over(&mesh);
+        let mut tables = Tables::with_rows(counts.refined()).over(&mesh);
         assert_eq!(library::step(&mut tables, &mut counts.array(), &order, &mut scratch), 0);
     }
 }

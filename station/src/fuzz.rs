@@ -100,7 +100,7 @@ fn closed_mesh(random: &mut Random) -> (Tables, Counts) {
         let shape = shapes::closed(random);
         let lists = numbers::numbered(random, &shape);
         let room = Counts { points: lists.points(), edges: lists.listed.len(), faces: lists.faces() };
-        let (mut tables, mut words) = (Tables::zero(room), [0; 3]);
+        let (mut tables, mut words) = (Tables::with_rows(room), [0; 3]);
         if library::build(&lists, &mut tables, &mut words) != 0 {
             continue;
         }
@@ -110,9 +110,9 @@ fn closed_mesh(random: &mut Random) -> (Tables, Counts) {
             spoil::scramble(random, &mut mesh, counts);
         }
         let after = counts.refined();
-        let mut refined = Tables::zero(after).over(&mesh);
+        let mut refined = Tables::with_rows(after).over(&mesh);
         let order = random.order(counts.faces);
-        if random.once_in(4) && library::step(&mut refined, &mut words, &order, &mut Tables::zero(after)) == 0 {
+        if random.once_in(4) && library::step(&mut refined, &mut words, &order, &mut Tables::with_rows(after)) == 0 {
             return (refined, after);
         }
         return (mesh, counts);

@@ -3,42 +3,12 @@
 use crate::lavyngo::raw::*;
 use crate::lists::Lists;
 
-pub const NONE: u32 = u32::MAX;
-
-/// How many points, edges and faces.
-#[derive(Clone, Copy, PartialEq, Eq, Debug, Default)]
-pub struct Counts {
-    pub points: usize,
-    pub edges: usize,
-    pub faces: usize,
-}
+pub use crate::lavyngo::{Counts, NONE, Tables};
 
 impl Counts {
-    pub fn of(counts: [usize; 3]) -> Self {
-        Counts { points: counts[0], edges: counts[1], faces: counts[2] }
-    }
-
-    pub fn array(self) -> [usize; 3] {
-        [self.points, self.edges, self.faces]
-    }
-
-    pub fn refined(self) -> Self {
-        Counts { points: self.points + self.edges + self.faces, edges: 4 * self.edges, faces: 2 * self.edges }
-    }
-
     pub fn records(self) -> u64 {
         (self.points + self.edges + self.faces) as u64
     }
-}
-
-/// The five tables of a mesh.
-#[derive(Clone, Default)]
-pub struct Tables {
-    pub positions: Vec<f64>,
-    pub points: Vec<u32>,
-    pub edges: Vec<u32>,
-    pub intervals: Vec<f64>,
-    pub faces: Vec<u32>,
 }
 
 /// A word that no table would hold by chance, for each place.
@@ -70,17 +40,6 @@ impl Tables {
             edges: words(8 * counts.edges),
             intervals: numbers(counts.edges),
             faces: words(5 * counts.faces),
-        }
-    }
-
-    /// Tables with the rows of these counts, all zero.
-    pub fn zero(counts: Counts) -> Self {
-        Tables {
-            positions: vec![0.0; 3 * counts.points],
-            points: vec![0; 3 * counts.points],
-            edges: vec![0; 8 * counts.edges],
-            intervals: vec![0.0; counts.edges],
-            faces: vec![0; 5 * counts.faces],
         }
     }
 

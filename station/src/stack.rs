@@ -24,11 +24,11 @@ pub fn call(name: &str, bytes: usize) {
     let lists = cube();
     let text = lists.text().expect("the cube has a text");
     let room = Counts { points: 8, edges: 24, faces: 6 };
-    let (mut tables, mut counts) = (Tables::zero(room), [0; 3]);
+    let (mut tables, mut counts) = (Tables::with_rows(room), [0; 3]);
     assert_eq!(library::build(&lists, &mut tables, &mut counts), 0, "the cube is built");
     let after = Counts::of(counts).refined();
-    let mut refined = Tables::zero(after).over(&tables.first(Counts::of(counts)));
-    let mut scratch = Tables::zero(after);
+    let mut refined = Tables::with_rows(after).over(&tables.first(Counts::of(counts)));
+    let mut scratch = Tables::with_rows(after);
     let name = name.to_string();
     let work = move || match name.as_str() {
         "build" => library::build(&lists, &mut tables, &mut counts),

@@ -78,12 +78,14 @@ smallest-above = refl
 
 -- two pairs of triangles back to back, at the depths 0 and 2: 6 points, 6 edges, 4 faces
 abbrev twoParts : Mesh
-twoParts = record { positions = atDepths (d0 ∷ d0 ∷ d0 ∷ d2 ∷ d2 ∷ d2 ∷ []);
-    points = 2 ∷ 2 ∷ 1 ∷ 2 ∷ 1 ∷ 1 ∷ 2 ∷ 2 ∷ 1 ∷ 2 ∷ 5 ∷ 1 ∷ 2 ∷ 4 ∷ 1 ∷ 2 ∷ 5 ∷ 1 ∷ [];
-    edges = 0 ∷ 1 ∷ 0 ∷ 1 ∷ 2 ∷ 1 ∷ 1 ∷ 2 ∷ 1 ∷ 2 ∷ 0 ∷ 1 ∷ 0 ∷ 2 ∷ 2 ∷ 0 ∷ 2 ∷ 0 ∷ 0 ∷ 1 ∷ 1 ∷ 0 ∷ 0 ∷ 1 ∷ 3 ∷ 4 ∷ 2
-    ∷ 3 ∷ 5 ∷ 4 ∷ 4 ∷ 5 ∷ 4 ∷ 5 ∷ 2 ∷ 3 ∷ 3 ∷ 5 ∷ 5 ∷ 3 ∷ 5 ∷ 3 ∷ 2 ∷ 3 ∷ 4 ∷ 3 ∷ 3 ∷ 4 ∷ [];
-    intervals = replicate 6 unit;
-    faces = 0 ∷ 0 ∷ 1 ∷ 2 ∷ none ∷ 2 ∷ 0 ∷ 2 ∷ 1 ∷ none ∷ 3 ∷ 3 ∷ 4 ∷ 5 ∷ none ∷ 5 ∷ 3 ∷ 5 ∷ 4 ∷ none ∷ [] }
+twoParts = record {
+  positions = atDepths (d0 ∷ d0 ∷ d0 ∷ d2 ∷ d2 ∷ d2 ∷ []);
+  points = 2 ∷ 2 ∷ 1 ∷ 2 ∷ 1 ∷ 1 ∷ 2 ∷ 2 ∷ 1 ∷ 2 ∷ 5 ∷ 1 ∷ 2 ∷ 4 ∷ 1 ∷ 2 ∷ 5 ∷ 1 ∷ [];
+  edges = 0 ∷ 1 ∷ 0 ∷ 1 ∷ 2 ∷ 1 ∷ 1 ∷ 2 ∷ 1 ∷ 2 ∷ 0 ∷ 1 ∷ 0 ∷ 2 ∷ 2 ∷ 0 ∷ 2 ∷ 0 ∷ 0 ∷ 1 ∷ 1 ∷ 0 ∷ 0 ∷ 1 ∷ 3 ∷ 4 ∷ 2
+      ∷ 3 ∷ 5 ∷ 4 ∷ 4 ∷ 5 ∷ 4 ∷ 5 ∷ 2 ∷ 3 ∷ 3 ∷ 5 ∷ 5 ∷ 3 ∷ 5 ∷ 3 ∷ 2 ∷ 3 ∷ 4 ∷ 3 ∷ 3 ∷ 4 ∷ [];
+  intervals = replicate 6 unit;
+  faces = 0 ∷ 0 ∷ 1 ∷ 2 ∷ none ∷ 2 ∷ 0 ∷ 2 ∷ 1 ∷ none ∷ 3 ∷ 3 ∷ 4 ∷ 5 ∷ none ∷ 5 ∷ 3 ∷ 5 ∷ 4 ∷ none ∷ [];
+}
 
 abbrev counted : ℕ → ℕ → ℕ → Counts
 counted np ne nf = record { points = np; edges = ne; faces = nf }

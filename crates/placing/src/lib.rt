@@ -80,7 +80,8 @@ fn place_edge_points(
 {
     let mut e = 0;
     while e < ne {
-        let Placed::At(x, y, z) = edge_point(positions, edges, intervals, newpositions, newfaces, e) else {
+        let Placed::At(x, y, z) = edge_point(positions, edges, intervals, newpositions, newfaces, e)
+        else {
             return false;
         };
         store_position(

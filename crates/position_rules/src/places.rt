@@ -28,5 +28,8 @@ pub fn load_face_point(newpositions: &[f64], newfaces: &[u32], f: usize) -> Posi
     requires { ⌜ getD (now newfaces) (f * faceWidth + firstCornerWord) 0 * positionWidth + positionWidth ≤ length (now newpositions) ⌝ }
     ensures { λ r. ⌜ r ≡ facePointAt (now (newpositions .entry)) (now (newfaces .entry)) f ⌝ }
 {
-    load_position(newpositions, index(newfaces[f * FACE_WIDTH + FIRST_CORNER_WORD]))
+    load_position(
+        newpositions,
+        index(newfaces[f * FACE_WIDTH + FIRST_CORNER_WORD]),
+    )
 }

@@ -50,14 +50,15 @@ returns-2 : tie.Need-returns-2
 returns-2 c =
     let c8 = c .before .before .before .before .before .before .before .before in
     let args = c8 .before .before .before .before .before .args in
-    let h = c8 .before .before .before .before .before .pre in
-    ((λ cs ps z. passed-unfit (args .sides .now) (args .listed .now) (args .beside .now) (args .np) (args .f) (args .a)
-    (args .n) (h .1 .1 .0) cs z
-    (stateAt (meshOf ps (args .points .now) (args .edges .now) (args .intervals .now) (args .faces .now)) (args .k))
-    (c .before .g .given .0 .0) (sym
-    (rw (c .before .before .before .before .index .ensures) at (c .before .before .before .face-verdict .ensures cs))
-    ∙ c .before .g .given .1)),
-    (args .k, h .0, omega (arith, h .1 .1 .1 .0)))
+    let h = c8 .before .before .before .before .before .pre in (
+      (λ cs ps z. passed-unfit (args .sides .now) (args .listed .now) (args .beside .now) (args .np) (args .f) (args .a)
+          (args .n) (h .1 .1 .0) cs z
+          (stateAt (meshOf ps (args .points .now) (args .edges .now) (args .intervals .now) (args .faces .now)) (args .k))
+          (c .before .g .given .0 .0) (sym
+          (rw (c .before .before .before .before .index .ensures) at (c .before .before .before .face-verdict .ensures cs))
+          ∙ c .before .g .given .1)),
+      (args .k, h .0, omega (arith, h .1 .1 .1 .0)),
+    )
 
 pub enter-face-spec : {M : Type 1} → statement M
 enter-face-spec =

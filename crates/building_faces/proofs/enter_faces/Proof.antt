@@ -65,15 +65,16 @@ returns c =
     let w = face-sided (a .np) (a .sides .now) (a .listed .now) (a .beside .now) (a .points .now) (a .edges .now)
     (a .intervals .now) (a .faces .now) (a .chain .now) (pre .1 .1 .1 .1) (l .points) (l .edges) (l .intervals)
     (l .faces) (l .chain) (l .k) (l .a) (l .f) (n .result) (l .inv) (loop-test .taken) (n .ensures) in
-    let s = rw (c .before .g .given .1) at (e .ensures .1) in
-    ((λ cs ps z. face-stop (a .np) (a .sides .now) (a .listed .now) (a .beside .now) (a .points .now) (a .edges .now)
-    (a .intervals .now) (a .faces .now) (a .chain .now) (pre .1 .1 .1 .1) (l .points) (l .edges) (l .intervals)
-    (l .faces) (l .chain) (l .k) (l .a) (l .f) (n .result) (l .inv) (loop-test .taken) (n .ensures)
-    (e .last .1 .1 .1 .0) (e .last .1 .1 .1 .1 .0) (e .last .1 .1 .1 .1 .1 .0) (e .last .1 .1 .1 .1 .1 .1 .0)
-    (e .last .1 .1 .1 .1 .1 .1 .1 .0) (c .before .g .given .0 .0) cs ps z
-    (rw (c .before .g .given .1) at (e .ensures .0 cs ps z))),
-    some-more (a .np) (e .last .1 .1 .1 .0) (e .last .1 .1 .1 .1 .0) (e .last .1 .1 .1 .1 .1 .1 .1 .0)
-    (l .a + n .result) (length (a .listed .now)) (w .within) s)
+    let s = rw (c .before .g .given .1) at (e .ensures .1) in (
+      (λ cs ps z. face-stop (a .np) (a .sides .now) (a .listed .now) (a .beside .now) (a .points .now) (a .edges .now)
+          (a .intervals .now) (a .faces .now) (a .chain .now) (pre .1 .1 .1 .1) (l .points) (l .edges) (l .intervals)
+          (l .faces) (l .chain) (l .k) (l .a) (l .f) (n .result) (l .inv) (loop-test .taken) (n .ensures)
+          (e .last .1 .1 .1 .0) (e .last .1 .1 .1 .1 .0) (e .last .1 .1 .1 .1 .1 .0) (e .last .1 .1 .1 .1 .1 .1 .0)
+          (e .last .1 .1 .1 .1 .1 .1 .1 .0) (c .before .g .given .0 .0) cs ps z
+          (rw (c .before .g .given .1) at (e .ensures .0 cs ps z))),
+      some-more (a .np) (e .last .1 .1 .1 .0) (e .last .1 .1 .1 .1 .0) (e .last .1 .1 .1 .1 .1 .1 .1 .0)
+          (l .a + n .result) (length (a .listed .now)) (w .within) s,
+    )
 
 add-a : tie.Need-add-a Inv-loop μ-loop
 add-a c =

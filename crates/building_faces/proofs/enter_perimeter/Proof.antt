@@ -49,18 +49,19 @@ returns c =
     let args = c32 .before .args in
     let enter-places = c16 .before .before .before .before .before .enter-places in
     let ring = c8 .before .before .before .ring in
-    let connect = c .before .before .before .before .before .before .before .connect in
-    ((λ cs ss ps. closed-on (args .f) (c .before .before .before .index .result)
-    (places (args .n) (lists cs ss (args .listed .now) (args .beside .now)) (args .f) (args .a) (args .n) 0
-    (on
-    (faceStateAt (meshOf ps (args .points .now) (args .edges .now) (args .intervals .now) (args .faces .now)) (args .k))))
-    (ring .given .0 .0) (meshOf ps (enter-places .last .1 .1 .0) (enter-places .last .1 .1 .1 .0)
-    (enter-places .last .1 .1 .1 .1 .0) (args .faces .now)) (connect .last .0) (c .before .before .store-face .last .0)
-    (rw (ring .given .1) at (enter-places .ensures .0 cs ss ps (args .faces .now))) (connect .ensures .1)
-    (c .before .before .before .index .ensures) (c .before .before .store-face .ensures)),
-    face-stands (args .np) (enter-places .last .1 .1 .0) (enter-places .last .1 .1 .1 .0)
-    (enter-places .last .1 .1 .1 .1 .1 .0) (enter-places .last .1 .1 .1 .1 .0) (connect .last .0) (args .a + args .n)
-    (ring .given .0 .0) (rw (ring .given .1) at (enter-places .ensures .1)) (connect .ensures .1))
+    let connect = c .before .before .before .before .before .before .before .connect in (
+      (λ cs ss ps. closed-on (args .f) (c .before .before .before .index .result)
+          (places (args .n) (lists cs ss (args .listed .now) (args .beside .now)) (args .f) (args .a) (args .n) 0
+          (on
+          (faceStateAt (meshOf ps (args .points .now) (args .edges .now) (args .intervals .now) (args .faces .now)) (args .k))))
+          (ring .given .0 .0) (meshOf ps (enter-places .last .1 .1 .0) (enter-places .last .1 .1 .1 .0)
+          (enter-places .last .1 .1 .1 .1 .0) (args .faces .now)) (connect .last .0) (c .before .before .store-face .last .0)
+          (rw (ring .given .1) at (enter-places .ensures .0 cs ss ps (args .faces .now))) (connect .ensures .1)
+          (c .before .before .before .index .ensures) (c .before .before .store-face .ensures)),
+      face-stands (args .np) (enter-places .last .1 .1 .0) (enter-places .last .1 .1 .1 .0)
+          (enter-places .last .1 .1 .1 .1 .1 .0) (enter-places .last .1 .1 .1 .1 .0) (connect .last .0) (args .a + args .n)
+          (ring .given .0 .0) (rw (ring .given .1) at (enter-places .ensures .1)) (connect .ensures .1),
+    )
 
 returns-2 : tie.Need-returns-2
 returns-2 c =
@@ -68,15 +69,16 @@ returns-2 c =
     let c16 = c8 .before .before .before .before .before .before .before .before in
     let args = c16 .before .before .before .before .before .before .before .args in
     let enter-places = c8 .before .before .before .enter-places in
-    let s = rw (c .before .g .given .1) at (enter-places .ensures .1) in
-    ((λ cs ss ps. closed-stopped (args .f)
-    (places (args .n) (lists cs ss (args .listed .now) (args .beside .now)) (args .f) (args .a) (args .n) 0
-    (on
-    (faceStateAt (meshOf ps (args .points .now) (args .edges .now) (args .intervals .now) (args .faces .now)) (args .k))))
-    (c .before .g .given .0 .0) (meshOf ps (enter-places .last .1 .1 .0) (enter-places .last .1 .1 .1 .0)
-    (enter-places .last .1 .1 .1 .1 .0) (args .faces .now))
-    (rw (c .before .g .given .1) at (enter-places .ensures .0 cs ss ps (args .faces .now)))),
-    s)
+    let s = rw (c .before .g .given .1) at (enter-places .ensures .1) in (
+      (λ cs ss ps. closed-stopped (args .f)
+          (places (args .n) (lists cs ss (args .listed .now) (args .beside .now)) (args .f) (args .a) (args .n) 0
+          (on
+          (faceStateAt (meshOf ps (args .points .now) (args .edges .now) (args .intervals .now) (args .faces .now)) (args .k))))
+          (c .before .g .given .0 .0) (meshOf ps (enter-places .last .1 .1 .0) (enter-places .last .1 .1 .1 .0)
+          (enter-places .last .1 .1 .1 .1 .0) (args .faces .now))
+          (rw (c .before .g .given .1) at (enter-places .ensures .0 cs ss ps (args .faces .now)))),
+      s,
+    )
 
 pub enter-perimeter-spec : {M : Type 1} → statement M
 enter-perimeter-spec =

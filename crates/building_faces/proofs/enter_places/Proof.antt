@@ -48,14 +48,15 @@ returns c =
     let t = c8 .before .before .before .turn-place in
     let i = loop .i in
     let l = loop-test .taken in
-    let s = rw (c .before .g .given .1) at (t .ensures .1) in
-    ((λ cs ss ps fs. passing-stop (a .np) (a .listed .now) (a .beside .now) (a .f) (a .a) (a .n) (a .k) (a .points .now)
-    (a .edges .now) (a .intervals .now) (a .chain .now) (loop .points) (loop .edges) (loop .intervals) (loop .chain)
-    (loop .ring) (loop .i) (loop .inv) (loop-test .taken) (t .last .1 .1 .0) (t .last .1 .1 .1 .0)
-    (t .last .1 .1 .1 .1 .0) (t .last .1 .1 .1 .1 .1 .0) (c .before .g .given .0 .0) cs ss ps fs
-    (rw (c .before .g .given .1) at (t .ensures .0 cs ss ps fs))),
-    some-more (a .np) (t .last .1 .1 .0) (t .last .1 .1 .1 .0) (t .last .1 .1 .1 .1 .1 .0) (a .a + i + 1) (a .a + a .n)
-    (omega (arith, l)) s)
+    let s = rw (c .before .g .given .1) at (t .ensures .1) in (
+      (λ cs ss ps fs. passing-stop (a .np) (a .listed .now) (a .beside .now) (a .f) (a .a) (a .n) (a .k) (a .points .now)
+          (a .edges .now) (a .intervals .now) (a .chain .now) (loop .points) (loop .edges) (loop .intervals) (loop .chain)
+          (loop .ring) (loop .i) (loop .inv) (loop-test .taken) (t .last .1 .1 .0) (t .last .1 .1 .1 .0)
+          (t .last .1 .1 .1 .1 .0) (t .last .1 .1 .1 .1 .1 .0) (c .before .g .given .0 .0) cs ss ps fs
+          (rw (c .before .g .given .1) at (t .ensures .0 cs ss ps fs))),
+      some-more (a .np) (t .last .1 .1 .0) (t .last .1 .1 .1 .0) (t .last .1 .1 .1 .1 .1 .0) (a .a + i + 1) (a .a + a .n)
+          (omega (arith, l)) s,
+    )
 
 loop-again : tie.Need-loop-again Inv-loop μ-loop
 loop-again c =

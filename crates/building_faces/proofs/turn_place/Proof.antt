@@ -44,13 +44,18 @@ enter-requires c κs =
     let c8 = c .before .before .before .before .before .before .before .before in
     let a = c8 .before .before .before .before .before .before .args in
     let pre = c8 .before .before .before .before .before .before .pre in
-    let w = pre .1 .1 .0 .within in
-    (pre .0,
-    (room-lent (a .np) (a .listed .now) (a .beside .now) (a .edges .now) (a .intervals .now) (a .chain .now)
-    (a .ring .edges) (pre .1 .0) (omega (arith, pre .1 .1 .1 .1 .0, pre .1 .1 .1 .0)),
-    (placed-point (a .np) (a .listed .now) (a .a) (a .n) (a .i) (pre .1 .1 .0) (pre .1 .1 .1 .0),
-    rw (c .before .before .before .before .before .before .next-place .ensures .0)
-    (placed-point (a .np) (a .listed .now) (a .a) (a .n) _ (pre .1 .1 .0) (next-below (a .n) (a .i) (pre .1 .1 .1 .0))))))
+    let w = pre .1 .1 .0 .within in (
+      pre .0,
+      (
+        room-lent (a .np) (a .listed .now) (a .beside .now) (a .edges .now) (a .intervals .now) (a .chain .now)
+            (a .ring .edges) (pre .1 .0) (omega (arith, pre .1 .1 .1 .1 .0, pre .1 .1 .1 .0)),
+        (
+          placed-point (a .np) (a .listed .now) (a .a) (a .n) (a .i) (pre .1 .1 .0) (pre .1 .1 .1 .0),
+          rw (c .before .before .before .before .before .before .next-place .ensures .0)
+              (placed-point (a .np) (a .listed .now) (a .a) (a .n) _ (pre .1 .1 .0) (next-below (a .n) (a .i) (pre .1 .1 .1 .0))),
+        ),
+      ),
+    )
 
 returns : tie.Need-returns
 returns c =
@@ -61,20 +66,21 @@ returns c =
     let pre = c24 .before .before .before .pre in
     let next-place = c16 .before .before .before .next-place in
     let enter = c8 .before .before .before .before .enter in
-    let count = c .before .before .count in
-    ((λ cs ss ps fs. turn-first cs ss (args .listed .now) (args .beside .now) (args .f) (args .a) (args .n) (args .i)
-    (next-place .result) (getD (args .listed .now) (args .a + args .i) 0)
-    (getD (args .listed .now) (args .a + next-place .result) 0) (getD (args .beside .now) (args .a + args .i) nan)
-    (args .ring) (meshOf ps (args .points .now) (args .edges .now) (args .intervals .now) fs)
-    (meshOf ps (enter .last .0) (enter .last .1 .0) (enter .last .1 .1 .0) fs) (next-place .ensures .0) refl refl refl
-    (count .given .0 .0) (count .given .0 .1 .0) (rw (count .given .1) at (enter .ensures .0 ps fs)) (c .if1 .taken)),
-    stands-first (args .np) (enter .last .0) (enter .last .1 .0) (enter .last .1 .1 .1 .0) (args .ring .edges)
-    (count .given .0 .0) (count .given .0 .1 .0) (args .a + args .i + 1) (rw (count .given .1) at (enter .ensures .1))
-    (made-counted (meshOf [] (args .points .now) (args .edges .now) (args .intervals .now) [])
-    (meshOf [] (enter .last .0) (enter .last .1 .0) (enter .last .1 .1 .0) []) (args .ring .edges) (args .f)
-    (getD (args .listed .now) (args .a + args .i) 0) (getD (args .listed .now) (args .a + next-place .result) 0)
-    (getD (args .beside .now) (args .a + args .i) nan) (count .given .0 .0) (count .given .0 .1 .0)
-    (rw (count .given .1) at (enter .ensures .0 [] []))) (let few = pre .1 .1 .1 .1 .0 in omega arith))
+    let count = c .before .before .count in (
+      (λ cs ss ps fs. turn-first cs ss (args .listed .now) (args .beside .now) (args .f) (args .a) (args .n) (args .i)
+          (next-place .result) (getD (args .listed .now) (args .a + args .i) 0)
+          (getD (args .listed .now) (args .a + next-place .result) 0) (getD (args .beside .now) (args .a + args .i) nan)
+          (args .ring) (meshOf ps (args .points .now) (args .edges .now) (args .intervals .now) fs)
+          (meshOf ps (enter .last .0) (enter .last .1 .0) (enter .last .1 .1 .0) fs) (next-place .ensures .0) refl refl refl
+          (count .given .0 .0) (count .given .0 .1 .0) (rw (count .given .1) at (enter .ensures .0 ps fs)) (c .if1 .taken)),
+      stands-first (args .np) (enter .last .0) (enter .last .1 .0) (enter .last .1 .1 .1 .0) (args .ring .edges)
+          (count .given .0 .0) (count .given .0 .1 .0) (args .a + args .i + 1) (rw (count .given .1) at (enter .ensures .1))
+          (made-counted (meshOf [] (args .points .now) (args .edges .now) (args .intervals .now) [])
+          (meshOf [] (enter .last .0) (enter .last .1 .0) (enter .last .1 .1 .0) []) (args .ring .edges) (args .f)
+          (getD (args .listed .now) (args .a + args .i) 0) (getD (args .listed .now) (args .a + next-place .result) 0)
+          (getD (args .beside .now) (args .a + args .i) nan) (count .given .0 .0) (count .given .0 .1 .0)
+          (rw (count .given .1) at (enter .ensures .0 [] []))) (let few = pre .1 .1 .1 .1 .0 in omega arith),
+    )
 
 connect-requires : tie.Need-connect-requires
 connect-requires c κs =
@@ -111,22 +117,23 @@ returns-2 c =
     let count = c .before .before .before .before .before .before .before .count in
     let if1 = c .before .before .before .before .before .if1 in
     let connect = c .before .before .connect in
-    let some = if1 .left in
-    ((λ cs ss ps fs. turn-more cs ss (args .listed .now) (args .beside .now) (args .f) (args .a) (args .n) (args .i)
-    (next-place .result) (getD (args .listed .now) (args .a + args .i) 0)
-    (getD (args .listed .now) (args .a + next-place .result) 0) (getD (args .beside .now) (args .a + args .i) nan)
-    (args .ring) (meshOf ps (args .points .now) (args .edges .now) (args .intervals .now) fs)
-    (meshOf ps (enter .last .0) (enter .last .1 .0) (enter .last .1 .1 .0) fs) (next-place .ensures .0) refl refl refl
-    (count .given .0 .0) (count .given .0 .1 .0) (connect .last .0) (rw (count .given .1) at (enter .ensures .0 ps fs))
-    (if1 .left) (connect .ensures .1)),
-    stands-more (args .np) (enter .last .0) (enter .last .1 .0) (enter .last .1 .1 .1 .0) (args .ring .edges)
-    (count .given .0 .0) (count .given .0 .1 .0) (args .a + args .i + 1) (rw (count .given .1) at (enter .ensures .1))
-    (made-counted (meshOf [] (args .points .now) (args .edges .now) (args .intervals .now) [])
-    (meshOf [] (enter .last .0) (enter .last .1 .0) (enter .last .1 .1 .0) []) (args .ring .edges) (args .f)
-    (getD (args .listed .now) (args .a + args .i) 0) (getD (args .listed .now) (args .a + next-place .result) 0)
-    (getD (args .beside .now) (args .a + args .i) nan) (count .given .0 .0) (count .given .0 .1 .0)
-    (rw (count .given .1) at (enter .ensures .0 [] []))) (let few = pre .1 .1 .1 .1 .0 in omega arith) (args .ring) refl
-    (pre .1 .1 .1 .1 .1 (omega arith)) (enter .last .1 .1 .0) (connect .last .0) (connect .ensures .1))
+    let some = if1 .left in (
+      (λ cs ss ps fs. turn-more cs ss (args .listed .now) (args .beside .now) (args .f) (args .a) (args .n) (args .i)
+          (next-place .result) (getD (args .listed .now) (args .a + args .i) 0)
+          (getD (args .listed .now) (args .a + next-place .result) 0) (getD (args .beside .now) (args .a + args .i) nan)
+          (args .ring) (meshOf ps (args .points .now) (args .edges .now) (args .intervals .now) fs)
+          (meshOf ps (enter .last .0) (enter .last .1 .0) (enter .last .1 .1 .0) fs) (next-place .ensures .0) refl refl refl
+          (count .given .0 .0) (count .given .0 .1 .0) (connect .last .0) (rw (count .given .1) at (enter .ensures .0 ps fs))
+          (if1 .left) (connect .ensures .1)),
+      stands-more (args .np) (enter .last .0) (enter .last .1 .0) (enter .last .1 .1 .1 .0) (args .ring .edges)
+          (count .given .0 .0) (count .given .0 .1 .0) (args .a + args .i + 1) (rw (count .given .1) at (enter .ensures .1))
+          (made-counted (meshOf [] (args .points .now) (args .edges .now) (args .intervals .now) [])
+          (meshOf [] (enter .last .0) (enter .last .1 .0) (enter .last .1 .1 .0) []) (args .ring .edges) (args .f)
+          (getD (args .listed .now) (args .a + args .i) 0) (getD (args .listed .now) (args .a + next-place .result) 0)
+          (getD (args .beside .now) (args .a + args .i) nan) (count .given .0 .0) (count .given .0 .1 .0)
+          (rw (count .given .1) at (enter .ensures .0 [] []))) (let few = pre .1 .1 .1 .1 .0 in omega arith) (args .ring) refl
+          (pre .1 .1 .1 .1 .1 (omega arith)) (enter .last .1 .1 .0) (connect .last .0) (connect .ensures .1),
+    )
 
 returns-3 : tie.Need-returns-3
 returns-3 c =
@@ -137,14 +144,15 @@ returns-3 c =
     let next-place = c16 .before .before .next-place in
     let enter = c8 .before .before .before .enter in
     let k = c24 .before .before .pre .1 .1 .1 .1 .0 in
-    let s = rw (c .before .g .given .1) at (enter .ensures .1) in
-    ((λ cs ss ps fs. turn-stopped cs ss (a .listed .now) (a .beside .now) (a .f) (a .a) (a .n) (a .i)
-    (next-place .result) (getD (a .listed .now) (a .a + a .i) 0) (getD (a .listed .now) (a .a + next-place .result) 0)
-    (getD (a .beside .now) (a .a + a .i) nan) (a .ring)
-    (meshOf ps (a .points .now) (a .edges .now) (a .intervals .now) fs)
-    (meshOf ps (enter .last .0) (enter .last .1 .0) (enter .last .1 .1 .0) fs) (next-place .ensures .0) refl refl refl
-    (c .before .g .given .0 .0) (rw (c .before .g .given .1) at (enter .ensures .0 ps fs))),
-    (a .ring .edges, s, omega (arith, k)))
+    let s = rw (c .before .g .given .1) at (enter .ensures .1) in (
+      (λ cs ss ps fs. turn-stopped cs ss (a .listed .now) (a .beside .now) (a .f) (a .a) (a .n) (a .i)
+          (next-place .result) (getD (a .listed .now) (a .a + a .i) 0) (getD (a .listed .now) (a .a + next-place .result) 0)
+          (getD (a .beside .now) (a .a + a .i) nan) (a .ring)
+          (meshOf ps (a .points .now) (a .edges .now) (a .intervals .now) fs)
+          (meshOf ps (enter .last .0) (enter .last .1 .0) (enter .last .1 .1 .0) fs) (next-place .ensures .0) refl refl refl
+          (c .before .g .given .0 .0) (rw (c .before .g .given .1) at (enter .ensures .0 ps fs))),
+      (a .ring .edges, s, omega (arith, k)),
+    )
 
 pub turn-place-spec : {M : Type 1} → statement M
 turn-place-spec =

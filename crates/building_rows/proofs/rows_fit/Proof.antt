@@ -12,16 +12,20 @@ returns c = rw (lt-leb _ _ (rw (c .before .point-rows .ensures) at (c .if1 .take
 returns-2 : tie.Need-returns-2
 unfolding rowsFor
 returns-2 c =
-    rw (le-leb _ _ (rw (c .before .before .before .point-rows .ensures) at (c .before .before .if1 .left)),
-    lt-leb _ _ (rw (c .before .edge-rows .ensures) at (c .if2 .taken)))
+    rw (
+      le-leb _ _ (rw (c .before .before .before .point-rows .ensures) at (c .before .before .if1 .left)),
+      lt-leb _ _ (rw (c .before .edge-rows .ensures) at (c .if2 .taken)),
+    )
 
 returns-3 : tie.Need-returns-3
 unfolding rowsFor
 returns-3 c =
-    rw (le-leb _ _
-    (rw (c .before .before .before .before .point-rows .ensures) at (c .before .before .before .if1 .left)),
-    le-leb _ _ (rw (c .before .before .edge-rows .ensures) at (c .before .if2 .left)),
-    c .face-rows .ensures)
+    rw (
+      le-leb _ _
+          (rw (c .before .before .before .before .point-rows .ensures) at (c .before .before .before .if1 .left)),
+      le-leb _ _ (rw (c .before .before .edge-rows .ensures) at (c .before .if2 .left)),
+      c .face-rows .ensures,
+    )
 
 pub rows-fit-spec : {M : Type 1} → statement M
 rows-fit-spec =

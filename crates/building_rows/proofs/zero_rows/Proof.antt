@@ -10,11 +10,13 @@ returns c =
     let c8 = c .before .before .before .before .before .before .before .before in
     let c16 = c8 .before .before .before .before .before .before .before .before in
     let zero-words = c8 .before .before .before .before .before .before .zero-words in
-    rw (c16 .before .before .zero-numbers .ensures,
-    zero-words .ensures,
-    c8 .before .before .zero-words2 .ensures,
-    c .before .before .before .before .before .before .zero-numbers2 .ensures,
-    c .before .before .zero-words3 .ensures)
+    rw (
+      c16 .before .before .zero-numbers .ensures,
+      zero-words .ensures,
+      c8 .before .before .zero-words2 .ensures,
+      c .before .before .before .before .before .before .zero-numbers2 .ensures,
+      c .before .before .zero-words3 .ensures,
+    )
 
 pub zero-rows-spec : {M : Type 1} → statement M
 zero-rows-spec =

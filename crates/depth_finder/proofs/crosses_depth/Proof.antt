@@ -15,12 +15,14 @@ load-position-requires-2 c κs =
 
 returns : tie.Need-returns
 returns c =
-    rw (c .spans-depth .ensures,
-    c .before .before .before .load-position .ensures,
-    c .before .load-position2 .ensures,
-    c .before .before .before .before .index .ensures,
-    c .before .before .index2 .ensures,
-    c .before .before .before .before .before .load-edge-words .ensures)
+    rw (
+      c .spans-depth .ensures,
+      c .before .before .before .load-position .ensures,
+      c .before .load-position2 .ensures,
+      c .before .before .before .before .index .ensures,
+      c .before .before .index2 .ensures,
+      c .before .before .before .before .before .load-edge-words .ensures,
+    )
 
 pub crosses-depth-spec : {M : Type 1} → statement M
 crosses-depth-spec =

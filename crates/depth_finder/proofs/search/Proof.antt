@@ -42,11 +42,12 @@ returns c =
 
 loop-again : tie.Need-loop-again Inv-loop μ-loop
 loop-again c =
-    let a = c .before .before .before .before .before .before .args in
-    (omega arith,
-    sym (first-later (λ k. test (a .positions .now) (a .edges .now) (a .depth) k) (a .ne)
-    (c .before .before .before .loop .e) (omega arith) (sym (c .before .crosses-depth .ensures) ∙ c .if1 .left))
-    ∙ c .before .before .before .loop .inv .1)
+    let a = c .before .before .before .before .before .before .args in (
+      omega arith,
+      sym (first-later (λ k. test (a .positions .now) (a .edges .now) (a .depth) k) (a .ne)
+          (c .before .before .before .loop .e) (omega arith) (sym (c .before .crosses-depth .ensures) ∙ c .if1 .left))
+          ∙ c .before .before .before .loop .inv .1,
+    )
 
 returns-2 : tie.Need-returns-2 Inv-loop μ-loop
 returns-2 c =

@@ -80,9 +80,10 @@ terms-at-requires-4 : tie.Need-terms-at-requires-4 Inv-loop μ-loop
 terms-at-requires-4 c κs =
     let c8 = c .before .before .before .before .before .before .before .before in
     let pre = c8 .before .before .before .before .before .before .before .pre in
-    let border = pre .0 in
-    (omega (arith, c .before .next-place2 .ensures .1),
-    border-fits _ _ _ _ _ border (c .before .next-place2 .ensures .1))
+    let border = pre .0 in (
+      omega (arith, c .before .next-place2 .ensures .1),
+      border-fits _ _ _ _ _ border (c .before .next-place2 .ensures .1),
+    )
 
 add-index : tie.Need-add-index Inv-loop μ-loop
 add-index c =

@@ -5,21 +5,27 @@ use Rattle.oracle_steps.proofs.make.Tie as tie
 
 slice-aggregate-step-lent-5 : tie.Need-slice-aggregate-step-lent-5
 slice-aggregate-step-lent-5 c =
-    search (needs,
-    c .before .before .before .before .before .before .before .before .before .before .before .before .before .before
-    .before .before .good .0)
+    search (
+      needs,
+      c .before .before .before .before .before .before .before .before .before .before .before .before .before .before
+          .before .before .good .0,
+    )
 
 slice-aggregate-step-lent-9 : tie.Need-slice-aggregate-step-lent-9
 slice-aggregate-step-lent-9 c =
-    search (needs,
-    c .before .before .before .before .before .before .before .before .before .before .before .before .before .before
-    .before .before .before .before .before .before .good .1 .0)
+    search (
+      needs,
+      c .before .before .before .before .before .before .before .before .before .before .before .before .before .before
+          .before .before .before .before .before .before .good .1 .0,
+    )
 
 slice-aggregate-step-lent-10 : tie.Need-slice-aggregate-step-lent-10
 slice-aggregate-step-lent-10 c =
-    search (needs,
-    c .before .before .before .before .before .before .before .before .before .before .before .before .before .before
-    .before .before .before .before .before .before .before .good .1 .0)
+    search (
+      needs,
+      c .before .before .before .before .before .before .before .before .before .before .before .before .before .before
+          .before .before .before .before .before .before .before .good .1 .0,
+    )
 
 pub make-spec : {M : Type 1} → statement M
 make-spec =

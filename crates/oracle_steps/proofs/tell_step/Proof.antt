@@ -9,9 +9,11 @@ use Rattle.oracle_steps.proofs.tell_step.Tie as tie
 slice-aggregate-make : tie.Need-slice-aggregate-make
 slice-aggregate-make c =
     sym (length-take-le _ (c .before .before .before .fill-order .last .1 .1 .1 .0)
-    (omega (arith,
-    c .before .before .before .before .before .order-length .ensures,
-    c .before .before .before .fill-order .ensures)))
+    (omega (
+      arith,
+      c .before .before .before .before .before .order-length .ensures,
+      c .before .before .before .fill-order .ensures,
+    )))
 
 pub tell-step-spec : {M : Type 1} → statement M
 tell-step-spec =

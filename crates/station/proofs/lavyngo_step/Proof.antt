@@ -20,10 +20,11 @@ returns c =
     let t : Mesh = meshOf (a .newpositions .now) (a .newpoints .now) (a .newedges .now) (a .newintervals .now)
     (a .newfaces .now) in
     let counts = c32 .before .load-counts .ensures in
-    let left = step .ensures in
-    (step-told (a .counts .now) m t (a .order .now) counts (left .0) (c .tell-stepped .ensures .0)
-    (c .tell-stepped .ensures .1),
-    subst (λ k. Binary64 k m) counts (left .1))
+    let left = step .ensures in (
+      step-told (a .counts .now) m t (a .order .now) counts (left .0) (c .tell-stepped .ensures .0)
+          (c .tell-stepped .ensures .1),
+      subst (λ k. Binary64 k m) counts (left .1),
+    )
 
 pub lavyngo-step-spec : {M : Type 1} → statement M
 lavyngo-step-spec =

@@ -14,10 +14,12 @@ build-first-requires c κs =
     let args = c32 .before .before .before .before .args in
     let read-text = c16 .before .before .before .before .read-text in
     let h = fits (args .bounds) (args .text .now)
-    (record { coordinates = args .coordinates .now;
-    lengths = args .sides .now;
-    listed = args .listed .now;
-    intervals = args .beside .now })
+    (record {
+      coordinates = args .coordinates .now;
+      lengths = args .sides .now;
+      listed = args .listed .now;
+      intervals = args .beside .now;
+    })
     (meshOf (args .positions .now) (args .points .now) (args .edges .now) (args .intervals .now) (args .faces .now))
     (c24 .before .most .ensures) (read-text .ensures) (c8 .before .before .c .given .1) in
     (h .coordinates, (h .lengths, (h .listed, h .intervals)))
@@ -34,10 +36,12 @@ returns c =
     let read-text = c24 .before .before .before .before .before .before .before .read-text in
     let the-c = c16 .before .before .before .before .before .c in
     first-entries (args .bounds) (args .text .now)
-    (record { coordinates = args .coordinates .now;
-    lengths = args .sides .now;
-    listed = args .listed .now;
-    intervals = args .beside .now })
+    (record {
+      coordinates = args .coordinates .now;
+      lengths = args .sides .now;
+      listed = args .listed .now;
+      intervals = args .beside .now;
+    })
     (meshOf (args .positions .now) (args .points .now) (args .edges .now) (args .intervals .now) (args .faces .now))
     (most .ensures) (read-text .ensures) (the-c .given .1) _ (c8 .before .before .build-first .ensures)
 
@@ -49,10 +53,12 @@ returns-2 c =
     let args = c24 .before .before .args in
     let most = c8 .before .before .before .before .before .before .before .most in
     not-text (args .bounds) (args .text .now)
-    (record { coordinates = args .coordinates .now;
-    lengths = args .sides .now;
-    listed = args .listed .now;
-    intervals = args .beside .now })
+    (record {
+      coordinates = args .coordinates .now;
+      lengths = args .sides .now;
+      listed = args .listed .now;
+      intervals = args .beside .now;
+    })
     (meshOf (args .positions .now) (args .points .now) (args .edges .now) (args .intervals .now) (args .faces .now))
     (most .ensures) (c8 .before .before .read-text .ensures) (c .enum-told .given .1)
 
@@ -65,10 +71,12 @@ returns-3 c =
     let pre = c24 .before .before .pre in
     let most = c8 .before .before .before .before .before .before .before .most in
     over-limits (args .bounds) (args .text .now)
-    (record { coordinates = args .coordinates .now;
-    lengths = args .sides .now;
-    listed = args .listed .now;
-    intervals = args .beside .now })
+    (record {
+      coordinates = args .coordinates .now;
+      lengths = args .sides .now;
+      listed = args .listed .now;
+      intervals = args .beside .now;
+    })
     (meshOf (args .positions .now) (args .points .now) (args .edges .now) (args .intervals .now) (args .faces .now))
     (most .ensures) (c8 .before .before .read-text .ensures) (pre .0) (pre .1 .0) (pre .1 .1 .0) (pre .1 .1 .1)
     (c .enum-told2 .given .1)
