@@ -18,25 +18,25 @@ use Rattle.mesh_lines.specs.declared.Place.{Place}
 use Rattle.mesh_lines.specs.declared.Place.the-variants as Place
 use Rattle.mesh_lines.proofs.Answers.{place-at, place-none}
 use Rattle.listings.specs.Printing.{last}
-use Rattle.listings.specs.Grammar.{word, edge}
-use Rattle.listing_lines.specs.Parts.{lastWord, AtNumber, same, numbersOf, wordsOf}
+use Rattle.listings.specs.Grammar.{wordForm, edgeRowForm}
+use Rattle.listing_lines.specs.Parts.{lastWord, AtNumber, same, rowNumbers, rowWords}
 use Rattle.listing_lines.proofs.Laws.{last-is, last-none, takes-words, takes-coordinates}
 
-module _ (s : List ℕ) (at : ℕ) {q : Number} (eq : q ≡ lastWord 0 (times 8 (word s) at)) where
-  pub no-words : q ≡ Number.None → Place.None ≡ placeAnswer (edge s at)
-  unfolding edge
-  no-words en = rw (last-none 0 (times 8 (word s) at) (sym eq ∙ en))
+module _ (s : List ℕ) (at : ℕ) {q : Number} (eq : q ≡ lastWord 0 (times 8 (wordForm s) at)) where
+  pub no-words : q ≡ Number.None → Place.None ≡ placeAnswer (edgeRowForm s at)
+  unfolding edgeRowForm
+  no-words en = rw (last-none 0 (times 8 (wordForm s) at) (sym eq ∙ en))
 
   module _ {v i : ℕ} (ev : q ≡ Number.Is v i) where
-    words : (ws : List ℕ) × (times 8 (word s) at ≡ parsed ws i) × (last 0 ws ≡ v)
-    words = last-is (times 8 (word s) at) (sym eq ∙ ev)
+    words : (ws : List ℕ) × (times 8 (wordForm s) at ≡ parsed ws i) × (last 0 ws ≡ v)
+    words = last-is (times 8 (wordForm s) at) (sym eq ∙ ev)
 
     pub words-inside : at ≤ length s → (at ≤ i) × (i ≤ length s)
     words-inside h = let t = takes-words s 8 at h (words .0) i (words .1) in (omega arith, t .1)
 
     module _ {r : Place} (er : r ≡ placeAnswer (times 1 (coordinateForm s) i)) where
-      pub no-interval : r ≡ Place.None → Place.None ≡ placeAnswer (edge s at)
-      unfolding edge
+      pub no-interval : r ≡ Place.None → Place.None ≡ placeAnswer (edgeRowForm s at)
+      unfolding edgeRowForm
       no-interval en = rw (words .1, place-none (times 1 (coordinateForm s) i) (sym er ∙ en))
 
       module _ {j : ℕ} (ej : r ≡ Place.At j) where
@@ -46,17 +46,17 @@ module _ (s : List ℕ) (at : ℕ) {q : Number} (eq : q ≡ lastWord 0 (times 8 
         pub interval-inside : at ≤ length s → j ≤ length s
         interval-inside h = takes-coordinates s 1 i (words-inside h .1) (numbers .0) j (numbers .1) .1
 
-        pub no-end : stands s j (bytes "]\n") ≡ false → Place.None ≡ placeAnswer (edge s at)
-        unfolding edge
+        pub no-end : stands s j (bytes "]\n") ≡ false → Place.None ≡ placeAnswer (edgeRowForm s at)
+        unfolding edgeRowForm
         no-end es = rw (words .1, numbers .1, literal-none s (bytes "]\n") j es)
 
-        read : stands s j (bytes "]\n") ≡ true → edge s at ≡ parsed (record { numbers = numbers .0; words = words .0 }) (j + 2)
-        unfolding edge
+        read : stands s j (bytes "]\n") ≡ true → edgeRowForm s at ≡ parsed (record { numbers = numbers .0; words = words .0 }) (j + 2)
+        unfolding edgeRowForm
         read es = rw (words .1, numbers .1, literal-found s (bytes "]\n") j es)
 
         pub whole : stands s j (bytes "]\n") ≡ true → (ws : List ℕ) (n : ℕ) (xs : List Float) (m : ℕ) {ws′ : List ℕ} {xs′ : List Float}
-            → AtNumber q (ws′ ≡ stored same ws n (times 8 (word s) at)) → AtPlace r (xs′ ≡ stored (map float) xs m (times 1 (coordinateForm s) i))
-            → (Place.At (j + 2) ≡ placeAnswer (edge s at)) × ((ws′ ≡ stored wordsOf ws n (edge s at)) × (xs′ ≡ stored numbersOf xs m (edge s at)))
+            → AtNumber q (ws′ ≡ stored same ws n (times 8 (wordForm s) at)) → AtPlace r (xs′ ≡ stored (map float) xs m (times 1 (coordinateForm s) i))
+            → (Place.At (j + 2) ≡ placeAnswer (edgeRowForm s at)) × ((ws′ ≡ stored rowWords ws n (edgeRowForm s at)) × (xs′ ≡ stored rowNumbers xs m (edgeRowForm s at)))
         whole es ws n xs m ew ex =
             let t = read es in
             (rw t, (rw t (rw (ev, words .1) at ew), rw t (rw (ej, numbers .1) at ex)))

@@ -16,7 +16,7 @@ use Rattle.text_numbers.proofs.Laws.{onward-found, length-times, Takes, total, 
 use Rattle.mesh_lines.specs.Grammar.{coordinateForm}
 use Rattle.mesh_lines.proofs.Laws.{takes-coordinate}
 use Rattle.listings.specs.Printing.{Row, last, Fits}
-use Rattle.listings.specs.Grammar.{word, point, edge, face}
+use Rattle.listings.specs.Grammar.{wordForm, pointRowForm, edgeRowForm, faceRowForm}
 use Rattle.listings.proofs.Exact.{Exact, exact-word}
 use Rattle.listings.proofs.Lines.{exact-point, exact-edge, exact-face}
 use Rattle.listing_lines.specs.Parts.{lastWord}
@@ -35,21 +35,21 @@ last-next v b (parsed ws n) = refl
 last-next v b unparsed = refl
 
 module _ (s : List ℕ) where
-  pub word-below : (at v n : ℕ) → word s at ≡ parsed v n → v < 4294967296
+  pub word-below : (at v n : ℕ) → wordForm s at ≡ parsed v n → v < 4294967296
   word-below at v n e = exact-word s .sound at v n e .0
 
-  pub takes-word : Takes s 0 (λ v. 1) (word s)
-  unfolding word
+  pub takes-word : Takes s 0 (λ v. 1) (wordForm s)
+  unfolding wordForm
   takes-word =
       takes-bind s 0 (λ z. 1) _ (literal s (bytes " ")) _ (takes-literal s (bytes " ") refl) λ z at h a n e.
       let r = takes-decimal s at h a n e in omega arith
 
   -- k words take at least k bytes
-  pub takes-words : (k : ℕ) → Takes s 0 (λ ws. k) (times k (word s))
+  pub takes-words : (k : ℕ) → Takes s 0 (λ ws. k) (times k (wordForm s))
   takes-words k at h ws n e =
-      let t = takes-times s (λ v. 1) (word s) k takes-word at h ws n e in
+      let t = takes-times s (λ v. 1) (wordForm s) k takes-word at h ws n e in
       let l = length-total (λ v. 1) ws (λ v. omega arith) in
-      let c = length-times (word s) k at ws n e in
+      let c = length-times (wordForm s) k at ws n e in
       omega arith
 
   pub takes-coordinates : (k : ℕ) → Takes s 0 (λ xs. k) (times k (coordinateForm s))
@@ -59,11 +59,11 @@ module _ (s : List ℕ) where
       let c = length-times (coordinateForm s) k at xs n e in
       omega arith
 
-  pub takes-point : Takes s 0 (λ r. 3) (point s)
-  unfolding point
+  pub takes-point : Takes s 0 (λ r. 3) (pointRowForm s)
+  unfolding pointRowForm
   takes-point =
       takes-bind s 0 (λ xs. 3) _ (times 3 (coordinateForm s)) _ (takes-coordinates 3) λ xs.
-      takes-bind s _ (λ ws. 3) _ (times 3 (word s)) _ (takes-words 3) λ ws.
+      takes-bind s _ (λ ws. 3) _ (times 3 (wordForm s)) _ (takes-words 3) λ ws.
       takes-bind s _ (λ z. 0) _ (choose (ltb (last 0 ws) 2) (literal s (bytes "]\n")) (λ at. unparsed)) _
       (takes-choose s 0 (λ z. 0) (ltb (last 0 ws) 2) (literal s (bytes "]\n")) (λ at. unparsed) shorter (takes-none s 0 (λ z. 0))) λ z.
       takes-pure s _ _ _ (omega arith)
@@ -71,27 +71,27 @@ module _ (s : List ℕ) where
       shorter : Takes s 0 (λ z. 0) (literal s (bytes "]\n"))
       shorter at h a n e = let t = takes-literal s (bytes "]\n") refl at h a n e in omega arith
 
-  pub takes-edge : Takes s 0 (λ r. 8) (edge s)
-  unfolding edge
+  pub takes-edge : Takes s 0 (λ r. 8) (edgeRowForm s)
+  unfolding edgeRowForm
   takes-edge =
-      takes-bind s 0 (λ ws. 8) _ (times 8 (word s)) _ (takes-words 8) λ ws.
+      takes-bind s 0 (λ ws. 8) _ (times 8 (wordForm s)) _ (takes-words 8) λ ws.
       takes-bind s _ (λ xs. 1) _ (times 1 (coordinateForm s)) _ (takes-coordinates 1) λ xs.
       takes-bind s _ (λ z. 2) _ (literal s (bytes "]\n")) _ (takes-literal s (bytes "]\n") refl) λ z.
       takes-pure s _ _ _ (omega arith)
 
-  pub takes-face : Takes s 0 (λ r. 5) (face s)
-  unfolding face
+  pub takes-face : Takes s 0 (λ r. 5) (faceRowForm s)
+  unfolding faceRowForm
   takes-face =
-      takes-bind s 0 (λ ws. 5) _ (times 5 (word s)) _ (takes-words 5) λ ws.
+      takes-bind s 0 (λ ws. 5) _ (times 5 (wordForm s)) _ (takes-words 5) λ ws.
       takes-bind s _ (λ z. 2) _ (literal s (bytes "]\n")) _ (takes-literal s (bytes "]\n") refl) λ z.
       takes-pure s _ _ _ (omega arith)
 
   -- the numbers and words of a row
-  pub fits-point : (at : ℕ) (r : Row) (n : ℕ) → point s at ≡ parsed r n → Fits 3 3 r
+  pub fits-point : (at : ℕ) (r : Row) (n : ℕ) → pointRowForm s at ≡ parsed r n → Fits 3 3 r
   fits-point at r n e = exact-point s .sound at r n e .0 .0
 
-  pub fits-edge : (at : ℕ) (r : Row) (n : ℕ) → edge s at ≡ parsed r n → Fits 1 8 r
+  pub fits-edge : (at : ℕ) (r : Row) (n : ℕ) → edgeRowForm s at ≡ parsed r n → Fits 1 8 r
   fits-edge at r n e = exact-edge s .sound at r n e .0
 
-  pub fits-face : (at : ℕ) (r : Row) (n : ℕ) → face s at ≡ parsed r n → Fits 0 5 r
+  pub fits-face : (at : ℕ) (r : Row) (n : ℕ) → faceRowForm s at ≡ parsed r n → Fits 0 5 r
   fits-face at r n e = exact-face s .sound at r n e .0

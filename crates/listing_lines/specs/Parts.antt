@@ -2,7 +2,7 @@
 --     lastWord v x        the last of the words that were found, v if they are none, and the place after them
 --     AtNumber r P        what is promised where something was found
 --     same ws             words as they are
---     numbersOf wordsOf r what a row puts into the tables
+--     rowNumbers rowWords r what a row puts into the tables
 use mathlib.Core.List.{List, map}
 use Prim.Native.Nat.{ℕ}
 use lib.Ieee.{Float}
@@ -22,8 +22,8 @@ AtNumber Number.None P = Unit {0}
 abbrev pub same : List ℕ → List ℕ
 same ws = ws
 
-abbrev pub numbersOf : Row → List Float
-numbersOf r = map float (r .numbers)
+abbrev pub rowNumbers : Row → List Float
+rowNumbers r = map float (r .numbers)
 
-abbrev pub wordsOf : Row → List ℕ
-wordsOf r = r .words
+abbrev pub rowWords : Row → List ℕ
+rowWords r = r .words

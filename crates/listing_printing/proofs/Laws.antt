@@ -23,7 +23,7 @@ use Rattle.mesh_answers.specs.Lines.{numberField, bitsField}
 use Rattle.mesh_answers.specs.Writing.{Written}
 use Rattle.mesh_answers.proofs.Laws.{written-append}
 use Rattle.listings.specs.Printing.{pointLine, edgeLine, faceLine}
-use Rattle.listings.specs.Handing.{upTo, bitsOf, pointRow, edgeRow, faceRow}
+use Rattle.listings.specs.Handing.{upTo, bitsOf, pointLineRow, edgeLineRow, faceLineRow}
 use Rattle.listings.proofs.Parts.{flat-append, flat-one, part-cells}
 use Rattle.listing_printing.specs.Fields.{part, wordFields, numberFields}
 
@@ -137,46 +137,46 @@ short-line-of wa wb wd eb = written-append wa (written-append (written-same eb w
 
 -- the fields of a row are those of its part of the table, and how long the line is by them
 module _ (xs : List Float) (ws : List ℕ) (p : ℕ) (hx : p * 3 + 3 ≤ length xs) (hw : p * 3 + 3 ≤ length ws) where
-  pub point-numbers : numberFields xs (p * 3) 3 ≡ flat bitsField (pointRow (meshOf xs ws [] [] []) p .numbers)
+  pub point-numbers : numberFields xs (p * 3) 3 ≡ flat bitsField (pointLineRow (meshOf xs ws [] [] []) p .numbers)
   unfolding flat
   point-numbers = ap (flat (λ (v : Float). bitsField (bitsOf v))) (part-cells nan xs (p * 3) 3 hx)
 
-  pub point-words : wordFields ws (p * 3) 3 ≡ flat numberField (pointRow (meshOf xs ws [] [] []) p .words)
+  pub point-words : wordFields ws (p * 3) 3 ≡ flat numberField (pointLineRow (meshOf xs ws [] [] []) p .words)
   point-words = ap (flat numberField) (part-cells 0 ws (p * 3) 3 hw)
 
-  pub point-room : length (pointLine (pointRow (meshOf xs ws [] [] []) p)) ≡ 6 + (length (numberFields xs (p * 3) 3) + length (wordFields ws (p * 3) 3) + 2)
+  pub point-room : length (pointLine (pointLineRow (meshOf xs ws [] [] []) p)) ≡ 6 + (length (numberFields xs (p * 3) 3) + length (wordFields ws (p * 3) 3) + 2)
   point-room =
       let n = ap length point-numbers in
       let w = ap length point-words in
-      let r = pointRow (meshOf xs ws [] [] []) p in
+      let r = pointLineRow (meshOf xs ws [] [] []) p in
       let a1 = length-append (flat bitsField (r .numbers)) (flat numberField (r .words)) in
       let a2 = length-append (flat bitsField (r .numbers) ++ flat numberField (r .words)) (bytes "]\n") in
       omega arith
 
 module _ (ws : List ℕ) (xs : List Float) (e : ℕ) (hw : e * 8 + 8 ≤ length ws) (hx : e + 1 ≤ length xs) where
-  pub edge-words : wordFields ws (e * 8) 8 ≡ flat numberField (edgeRow (meshOf [] [] ws xs []) e .words)
+  pub edge-words : wordFields ws (e * 8) 8 ≡ flat numberField (edgeLineRow (meshOf [] [] ws xs []) e .words)
   edge-words = ap (flat numberField) (part-cells 0 ws (e * 8) 8 hw)
 
-  pub edge-numbers : numberFields xs e 1 ≡ flat bitsField (edgeRow (meshOf [] [] ws xs []) e .numbers)
+  pub edge-numbers : numberFields xs e 1 ≡ flat bitsField (edgeLineRow (meshOf [] [] ws xs []) e .numbers)
   unfolding flat
   edge-numbers = ap (flat (λ (v : Float). bitsField (bitsOf v))) (part-cells nan xs e 1 hx)
 
-  pub edge-room : length (edgeLine (edgeRow (meshOf [] [] ws xs []) e)) ≡ 5 + (length (wordFields ws (e * 8) 8) + length (numberFields xs e 1) + 2)
+  pub edge-room : length (edgeLine (edgeLineRow (meshOf [] [] ws xs []) e)) ≡ 5 + (length (wordFields ws (e * 8) 8) + length (numberFields xs e 1) + 2)
   edge-room =
       let n = ap length edge-numbers in
       let w = ap length edge-words in
-      let r = edgeRow (meshOf [] [] ws xs []) e in
+      let r = edgeLineRow (meshOf [] [] ws xs []) e in
       let a1 = length-append (flat numberField (r .words)) (flat bitsField (r .numbers)) in
       let a2 = length-append (flat numberField (r .words) ++ flat bitsField (r .numbers)) (bytes "]\n") in
       omega arith
 
 module _ (ws : List ℕ) (f : ℕ) (hw : f * 5 + 5 ≤ length ws) where
-  pub face-words : wordFields ws (f * 5) 5 ≡ flat numberField (faceRow (meshOf [] [] [] [] ws) f .words)
+  pub face-words : wordFields ws (f * 5) 5 ≡ flat numberField (faceLineRow (meshOf [] [] [] [] ws) f .words)
   face-words = ap (flat numberField) (part-cells 0 ws (f * 5) 5 hw)
 
-  pub face-room : length (faceLine (faceRow (meshOf [] [] [] [] ws) f)) ≡ 5 + (length (wordFields ws (f * 5) 5) + 2)
+  pub face-room : length (faceLine (faceLineRow (meshOf [] [] [] [] ws) f)) ≡ 5 + (length (wordFields ws (f * 5) 5) + 2)
   face-room =
       let w = ap length face-words in
-      let r = faceRow (meshOf [] [] [] [] ws) f in
+      let r = faceLineRow (meshOf [] [] [] [] ws) f in
       let a = length-append (flat numberField (r .words)) (bytes "]\n") in
       omega arith

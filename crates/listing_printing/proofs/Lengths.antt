@@ -15,7 +15,7 @@ use Rattle.mesh_lines.specs.Grammar.{flat}
 use Rattle.mesh_answers.specs.Lines.{decimalDigits, numberField, bitsField}
 use Rattle.mesh_answers.proofs.Laws.{length-number, length-bits}
 use Rattle.listings.specs.Printing.{Row, pointLine, edgeLine, faceLine}
-use Rattle.listings.specs.Handing.{upTo, pointRow, edgeRow, faceRow}
+use Rattle.listings.specs.Handing.{upTo, pointLineRow, edgeLineRow, faceLineRow}
 use Rattle.listing_printing.specs.Fields.{part, wordFields}
 use Rattle.listings.proofs.Parts.{flat-append, flat-one, cells, part-cells}
 use Rattle.listing_printing.proofs.Laws.{fields-more}
@@ -107,15 +107,15 @@ face-length r = let a = length-append (flat numberField (r .words)) (bytes "]\n"
 
 module _ (n : ℕ) where
   pub points-length : (xs : List Float) (ws : List ℕ) → n * 3 ≤ length ws
-      → length (flat pointLine (upTo n (pointRow (meshOf xs ws [] [] [])))) ≡ n * 59 + length (wordFields ws 0 (n * 3))
+      → length (flat pointLine (upTo n (pointLineRow (meshOf xs ws [] [] [])))) ≡ n * 59 + length (wordFields ws 0 (n * 3))
   points-length xs ws h =
-      lines-length pointLine (pointRow (meshOf xs ws [] [] [])) 59 3 ws (λ p. point-length (pointRow (meshOf xs ws [] [] []) p) refl) n h
+      lines-length pointLine (pointLineRow (meshOf xs ws [] [] [])) 59 3 ws (λ p. point-length (pointLineRow (meshOf xs ws [] [] []) p) refl) n h
 
   pub edges-length : (ws : List ℕ) (xs : List Float) → n * 8 ≤ length ws
-      → length (flat edgeLine (upTo n (edgeRow (meshOf [] [] ws xs [])))) ≡ n * 24 + length (wordFields ws 0 (n * 8))
+      → length (flat edgeLine (upTo n (edgeLineRow (meshOf [] [] ws xs [])))) ≡ n * 24 + length (wordFields ws 0 (n * 8))
   edges-length ws xs h =
-      lines-length edgeLine (edgeRow (meshOf [] [] ws xs [])) 24 8 ws (λ e. edge-length (edgeRow (meshOf [] [] ws xs []) e) refl) n h
+      lines-length edgeLine (edgeLineRow (meshOf [] [] ws xs [])) 24 8 ws (λ e. edge-length (edgeLineRow (meshOf [] [] ws xs []) e) refl) n h
 
   pub faces-length : (ws : List ℕ) → n * 5 ≤ length ws
-      → length (flat faceLine (upTo n (faceRow (meshOf [] [] [] [] ws)))) ≡ n * 7 + length (wordFields ws 0 (n * 5))
-  faces-length ws h = lines-length faceLine (faceRow (meshOf [] [] [] [] ws)) 7 5 ws (λ f. face-length (faceRow (meshOf [] [] [] [] ws) f)) n h
+      → length (flat faceLine (upTo n (faceLineRow (meshOf [] [] [] [] ws)))) ≡ n * 7 + length (wordFields ws 0 (n * 5))
+  faces-length ws h = lines-length faceLine (faceLineRow (meshOf [] [] [] [] ws)) 7 5 ws (λ f. face-length (faceLineRow (meshOf [] [] [] [] ws) f)) n h

@@ -9,16 +9,21 @@ ghost use Prim.Native.Nat.{ℕ, _+_, _*_, _≤_, _<_};
 ghost use lib.ListN.{length, getD};
 ghost use lib.Ieee.{nan};
 ghost use lib.Ieee.Scale.{finite};
+ghost use Rattle.tables.specs.Layout.{positionWidth, pointWidth, edgeWidth, faceWidth};
 ghost use Rattle.tables.specs.Mesh.{meshOf};
 ghost use Rattle.mesh_lines.specs.Grammar.{flat};
 ghost use Rattle.mesh_answers.specs.Lines.{decimalDigits};
 ghost use Rattle.mesh_answers.specs.Writing.{Written};
 ghost use Rattle.listings.specs.Printing.{pointLine, edgeLine, faceLine};
-ghost use Rattle.listings.specs.Handing.{upTo, pointRow, edgeRow, faceRow};
+ghost use Rattle.listings.specs.Handing.{upTo, pointLineRow, edgeLineRow, faceLineRow};
 ghost use Rattle.listing_printing.specs.Fields.{wordFields, numberFields};
 use mesh_answers::write;
 use mesh_answers::write_bits;
 use mesh_answers::write_number;
+use tables::EDGE_WIDTH;
+use tables::FACE_WIDTH;
+use tables::POINT_WIDTH;
+use tables::POSITION_WIDTH;
 
 // A word of 32 bits as a number of 64.
 fn wide(w: u32) -> u64
@@ -62,53 +67,53 @@ fn write_numbers(out: &mut [u8], at: usize, numbers: &[f64], b: usize, k: usize)
 
 // Writes the line of point p, and answers the place after it.
 fn write_point(out: &mut [u8], at: usize, positions: &[f64], points: &[u32], p: usize) -> usize
-    requires { ⌜ p * 3 + 3 ≤ length (now positions) ⌝ }
-    requires { ⌜ p * 3 + 3 ≤ length (now points) ⌝ }
-    requires { ⌜ at + length (pointLine (pointRow (meshOf (now positions) (now points) [] [] []) p)) ≤ length (now out) ⌝ }
-    requires { ⌜ ((i : ℕ) → i < p * 3 + 3 → finite (getD (now positions) i nan) ≡ true) ⌝ }
-    ensures { λ r. ⌜ Written (now (out .entry)) at (pointLine (pointRow (meshOf (now (positions .entry)) (now (points .entry)) [] [] []) p)) r (now (out .exit)) ⌝ }
+    requires { ⌜ p * positionWidth + positionWidth ≤ length (now positions) ⌝ }
+    requires { ⌜ p * pointWidth + pointWidth ≤ length (now points) ⌝ }
+    requires { ⌜ at + length (pointLine (pointLineRow (meshOf (now positions) (now points) [] [] []) p)) ≤ length (now out) ⌝ }
+    requires { ⌜ ((i : ℕ) → i < p * positionWidth + positionWidth → finite (getD (now positions) i nan) ≡ true) ⌝ }
+    ensures { λ r. ⌜ Written (now (out .entry)) at (pointLine (pointLineRow (meshOf (now (positions .entry)) (now (points .entry)) [] [] []) p)) r (now (out .exit)) ⌝ }
 {
-    let b = p * 3;
+    let b = p * POINT_WIDTH;
     let i = write(out, at, b"[point");
-    let j = write_numbers(out, i, positions, b, 3);
-    let k = write_words(out, j, points, b, 3);
+    let j = write_numbers(out, i, positions, b, POSITION_WIDTH);
+    let k = write_words(out, j, points, b, POINT_WIDTH);
     write(out, k, b"]\n")
 }
 
 // Writes the line of edge e, and answers the place after it.
 fn write_edge(out: &mut [u8], at: usize, edges: &[u32], intervals: &[f64], e: usize) -> usize
-    requires { ⌜ e * 8 + 8 ≤ length (now edges) ⌝ }
+    requires { ⌜ e * edgeWidth + edgeWidth ≤ length (now edges) ⌝ }
     requires { ⌜ e + 1 ≤ length (now intervals) ⌝ }
-    requires { ⌜ at + length (edgeLine (edgeRow (meshOf [] [] (now edges) (now intervals) []) e)) ≤ length (now out) ⌝ }
+    requires { ⌜ at + length (edgeLine (edgeLineRow (meshOf [] [] (now edges) (now intervals) []) e)) ≤ length (now out) ⌝ }
     requires { ⌜ ((i : ℕ) → i < e + 1 → finite (getD (now intervals) i nan) ≡ true) ⌝ }
-    ensures { λ r. ⌜ Written (now (out .entry)) at (edgeLine (edgeRow (meshOf [] [] (now (edges .entry)) (now (intervals .entry)) []) e)) r (now (out .exit)) ⌝ }
+    ensures { λ r. ⌜ Written (now (out .entry)) at (edgeLine (edgeLineRow (meshOf [] [] (now (edges .entry)) (now (intervals .entry)) []) e)) r (now (out .exit)) ⌝ }
 {
-    let b = e * 8;
+    let b = e * EDGE_WIDTH;
     let i = write(out, at, b"[edge");
-    let j = write_words(out, i, edges, b, 8);
+    let j = write_words(out, i, edges, b, EDGE_WIDTH);
     let k = write_numbers(out, j, intervals, e, 1);
     write(out, k, b"]\n")
 }
 
 // Writes the line of face f, and answers the place after it.
 fn write_face(out: &mut [u8], at: usize, faces: &[u32], f: usize) -> usize
-    requires { ⌜ f * 5 + 5 ≤ length (now faces) ⌝ }
-    requires { ⌜ at + length (faceLine (faceRow (meshOf [] [] [] [] (now faces)) f)) ≤ length (now out) ⌝ }
-    ensures { λ r. ⌜ Written (now (out .entry)) at (faceLine (faceRow (meshOf [] [] [] [] (now (faces .entry))) f)) r (now (out .exit)) ⌝ }
+    requires { ⌜ f * faceWidth + faceWidth ≤ length (now faces) ⌝ }
+    requires { ⌜ at + length (faceLine (faceLineRow (meshOf [] [] [] [] (now faces)) f)) ≤ length (now out) ⌝ }
+    ensures { λ r. ⌜ Written (now (out .entry)) at (faceLine (faceLineRow (meshOf [] [] [] [] (now (faces .entry))) f)) r (now (out .exit)) ⌝ }
 {
-    let b = f * 5;
+    let b = f * FACE_WIDTH;
     let i = write(out, at, b"[face");
-    let j = write_words(out, i, faces, b, 5);
+    let j = write_words(out, i, faces, b, FACE_WIDTH);
     write(out, j, b"]\n")
 }
 
 // Writes the lines of the first n points, and answers the place after them.
 pub fn write_points(out: &mut [u8], at: usize, positions: &[f64], points: &[u32], n: usize) -> usize
-    requires { ⌜ n * 3 ≤ length (now positions) ⌝ }
-    requires { ⌜ n * 3 ≤ length (now points) ⌝ }
-    requires { ⌜ at + length (flat pointLine (upTo n (pointRow (meshOf (now positions) (now points) [] [] [])))) ≤ length (now out) ⌝ }
-    requires { ⌜ ((i : ℕ) → i < n * 3 → finite (getD (now positions) i nan) ≡ true) ⌝ }
-    ensures { λ r. ⌜ Written (now (out .entry)) at (flat pointLine (upTo n (pointRow (meshOf (now (positions .entry)) (now (points .entry)) [] [] [])))) r (now (out .exit)) ⌝ }
+    requires { ⌜ n * positionWidth ≤ length (now positions) ⌝ }
+    requires { ⌜ n * pointWidth ≤ length (now points) ⌝ }
+    requires { ⌜ at + length (flat pointLine (upTo n (pointLineRow (meshOf (now positions) (now points) [] [] [])))) ≤ length (now out) ⌝ }
+    requires { ⌜ ((i : ℕ) → i < n * positionWidth → finite (getD (now positions) i nan) ≡ true) ⌝ }
+    ensures { λ r. ⌜ Written (now (out .entry)) at (flat pointLine (upTo n (pointLineRow (meshOf (now (positions .entry)) (now (points .entry)) [] [] [])))) r (now (out .exit)) ⌝ }
 {
     let mut i = at;
     let mut p: usize = 0;
@@ -121,11 +126,11 @@ pub fn write_points(out: &mut [u8], at: usize, positions: &[f64], points: &[u32]
 
 // Writes the lines of the first n edges, and answers the place after them.
 pub fn write_edges(out: &mut [u8], at: usize, edges: &[u32], intervals: &[f64], n: usize) -> usize
-    requires { ⌜ n * 8 ≤ length (now edges) ⌝ }
+    requires { ⌜ n * edgeWidth ≤ length (now edges) ⌝ }
     requires { ⌜ n ≤ length (now intervals) ⌝ }
-    requires { ⌜ at + length (flat edgeLine (upTo n (edgeRow (meshOf [] [] (now edges) (now intervals) [])))) ≤ length (now out) ⌝ }
+    requires { ⌜ at + length (flat edgeLine (upTo n (edgeLineRow (meshOf [] [] (now edges) (now intervals) [])))) ≤ length (now out) ⌝ }
     requires { ⌜ ((i : ℕ) → i < n → finite (getD (now intervals) i nan) ≡ true) ⌝ }
-    ensures { λ r. ⌜ Written (now (out .entry)) at (flat edgeLine (upTo n (edgeRow (meshOf [] [] (now (edges .entry)) (now (intervals .entry)) [])))) r (now (out .exit)) ⌝ }
+    ensures { λ r. ⌜ Written (now (out .entry)) at (flat edgeLine (upTo n (edgeLineRow (meshOf [] [] (now (edges .entry)) (now (intervals .entry)) [])))) r (now (out .exit)) ⌝ }
 {
     let mut i = at;
     let mut e: usize = 0;
@@ -138,9 +143,9 @@ pub fn write_edges(out: &mut [u8], at: usize, edges: &[u32], intervals: &[f64], 
 
 // Writes the lines of the first n faces, and answers the place after them.
 pub fn write_faces(out: &mut [u8], at: usize, faces: &[u32], n: usize) -> usize
-    requires { ⌜ n * 5 ≤ length (now faces) ⌝ }
-    requires { ⌜ at + length (flat faceLine (upTo n (faceRow (meshOf [] [] [] [] (now faces))))) ≤ length (now out) ⌝ }
-    ensures { λ r. ⌜ Written (now (out .entry)) at (flat faceLine (upTo n (faceRow (meshOf [] [] [] [] (now (faces .entry)))))) r (now (out .exit)) ⌝ }
+    requires { ⌜ n * faceWidth ≤ length (now faces) ⌝ }
+    requires { ⌜ at + length (flat faceLine (upTo n (faceLineRow (meshOf [] [] [] [] (now faces))))) ≤ length (now out) ⌝ }
+    ensures { λ r. ⌜ Written (now (out .entry)) at (flat faceLine (upTo n (faceLineRow (meshOf [] [] [] [] (now (faces .entry)))))) r (now (out .exit)) ⌝ }
 {
     let mut i = at;
     let mut f: usize = 0;

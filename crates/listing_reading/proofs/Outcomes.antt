@@ -22,14 +22,14 @@ use Rattle.listings.proofs.Parts.{all-to, numbers-count, length-flat}
 use Rattle.listings.proofs.Theorem.{accepted}
 use Rattle.listings.proofs.Whole.{printed-of-listing}
 use Rattle.listings.specs.Grammar.{listing}
-use Rattle.listings.specs.Handing.{countsOf, stored as storedRows, audited, ReadingOutcome, readRows, readFound, readListing}
+use Rattle.listings.specs.Handing.{listedCounts, withListing as storedRows, passesAudit, ReadingOutcome, readRows, readFound, readListing}
 use Rattle.listings.specs.declared.Reading.the-variants as Reading
 use Rattle.listing_reading.specs.Parts.{totalOf, AtTotal, positionsIn, pointsIn, edgesIn, intervalsIn, facesIn}
 use Rattle.listing_reading.specs.declared.Total.{Total}
 use Rattle.listing_reading.specs.declared.Total.the-variants as Total
 
 total-of : (x : Parsed Rows) {p e f : ℕ} → totalOf x ≡ Total.Of p e f
-    → (t : Rows) × (n : ℕ) × (x ≡ parsed t n) × (countsOf t ≡ record { points = p; edges = e; faces = f })
+    → (t : Rows) × (n : ℕ) × (x ≡ parsed t n) × (listedCounts t ≡ record { points = p; edges = e; faces = f })
 total-of (parsed t n) {p} {e} {f} g =
     let ep : length (t .points) ≡ p = cc in
     let ee : length (t .edges) ≡ e = cc in
@@ -50,7 +50,7 @@ zeroed-sets : {A : Type 0} (n : ℕ) (z : A) (xs vs : List A) → length vs ≡ 
 unfolding zeroed
 zeroed-sets n z xs vs e = ap (λ l. replicate n z ++ l) (drop-sets vs xs 0 n (omega arith))
 
-zeroed-stored : (t : Rows) (m : Mesh) → FitRows t → zeroedRows (countsOf t) (storedRows t m) ≡ zeroedRows (countsOf t) m
+zeroed-stored : (t : Rows) (m : Mesh) → FitRows t → zeroedRows (listedCounts t) (storedRows t m) ≡ zeroedRows (listedCounts t) m
 unfolding zeroedRows
 zeroed-stored t m f =
     let a = zeroed-sets (length (t .points) * 3) (ofBits binary64 0) (m .positions) (positionsIn t)
@@ -74,7 +74,7 @@ zeroed-stored t m f =
 
 -- rows that fail the audit are zeroed
 refused : (a b d : Bool) (t : Rows) (m : Mesh) → a ≡ true → b ≡ true → d ≡ false
-    → readRows a b d t m ≡ record { answer = Reading.NotClosed; tables = zeroedRows (countsOf t) m }
+    → readRows a b d t m ≡ record { answer = Reading.NotClosed; tables = zeroedRows (listedCounts t) m }
 refused a b d t m ea eb ed = rw (ea, eb, ed)
 
 module _ (s : List ℕ) (m : Mesh) {r : Total} (er : r ≡ totalOf (listing s)) where
@@ -110,31 +110,31 @@ module _ (s : List ℕ) (m : Mesh) {r : Total} (er : r ≡ totalOf (listing s)) 
             let af : fs ≡ sets (m .faces) 0 (facesIn t) = rw (eo, et) at ef in
             λ i. record { positions = ax i; points = ap′ i; edges = ae i; intervals = ad i; faces = af i }
 
-        pub read : audited (meshOf xs ps es ds fs) (record { points = p; edges = e; faces = f }) ≡ true
+        pub read : passesAudit (meshOf xs ps es ds fs) (record { points = p; edges = e; faces = f }) ≡ true
             → record { answer = Reading.Read (record { points = p; edges = e; faces = f }); tables = meshOf xs ps es ds fs } ≡ readListing s m
         unfolding readFound
         read ea =
             let (t, n, et, ec) = total-of (listing s) (sym er ∙ ep) in
             let es′ = scanned t n et in
-            let ea′ : audited (storedRows t m) (record { points = p; edges = e; faces = f }) ≡ true = rw es′ at ea in
+            let ea′ : passesAudit (storedRows t m) (record { points = p; edges = e; faces = f }) ≡ true = rw es′ at ea in
             sym (ap (λ (x : Parsed Rows). readFound x m) et
-            ∙ accepted (withinCeilings (countsOf t)) (rowsFor (countsOf t) m) (audited (storedRows t m) (countsOf t)) t m
-            (ap withinCeilings ec ∙ ew) (ap (λ (k : Counts). rowsFor k m) ec ∙ em) (ap (audited (storedRows t m)) ec ∙ ea′)
+            ∙ accepted (withinCeilings (listedCounts t)) (rowsFor (listedCounts t) m) (passesAudit (storedRows t m) (listedCounts t)) t m
+            (ap withinCeilings ec ∙ ew) (ap (λ (k : Counts). rowsFor k m) ec ∙ em) (ap (passesAudit (storedRows t m)) ec ∙ ea′)
             ∙ (λ i. record { answer = Reading.Read (ec i); tables = sym es′ i }))
 
-        pub zeroes : audited (meshOf xs ps es ds fs) (record { points = p; edges = e; faces = f }) ≡ false
+        pub zeroes : passesAudit (meshOf xs ps es ds fs) (record { points = p; edges = e; faces = f }) ≡ false
             → (m′ : Mesh) → m′ ≡ zeroedRows (record { points = p; edges = e; faces = f }) (meshOf xs ps es ds fs)
             → record { answer = Reading.NotClosed; tables = m′ } ≡ readListing s m
         unfolding readFound
         zeroes ea m′ e′ =
             let (t, n, et, ec) = total-of (listing s) (sym er ∙ ep) in
             let es′ = scanned t n et in
-            let ea′ : audited (storedRows t m) (record { points = p; edges = e; faces = f }) ≡ false = rw es′ at ea in
+            let ea′ : passesAudit (storedRows t m) (record { points = p; edges = e; faces = f }) ≡ false = rw es′ at ea in
             let fit = printed-of-listing s t n et .0 in
-            let z : m′ ≡ zeroedRows (countsOf t) m =
+            let z : m′ ≡ zeroedRows (listedCounts t) m =
             e′ ∙ ap (zeroedRows (record { points = p; edges = e; faces = f })) es′ ∙ ap (λ (c : Counts). zeroedRows c (storedRows t m)) (sym ec)
             ∙ zeroed-stored t m fit in
             sym (ap (λ (x : Parsed Rows). readFound x m) et
-            ∙ refused (withinCeilings (countsOf t)) (rowsFor (countsOf t) m) (audited (storedRows t m) (countsOf t)) t m
-            (ap withinCeilings ec ∙ ew) (ap (λ (k : Counts). rowsFor k m) ec ∙ em) (ap (audited (storedRows t m)) ec ∙ ea′)
+            ∙ refused (withinCeilings (listedCounts t)) (rowsFor (listedCounts t) m) (passesAudit (storedRows t m) (listedCounts t)) t m
+            (ap withinCeilings ec ∙ ew) (ap (λ (k : Counts). rowsFor k m) ec ∙ em) (ap (passesAudit (storedRows t m)) ec ∙ ea′)
             ∙ (λ i. record { answer = Reading.NotClosed; tables = sym z i }))

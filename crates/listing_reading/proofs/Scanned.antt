@@ -16,20 +16,20 @@ use Rattle.mesh_lines.specs.declared.Run.the-variants as Run
 use Rattle.mesh_lines.proofs.Answers.{run-of, run-none}
 use Rattle.mesh_text.specs.Text.{ends}
 use Rattle.listings.specs.Printing.{Row}
-use Rattle.listings.specs.Grammar.{point, edge, face, rows, listing}
+use Rattle.listings.specs.Grammar.{pointRowForm, edgeRowForm, faceRowForm, rows, listing}
 use Rattle.listings.specs.Handing.{numbersIn, wordsIn}
 use Rattle.listing_lines.proofs.Laws.{takes-point, takes-edge, takes-face}
 use Rattle.listing_reading.specs.Parts.{totalOf, positionsIn, pointsIn, edgesIn, intervalsIn, facesIn}
 use Rattle.listing_reading.specs.declared.Total.the-variants as Total
 
 abbrev pointLines : List ℕ → Form (List Row)
-pointLines s = many s (bytes "[point") (point s) (length s)
+pointLines s = many s (bytes "[point") (pointRowForm s) (length s)
 
 abbrev edgeLines : List ℕ → Form (List Row)
-edgeLines s = many s (bytes "[edge") (edge s) (length s)
+edgeLines s = many s (bytes "[edge") (edgeRowForm s) (length s)
 
 abbrev faceLines : List ℕ → Form (List Row)
-faceLines s = many s (bytes "[face") (face s) (length s)
+faceLines s = many s (bytes "[face") (faceRowForm s) (length s)
 
 module _ (s : List ℕ) where
   pub no-head : stands s 0 (bytes "[mesh 3]\n") ≡ false → Total.None ≡ totalOf (listing s)
@@ -51,7 +51,7 @@ module _ (s : List ℕ) where
 
         pub points-inside : i ≤ length s
         points-inside =
-            takes-many s (bytes "[point") (λ l. 3) (point s) (length s) refl (takes-point s) 9 head-inside (points-read .0) i (points-read .1) .1
+            takes-many s (bytes "[point") (λ l. 3) (pointRowForm s) (length s) refl (takes-point s) 9 head-inside (points-read .0) i (points-read .1) .1
 
         module _ {q : Run} (eq : q ≡ runAnswer length (edgeLines s i)) where
           pub no-edges : q ≡ Run.None → Total.None ≡ totalOf (listing s)
@@ -64,7 +64,7 @@ module _ (s : List ℕ) where
 
             pub edges-inside : j ≤ length s
             edges-inside =
-                takes-many s (bytes "[edge") (λ l. 8) (edge s) (length s) refl (takes-edge s) i points-inside (edges-read .0) j (edges-read .1) .1
+                takes-many s (bytes "[edge") (λ l. 8) (edgeRowForm s) (length s) refl (takes-edge s) i points-inside (edges-read .0) j (edges-read .1) .1
 
             module _ {u : Run} (eu : u ≡ runAnswer length (faceLines s j)) where
               pub no-faces : u ≡ Run.None → Total.None ≡ totalOf (listing s)
@@ -78,7 +78,7 @@ module _ (s : List ℕ) where
 
                 pub faces-inside : k ≤ length s
                 faces-inside =
-                    takes-many s (bytes "[face") (λ l. 5) (face s) (length s) refl (takes-face s) j edges-inside (faces-read .0) k (faces-read .1) .1
+                    takes-many s (bytes "[face") (λ l. 5) (faceRowForm s) (length s) refl (takes-face s) j edges-inside (faces-read .0) k (faces-read .1) .1
 
                 pub no-end : ends s k ≡ false → Total.None ≡ totalOf (listing s)
                 unfolding rows listing

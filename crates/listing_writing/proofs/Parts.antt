@@ -29,14 +29,14 @@ use Rattle.mesh_lines.specs.Grammar.{flat}
 use Rattle.mesh_answers.specs.Writing.{Written}
 use Rattle.mesh_answers.proofs.Laws.{written-append}
 use Rattle.listings.specs.Printing.{pointLine, edgeLine, faceLine, printed}
-use Rattle.listings.specs.Handing.{upTo, pointRow, edgeRow, faceRow, rowsOf, listingOf, audited, WritingOutcome, written, writeListing}
+use Rattle.listings.specs.Handing.{upTo, pointLineRow, edgeLineRow, faceLineRow, listingRows, listingOf, passesAudit, WritingOutcome, written, writeListing}
 use Rattle.listings.specs.declared.Writing.{Writing}
 use Rattle.listings.specs.declared.Writing.the-variants as Writing
 use Rattle.listings.proofs.ReadBack.{finite-fit}
 use Rattle.listing_printing.specs.Fields.{wordFields}
 use Rattle.listing_printing.proofs.Laws.{written-same}
 use Rattle.listing_printing.proofs.Lengths.{points-length, edges-length, faces-length}
-use Rattle.listing_writing.specs.Parts.{Sizes, lengthBy, RowsReady}
+use Rattle.listing_writing.specs.Parts.{WordRows, lengthBy, RowsReady}
 
 -- counts within the ceilings
 few : (c : Counts) → withinCeilings c ≡ true → (c .points ≤ 65536) × (c .edges ≤ 131072) × (c .faces ≤ 65536)
@@ -63,7 +63,7 @@ module _ (c : Counts) (m : Mesh) where
           rw p at (a .z-finite (i / 3) (omega arith))
       go (suc (suc (suc k))) e = absurd (omega arith)
 
-  pub ready-of : audited m c ≡ true → RowsReady c m
+  pub ready-of : passesAudit m c ≡ true → RowsReady c m
   ready-of h =
       let a = audit-is-audited m (c .points) (c .edges) (c .faces) .0 h in
       record {
@@ -72,7 +72,7 @@ module _ (c : Counts) (m : Mesh) where
         intervals-finite = λ i k. finite-fit (getD (m .intervals) i nan) (a .interval-fit i k);
       }
 
-  pub sizes-of : audited m c ≡ true → withinCeilings c ≡ true → Sizes c (m .points) (m .edges) (m .faces)
+  pub sizes-of : passesAudit m c ≡ true → withinCeilings c ≡ true → WordRows c (m .points) (m .edges) (m .faces)
   sizes-of h w =
       let r = ready-of h .room in
       let (p, e, f) = few c w in
@@ -80,11 +80,11 @@ module _ (c : Counts) (m : Mesh) where
 
   -- how long the listing is
   pub length-parts : length (listingOf m c)
-      ≡ 9 + (length (flat pointLine (upTo (c .points) (pointRow m))) + (length (flat edgeLine (upTo (c .edges) (edgeRow m))) + (length (flat faceLine (upTo (c .faces) (faceRow m))) + 6)))
+      ≡ 9 + (length (flat pointLine (upTo (c .points) (pointLineRow m))) + (length (flat edgeLine (upTo (c .edges) (edgeLineRow m))) + (length (flat faceLine (upTo (c .faces) (faceLineRow m))) + 6)))
   length-parts =
-      let p = flat pointLine (upTo (c .points) (pointRow m)) in
-      let e = flat edgeLine (upTo (c .edges) (edgeRow m)) in
-      let f = flat faceLine (upTo (c .faces) (faceRow m)) in
+      let p = flat pointLine (upTo (c .points) (pointLineRow m)) in
+      let e = flat edgeLine (upTo (c .edges) (edgeLineRow m)) in
+      let f = flat faceLine (upTo (c .faces) (faceLineRow m)) in
       let lf = length-append f (bytes "[end]\n") in
       let le = length-append e (f ++ bytes "[end]\n") in
       let lp = length-append p (e ++ (f ++ bytes "[end]\n")) in
@@ -111,22 +111,22 @@ whole {out} {o1} {o2} {o3} {o4} {o5} {i} {j} {k} {l} {n} {ps} {es} {fs} h p e f 
 
 -- the answers in turn
 module _ (m : Mesh) (c : Counts) (out : List ℕ) where
-  pub not-closed : audited m c ≡ false → record { answer = Writing.NotClosed; text = out } ≡ writeListing m c out
+  pub not-closed : passesAudit m c ≡ false → record { answer = Writing.NotClosed; text = out } ≡ writeListing m c out
   unfolding writeListing
   not-closed e = rw e
 
-  pub over : audited m c ≡ true → withinCeilings c ≡ false → record { answer = Writing.OverCeilings; text = out } ≡ writeListing m c out
+  pub over : passesAudit m c ≡ true → withinCeilings c ≡ false → record { answer = Writing.OverCeilings; text = out } ≡ writeListing m c out
   unfolding writeListing
   over e w = rw (e, w)
 
-  pub short : audited m c ≡ true → withinCeilings c ≡ true → (n : ℕ) → n ≡ lengthBy c (m .points) (m .edges) (m .faces) → length out < n
+  pub short : passesAudit m c ≡ true → withinCeilings c ≡ true → (n : ℕ) → n ≡ lengthBy c (m .points) (m .edges) (m .faces) → length out < n
       → record { answer = Writing.TooShort; text = out } ≡ writeListing m c out
   unfolding writeListing
   short e w n en l =
       let lo = length-of c m (ready-of c m e .room) in
       rw (e, w, lt-leb (length (listingOf m c)) (length out) (omega arith))
 
-  pub all : audited m c ≡ true → withinCeilings c ≡ true → (n : ℕ) → n ≡ lengthBy c (m .points) (m .edges) (m .faces) → n ≤ length out
+  pub all : passesAudit m c ≡ true → withinCeilings c ≡ true → (n : ℕ) → n ≡ lengthBy c (m .points) (m .edges) (m .faces) → n ≤ length out
       → (out′ : List ℕ) → out′ ≡ sets out 0 (listingOf m c) → record { answer = Writing.Written n; text = out′ } ≡ writeListing m c out
   unfolding writeListing
   all e w n en l out′ eo =

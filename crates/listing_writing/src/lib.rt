@@ -13,7 +13,7 @@ ghost use lib.Ieee.Scale.{finite};
 ghost use Rattle.tables.specs.Mesh.{meshOf};
 ghost use Rattle.steps.specs.Step.{withinCeilings};
 ghost use Rattle.listings.specs.Handing.{WritingOutcome, listingOf, writeListing};
-ghost use Rattle.listing_writing.specs.Parts.{Sizes, lengthBy, RowsReady};
+ghost use Rattle.listing_writing.specs.Parts.{WordRows, lengthBy, RowsReady};
 use audit::audit;
 use listing_printing::words_length;
 use listing_printing::write_edges;
@@ -23,18 +23,21 @@ use listings::Writing;
 use mesh_answers::write;
 use scratch_rows::within_ceilings;
 use tables::Counts;
+use tables::EDGE_WIDTH;
+use tables::FACE_WIDTH;
+use tables::POINT_WIDTH;
 
 // How many bytes the listing has, of counts within the ceilings.
 fn listing_length(points: &[u32], edges: &[u32], faces: &[u32], counts: Counts) -> usize
-    requires { ⌜ Sizes counts (now points) (now edges) (now faces) ⌝ }
+    requires { ⌜ WordRows counts (now points) (now edges) (now faces) ⌝ }
     ensures { λ r. ⌜ r ≡ lengthBy counts (now (points .entry)) (now (edges .entry)) (now (faces .entry)) ⌝ }
 {
     let np = counts.points;
     let ne = counts.edges;
     let nf = counts.faces;
-    let p = words_length(points, np * 3);
-    let e = words_length(edges, ne * 8);
-    let f = words_length(faces, nf * 5);
+    let p = words_length(points, np * POINT_WIDTH);
+    let e = words_length(edges, ne * EDGE_WIDTH);
+    let f = words_length(faces, nf * FACE_WIDTH);
     15 + (np * 59 + p) + (ne * 24 + e) + (nf * 7 + f)
 }
 

@@ -21,7 +21,7 @@ use Rattle.mesh_answers.specs.Lines.{decimalBytes, decimalDigits, hexBytes, num
 use Rattle.mesh_answers.proofs.Laws.{length-hex}
 use Rattle.mesh_answers.proofs.RoundTrip.{decimal-of-decimalBytes, bits-of-hexBytes}
 use Rattle.listings.specs.Printing.{All}
-use Rattle.listings.specs.Grammar.{word}
+use Rattle.listings.specs.Grammar.{wordForm}
 use Rattle.mesh_answers.proofs.Printed.{decimalBytes-of-decimal, hexBytes-of-bits}
 
 and-true : (a b : Bool) → a ≡ true → b ≡ true → a && b ≡ true
@@ -103,11 +103,11 @@ module _ (s : List ℕ) where
   pub leads-coordinate : Leads s bitsField
   leads-coordinate at v e = space-leads at (hexBytes 16 v) e
 
-  pub exact-word : Exact s (word s) numberField (λ v. v < 4294967296)
-  unfolding word
+  pub exact-word : Exact s (wordForm s) numberField (λ v. v < 4294967296)
+  unfolding wordForm
   exact-word = record { sound = sound; complete = complete }
     where
-      sound : (at v n : ℕ) → word s at ≡ parsed v n → (v < 4294967296) × (stands s at (numberField v) ≡ true) × (n ≡ at + length (numberField v))
+      sound : (at v n : ℕ) → wordForm s at ≡ parsed v n → (v < 4294967296) × (stands s at (numberField v) ≡ true) × (n ≡ at + length (numberField v))
       sound at v n e =
           let (z, m, ez, ev) = onward-found (λ z. decimal s) (literal s (bytes " ") at) e in
           let (st, em) = literal-stands (bytes " ") at z m ez in
@@ -115,7 +115,7 @@ module _ (s : List ℕ) where
           (decimal-below s m v n ev, stands-both s (bytes " ") (decimalBytes v) at st (rw em at sd), omega arith)
 
       complete : (at v : ℕ) → v < 4294967296 → stands s at (numberField v) ≡ true → NoDigit s (at + length (numberField v))
-          → word s at ≡ parsed v (at + length (numberField v))
+          → wordForm s at ≡ parsed v (at + length (numberField v))
       complete at v h e g =
           let (st, sd) = stands-parts s (bytes " ") (decimalBytes v) at e in
           let i = inside s at (rw (first-stands at 32 (decimalBytes v) e .0) (omega arith)) in

@@ -16,7 +16,7 @@ use Rattle.text_numbers.proofs.Turns.{literal-found}
 use Rattle.mesh_lines.specs.Grammar.{coordinateForm, flat}
 use Rattle.mesh_answers.specs.Lines.{numberField, bitsField}
 use Rattle.listings.specs.Printing.{Row, All, last, Fits, FitPoint, FitEdge, FitFace}
-use Rattle.listings.specs.Grammar.{word, point, edge, face}
+use Rattle.listings.specs.Grammar.{wordForm, pointRowForm, edgeRowForm, faceRowForm}
 use Rattle.listings.proofs.Exact.{Exact, Prints, Leads, NoDigit, prints-same, stands-both, stands-parts}
 use Rattle.listings.proofs.Exact.{stands-at, first-stands, literal-stands, leads-flat, leads-word}
 use Rattle.listings.proofs.Exact.{leads-coordinate, exact-word, exact-coordinate, exact-times}
@@ -65,11 +65,11 @@ module _ (s : List ℕ) where
         let nx = leads-flat s pr′ ly (at + length (flat pr xs)) ys sy ny in
         (exact-times s p pr Ok x lx j .complete at xs ox sx nx, exact-times s q pr′ Ok′ y ly k .complete (at + length (flat pr xs)) ys oy sy ny, st)
 
-  pub exact-point : Exact s (point s) pointFields FitPoint
-  unfolding point
+  pub exact-point : Exact s (pointRowForm s) pointFields FitPoint
+  unfolding pointRowForm
   exact-point = record { sound = sound; complete = complete }
     where
-      ended : (at m m1 n : ℕ) (xs ws : List ℕ) (r : Row) → times 3 (coordinateForm s) at ≡ parsed xs m → times 3 (word s) m ≡ parsed ws m1 → (b : Bool) → ltb (last 0 ws) 2 ≡ b
+      ended : (at m m1 n : ℕ) (xs ws : List ℕ) (r : Row) → times 3 (coordinateForm s) at ≡ parsed xs m → times 3 (wordForm s) m ≡ parsed ws m1 → (b : Bool) → ltb (last 0 ws) 2 ≡ b
           → onward (λ z. pure (record { numbers = xs; words = ws })) (choose b (literal s (bytes "]\n")) (λ i. unparsed) m1) ≡ parsed r n
           → Prints s pointFields FitPoint at n r
       ended at m m1 n xs ws r ex ew true eb e =
@@ -77,22 +77,22 @@ module _ (s : List ℕ) where
           let rr : record { numbers = xs; words = ws } ≡ r = cc in
           let mn : m2 ≡ n = cc in
           let (st, em) = literal-stands s (bytes "]\n") m1 z m2 ez in
-          let (oo, sr, en) = runs-sound (coordinateForm s) (word s) bitsField numberField _ _ (exact-coordinate s) (exact-word s) (leads-coordinate s) (leads-word s) 3 3 at m m1 n xs ws ex ew st (omega arith) in
+          let (oo, sr, en) = runs-sound (coordinateForm s) (wordForm s) bitsField numberField _ _ (exact-coordinate s) (exact-word s) (leads-coordinate s) (leads-word s) 3 3 at m m1 n xs ws ex ew st (omega arith) in
           prints-same s pointFields FitPoint at n (record { numbers = xs; words = ws }) r rr
           ((record { number-count = oo .0 .0; word-count = oo .1 .0; numbers-below = oo .0 .1; words-below = oo .1 .1 }, ltb-true (last 0 ws) 2 eb), sr, en)
       ended at m m1 n xs ws r ex ew false eb e = let z : _≡_ {A = ℕ} 0 1 = cc in absurd (omega arith)
 
-      sound : (at : ℕ) (r : Row) (n : ℕ) → point s at ≡ parsed r n → Prints s pointFields FitPoint at n r
+      sound : (at : ℕ) (r : Row) (n : ℕ) → pointRowForm s at ≡ parsed r n → Prints s pointFields FitPoint at n r
       sound at r n e =
           let (xs, m, ex, e1) = onward-found _ (times 3 (coordinateForm s) at) e in
-          let (ws, m1, ew, e2) = onward-found _ (times 3 (word s) m) e1 in
+          let (ws, m1, ew, e2) = onward-found _ (times 3 (wordForm s) m) e1 in
           ended at m m1 n xs ws r ex ew (ltb (last 0 ws) 2) refl e2
 
-      complete : (at : ℕ) (r : Row) → FitPoint r → stands s at (pointFields r) ≡ true → NoDigit s (at + length (pointFields r)) → point s at ≡ parsed r (at + length (pointFields r))
+      complete : (at : ℕ) (r : Row) → FitPoint r → stands s at (pointFields r) ≡ true → NoDigit s (at + length (pointFields r)) → pointRowForm s at ≡ parsed r (at + length (pointFields r))
       complete at r (o, h) e g =
           let xs = r .numbers in
           let ws = r .words in
-          let (ex, ew, es) = runs-complete (coordinateForm s) (word s) bitsField numberField _ _ (exact-coordinate s)
+          let (ex, ew, es) = runs-complete (coordinateForm s) (wordForm s) bitsField numberField _ _ (exact-coordinate s)
           (exact-word s) (leads-coordinate s) (leads-word s) 3 3 at xs ws (o .number-count, o .numbers-below)
           (o .word-count, o .words-below) e in
           let l1 = length-append (flat bitsField xs) (flat numberField ws) in
@@ -105,27 +105,27 @@ module _ (s : List ℕ) where
           literal-found s (bytes "]\n") (at + length (flat bitsField xs) + length (flat numberField ws)) es)
           (ap (parsed r) en)
 
-  pub exact-edge : Exact s (edge s) edgeFields FitEdge
-  unfolding edge
+  pub exact-edge : Exact s (edgeRowForm s) edgeFields FitEdge
+  unfolding edgeRowForm
   exact-edge = record { sound = sound; complete = complete }
     where
-      sound : (at : ℕ) (r : Row) (n : ℕ) → edge s at ≡ parsed r n → Prints s edgeFields FitEdge at n r
+      sound : (at : ℕ) (r : Row) (n : ℕ) → edgeRowForm s at ≡ parsed r n → Prints s edgeFields FitEdge at n r
       sound at r n e =
-          let (ws, m, ew, e1) = onward-found _ (times 8 (word s) at) e in
+          let (ws, m, ew, e1) = onward-found _ (times 8 (wordForm s) at) e in
           let (xs, m1, ex, e2) = onward-found _ (times 1 (coordinateForm s) m) e1 in
           let (z, m2, ez, er) = onward-found (λ z. pure (record { numbers = xs; words = ws })) (literal s (bytes "]\n") m1) e2 in
           let rr : record { numbers = xs; words = ws } ≡ r = cc in
           let mn : m2 ≡ n = cc in
           let (st, em) = literal-stands s (bytes "]\n") m1 z m2 ez in
-          let (oo, sr, en) = runs-sound (word s) (coordinateForm s) numberField bitsField _ _ (exact-word s) (exact-coordinate s) (leads-word s) (leads-coordinate s) 8 1 at m m1 n ws xs ew ex st (omega arith) in
+          let (oo, sr, en) = runs-sound (wordForm s) (coordinateForm s) numberField bitsField _ _ (exact-word s) (exact-coordinate s) (leads-word s) (leads-coordinate s) 8 1 at m m1 n ws xs ew ex st (omega arith) in
           prints-same s edgeFields FitEdge at n (record { numbers = xs; words = ws }) r rr
           (record { number-count = oo .1 .0; word-count = oo .0 .0; numbers-below = oo .1 .1; words-below = oo .0 .1 }, sr, en)
 
-      complete : (at : ℕ) (r : Row) → FitEdge r → stands s at (edgeFields r) ≡ true → NoDigit s (at + length (edgeFields r)) → edge s at ≡ parsed r (at + length (edgeFields r))
+      complete : (at : ℕ) (r : Row) → FitEdge r → stands s at (edgeFields r) ≡ true → NoDigit s (at + length (edgeFields r)) → edgeRowForm s at ≡ parsed r (at + length (edgeFields r))
       complete at r o e g =
           let xs = r .numbers in
           let ws = r .words in
-          let (ew, ex, es) = runs-complete (word s) (coordinateForm s) numberField bitsField _ _ (exact-word s)
+          let (ew, ex, es) = runs-complete (wordForm s) (coordinateForm s) numberField bitsField _ _ (exact-word s)
           (exact-coordinate s) (leads-word s) (leads-coordinate s) 8 1 at ws xs (o .word-count, o .words-below)
           (o .number-count, o .numbers-below) e in
           let l1 = length-append (flat numberField ws) (flat bitsField xs) in
@@ -135,16 +135,16 @@ module _ (s : List ℕ) where
           rw (ew, ex, literal-found s (bytes "]\n") (at + length (flat numberField ws) + length (flat bitsField xs)) es)
           (ap (parsed r) en)
 
-  pub exact-face : Exact s (face s) faceFields FitFace
-  unfolding face
+  pub exact-face : Exact s (faceRowForm s) faceFields FitFace
+  unfolding faceRowForm
   exact-face = record { sound = sound; complete = complete }
     where
-      words : Exact s (times 5 (word s)) (flat numberField) (λ l. (length l ≡ 5) × All (λ v. v < 4294967296) l)
-      words = exact-times s (word s) numberField _ (exact-word s) (leads-word s) 5
+      words : Exact s (times 5 (wordForm s)) (flat numberField) (λ l. (length l ≡ 5) × All (λ v. v < 4294967296) l)
+      words = exact-times s (wordForm s) numberField _ (exact-word s) (leads-word s) 5
 
-      sound : (at : ℕ) (r : Row) (n : ℕ) → face s at ≡ parsed r n → Prints s faceFields FitFace at n r
+      sound : (at : ℕ) (r : Row) (n : ℕ) → faceRowForm s at ≡ parsed r n → Prints s faceFields FitFace at n r
       sound at r n e =
-          let (ws, m, ew, e1) = onward-found _ (times 5 (word s) at) e in
+          let (ws, m, ew, e1) = onward-found _ (times 5 (wordForm s) at) e in
           let (z, m2, ez, er) = onward-found (λ z. pure (record { numbers = []; words = ws }))
           (literal s (bytes "]\n") m) e1 in
           let rr : record { numbers = []; words = ws } ≡ r = cc in
@@ -157,7 +157,7 @@ module _ (s : List ℕ) where
           stands-both s (flat numberField ws) (bytes "]\n") at sw (stands-at s (bytes "]\n") ew′ st),
           omega arith)
 
-      complete : (at : ℕ) (r : Row) → FitFace r → stands s at (faceFields r) ≡ true → NoDigit s (at + length (faceFields r)) → face s at ≡ parsed r (at + length (faceFields r))
+      complete : (at : ℕ) (r : Row) → FitFace r → stands s at (faceFields r) ≡ true → NoDigit s (at + length (faceFields r)) → faceRowForm s at ≡ parsed r (at + length (faceFields r))
       complete at r o e g =
           let ws = r .words in
           let (sw, se) = stands-parts s (flat numberField ws) (bytes "]\n") at e in

@@ -30,7 +30,7 @@ use Rattle.steps.specs.Rows.{Room}
 use Rattle.steps.proofs.Rows.{room-of-rows, exact-firstRows, same-firstRows, holds-same, room-firstRows, same-overRows, room-overRows}
 use Rattle.mesh_lines.specs.Grammar.{flat}
 use Rattle.listings.specs.Printing.{Row, Rows, All, FitPoint, FitEdge, FitFace, FitRows}
-use Rattle.listings.specs.Handing.{upTo, bitsOf, pointRow, edgeRow, faceRow, rowsOf, countsOf, numbersIn, wordsIn, stored, audited}
+use Rattle.listings.specs.Handing.{upTo, bitsOf, pointLineRow, edgeLineRow, faceLineRow, listingRows, listedCounts, numbersIn, wordsIn, withListing, passesAudit}
 use Rattle.listings.specs.Claims.{Held}
 use Rattle.listings.proofs.Parts.{flat-append, flat-one, cells, part-cells}
 
@@ -68,7 +68,7 @@ module _ (m : Mesh) (c : Counts) (h : Held m) where
         go (inl e) = omega arith
         go (inr e) = omega arith
 
-    point-fits : (p : ℕ) → p < c .points → FitPoint (pointRow m p)
+    point-fits : (p : ℕ) → p < c .points → FitPoint (pointLineRow m p)
     point-fits p l = (
       record {
         number-count = refl;
@@ -79,7 +79,7 @@ module _ (m : Mesh) (c : Counts) (h : Held m) where
       mark-below p l,
     )
 
-    edge-fits : (e : ℕ) → FitEdge (edgeRow m e)
+    edge-fits : (e : ℕ) → FitEdge (edgeLineRow m e)
     edge-fits e = record {
       number-count = refl;
       word-count = refl;
@@ -93,7 +93,7 @@ module _ (m : Mesh) (c : Counts) (h : Held m) where
       );
     }
 
-    face-fits : (f : ℕ) → FitFace (faceRow m f)
+    face-fits : (f : ℕ) → FitFace (faceLineRow m f)
     face-fits f = record {
       number-count = refl;
       word-count = refl;
@@ -101,18 +101,18 @@ module _ (m : Mesh) (c : Counts) (h : Held m) where
       words-below = (h .faces (f * 5), (h .faces (f * 5 + 1), (h .faces (f * 5 + 2), (h .faces (f * 5 + 3), (h .faces (f * 5 + 4), tt)))));
     }
 
-    pub rows-fit : FitRows (rowsOf m c)
+    pub rows-fit : FitRows (listingRows m c)
     rows-fit = record {
-      points-fit = all-upTo FitPoint (pointRow m) (c .points) point-fits;
-      edges-fit = all-upTo FitEdge (edgeRow m) (c .edges) (λ e l. edge-fits e);
-      faces-fit = all-upTo FitFace (faceRow m) (c .faces) (λ f l. face-fits f);
+      points-fit = all-upTo FitPoint (pointLineRow m) (c .points) point-fits;
+      edges-fit = all-upTo FitEdge (edgeLineRow m) (c .edges) (λ e l. edge-fits e);
+      faces-fit = all-upTo FitFace (faceLineRow m) (c .faces) (λ f l. face-fits f);
     }
 
-  pub counts-rows : countsOf (rowsOf m c) ≡ c
+  pub counts-rows : listedCounts (listingRows m c) ≡ c
   counts-rows =
-      let p = length-upTo (pointRow m) (c .points) in
-      let e = length-upTo (edgeRow m) (c .edges) in
-      let f = length-upTo (faceRow m) (c .faces) in
+      let p = length-upTo (pointLineRow m) (c .points) in
+      let e = length-upTo (edgeLineRow m) (c .edges) in
+      let f = length-upTo (faceLineRow m) (c .faces) in
       λ i. record { points = p i; edges = e i; faces = f i }
 
 -- what rows of w elements put side by side are
@@ -143,31 +143,31 @@ module _ (m m′ : Mesh) (c : Counts) (h : Held m) (r : Room c m) (r′ : Room c
   table d G g xs xs′ w n e k k′ =
       ap (sets xs′ 0) (rows-part d G g xs w e n k) ∙ sets-over (n * w) (take (n * w) xs) xs′ (length-take-le (n * w) xs k) k′
 
-  pub stored-rows : stored (rowsOf m c) m′ ≡ overRows c (firstRows c m) m′
+  pub stored-rows : withListing (listingRows m c) m′ ≡ overRows c (firstRows c m) m′
   unfolding overRows firstRows
   stored-rows =
       let one : c .edges * 1 ≡ c .edges = omega arith in
-      let a = table nan (λ q. map float (q .numbers)) (pointRow m) (m .positions) (m′ .positions) 3 (c .points) point-cells (r .positions) (r′ .positions) in
-      let b = table 0 (λ q. q .words) (pointRow m) (m .points) (m′ .points) 3 (c .points) (λ p. refl) (r .points) (r′ .points) in
-      let e = table 0 (λ q. q .words) (edgeRow m) (m .edges) (m′ .edges) 8 (c .edges) (λ p. refl) (r .edges) (r′ .edges) in
-      let d : sets (m′ .intervals) 0 (numbersIn (upTo (c .edges) (edgeRow m))) ≡ over (c .edges) (take (c .edges) (m .intervals)) (m′ .intervals) =
-      rw one at (table nan (λ q. map float (q .numbers)) (edgeRow m) (m .intervals) (m′ .intervals) 1 (c .edges) interval-cells (rw one (r .intervals)) (rw one (r′ .intervals))) in
-      let f = table 0 (λ q. q .words) (faceRow m) (m .faces) (m′ .faces) 5 (c .faces) (λ p. refl) (r .faces) (r′ .faces) in
+      let a = table nan (λ q. map float (q .numbers)) (pointLineRow m) (m .positions) (m′ .positions) 3 (c .points) point-cells (r .positions) (r′ .positions) in
+      let b = table 0 (λ q. q .words) (pointLineRow m) (m .points) (m′ .points) 3 (c .points) (λ p. refl) (r .points) (r′ .points) in
+      let e = table 0 (λ q. q .words) (edgeLineRow m) (m .edges) (m′ .edges) 8 (c .edges) (λ p. refl) (r .edges) (r′ .edges) in
+      let d : sets (m′ .intervals) 0 (numbersIn (upTo (c .edges) (edgeLineRow m))) ≡ over (c .edges) (take (c .edges) (m .intervals)) (m′ .intervals) =
+      rw one at (table nan (λ q. map float (q .numbers)) (edgeLineRow m) (m .intervals) (m′ .intervals) 1 (c .edges) interval-cells (rw one (r .intervals)) (rw one (r′ .intervals))) in
+      let f = table 0 (λ q. q .words) (faceLineRow m) (m .faces) (m′ .faces) 5 (c .faces) (λ p. refl) (r .faces) (r′ .faces) in
       λ i. record { positions = a i; points = b i; edges = e i; intervals = d i; faces = f i }
     where
-      point-cells : (p : ℕ) → map float (pointRow m p .numbers) ≡ cells nan (m .positions) (p * 3) 3
+      point-cells : (p : ℕ) → map float (pointLineRow m p .numbers) ≡ cells nan (m .positions) (p * 3) 3
       point-cells p =
           let x = number-again (getD (m .positions) (p * 3) nan) (h .positions (p * 3)) in
           let y = number-again (getD (m .positions) (p * 3 + 1) nan) (h .positions (p * 3 + 1)) in
           let z = number-again (getD (m .positions) (p * 3 + 2) nan) (h .positions (p * 3 + 2)) in
           λ i. x i ∷ y i ∷ z i ∷ []
 
-      interval-cells : (p : ℕ) → map float (edgeRow m p .numbers) ≡ cells nan (m .intervals) (p * 1) 1
+      interval-cells : (p : ℕ) → map float (edgeLineRow m p .numbers) ≡ cells nan (m .intervals) (p * 1) 1
       interval-cells p =
           let k : p * 1 ≡ p = omega arith in
           rw k (λ i. number-again (getD (m .intervals) p nan) (h .intervals p) i ∷ [])
 
-  pub audited-again : audited m c ≡ true → audited (overRows c (firstRows c m) m′) c ≡ true
+  pub audited-again : passesAudit m c ≡ true → passesAudit (overRows c (firstRows c m) m′) c ≡ true
   audited-again k =
       let x = exact-firstRows c m r in
       let a = audit-is-closed m (c .points) (c .edges) (c .faces) .0 k in

@@ -14,7 +14,7 @@ use Rattle.steps.specs.Step.{withinCeilings}
 use Rattle.text_numbers.specs.Form.{Parsed, parsed, unparsed}
 use Rattle.listings.specs.Printing.{Rows, FitRows, printed}
 use Rattle.listings.specs.Grammar.{listing}
-use Rattle.listings.specs.Handing.{rowsOf, listingOf, countsOf, stored, audited, ReadingOutcome, readRows, readFound, readListing}
+use Rattle.listings.specs.Handing.{listingRows, listingOf, listedCounts, withListing, passesAudit, ReadingOutcome, readRows, readFound, readListing}
 use Rattle.listings.specs.Claims.{Listing-exactly, Not-listing-exactly, Reads-rows, Refusals-leave, Read-back, Written-back}
 use Rattle.listings.specs.declared.Reading.{Reading}
 use Rattle.listings.specs.declared.Reading.the-variants as Reading
@@ -36,7 +36,7 @@ found-is-read true true true t m e = let z : _≡_ {A = ℕ} 0 1 = cc in omega a
 none-of-answer : (x : Parsed Rows) (m : Mesh) → readFound x m .answer ≡ Reading.NotListing → x ≡ unparsed
 unfolding readFound
 none-of-answer (parsed t n) m e =
-    absurd (found-is-read (withinCeilings (countsOf t)) (rowsFor (countsOf t) m) (audited (stored t m) (countsOf t)) t m e)
+    absurd (found-is-read (withinCeilings (listedCounts t)) (rowsFor (listedCounts t) m) (passesAudit (withListing t m) (listedCounts t)) t m e)
 none-of-answer unparsed m e = refl
 
 answer-of-none : (x : Parsed Rows) (m : Mesh) → x ≡ unparsed → readFound x m .answer ≡ Reading.NotListing
@@ -82,9 +82,9 @@ module _ (m : Mesh) where
   unfolding readFound
   leaves unparsed = (λ e. refl, λ e. refl, λ e. refl)
   leaves (parsed t n) =
-      let a = withinCeilings (countsOf t) in
-      let b = rowsFor (countsOf t) m in
-      let c = audited (stored t m) (countsOf t) in
+      let a = withinCeilings (listedCounts t) in
+      let b = rowsFor (listedCounts t) m in
+      let c = passesAudit (withListing t m) (listedCounts t) in
       (λ e. absurd (found-is-read a b c t m e), over-leaves a b c t, room-leaves a b c t)
 
 pub refusals-leave : Refusals-leave
@@ -92,7 +92,7 @@ refusals-leave s m = leaves m (listing s)
 
 -- rows that pass the three tests are read
 pub accepted : (a b d : Bool) (t : Rows) (m : Mesh) → a ≡ true → b ≡ true → d ≡ true
-    → readRows a b d t m ≡ record { answer = Reading.Read (countsOf t); tables = stored t m }
+    → readRows a b d t m ≡ record { answer = Reading.Read (listedCounts t); tables = withListing t m }
 accepted a b d t m ea eb ed = rw (ea, eb, ed)
 
 pub read-back : Read-back
@@ -101,26 +101,26 @@ read-back m m′ c h ea ew er =
     let r = room-of-rows c m (a .points-fit) (a .edges-fit) (a .faces-fit) in
     let st = stored-rows m m′ c h r (room-of c m′ er) in
     let ea′ = audited-again m m′ c h r (room-of c m′ er) ea in
-    let t = rowsOf m c in
+    let t = listingRows m c in
     let ec = counts-rows m c h in
     reads-rows t m′ (rows-fit m c h a)
-    ∙ accepted (withinCeilings (countsOf t)) (rowsFor (countsOf t) m′) (audited (stored t m′) (countsOf t)) t m′
+    ∙ accepted (withinCeilings (listedCounts t)) (rowsFor (listedCounts t) m′) (passesAudit (withListing t m′) (listedCounts t)) t m′
     (ap withinCeilings ec ∙ ew) (ap (λ (k : Counts). rowsFor k m′) ec ∙ er)
-    (ap (audited (stored t m′)) ec ∙ ap (λ (n : Mesh). audited n c) st ∙ ea′)
+    (ap (passesAudit (withListing t m′)) ec ∙ ap (λ (n : Mesh). passesAudit n c) st ∙ ea′)
     ∙ (λ i. record { answer = Reading.Read (ec i); tables = st i })
 
 -- rows that were read, by the three tests
 read-written : (s : List ℕ) (t : Rows) (m : Mesh) (c : Counts) (n : ℕ) → listing s ≡ parsed t n → (a b d : Bool)
-    → rowsFor (countsOf t) m ≡ b → audited (stored t m) (countsOf t) ≡ d → readRows a b d t m .answer ≡ Reading.Read c
+    → rowsFor (listedCounts t) m ≡ b → passesAudit (withListing t m) (listedCounts t) ≡ d → readRows a b d t m .answer ≡ Reading.Read c
     → listingOf (readRows a b d t m .tables) c ≡ s
 read-written s t m c n es false b d eb ed e = absurd (let z : _≡_ {A = ℕ} 0 1 = cc in omega arith)
 read-written s t m c n es true false d eb ed e = absurd (let z : _≡_ {A = ℕ} 0 1 = cc in omega arith)
 read-written s t m c n es true true false eb ed e = absurd (let z : _≡_ {A = ℕ} 0 1 = cc in omega arith)
 read-written s t m c n es true true true eb ed e =
-    let ec : countsOf t ≡ c = cc in
+    let ec : listedCounts t ≡ c = cc in
     let (f, p) = printed-of-listing s t n es in
-    let a = audit-is-audited (stored t m) (length (t .points)) (length (t .edges)) (length (t .faces)) .0 ed in
-    ap (listingOf (stored t m)) (sym ec) ∙ ap printed (rows-again t m f (room-of (countsOf t) m eb) a) ∙ sym p
+    let a = audit-is-audited (withListing t m) (length (t .points)) (length (t .edges)) (length (t .faces)) .0 ed in
+    ap (listingOf (withListing t m)) (sym ec) ∙ ap printed (rows-again t m f (room-of (listedCounts t) m eb) a) ∙ sym p
 
 pub written-back : Written-back
 unfolding readFound
@@ -128,5 +128,5 @@ written-back s m c e = go (listing s) refl e
   where
     go : (x : Parsed Rows) → listing s ≡ x → readFound x m .answer ≡ Reading.Read c → listingOf (readFound x m .tables) c ≡ s
     go (parsed t n) es g =
-        read-written s t m c n es (withinCeilings (countsOf t)) (rowsFor (countsOf t) m) (audited (stored t m) (countsOf t)) refl refl g
+        read-written s t m c n es (withinCeilings (listedCounts t)) (rowsFor (listedCounts t) m) (passesAudit (withListing t m) (listedCounts t)) refl refl g
     go unparsed es g = absurd (let z : _≡_ {A = ℕ} 0 1 = cc in omega arith)

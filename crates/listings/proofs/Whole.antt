@@ -18,7 +18,7 @@ use Rattle.text_numbers.proofs.Turns.{literal-found}
 use Rattle.mesh_lines.specs.Grammar.{flat}
 use Rattle.mesh_text.specs.Text.{ends}
 use Rattle.listings.specs.Printing.{Row, Rows, FitRows, FitPoint, FitEdge, FitFace, pointLine, edgeLine, faceLine, printed}
-use Rattle.listings.specs.Grammar.{point, edge, face, rows, listing}
+use Rattle.listings.specs.Grammar.{pointRowForm, edgeRowForm, faceRowForm, rows, listing}
 use Rattle.listings.proofs.Exact.{NoDigit, Leads, stands-both, stands-parts, stands-at, first-stands, literal-stands, sound-many, complete-many}
 use Rattle.listings.proofs.Lines.{pointFields, edgeFields, faceFields, exact-point, exact-edge, exact-face}
 
@@ -142,13 +142,13 @@ module _ (s : List ℕ) where
   printed-of-listing t n e =
       let (z, m, ez, e1) = onward-found _ (literal s (bytes "[mesh 3]\n") 0) e in
       let (st, em) = literal-stands s (bytes "[mesh 3]\n") 0 z m ez in
-      let (ps, i, ep, e2) = onward-found _ (many s (bytes "[point") (point s) (length s) m) e1 in
-      let (es, j, ee, e3) = onward-found _ (many s (bytes "[edge") (edge s) (length s) i) e2 in
-      let (fs, k, ef, e4) = onward-found _ (many s (bytes "[face") (face s) (length s) j) e3 in
+      let (ps, i, ep, e2) = onward-found _ (many s (bytes "[point") (pointRowForm s) (length s) m) e1 in
+      let (es, j, ee, e3) = onward-found _ (many s (bytes "[edge") (edgeRowForm s) (length s) i) e2 in
+      let (fs, k, ef, e4) = onward-found _ (many s (bytes "[face") (faceRowForm s) (length s) j) e3 in
       let (en, et) = ended ps es fs k (ends s k) refl e4 in
-      let (fp, sp, ip) = sound-many s (bytes "[point") (point s) pointFields FitPoint (exact-point s) (length s) m ps i ep in
-      let (fe, se, je) = sound-many s (bytes "[edge") (edge s) edgeFields FitEdge (exact-edge s) (length s) i es j ee in
-      let (ff, sf, kf) = sound-many s (bytes "[face") (face s) faceFields FitFace (exact-face s) (length s) j fs k ef in
+      let (fp, sp, ip) = sound-many s (bytes "[point") (pointRowForm s) pointFields FitPoint (exact-point s) (length s) m ps i ep in
+      let (fe, se, je) = sound-many s (bytes "[edge") (edgeRowForm s) edgeFields FitEdge (exact-edge s) (length s) i es j ee in
+      let (ff, sf, kf) = sound-many s (bytes "[face") (faceRowForm s) faceFields FitFace (exact-face s) (length s) j fs k ef in
       let all : s ≡ printed (record { points = ps; edges = es; faces = fs }) =
       parts-print ps es fs i j k st (stands-at s (flat pointLine ps) em sp, moved m i ps em ip) (se, je) (sf, kf) (end-of-ends k en) in
       same (record { points = ps; edges = es; faces = fs }) et (record { points-fit = fp; edges-fit = fe; faces-fit = ff }) all
@@ -190,11 +190,11 @@ listing-at s t f es =
     let (np, hp) = after-points s i fs eds r1 in
     let (ne, he) = after-edges s j fs r2 in
     let (nf, hf) = after-faces s k sn in
-    let cp = complete-many s (bytes "[point") (point s) pointFields FitPoint (exact-point s) (length s) 9 ps
+    let cp = complete-many s (bytes "[point") (pointRowForm s) pointFields FitPoint (exact-point s) (length s) 9 ps
     (omega arith) (f .points-fit) sp (line-leads s 112 (111 ∷ 105 ∷ 110 ∷ 116 ∷ []) pointFields) np hp in
-    let ce = complete-many s (bytes "[edge") (edge s) edgeFields FitEdge (exact-edge s) (length s) i eds (omega arith)
+    let ce = complete-many s (bytes "[edge") (edgeRowForm s) edgeFields FitEdge (exact-edge s) (length s) i eds (omega arith)
     (f .edges-fit) se (line-leads s 101 (100 ∷ 103 ∷ 101 ∷ []) edgeFields) ne he in
-    let cf = complete-many s (bytes "[face") (face s) faceFields FitFace (exact-face s) (length s) j fs (omega arith)
+    let cf = complete-many s (bytes "[face") (faceRowForm s) faceFields FitFace (exact-face s) (length s) j fs (omega arith)
     (f .faces-fit) sf (line-leads s 102 (97 ∷ 99 ∷ 101 ∷ []) faceFields) nf hf in
     let k6 : k + 6 ≡ length s = omega arith in
     (k, rw (literal-found s (bytes "[mesh 3]\n") 0 h, cp, ce, cf, ends-of-end s k sn k6))

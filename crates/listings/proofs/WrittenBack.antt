@@ -21,7 +21,7 @@ use Rattle.intervals.proofs.Laws.{finite-number}
 use Rattle.steps.specs.Rows.{Room}
 use Rattle.mesh_lines.specs.Grammar.{flat}
 use Rattle.listings.specs.Printing.{Row, Rows, All, FitPoint, FitEdge, FitFace, FitRows}
-use Rattle.listings.specs.Handing.{upTo, bitsOf, pointRow, edgeRow, faceRow, rowsOf, countsOf, stored}
+use Rattle.listings.specs.Handing.{upTo, bitsOf, pointLineRow, edgeLineRow, faceLineRow, listingRows, listedCounts, withListing}
 use Rattle.listings.proofs.Parts.{all-to, numbers-count, length-flat, cells, part-cells}
 use Rattle.listings.proofs.ReadBack.{length-upTo, finite-fit}
 
@@ -112,8 +112,8 @@ all-at P d (x ∷ l) a (suc p) h = all-at P d l (a .1) p (omega arith)
 none : Row
 none = record { numbers = []; words = [] }
 
-module _ (t : Rows) (m : Mesh) (f : FitRows t) (r : Room (countsOf t) m) (a : Audited (stored t m) (length (t .points)) (length (t .edges)) (length (t .faces))) where
-  point-again : (p : ℕ) → p < length (t .points) → pointRow (stored t m) p ≡ getD (t .points) p none
+module _ (t : Rows) (m : Mesh) (f : FitRows t) (r : Room (listedCounts t) m) (a : Audited (withListing t m) (length (t .points)) (length (t .edges)) (length (t .faces))) where
+  point-again : (p : ℕ) → p < length (t .points) → pointLineRow (withListing t m) p ≡ getD (t .points) p none
   point-again p h =
       let l = t .points in
       let o = all-at FitPoint none l (f .points-fit) p h .0 in
@@ -123,7 +123,7 @@ module _ (t : Rows) (m : Mesh) (f : FitRows t) (r : Room (countsOf t) m) (a : Au
       let ns = ap (map bitsOf) xs ∙ bits-again (getD l p none .numbers) (o .numbers-below) fin in
       λ i. record { numbers = ns i; words = ws i }
 
-  edge-again : (e : ℕ) → e < length (t .edges) → edgeRow (stored t m) e ≡ getD (t .edges) e none
+  edge-again : (e : ℕ) → e < length (t .edges) → edgeLineRow (withListing t m) e ≡ getD (t .edges) e none
   edge-again e h =
       let l = t .edges in
       let o = all-at FitEdge none l (f .edges-fit) e h in
@@ -132,11 +132,11 @@ module _ (t : Rows) (m : Mesh) (f : FitRows t) (r : Room (countsOf t) m) (a : Au
       let xs1 = row-again (λ q. map float (q .numbers)) 1 nan none (m .intervals) l (all-to FitEdge _ (λ q o. numbers-count q o) l (f .edges-fit)) room e h in
       let xs = rw one at xs1 in
       let ws = row-again (λ q. q .words) 8 0 none (m .edges) l (all-to FitEdge _ (λ q o. o .word-count) l (f .edges-fit)) (r .edges) e h in
-      let fin : All (λ v. finite v ≡ true) (map float (getD l e none .numbers)) = subst (All (λ v. finite v ≡ true)) xs (finite-fit (getD (stored t m .intervals) e nan) (a .interval-fit e h), tt) in
+      let fin : All (λ v. finite v ≡ true) (map float (getD l e none .numbers)) = subst (All (λ v. finite v ≡ true)) xs (finite-fit (getD (withListing t m .intervals) e nan) (a .interval-fit e h), tt) in
       let ns = ap (map bitsOf) xs ∙ bits-again (getD l e none .numbers) (o .numbers-below) fin in
       λ i. record { numbers = ns i; words = ws i }
 
-  face-again : (g : ℕ) → g < length (t .faces) → faceRow (stored t m) g ≡ getD (t .faces) g none
+  face-again : (g : ℕ) → g < length (t .faces) → faceLineRow (withListing t m) g ≡ getD (t .faces) g none
   face-again g h =
       let l = t .faces in
       let o = all-at FitFace none l (f .faces-fit) g h in
@@ -148,9 +148,9 @@ module _ (t : Rows) (m : Mesh) (f : FitRows t) (r : Room (countsOf t) m) (a : Au
       empty [] e = refl
       empty (v ∷ xs) e = absurd (omega arith)
 
-  pub rows-again : rowsOf (stored t m) (countsOf t) ≡ t
+  pub rows-again : listingRows (withListing t m) (listedCounts t) ≡ t
   rows-again =
-      let p = upTo-all (pointRow (stored t m)) none (t .points) point-again in
-      let e = upTo-all (edgeRow (stored t m)) none (t .edges) edge-again in
-      let g = upTo-all (faceRow (stored t m)) none (t .faces) face-again in
+      let p = upTo-all (pointLineRow (withListing t m)) none (t .points) point-again in
+      let e = upTo-all (edgeLineRow (withListing t m)) none (t .edges) edge-again in
+      let g = upTo-all (faceLineRow (withListing t m)) none (t .faces) face-again in
       λ i. record { points = p i; edges = e i; faces = g i }

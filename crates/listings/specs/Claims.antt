@@ -21,7 +21,7 @@ use Rattle.steps.specs.Step.{withinCeilings}
 use Rattle.text_numbers.specs.Form.{parsed}
 use Rattle.listings.specs.Printing.{Rows, FitRows, printed}
 use Rattle.listings.specs.Grammar.{listing}
-use Rattle.listings.specs.Handing.{listingOf, countsOf, stored, audited, readRows, readListing}
+use Rattle.listings.specs.Handing.{listingOf, listedCounts, withListing, passesAudit, readRows, readListing}
 use Rattle.listings.specs.declared.Reading.the-variants as Reading
 
 abbrev pub Listing-exactly : Type 0
@@ -35,7 +35,7 @@ abbrev pub Reads-rows : Type 0
 Reads-rows =
     (t : Rows) (m : Mesh) → FitRows t →
     readListing (printed t) m
-    ≡ readRows (withinCeilings (countsOf t)) (rowsFor (countsOf t) m) (audited (stored t m) (countsOf t)) t m
+    ≡ readRows (withinCeilings (listedCounts t)) (rowsFor (listedCounts t) m) (passesAudit (withListing t m) (listedCounts t)) t m
 
 abbrev pub Refusals-leave : Type 0
 Refusals-leave =
@@ -54,7 +54,7 @@ pub record Held (m : Mesh) : Type 0 where
 
 abbrev pub Read-back : Type 0
 Read-back =
-    (m m′ : Mesh) (c : Counts) → Held m → audited m c ≡ true → withinCeilings c ≡ true → rowsFor c m′ ≡ true →
+    (m m′ : Mesh) (c : Counts) → Held m → passesAudit m c ≡ true → withinCeilings c ≡ true → rowsFor c m′ ≡ true →
     readListing (listingOf m c) m′ ≡ record { answer = Reading.Read c; tables = overRows c (firstRows c m) m′ }
 
 abbrev pub Written-back : Type 0

@@ -1,6 +1,6 @@
 -- The handover listing as a form on the bytes s of a text: a head, point lines, edge lines, face lines, an end line.
---     word s                a space and a decimal number
---     point edge face s     a line after its head
+--     wordForm s            a space and a decimal number
+--     pointRowForm edgeRowForm faceRowForm s  a line after its head
 --     rows s                the whole text
 --     listing s             the rows of a text, or that it is not of the form
 use mathlib.Core.List.{List, []}
@@ -14,38 +14,38 @@ use Rattle.mesh_text.specs.Text.{ends}
 use Rattle.listings.specs.Printing.{Row, Rows, last}
 
 module _ (s : List ℕ) where
-  unfoldable pub word : Form ℕ
-  word = literal s (bytes " ") >> decimal s
+  unfoldable pub wordForm : Form ℕ
+  wordForm = literal s (bytes " ") >> decimal s
 
   -- after `[point`; the last word, the mark, is 0 or 1
-  unfoldable pub point : Form Row
-  point = do
+  unfoldable pub pointRowForm : Form Row
+  pointRowForm = do
     xs ← times 3 (coordinateForm s)
-    ws ← times 3 word
+    ws ← times 3 wordForm
     choose (ltb (last 0 ws) 2) (literal s (bytes "]\n")) (λ at. unparsed)
     pure (record { numbers = xs; words = ws })
 
   -- after `[edge`
-  unfoldable pub edge : Form Row
-  edge = do
-    ws ← times 8 word
+  unfoldable pub edgeRowForm : Form Row
+  edgeRowForm = do
+    ws ← times 8 wordForm
     xs ← times 1 (coordinateForm s)
     literal s (bytes "]\n")
     pure (record { numbers = xs; words = ws })
 
   -- after `[face`
-  unfoldable pub face : Form Row
-  face = do
-    ws ← times 5 word
+  unfoldable pub faceRowForm : Form Row
+  faceRowForm = do
+    ws ← times 5 wordForm
     literal s (bytes "]\n")
     pure (record { numbers = []; words = ws })
 
   unfoldable pub rows : Form Rows
   rows = do
     literal s (bytes "[mesh 3]\n")
-    ps ← many s (bytes "[point") point (length s)
-    es ← many s (bytes "[edge") edge (length s)
-    fs ← many s (bytes "[face") face (length s)
+    ps ← many s (bytes "[point") pointRowForm (length s)
+    es ← many s (bytes "[edge") edgeRowForm (length s)
+    fs ← many s (bytes "[face") faceRowForm (length s)
     λ at. choose (ends s at) (pure (record { points = ps; edges = es; faces = fs })) (λ n. unparsed) at
 
   unfoldable pub listing : Parsed Rows

@@ -1,10 +1,10 @@
 -- Writing and reading a listing (document 02, §1): the answers, in the order of their grounds, and what is left.
 --     upTo n f                        f 0, f 1, .. below n
---     pointRow edgeRow faceRow m i    the row of a point, an edge, a face in the tables m
---     rowsOf m c                      the rows of a mesh in the tables m with the counts c
+--     pointLineRow edgeLineRow faceLineRow m i  the row of a point, an edge, a face in the tables m
+--     listingRows m c                 the rows of a mesh in the tables m with the counts c
 --     listingOf m c                   the bytes of its listing
---     countsOf t                      how many points, edges and faces are listed
---     stored t m                      the tables m with the rows t at their fronts, all further rows as they are
+--     listedCounts t                  how many points, edges and faces are listed
+--     withListing t m                 the tables m with the rows t at their fronts, all further rows as they are
 --     writeListing m c out            the answer, and the output after it
 --     readListing s m                 the answer, and the tables after it
 --     writingNumber readingNumber a   the number of the ground, 0 if there is none
@@ -37,38 +37,38 @@ upTo (suc n) f = upTo n f ++ (f n ∷ [])
 abbrev pub bitsOf : Float → ℕ
 bitsOf v = toBits binary64 v
 
-abbrev pub pointRow : Mesh → ℕ → Row
-pointRow m p = record {
+abbrev pub pointLineRow : Mesh → ℕ → Row
+pointLineRow m p = record {
   numbers = bitsOf (x m p) ∷ bitsOf (y m p) ∷ bitsOf (z m p) ∷ [];
   words = valence m p ∷ start m p ∷ mark m p ∷ [];
 }
 
-abbrev pub edgeRow : Mesh → ℕ → Row
-edgeRow m e = record {
+abbrev pub edgeLineRow : Mesh → ℕ → Row
+edgeLineRow m e = record {
   numbers = bitsOf (interval m e) ∷ [];
   words =
       origin m e ∷ dest m e ∷ leftFace m e ∷ rightFace m e
       ∷ leftCw m e ∷ leftAcw m e ∷ rightCw m e ∷ rightAcw m e ∷ [];
 }
 
-abbrev pub faceRow : Mesh → ℕ → Row
-faceRow m f = record {
+abbrev pub faceLineRow : Mesh → ℕ → Row
+faceLineRow m f = record {
   numbers = [];
   words = faceStart m f ∷ corner m f 0 ∷ corner m f 1 ∷ corner m f 2 ∷ corner m f 3 ∷ [];
 }
 
-abbrev pub rowsOf : Mesh → Counts → Rows
-rowsOf m c = record {
-  points = upTo (c .points) (pointRow m);
-  edges = upTo (c .edges) (edgeRow m);
-  faces = upTo (c .faces) (faceRow m);
+abbrev pub listingRows : Mesh → Counts → Rows
+listingRows m c = record {
+  points = upTo (c .points) (pointLineRow m);
+  edges = upTo (c .edges) (edgeLineRow m);
+  faces = upTo (c .faces) (faceLineRow m);
 }
 
 abbrev pub listingOf : Mesh → Counts → List ℕ
-listingOf m c = printed (rowsOf m c)
+listingOf m c = printed (listingRows m c)
 
-abbrev pub countsOf : Rows → Counts
-countsOf t = record { points = length (t .points); edges = length (t .edges); faces = length (t .faces) }
+abbrev pub listedCounts : Rows → Counts
+listedCounts t = record { points = length (t .points); edges = length (t .edges); faces = length (t .faces) }
 
 abbrev pub numbersIn : List Row → List Float
 numbersIn rs = flat (λ (r : Row). map float (r .numbers)) rs
@@ -76,8 +76,8 @@ numbersIn rs = flat (λ (r : Row). map float (r .numbers)) rs
 abbrev pub wordsIn : List Row → List ℕ
 wordsIn rs = flat (λ (r : Row). r .words) rs
 
-abbrev pub stored : Rows → Mesh → Mesh
-stored t m = record {
+abbrev pub withListing : Rows → Mesh → Mesh
+withListing t m = record {
   positions = sets (m .positions) 0 (numbersIn (t .points));
   points = sets (m .points) 0 (wordsIn (t .points));
   edges = sets (m .edges) 0 (wordsIn (t .edges));
@@ -86,8 +86,8 @@ stored t m = record {
 }
 
 -- the tables m with the counts c pass the audit
-abbrev pub audited : Mesh → Counts → Bool
-audited m c = audit m (c .points) (c .edges) (c .faces)
+abbrev pub passesAudit : Mesh → Counts → Bool
+passesAudit m c = audit m (c .points) (c .edges) (c .faces)
 
 pub record WritingOutcome : Type 0 where
   pub answer : Writing
@@ -102,7 +102,7 @@ written true true true l out = record { answer = Writing.Written (length l); tex
 
 unfoldable pub writeListing : Mesh → Counts → List ℕ → WritingOutcome
 writeListing m c out =
-    written (audited m c) (withinCeilings c) (leb (length (listingOf m c)) (length out)) (listingOf m c) out
+    written (passesAudit m c) (withinCeilings c) (leb (length (listingOf m c)) (length out)) (listingOf m c) out
 
 pub record ReadingOutcome : Type 0 where
   pub answer : Reading
@@ -112,13 +112,13 @@ pub record ReadingOutcome : Type 0 where
 abbrev pub readRows : Bool → Bool → Bool → Rows → Mesh → ReadingOutcome
 readRows false room closed t m = record { answer = Reading.OverCeilings; tables = m }
 readRows true false closed t m = record { answer = Reading.NoRoom; tables = m }
-readRows true true false t m = record { answer = Reading.NotClosed; tables = zeroedRows (countsOf t) m }
-readRows true true true t m = record { answer = Reading.Read (countsOf t); tables = stored t m }
+readRows true true false t m = record { answer = Reading.NotClosed; tables = zeroedRows (listedCounts t) m }
+readRows true true true t m = record { answer = Reading.Read (listedCounts t); tables = withListing t m }
 
 -- the form of the whole text is tested before anything is counted
 unfoldable pub readFound : Parsed Rows → Mesh → ReadingOutcome
 readFound x m =
-    ifParsed (λ t n. readRows (withinCeilings (countsOf t)) (rowsFor (countsOf t) m) (audited (stored t m) (countsOf t)) t m)
+    ifParsed (λ t n. readRows (withinCeilings (listedCounts t)) (rowsFor (listedCounts t) m) (passesAudit (withListing t m) (listedCounts t)) t m)
     (record { answer = Reading.NotListing; tables = m })
     x
 

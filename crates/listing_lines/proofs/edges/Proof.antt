@@ -7,8 +7,8 @@ use Prim.Native.Nat.{_-_}
 use lib.ListN.{length, length-map}
 use Rattle.text_numbers.specs.Form.{bytes}
 use Rattle.text_numbers.specs.Numbers.{float}
-use Rattle.listings.specs.Grammar.{edge}
-use Rattle.listing_lines.specs.Parts.{numbersOf, wordsOf}
+use Rattle.listings.specs.Grammar.{edgeRowForm}
+use Rattle.listing_lines.specs.Parts.{rowNumbers, rowWords}
 use Rattle.listing_lines.proofs.Laws.{takes-edge, fits-edge}
 use Rattle.listing_lines.proofs.Progress.{Progress, Table, start, table-start, end, table-end, head-inside, stop, line-longer, turn, table-turn, table-turn-one}
 use Rattle.listing_lines.proofs.edges.Statement.{statement}
@@ -20,8 +20,8 @@ use Rattle.text_numbers.proofs.stands.Reads as stands-reads
 
 abbrev Inv-loop : tie.InvT-loop
 Inv-loop s at ws₀ xs₀ i₀ k₀ t8 ws xs i k = (t8 ≡ bytes "[edge") × (length ws ≡ length ws₀) × (length xs ≡ length xs₀) ×
-    Progress s (bytes "[edge") (edge s) 8 at i k × Table s (bytes "[edge") (edge s) 8 at wordsOf 8 ws₀ ws i k × Table s
-    (bytes "[edge") (edge s) 8 at numbersOf 1 xs₀ xs i k
+    Progress s (bytes "[edge") (edgeRowForm s) 8 at i k × Table s (bytes "[edge") (edgeRowForm s) 8 at rowWords 8 ws₀ ws i k × Table s
+    (bytes "[edge") (edgeRowForm s) 8 at rowNumbers 1 xs₀ xs i k
 
 abbrev μ-loop : tie.MeasureT-loop
 μ-loop s at ws₀ xs₀ i₀ k₀ t8 ws xs i k = length s - i
@@ -33,9 +33,9 @@ loop-holds c =
     (refl,
     refl,
     refl,
-    start (args .s .now) (bytes "[edge") (edge (args .s .now)) 8 (args .at) (c .before .before .before .pre),
-    table-start (args .s .now) (bytes "[edge") (edge (args .s .now)) 8 (args .at) wordsOf 8 _,
-    table-start (args .s .now) (bytes "[edge") (edge (args .s .now)) 8 (args .at) numbersOf 1 _)
+    start (args .s .now) (bytes "[edge") (edgeRowForm (args .s .now)) 8 (args .at) (c .before .before .before .pre),
+    table-start (args .s .now) (bytes "[edge") (edgeRowForm (args .s .now)) 8 (args .at) rowWords 8 _,
+    table-start (args .s .now) (bytes "[edge") (edgeRowForm (args .s .now)) 8 (args .at) rowNumbers 1 _)
 
 -- src/lib.rt:139:24
 slice-aggregate-stands : tie.Need-slice-aggregate-stands Inv-loop μ-loop
@@ -49,7 +49,7 @@ stands-requires c κs = c .before .loop .inv .3 .inside
 add-edge : tie.Need-add-edge Inv-loop μ-loop
 add-edge c =
     let args = c .before .before .before .before .before .before .before .args in
-    let h = head-inside (args .s .now) (bytes "[edge") (edge (args .s .now)) 8 (args .at) refl (omega arith)
+    let h = head-inside (args .s .now) (bytes "[edge") (edgeRowForm (args .s .now)) 8 (args .at) refl (omega arith)
     (c .before .before .before .loop .inv .3) (sym (c .before .stands .ensures) ∙ c .if1 .taken) in
     omega arith
 
@@ -68,17 +68,17 @@ edge-requires c κs =
     let loop = c .before .before .before .before .before .loop in
     let stands = c .before .before .before .stands in
     let if1 = c .before .before .if1 in
-    (let h = head-inside (args .s .now) (bytes "[edge") (edge (args .s .now)) 8 (args .at) refl (omega arith)
+    (let h = head-inside (args .s .now) (bytes "[edge") (edgeRowForm (args .s .now)) 8 (args .at) refl (omega arith)
     (loop .inv .3) (sym (stands .ensures) ∙ if1 .taken) in
     let g = loop .inv .3 .far in
     let q = loop .inv .3 .counted in
     omega arith,
-    (let h = head-inside (args .s .now) (bytes "[edge") (edge (args .s .now)) 8 (args .at) refl (omega arith)
+    (let h = head-inside (args .s .now) (bytes "[edge") (edgeRowForm (args .s .now)) 8 (args .at) refl (omega arith)
     (loop .inv .3) (sym (stands .ensures) ∙ if1 .taken) in
     let g = loop .inv .3 .far in
     let q = loop .inv .3 .counted in
     omega arith,
-    let h = head-inside (args .s .now) (bytes "[edge") (edge (args .s .now)) 8 (args .at) refl (omega arith)
+    let h = head-inside (args .s .now) (bytes "[edge") (edgeRowForm (args .s .now)) 8 (args .at) refl (omega arith)
     (loop .inv .3) (sym (stands .ensures) ∙ if1 .taken) in
     let g = loop .inv .3 .far in
     let q = loop .inv .3 .counted in
@@ -112,7 +112,7 @@ returns c =
     let c8 = c .before .before .before .before .before .before .before .before in
     let args = c8 .before .before .before .before .before .before .before .before .args in
     let loop = c8 .before .before .before .before .loop in
-    (stop (args .s .now) (bytes "[edge") (edge (args .s .now)) 8 (args .at) refl (omega arith) (loop .inv .3)
+    (stop (args .s .now) (bytes "[edge") (edgeRowForm (args .s .now)) 8 (args .at) refl (omega arith) (loop .inv .3)
     (sym (c8 .before .before .stands .ensures) ∙ c8 .before .if1 .taken)
     (c .before .before .before .before .before .before .edge .ensures .0) (c .enum-told .given .1),
     (tt, tt))
@@ -129,7 +129,7 @@ loop-less c =
     let args = c16 .before .args in
     let loop = c8 .before .before .before .before .before .loop in
     let stands = c8 .before .before .before .stands in
-    let h = line-longer (args .s .now) (bytes "[edge") (edge (args .s .now)) 8 (args .at) refl (omega arith)
+    let h = line-longer (args .s .now) (bytes "[edge") (edgeRowForm (args .s .now)) 8 (args .at) refl (omega arith)
     (loop .inv .3) (sym (stands .ensures) ∙ c8 .before .before .if1 .taken)
     (c .before .before .before .before .before .before .before .edge .ensures .0) (c .before .j .given .1)
     (takes-edge (args .s .now)) in
@@ -148,13 +148,13 @@ loop-again c =
     (refl,
     the-edge .kept .1 .1 .0 ∙ loop .inv .1,
     the-edge .kept .1 .1 .1 .1 .0 ∙ loop .inv .2,
-    turn (args .s .now) (bytes "[edge") (edge (args .s .now)) 8 (args .at) refl (omega arith) (loop .inv .3)
+    turn (args .s .now) (bytes "[edge") (edgeRowForm (args .s .now)) 8 (args .at) refl (omega arith) (loop .inv .3)
     (sym (stands .ensures) ∙ if1 .taken) (the-edge .ensures .0) (c .before .j .given .1) (takes-edge (args .s .now)),
-    table-turn (args .s .now) (bytes "[edge") (edge (args .s .now)) 8 (args .at) refl (omega arith) (loop .inv .3)
-    (sym (stands .ensures) ∙ if1 .taken) (the-edge .ensures .0) (c .before .j .given .1) wordsOf 8
+    table-turn (args .s .now) (bytes "[edge") (edgeRowForm (args .s .now)) 8 (args .at) refl (omega arith) (loop .inv .3)
+    (sym (stands .ensures) ∙ if1 .taken) (the-edge .ensures .0) (c .before .j .given .1) rowWords 8
     (λ a n q. fits-edge _ _ a n q .word-count) (loop .inv .4) (the-edge .ensures .1 .0),
-    table-turn-one (args .s .now) (bytes "[edge") (edge (args .s .now)) 8 (args .at) refl (omega arith) (loop .inv .3)
-    (sym (stands .ensures) ∙ if1 .taken) (the-edge .ensures .0) (c .before .j .given .1) numbersOf
+    table-turn-one (args .s .now) (bytes "[edge") (edgeRowForm (args .s .now)) 8 (args .at) refl (omega arith) (loop .inv .3)
+    (sym (stands .ensures) ∙ if1 .taken) (the-edge .ensures .0) (c .before .j .given .1) rowNumbers
     (λ a n q. length-map (a .numbers) float ∙ fits-edge _ _ a n q .number-count) (loop .inv .5)
     (the-edge .ensures .1 .1))
 
@@ -171,12 +171,12 @@ returns-2 : tie.Need-returns-2 Inv-loop μ-loop
 returns-2 c =
     let args = c .before .before .before .before .before .before .before .args in
     let loop = c .before .before .before .loop in
-    (end (args .s .now) (bytes "[edge") (edge (args .s .now)) 8 (args .at)
+    (end (args .s .now) (bytes "[edge") (edgeRowForm (args .s .now)) 8 (args .at)
     (sym (c .before .stands .ensures) ∙ c .if1 .left) (loop .inv .3),
-    (table-end (args .s .now) (bytes "[edge") (edge (args .s .now)) 8 (args .at)
-    (sym (c .before .stands .ensures) ∙ c .if1 .left) wordsOf 8 (loop .inv .4),
-    table-end (args .s .now) (bytes "[edge") (edge (args .s .now)) 8 (args .at)
-    (sym (c .before .stands .ensures) ∙ c .if1 .left) numbersOf 1 (loop .inv .5)))
+    (table-end (args .s .now) (bytes "[edge") (edgeRowForm (args .s .now)) 8 (args .at)
+    (sym (c .before .stands .ensures) ∙ c .if1 .left) rowWords 8 (loop .inv .4),
+    table-end (args .s .now) (bytes "[edge") (edgeRowForm (args .s .now)) 8 (args .at)
+    (sym (c .before .stands .ensures) ∙ c .if1 .left) rowNumbers 1 (loop .inv .5)))
 
 pub edges-spec : {M : Type 1} → statement M
 edges-spec =

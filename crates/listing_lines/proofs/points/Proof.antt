@@ -7,8 +7,8 @@ use Prim.Native.Nat.{_-_}
 use lib.ListN.{length, length-map}
 use Rattle.text_numbers.specs.Form.{bytes}
 use Rattle.text_numbers.specs.Numbers.{float}
-use Rattle.listings.specs.Grammar.{point}
-use Rattle.listing_lines.specs.Parts.{numbersOf, wordsOf}
+use Rattle.listings.specs.Grammar.{pointRowForm}
+use Rattle.listing_lines.specs.Parts.{rowNumbers, rowWords}
 use Rattle.listing_lines.proofs.Laws.{takes-point, fits-point}
 use Rattle.listing_lines.proofs.Progress.{Progress, Table, start, table-start, end, table-end, head-inside, stop, line-longer, turn, table-turn, table-turn-one}
 use Rattle.listing_lines.proofs.points.Statement.{statement}
@@ -20,8 +20,8 @@ use Rattle.text_numbers.proofs.stands.Reads as stands-reads
 
 abbrev Inv-loop : tie.InvT-loop
 Inv-loop s at xs₀ ws₀ i₀ k₀ t8 xs ws i k = (t8 ≡ bytes "[point") × (length xs ≡ length xs₀) × (length ws ≡ length ws₀) ×
-    Progress s (bytes "[point") (point s) 3 at i k × Table s (bytes "[point") (point s) 3 at numbersOf 3 xs₀ xs i k ×
-    Table s (bytes "[point") (point s) 3 at wordsOf 3 ws₀ ws i k
+    Progress s (bytes "[point") (pointRowForm s) 3 at i k × Table s (bytes "[point") (pointRowForm s) 3 at rowNumbers 3 xs₀ xs i k ×
+    Table s (bytes "[point") (pointRowForm s) 3 at rowWords 3 ws₀ ws i k
 
 abbrev μ-loop : tie.MeasureT-loop
 μ-loop s at xs₀ ws₀ i₀ k₀ t8 xs ws i k = length s - i
@@ -33,9 +33,9 @@ loop-holds c =
     (refl,
     refl,
     refl,
-    start (args .s .now) (bytes "[point") (point (args .s .now)) 3 (args .at) (c .before .before .before .pre),
-    table-start (args .s .now) (bytes "[point") (point (args .s .now)) 3 (args .at) numbersOf 3 _,
-    table-start (args .s .now) (bytes "[point") (point (args .s .now)) 3 (args .at) wordsOf 3 _)
+    start (args .s .now) (bytes "[point") (pointRowForm (args .s .now)) 3 (args .at) (c .before .before .before .pre),
+    table-start (args .s .now) (bytes "[point") (pointRowForm (args .s .now)) 3 (args .at) rowNumbers 3 _,
+    table-start (args .s .now) (bytes "[point") (pointRowForm (args .s .now)) 3 (args .at) rowWords 3 _)
 
 -- src/lib.rt:120:24
 slice-aggregate-stands : tie.Need-slice-aggregate-stands Inv-loop μ-loop
@@ -49,7 +49,7 @@ stands-requires c κs = c .before .loop .inv .3 .inside
 add-point : tie.Need-add-point Inv-loop μ-loop
 add-point c =
     let args = c .before .before .before .before .before .before .before .args in
-    let h = head-inside (args .s .now) (bytes "[point") (point (args .s .now)) 3 (args .at) refl (omega arith)
+    let h = head-inside (args .s .now) (bytes "[point") (pointRowForm (args .s .now)) 3 (args .at) refl (omega arith)
     (c .before .before .before .loop .inv .3) (sym (c .before .stands .ensures) ∙ c .if1 .taken) in
     omega arith
 
@@ -66,12 +66,12 @@ point-requires : tie.Need-point-requires Inv-loop μ-loop
 point-requires c κs =
     let args = c .before .before .before .before .before .before .before .before .before .args in
     let loop = c .before .before .before .before .before .loop in
-    (let h = head-inside (args .s .now) (bytes "[point") (point (args .s .now)) 3 (args .at) refl (omega arith)
+    (let h = head-inside (args .s .now) (bytes "[point") (pointRowForm (args .s .now)) 3 (args .at) refl (omega arith)
     (loop .inv .3) (sym (c .before .before .before .stands .ensures) ∙ c .before .before .if1 .taken) in
     let g = loop .inv .3 .far in
     let q = loop .inv .3 .counted in
     omega arith,
-    let h = head-inside (args .s .now) (bytes "[point") (point (args .s .now)) 3 (args .at) refl (omega arith)
+    let h = head-inside (args .s .now) (bytes "[point") (pointRowForm (args .s .now)) 3 (args .at) refl (omega arith)
     (loop .inv .3) (sym (c .before .before .before .stands .ensures) ∙ c .before .before .if1 .taken) in
     let g = loop .inv .3 .far in
     let q = loop .inv .3 .counted in
@@ -105,7 +105,7 @@ returns c =
     let c8 = c .before .before .before .before .before .before .before .before in
     let args = c8 .before .before .before .before .before .before .before .before .args in
     let loop = c8 .before .before .before .before .loop in
-    (stop (args .s .now) (bytes "[point") (point (args .s .now)) 3 (args .at) refl (omega arith) (loop .inv .3)
+    (stop (args .s .now) (bytes "[point") (pointRowForm (args .s .now)) 3 (args .at) refl (omega arith) (loop .inv .3)
     (sym (c8 .before .before .stands .ensures) ∙ c8 .before .if1 .taken)
     (c .before .before .before .before .before .before .point .ensures .0) (c .enum-told .given .1),
     (tt, tt))
@@ -122,7 +122,7 @@ loop-less c =
     let args = c16 .before .args in
     let loop = c8 .before .before .before .before .before .loop in
     let stands = c8 .before .before .before .stands in
-    let h = line-longer (args .s .now) (bytes "[point") (point (args .s .now)) 3 (args .at) refl (omega arith)
+    let h = line-longer (args .s .now) (bytes "[point") (pointRowForm (args .s .now)) 3 (args .at) refl (omega arith)
     (loop .inv .3) (sym (stands .ensures) ∙ c8 .before .before .if1 .taken)
     (c .before .before .before .before .before .before .before .point .ensures .0) (c .before .j .given .1)
     (takes-point (args .s .now)) in
@@ -141,14 +141,14 @@ loop-again c =
     (refl,
     the-point .kept .1 .1 .0 ∙ loop .inv .1,
     the-point .kept .1 .1 .1 .0 ∙ loop .inv .2,
-    turn (args .s .now) (bytes "[point") (point (args .s .now)) 3 (args .at) refl (omega arith) (loop .inv .3)
+    turn (args .s .now) (bytes "[point") (pointRowForm (args .s .now)) 3 (args .at) refl (omega arith) (loop .inv .3)
     (sym (stands .ensures) ∙ if1 .taken) (the-point .ensures .0) (c .before .j .given .1) (takes-point (args .s .now)),
-    table-turn (args .s .now) (bytes "[point") (point (args .s .now)) 3 (args .at) refl (omega arith) (loop .inv .3)
-    (sym (stands .ensures) ∙ if1 .taken) (the-point .ensures .0) (c .before .j .given .1) numbersOf 3
+    table-turn (args .s .now) (bytes "[point") (pointRowForm (args .s .now)) 3 (args .at) refl (omega arith) (loop .inv .3)
+    (sym (stands .ensures) ∙ if1 .taken) (the-point .ensures .0) (c .before .j .given .1) rowNumbers 3
     (λ a n q. length-map (a .numbers) float ∙ fits-point _ _ a n q .number-count) (loop .inv .4)
     (the-point .ensures .1 .0),
-    table-turn (args .s .now) (bytes "[point") (point (args .s .now)) 3 (args .at) refl (omega arith) (loop .inv .3)
-    (sym (stands .ensures) ∙ if1 .taken) (the-point .ensures .0) (c .before .j .given .1) wordsOf 3
+    table-turn (args .s .now) (bytes "[point") (pointRowForm (args .s .now)) 3 (args .at) refl (omega arith) (loop .inv .3)
+    (sym (stands .ensures) ∙ if1 .taken) (the-point .ensures .0) (c .before .j .given .1) rowWords 3
     (λ a n q. fits-point _ _ a n q .word-count) (loop .inv .5) (the-point .ensures .1 .1))
 
 -- src/lib.rt:112:1
@@ -164,12 +164,12 @@ returns-2 : tie.Need-returns-2 Inv-loop μ-loop
 returns-2 c =
     let args = c .before .before .before .before .before .before .before .args in
     let loop = c .before .before .before .loop in
-    (end (args .s .now) (bytes "[point") (point (args .s .now)) 3 (args .at)
+    (end (args .s .now) (bytes "[point") (pointRowForm (args .s .now)) 3 (args .at)
     (sym (c .before .stands .ensures) ∙ c .if1 .left) (loop .inv .3),
-    (table-end (args .s .now) (bytes "[point") (point (args .s .now)) 3 (args .at)
-    (sym (c .before .stands .ensures) ∙ c .if1 .left) numbersOf 3 (loop .inv .4),
-    table-end (args .s .now) (bytes "[point") (point (args .s .now)) 3 (args .at)
-    (sym (c .before .stands .ensures) ∙ c .if1 .left) wordsOf 3 (loop .inv .5)))
+    (table-end (args .s .now) (bytes "[point") (pointRowForm (args .s .now)) 3 (args .at)
+    (sym (c .before .stands .ensures) ∙ c .if1 .left) rowNumbers 3 (loop .inv .4),
+    table-end (args .s .now) (bytes "[point") (pointRowForm (args .s .now)) 3 (args .at)
+    (sym (c .before .stands .ensures) ∙ c .if1 .left) rowWords 3 (loop .inv .5)))
 
 pub points-spec : {M : Type 1} → statement M
 points-spec =

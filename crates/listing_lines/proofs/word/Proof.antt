@@ -1,11 +1,11 @@
--- `word` meets its contract.
+-- `wordForm` meets its contract.
 use mathlib.Core.Path.{sym, _∙_, refl}
 use borrow.Author.Tests.{not-true, not-false}
 use borrow.Author.Needs.{needs}
 use Rattle.text_numbers.specs.Form.{bytes}
 use Rattle.text_numbers.proofs.Laws.{stands-inside}
 use Rattle.text_numbers.proofs.Turns.{literal-found, literal-none}
-use Rattle.listings.specs.Grammar.{word}
+use Rattle.listings.specs.Grammar.{wordForm}
 use Rattle.listing_lines.proofs.word.Statement.{statement}
 use Rattle.listing_lines.proofs.word.Tie as tie
 use Rattle.listing_lines.proofs.word.Reads as reads
@@ -23,7 +23,7 @@ stands-requires c κs = search needs
 
 -- src/lib.rt:28:9
 returns : tie.Need-returns
-unfolding word
+unfolding wordForm
 returns c = rw (literal-none _ _ _ (sym (c .before .stands .ensures) ∙ not-true _ (c .if1 .taken)))
 
 -- src/lib.rt:30:16
@@ -39,7 +39,7 @@ decimal-requires c κs =
 
 -- src/lib.rt:23:1
 returns-2 : tie.Need-returns-2
-unfolding word
+unfolding wordForm
 returns-2 c =
     rw (literal-found _ _ _ (sym (c .before .before .stands .ensures) ∙ not-false _ (c .before .if1 .left)))
     (c .decimal .ensures)

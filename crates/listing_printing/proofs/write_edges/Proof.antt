@@ -9,7 +9,7 @@ use Rattle.tables.specs.Mesh.{meshOf}
 use Rattle.mesh_lines.specs.Grammar.{flat}
 use Rattle.mesh_answers.specs.Writing.{Written}
 use Rattle.listings.specs.Printing.{edgeLine}
-use Rattle.listings.specs.Handing.{upTo, edgeRow}
+use Rattle.listings.specs.Handing.{upTo, edgeLineRow}
 use Rattle.listing_printing.proofs.Laws.{lines-start, lines-turn-room, lines-turn, lines-end}
 use Rattle.listing_printing.proofs.write_edges.Statement.{statement}
 use Rattle.listing_printing.proofs.write_edges.Tie as tie
@@ -18,7 +18,7 @@ use Rattle.listing_printing.proofs.write_edges.Lts as lts
 use Rattle.listing_printing.proofs.write_edge.Reads as write-edge-reads
 
 abbrev Inv-loop : tie.InvT-loop
-Inv-loop out₀ at edges intervals n i₀ e₀ out i e = (e ≤ n) × (length out ≡ length out₀) × Written out₀ at (flat edgeLine (upTo e (edgeRow (meshOf [] [] edges intervals [])))) i out
+Inv-loop out₀ at edges intervals n i₀ e₀ out i e = (e ≤ n) × (length out ≡ length out₀) × Written out₀ at (flat edgeLine (upTo e (edgeLineRow (meshOf [] [] edges intervals [])))) i out
 
 abbrev μ-loop : tie.MeasureT-loop
 μ-loop out₀ at edges intervals n i₀ e₀ out i e = n - e
@@ -28,7 +28,7 @@ loop-holds : tie.Need-loop-holds Inv-loop μ-loop
 loop-holds c =
     (omega arith,
     refl,
-    lines-start edgeLine _ _ (edgeRow
+    lines-start edgeLine _ _ (edgeLineRow
     (meshOf [] [] (c .before .before .before .args .edges .now) (c .before .before .before .args .intervals .now) [])))
 
 -- src/lib.rt:132:9
@@ -44,7 +44,7 @@ write-edge-requires c κs =
     (let lt = loop-test .taken in
     let g = pre .1 .0 in
     omega arith,
-    (lines-turn-room edgeLine _ _ (edgeRow (meshOf [] [] (args .edges .now) (args .intervals .now) [])) (loop .e)
+    (lines-turn-room edgeLine _ _ (edgeLineRow (meshOf [] [] (args .edges .now) (args .intervals .now) [])) (loop .e)
     (loop .inv .2) (loop .inv .1) (loop-test .taken) (pre .1 .1 .0),
     λ i h. pre .1 .1 .1 i (let lt = loop-test .taken in omega arith))))
 
@@ -64,7 +64,7 @@ loop-again c =
     (let lt = c .before .before .before .before .loop-test .taken in
     omega arith,
     c .before .before .write-edge .kept .0 ∙ loop .inv .1,
-    lines-turn edgeLine _ _ (edgeRow (meshOf [] [] (args .edges .now) (args .intervals .now) [])) (loop .e)
+    lines-turn edgeLine _ _ (edgeLineRow (meshOf [] [] (args .edges .now) (args .intervals .now) [])) (loop .e)
     (loop .inv .2) (c .before .before .write-edge .ensures))
 
 -- src/lib.rt:122:1
@@ -75,7 +75,7 @@ same-length c = c .before .loop .inv .1
 returns : tie.Need-returns Inv-loop μ-loop
 returns c =
     let args = c .before .before .before .before .before .args in
-    lines-end edgeLine _ _ (edgeRow (meshOf [] [] (args .edges .now) (args .intervals .now) []))
+    lines-end edgeLine _ _ (edgeLineRow (meshOf [] [] (args .edges .now) (args .intervals .now) []))
     (c .before .loop .inv .2) (c .before .loop .inv .0) (c .loop-test .left)
 
 pub write-edges-spec : {M : Type 1} → statement M

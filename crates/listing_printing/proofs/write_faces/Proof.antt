@@ -9,7 +9,7 @@ use Rattle.tables.specs.Mesh.{meshOf}
 use Rattle.mesh_lines.specs.Grammar.{flat}
 use Rattle.mesh_answers.specs.Writing.{Written}
 use Rattle.listings.specs.Printing.{faceLine}
-use Rattle.listings.specs.Handing.{upTo, faceRow}
+use Rattle.listings.specs.Handing.{upTo, faceLineRow}
 use Rattle.listing_printing.proofs.Laws.{lines-start, lines-turn-room, lines-turn, lines-end}
 use Rattle.listing_printing.proofs.write_faces.Statement.{statement}
 use Rattle.listing_printing.proofs.write_faces.Tie as tie
@@ -18,14 +18,14 @@ use Rattle.listing_printing.proofs.write_faces.Lts as lts
 use Rattle.listing_printing.proofs.write_face.Reads as write-face-reads
 
 abbrev Inv-loop : tie.InvT-loop
-Inv-loop out₀ at faces n i₀ f₀ out i f = (f ≤ n) × (length out ≡ length out₀) × Written out₀ at (flat faceLine (upTo f (faceRow (meshOf [] [] [] [] faces)))) i out
+Inv-loop out₀ at faces n i₀ f₀ out i f = (f ≤ n) × (length out ≡ length out₀) × Written out₀ at (flat faceLine (upTo f (faceLineRow (meshOf [] [] [] [] faces)))) i out
 
 abbrev μ-loop : tie.MeasureT-loop
 μ-loop out₀ at faces n i₀ f₀ out i f = n - f
 
 -- src/lib.rt:146:5
 loop-holds : tie.Need-loop-holds Inv-loop μ-loop
-loop-holds c = (omega arith, refl, lines-start faceLine _ _ (faceRow (meshOf [] [] [] [] (c .before .before .args .faces .now))))
+loop-holds c = (omega arith, refl, lines-start faceLine _ _ (faceLineRow (meshOf [] [] [] [] (c .before .before .args .faces .now))))
 
 -- src/lib.rt:147:9
 write-face-requires : tie.Need-write-face-requires Inv-loop μ-loop
@@ -36,7 +36,7 @@ write-face-requires c κs =
     let g = pre .0 in
     omega arith,
     lines-turn-room faceLine _ _
-    (faceRow (meshOf [] [] [] [] (c .before .before .before .before .before .args .faces .now))) (loop .f)
+    (faceLineRow (meshOf [] [] [] [] (c .before .before .before .before .before .args .faces .now))) (loop .f)
     (loop .inv .2) (loop .inv .1) (c .before .loop-test .taken) (pre .1))
 
 -- src/lib.rt:148:9
@@ -55,7 +55,7 @@ loop-again c =
     (let lt = c .before .before .before .before .loop-test .taken in
     omega arith,
     c .before .before .write-face .kept .0 ∙ loop .inv .1,
-    lines-turn faceLine _ _ (faceRow (meshOf [] [] [] [] (args .faces .now))) (loop .f) (loop .inv .2)
+    lines-turn faceLine _ _ (faceLineRow (meshOf [] [] [] [] (args .faces .now))) (loop .f) (loop .inv .2)
     (c .before .before .write-face .ensures))
 
 -- src/lib.rt:139:1
@@ -65,7 +65,7 @@ same-length c = c .before .loop .inv .1
 -- src/lib.rt:139:1
 returns : tie.Need-returns Inv-loop μ-loop
 returns c =
-    lines-end faceLine _ _ (faceRow (meshOf [] [] [] [] (c .before .before .before .before .args .faces .now)))
+    lines-end faceLine _ _ (faceLineRow (meshOf [] [] [] [] (c .before .before .before .before .args .faces .now)))
     (c .before .loop .inv .2) (c .before .loop .inv .0) (c .loop-test .left)
 
 pub write-faces-spec : {M : Type 1} → statement M

@@ -9,7 +9,7 @@ use Rattle.tables.specs.Mesh.{meshOf}
 use Rattle.mesh_lines.specs.Grammar.{flat}
 use Rattle.mesh_answers.specs.Writing.{Written}
 use Rattle.listings.specs.Printing.{pointLine}
-use Rattle.listings.specs.Handing.{upTo, pointRow}
+use Rattle.listings.specs.Handing.{upTo, pointLineRow}
 use Rattle.listing_printing.proofs.Laws.{lines-start, lines-turn-room, lines-turn, lines-end}
 use Rattle.listing_printing.proofs.write_points.Statement.{statement}
 use Rattle.listing_printing.proofs.write_points.Tie as tie
@@ -18,7 +18,7 @@ use Rattle.listing_printing.proofs.write_points.Lts as lts
 use Rattle.listing_printing.proofs.write_point.Reads as write-point-reads
 
 abbrev Inv-loop : tie.InvT-loop
-Inv-loop out₀ at positions points n i₀ p₀ out i p = (p ≤ n) × (length out ≡ length out₀) × Written out₀ at (flat pointLine (upTo p (pointRow (meshOf positions points [] [] [])))) i out
+Inv-loop out₀ at positions points n i₀ p₀ out i p = (p ≤ n) × (length out ≡ length out₀) × Written out₀ at (flat pointLine (upTo p (pointLineRow (meshOf positions points [] [] [])))) i out
 
 abbrev μ-loop : tie.MeasureT-loop
 μ-loop out₀ at positions points n i₀ p₀ out i p = n - p
@@ -28,7 +28,7 @@ loop-holds : tie.Need-loop-holds Inv-loop μ-loop
 loop-holds c =
     (omega arith,
     refl,
-    lines-start pointLine _ _ (pointRow
+    lines-start pointLine _ _ (pointLineRow
     (meshOf (c .before .before .before .args .positions .now) (c .before .before .before .args .points .now) [] [] [])))
 
 -- src/lib.rt:115:9
@@ -44,7 +44,7 @@ write-point-requires c κs =
     (let lt = loop-test .taken in
     let g = pre .1 .0 in
     omega arith,
-    (lines-turn-room pointLine _ _ (pointRow (meshOf (args .positions .now) (args .points .now) [] [] [])) (loop .p)
+    (lines-turn-room pointLine _ _ (pointLineRow (meshOf (args .positions .now) (args .points .now) [] [] [])) (loop .p)
     (loop .inv .2) (loop .inv .1) (loop-test .taken) (pre .1 .1 .0),
     λ i h. pre .1 .1 .1 i (let lt = loop-test .taken in omega arith))))
 
@@ -64,7 +64,7 @@ loop-again c =
     (let lt = c .before .before .before .before .loop-test .taken in
     omega arith,
     c .before .before .write-point .kept .0 ∙ loop .inv .1,
-    lines-turn pointLine _ _ (pointRow (meshOf (args .positions .now) (args .points .now) [] [] [])) (loop .p)
+    lines-turn pointLine _ _ (pointLineRow (meshOf (args .positions .now) (args .points .now) [] [] [])) (loop .p)
     (loop .inv .2) (c .before .before .write-point .ensures))
 
 -- src/lib.rt:105:1
@@ -75,7 +75,7 @@ same-length c = c .before .loop .inv .1
 returns : tie.Need-returns Inv-loop μ-loop
 returns c =
     let args = c .before .before .before .before .before .args in
-    lines-end pointLine _ _ (pointRow (meshOf (args .positions .now) (args .points .now) [] [] []))
+    lines-end pointLine _ _ (pointLineRow (meshOf (args .positions .now) (args .points .now) [] [] []))
     (c .before .loop .inv .2) (c .before .loop .inv .0) (c .loop-test .left)
 
 pub write-points-spec : {M : Type 1} → statement M
