@@ -1,0 +1,60 @@
+-- `lavyngo_read_listing` meets its contract: what reading left, and its answer as it is told.
+use borrow.Author.Needs.{needs}
+use Rattle.station_listings.proofs.Laws.{read-told}
+use Rattle.station_listings.proofs.lavyngo_read_listing.Statement.{statement}
+use Rattle.station_listings.proofs.lavyngo_read_listing.Tie as tie
+use Rattle.station_listings.proofs.lavyngo_read_listing.Reads as reads
+use Rattle.station_listings.proofs.lavyngo_read_listing.Lts as lts
+use Rattle.listing_reading.proofs.read_listing.Reads as read-listing-reads
+use Rattle.station_listings.proofs.reading_number.Reads as reading-number-reads
+use Rattle.station_listings.proofs.store_read.Reads as store-read-reads
+
+-- src/lib.rt:112:9
+read-listing-requires : tie.Need-read-listing-requires
+read-listing-requires c κs = search needs
+
+-- src/lib.rt:113:5
+store-read-requires : tie.Need-store-read-requires
+store-read-requires c κs = search needs
+
+-- src/lib.rt:114:5
+reading-number-requires : tie.Need-reading-number-requires
+reading-number-requires c κs = search needs
+
+-- src/lib.rt:95:1
+same-length : tie.Need-same-length
+same-length c = search needs
+
+-- src/lib.rt:95:1
+same-length-2 : tie.Need-same-length-2
+same-length-2 c = search needs
+
+-- src/lib.rt:95:1
+same-length-3 : tie.Need-same-length-3
+same-length-3 c = search needs
+
+-- src/lib.rt:95:1
+same-length-4 : tie.Need-same-length-4
+same-length-4 c = search needs
+
+-- src/lib.rt:95:1
+same-length-5 : tie.Need-same-length-5
+same-length-5 c = search needs
+
+-- src/lib.rt:95:1
+returns : tie.Need-returns
+returns c = read-told (c .before .before .before .before .before .before .before .before .before .before .before .before .before .before .before .before .before .before .before .before .before .before .before .before .before .args .counts .now) (c .before .before .before .before .before .before .before .before .before .before .before .before .before .read-listing .ensures) (c .reading-number .ensures) (c .before .store-read .ensures)
+
+pub lavyngo-read-listing-spec : {M : Type 1} → statement M
+lavyngo-read-listing-spec =
+    tie.close
+    (tie.spec
+    read-listing-requires
+    store-read-requires
+    reading-number-requires
+    same-length
+    same-length-2
+    same-length-3
+    same-length-4
+    same-length-5
+    returns)
