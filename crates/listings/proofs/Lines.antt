@@ -99,10 +99,12 @@ module _ (s : List ℕ) where
           let l2 = length-append (flat bitsField xs ++ flat numberField ws) (bytes "]\n") in
           let en : at + length (flat bitsField xs) + length (flat numberField ws) + 2 ≡ at + length (pointFields r) =
           omega arith in
-          rw (ex,
-          ew,
-          lt-ltb (last 0 ws) 2 h,
-          literal-found s (bytes "]\n") (at + length (flat bitsField xs) + length (flat numberField ws)) es)
+          rw (
+            ex,
+            ew,
+            lt-ltb (last 0 ws) 2 h,
+            literal-found s (bytes "]\n") (at + length (flat bitsField xs) + length (flat numberField ws)) es,
+          )
           (ap (parsed r) en)
 
   pub exact-edge : Exact s (edgeRowForm s) edgeFields FitEdge
@@ -152,10 +154,11 @@ module _ (s : List ℕ) where
           let (st, em) = literal-stands s (bytes "]\n") m z m2 ez in
           let (ow, sw, ew′) = words .sound at ws m ew in
           let l = length-append (flat numberField ws) (bytes "]\n") in
-          prints-same s faceFields FitFace at n (record { numbers = []; words = ws }) r rr
-          (record { number-count = refl; word-count = ow .0; numbers-below = tt; words-below = ow .1 },
-          stands-both s (flat numberField ws) (bytes "]\n") at sw (stands-at s (bytes "]\n") ew′ st),
-          omega arith)
+          prints-same s faceFields FitFace at n (record { numbers = []; words = ws }) r rr (
+            record { number-count = refl; word-count = ow .0; numbers-below = tt; words-below = ow .1 },
+            stands-both s (flat numberField ws) (bytes "]\n") at sw (stands-at s (bytes "]\n") ew′ st),
+            omega arith,
+          )
 
       complete : (at : ℕ) (r : Row) → FitFace r → stands s at (faceFields r) ≡ true → NoDigit s (at + length (faceFields r)) → faceRowForm s at ≡ parsed r (at + length (faceFields r))
       complete at r o e g =

@@ -129,10 +129,13 @@ module _ (t : Rows) (m : Mesh) (f : FitRows t) (r : Room (listedCounts t) m) (a 
       let o = all-at FitEdge none l (f .edges-fit) e h in
       let one : e * 1 ≡ e = omega arith in
       let room : length l * 1 ≤ length (m .intervals) = let q = r .intervals in omega arith in
-      let xs1 = row-again (λ q. map float (q .numbers)) 1 nan none (m .intervals) l (all-to FitEdge _ (λ q o. numbers-count q o) l (f .edges-fit)) room e h in
+      let xs1 = row-again (λ q. map float (q .numbers)) 1 nan none (m .intervals) l
+      (all-to FitEdge _ (λ q o. numbers-count q o) l (f .edges-fit)) room e h in
       let xs = rw one at xs1 in
-      let ws = row-again (λ q. q .words) 8 0 none (m .edges) l (all-to FitEdge _ (λ q o. o .word-count) l (f .edges-fit)) (r .edges) e h in
-      let fin : All (λ v. finite v ≡ true) (map float (getD l e none .numbers)) = subst (All (λ v. finite v ≡ true)) xs (finite-fit (getD (withListing t m .intervals) e nan) (a .interval-fit e h), tt) in
+      let ws = row-again (λ q. q .words) 8 0 none (m .edges) l
+      (all-to FitEdge _ (λ q o. o .word-count) l (f .edges-fit)) (r .edges) e h in
+      let fin : All (λ v. finite v ≡ true) (map float (getD l e none .numbers)) = subst (All (λ v. finite v ≡ true)) xs
+      (finite-fit (getD (withListing t m .intervals) e nan) (a .interval-fit e h), tt) in
       let ns = ap (map bitsOf) xs ∙ bits-again (getD l e none .numbers) (o .numbers-below) fin in
       λ i. record { numbers = ns i; words = ws i }
 

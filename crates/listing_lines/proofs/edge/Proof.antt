@@ -60,10 +60,11 @@ same-length-3 c = search needs
 -- src/lib.rt:87:9
 returns-2 : tie.Need-returns-2
 returns-2 c =
-    let words = c .before .before .before .before .before .before .before .before .before .before .before .words in
-    (no-interval _ _ (words .ensures .0) (c .before .before .before .before .before .before .before .i .given .1)
-    (c .before .before .before .before .coordinates .ensures .0) (c .enum-told2 .given .1),
-    (tt, tt))
+    let words = c .before .before .before .before .before .before .before .before .before .before .before .words in (
+      no-interval _ _ (words .ensures .0) (c .before .before .before .before .before .before .before .i .given .1)
+          (c .before .before .before .before .coordinates .ensures .0) (c .enum-told2 .given .1),
+      (tt, tt),
+    )
 
 -- src/lib.rt:89:22
 slice-aggregate-stands : tie.Need-slice-aggregate-stands
@@ -92,10 +93,11 @@ returns-3 : tie.Need-returns-3
 returns-3 c =
     let c8 = c .before .before .before .before .before .before .before .before in
     let words = c8 .before .before .before .before .before .before .before .words in
-    let i = c8 .before .before .before .i in
-    (no-end _ _ (words .ensures .0) (i .given .1) (c8 .coordinates .ensures .0)
-    (c .before .before .before .before .j .given .1) (sym (c .before .stands .ensures) ∙ not-true _ (c .if1 .taken)),
-    (tt, tt))
+    let i = c8 .before .before .before .i in (
+      no-end _ _ (words .ensures .0) (i .given .1) (c8 .coordinates .ensures .0)
+          (c .before .before .before .before .j .given .1) (sym (c .before .stands .ensures) ∙ not-true _ (c .if1 .taken)),
+      (tt, tt),
+    )
 
 -- src/lib.rt:92:15
 add-t20 : tie.Need-add-t20

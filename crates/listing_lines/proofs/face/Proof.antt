@@ -49,10 +49,11 @@ same-length-2 c = search needs
 -- src/lib.rt:105:9
 returns-2 : tie.Need-returns-2
 returns-2 c =
-    let words = c .before .before .before .before .before .before .before .before .words in
-    (no-end _ _ (words .ensures .0) (c .before .before .before .before .i .given .1)
-    (sym (c .before .stands .ensures) ∙ not-true _ (c .if1 .taken)),
-    tt)
+    let words = c .before .before .before .before .before .before .before .before .words in (
+      no-end _ _ (words .ensures .0) (c .before .before .before .before .i .given .1)
+          (sym (c .before .stands .ensures) ∙ not-true _ (c .if1 .taken)),
+      tt,
+    )
 
 -- src/lib.rt:107:15
 add-t14 : tie.Need-add-t14

@@ -19,7 +19,8 @@ use Rattle.listing_lines.proofs.face.Reads as face-reads
 use Rattle.text_numbers.proofs.stands.Reads as stands-reads
 
 abbrev Inv-loop : tie.InvT-loop
-Inv-loop s at ws₀ i₀ k₀ t7 ws i k = (t7 ≡ bytes "[face") × (length ws ≡ length ws₀) × Progress s (bytes "[face") (faceRowForm s) 5 at i k × Table s (bytes "[face") (faceRowForm s) 5 at rowWords 5 ws₀ ws i k
+Inv-loop s at ws₀ i₀ k₀ t7 ws i k = (t7 ≡ bytes "[face") × (length ws ≡ length ws₀) × Progress s (bytes "[face")
+    (faceRowForm s) 5 at i k × Table s (bytes "[face") (faceRowForm s) 5 at rowWords 5 ws₀ ws i k
 
 abbrev μ-loop : tie.MeasureT-loop
 μ-loop s at ws₀ i₀ k₀ t7 ws i k = length s - i
@@ -27,11 +28,12 @@ abbrev μ-loop : tie.MeasureT-loop
 -- src/lib.rt:157:5
 loop-holds : tie.Need-loop-holds Inv-loop μ-loop
 loop-holds c =
-    let args = c .before .before .args in
-    (refl,
-    refl,
-    start (args .s .now) (bytes "[face") (faceRowForm (args .s .now)) 5 (args .at) (c .before .before .pre),
-    table-start (args .s .now) (bytes "[face") (faceRowForm (args .s .now)) 5 (args .at) rowWords 5 _)
+    let args = c .before .before .args in (
+      refl,
+      refl,
+      start (args .s .now) (bytes "[face") (faceRowForm (args .s .now)) 5 (args .at) (c .before .before .pre),
+      table-start (args .s .now) (bytes "[face") (faceRowForm (args .s .now)) 5 (args .at) rowWords 5 _,
+    )
 
 -- src/lib.rt:157:24
 slice-aggregate-stands : tie.Need-slice-aggregate-stands Inv-loop μ-loop
@@ -61,17 +63,18 @@ mul-face c =
 face-requires : tie.Need-face-requires Inv-loop μ-loop
 face-requires c κs =
     let args = c .before .before .before .before .before .before .before .args in
-    let loop = c .before .before .before .before .loop in
-    (let h = head-inside (args .s .now) (bytes "[face") (faceRowForm (args .s .now)) 5 (args .at) refl (omega arith)
-    (loop .inv .2) (sym (c .before .before .stands .ensures) ∙ c .before .if1 .taken) in
-    let g = loop .inv .2 .far in
-    let q = loop .inv .2 .counted in
-    omega arith,
-    let h = head-inside (args .s .now) (bytes "[face") (faceRowForm (args .s .now)) 5 (args .at) refl (omega arith)
-    (loop .inv .2) (sym (c .before .before .stands .ensures) ∙ c .before .if1 .taken) in
-    let g = loop .inv .2 .far in
-    let q = loop .inv .2 .counted in
-    omega arith)
+    let loop = c .before .before .before .before .loop in (
+      let h = head-inside (args .s .now) (bytes "[face") (faceRowForm (args .s .now)) 5 (args .at) refl (omega arith)
+          (loop .inv .2) (sym (c .before .before .stands .ensures) ∙ c .before .if1 .taken) in
+          let g = loop .inv .2 .far in
+          let q = loop .inv .2 .counted in
+          omega arith,
+      let h = head-inside (args .s .now) (bytes "[face") (faceRowForm (args .s .now)) 5 (args .at) refl (omega arith)
+          (loop .inv .2) (sym (c .before .before .stands .ensures) ∙ c .before .if1 .taken) in
+          let g = loop .inv .2 .far in
+          let q = loop .inv .2 .counted in
+          omega arith,
+    )
 
 -- src/lib.rt:158:23
 enum-known-j : tie.Need-enum-known-j Inv-loop μ-loop
@@ -91,12 +94,13 @@ same-length c =
 returns : tie.Need-returns Inv-loop μ-loop
 returns c =
     let c8 = c .before .before .before .before .before .before .before .before in
-    let args = c8 .before .before .before .before .args in
-    (stop (args .s .now) (bytes "[face") (faceRowForm (args .s .now)) 5 (args .at) refl (omega arith)
-    (c8 .before .loop .inv .2) (sym (c .before .before .before .before .before .before .before .stands .ensures)
-    ∙ c .before .before .before .before .before .before .if1 .taken)
-    (c .before .before .before .before .face .ensures .0) (c .enum-told .given .1),
-    tt)
+    let args = c8 .before .before .before .before .args in (
+      stop (args .s .now) (bytes "[face") (faceRowForm (args .s .now)) 5 (args .at) refl (omega arith)
+          (c8 .before .loop .inv .2) (sym (c .before .before .before .before .before .before .before .stands .ensures)
+          ∙ c .before .before .before .before .before .before .if1 .taken)
+          (c .before .before .before .before .face .ensures .0) (c .enum-told .given .1),
+      tt,
+    )
 
 -- src/lib.rt:162:9
 add-k : tie.Need-add-k Inv-loop μ-loop
@@ -122,14 +126,15 @@ loop-again c =
     let loop = c8 .before .before .loop in
     let stands = c8 .stands in
     let if1 = c .before .before .before .before .before .before .before .if1 in
-    let the-face = c .before .before .before .before .before .face in
-    (refl,
-    the-face .kept .1 .1 .0 ∙ loop .inv .1,
-    turn (args .s .now) (bytes "[face") (faceRowForm (args .s .now)) 5 (args .at) refl (omega arith) (loop .inv .2)
-    (sym (stands .ensures) ∙ if1 .taken) (the-face .ensures .0) (c .before .j .given .1) (takes-face (args .s .now)),
-    table-turn (args .s .now) (bytes "[face") (faceRowForm (args .s .now)) 5 (args .at) refl (omega arith) (loop .inv .2)
-    (sym (stands .ensures) ∙ if1 .taken) (the-face .ensures .0) (c .before .j .given .1) rowWords 5
-    (λ a n q. fits-face _ _ a n q .word-count) (loop .inv .3) (the-face .ensures .1))
+    let the-face = c .before .before .before .before .before .face in (
+      refl,
+      the-face .kept .1 .1 .0 ∙ loop .inv .1,
+      turn (args .s .now) (bytes "[face") (faceRowForm (args .s .now)) 5 (args .at) refl (omega arith) (loop .inv .2)
+          (sym (stands .ensures) ∙ if1 .taken) (the-face .ensures .0) (c .before .j .given .1) (takes-face (args .s .now)),
+      table-turn (args .s .now) (bytes "[face") (faceRowForm (args .s .now)) 5 (args .at) refl (omega arith) (loop .inv .2)
+          (sym (stands .ensures) ∙ if1 .taken) (the-face .ensures .0) (c .before .j .given .1) rowWords 5
+          (λ a n q. fits-face _ _ a n q .word-count) (loop .inv .3) (the-face .ensures .1),
+    )
 
 -- src/lib.rt:150:1
 same-length-2 : tie.Need-same-length-2 Inv-loop μ-loop
@@ -138,11 +143,12 @@ same-length-2 c = c .before .before .before .loop .inv .1
 -- src/lib.rt:150:1
 returns-2 : tie.Need-returns-2 Inv-loop μ-loop
 returns-2 c =
-    let args = c .before .before .before .before .before .before .args in
-    (end (args .s .now) (bytes "[face") (faceRowForm (args .s .now)) 5 (args .at)
-    (sym (c .before .stands .ensures) ∙ c .if1 .left) (c .before .before .before .loop .inv .2),
-    table-end (args .s .now) (bytes "[face") (faceRowForm (args .s .now)) 5 (args .at)
-    (sym (c .before .stands .ensures) ∙ c .if1 .left) rowWords 5 (c .before .before .before .loop .inv .3))
+    let args = c .before .before .before .before .before .before .args in (
+      end (args .s .now) (bytes "[face") (faceRowForm (args .s .now)) 5 (args .at)
+          (sym (c .before .stands .ensures) ∙ c .if1 .left) (c .before .before .before .loop .inv .2),
+      table-end (args .s .now) (bytes "[face") (faceRowForm (args .s .now)) 5 (args .at)
+          (sym (c .before .stands .ensures) ∙ c .if1 .left) rowWords 5 (c .before .before .before .loop .inv .3),
+    )
 
 pub faces-spec : {M : Type 1} → statement M
 faces-spec =

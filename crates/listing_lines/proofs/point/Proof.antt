@@ -61,10 +61,11 @@ same-length-3 c = search needs
 returns-2 : tie.Need-returns-2
 returns-2 c =
     let coordinates =
-    c .before .before .before .before .before .before .before .before .before .before .before .coordinates in
-    (no-words _ _ (coordinates .ensures .0) (c .before .before .before .before .before .before .before .i .given .1)
-    (c .before .before .before .before .words .ensures .0) (c .enum-told2 .given .1),
-    (tt, tt))
+    c .before .before .before .before .before .before .before .before .before .before .before .coordinates in (
+      no-words _ _ (coordinates .ensures .0) (c .before .before .before .before .before .before .before .i .given .1)
+          (c .before .before .before .before .words .ensures .0) (c .enum-told2 .given .1),
+      (tt, tt),
+    )
 
 -- src/lib.rt:68:9
 same-length-4 : tie.Need-same-length-4
@@ -78,11 +79,12 @@ same-length-5 c = search needs
 returns-3 : tie.Need-returns-3
 returns-3 c =
     let c8 = c .before .before .before .before .before .before .before .before in
-    let coordinates = c8 .before .before .before .before .before .coordinates in
-    (no-mark _ _ (coordinates .ensures .0) (c8 .before .i .given .1)
-    (c .before .before .before .before .before .before .words .ensures .0) (c .before .before .v .given .1)
-    (c .if1 .taken),
-    (tt, tt))
+    let coordinates = c8 .before .before .before .before .before .coordinates in (
+      no-mark _ _ (coordinates .ensures .0) (c8 .before .i .given .1)
+          (c .before .before .before .before .before .before .words .ensures .0) (c .before .before .v .given .1)
+          (c .if1 .taken),
+      (tt, tt),
+    )
 
 -- src/lib.rt:70:22
 slice-aggregate-stands : tie.Need-slice-aggregate-stands
@@ -112,11 +114,12 @@ returns-4 : tie.Need-returns-4
 returns-4 c =
     let c8 = c .before .before .before .before .before .before .before .before in
     let coordinates = c8 .before .before .before .before .before .before .before .before .coordinates in
-    let i = c8 .before .before .before .before .i in
-    (no-end _ _ (coordinates .ensures .0) (i .given .1) (c8 .before .words .ensures .0)
-    (c .before .before .before .before .before .v .given .1) (c .before .before .before .if1 .left)
-    (sym (c .before .stands .ensures) ∙ not-true _ (c .if2 .taken)),
-    (tt, tt))
+    let i = c8 .before .before .before .before .i in (
+      no-end _ _ (coordinates .ensures .0) (i .given .1) (c8 .before .words .ensures .0)
+          (c .before .before .before .before .before .v .given .1) (c .before .before .before .if1 .left)
+          (sym (c .before .stands .ensures) ∙ not-true _ (c .if2 .taken)),
+      (tt, tt),
+    )
 
 -- src/lib.rt:73:15
 add-t20 : tie.Need-add-t20

@@ -29,13 +29,14 @@ abbrev μ-loop : tie.MeasureT-loop
 -- src/lib.rt:120:5
 loop-holds : tie.Need-loop-holds Inv-loop μ-loop
 loop-holds c =
-    let args = c .before .before .before .args in
-    (refl,
-    refl,
-    refl,
-    start (args .s .now) (bytes "[point") (pointRowForm (args .s .now)) 3 (args .at) (c .before .before .before .pre),
-    table-start (args .s .now) (bytes "[point") (pointRowForm (args .s .now)) 3 (args .at) rowNumbers 3 _,
-    table-start (args .s .now) (bytes "[point") (pointRowForm (args .s .now)) 3 (args .at) rowWords 3 _)
+    let args = c .before .before .before .args in (
+      refl,
+      refl,
+      refl,
+      start (args .s .now) (bytes "[point") (pointRowForm (args .s .now)) 3 (args .at) (c .before .before .before .pre),
+      table-start (args .s .now) (bytes "[point") (pointRowForm (args .s .now)) 3 (args .at) rowNumbers 3 _,
+      table-start (args .s .now) (bytes "[point") (pointRowForm (args .s .now)) 3 (args .at) rowWords 3 _,
+    )
 
 -- src/lib.rt:120:24
 slice-aggregate-stands : tie.Need-slice-aggregate-stands Inv-loop μ-loop
@@ -65,17 +66,18 @@ mul-point c =
 point-requires : tie.Need-point-requires Inv-loop μ-loop
 point-requires c κs =
     let args = c .before .before .before .before .before .before .before .before .before .args in
-    let loop = c .before .before .before .before .before .loop in
-    (let h = head-inside (args .s .now) (bytes "[point") (pointRowForm (args .s .now)) 3 (args .at) refl (omega arith)
-    (loop .inv .3) (sym (c .before .before .before .stands .ensures) ∙ c .before .before .if1 .taken) in
-    let g = loop .inv .3 .far in
-    let q = loop .inv .3 .counted in
-    omega arith,
-    let h = head-inside (args .s .now) (bytes "[point") (pointRowForm (args .s .now)) 3 (args .at) refl (omega arith)
-    (loop .inv .3) (sym (c .before .before .before .stands .ensures) ∙ c .before .before .if1 .taken) in
-    let g = loop .inv .3 .far in
-    let q = loop .inv .3 .counted in
-    omega arith)
+    let loop = c .before .before .before .before .before .loop in (
+      let h = head-inside (args .s .now) (bytes "[point") (pointRowForm (args .s .now)) 3 (args .at) refl (omega arith)
+          (loop .inv .3) (sym (c .before .before .before .stands .ensures) ∙ c .before .before .if1 .taken) in
+          let g = loop .inv .3 .far in
+          let q = loop .inv .3 .counted in
+          omega arith,
+      let h = head-inside (args .s .now) (bytes "[point") (pointRowForm (args .s .now)) 3 (args .at) refl (omega arith)
+          (loop .inv .3) (sym (c .before .before .before .stands .ensures) ∙ c .before .before .if1 .taken) in
+          let g = loop .inv .3 .far in
+          let q = loop .inv .3 .counted in
+          omega arith,
+    )
 
 -- src/lib.rt:121:23
 enum-known-j : tie.Need-enum-known-j Inv-loop μ-loop
@@ -104,11 +106,12 @@ returns : tie.Need-returns Inv-loop μ-loop
 returns c =
     let c8 = c .before .before .before .before .before .before .before .before in
     let args = c8 .before .before .before .before .before .before .before .before .args in
-    let loop = c8 .before .before .before .before .loop in
-    (stop (args .s .now) (bytes "[point") (pointRowForm (args .s .now)) 3 (args .at) refl (omega arith) (loop .inv .3)
-    (sym (c8 .before .before .stands .ensures) ∙ c8 .before .if1 .taken)
-    (c .before .before .before .before .before .before .point .ensures .0) (c .enum-told .given .1),
-    (tt, tt))
+    let loop = c8 .before .before .before .before .loop in (
+      stop (args .s .now) (bytes "[point") (pointRowForm (args .s .now)) 3 (args .at) refl (omega arith) (loop .inv .3)
+          (sym (c8 .before .before .stands .ensures) ∙ c8 .before .if1 .taken)
+          (c .before .before .before .before .before .before .point .ensures .0) (c .enum-told .given .1),
+      (tt, tt),
+    )
 
 -- src/lib.rt:125:9
 add-k : tie.Need-add-k Inv-loop μ-loop
@@ -137,19 +140,20 @@ loop-again c =
     let loop = c8 .before .before .before .before .before .loop in
     let stands = c8 .before .before .before .stands in
     let if1 = c8 .before .before .if1 in
-    let the-point = c .before .before .before .before .before .before .before .point in
-    (refl,
-    the-point .kept .1 .1 .0 ∙ loop .inv .1,
-    the-point .kept .1 .1 .1 .0 ∙ loop .inv .2,
-    turn (args .s .now) (bytes "[point") (pointRowForm (args .s .now)) 3 (args .at) refl (omega arith) (loop .inv .3)
-    (sym (stands .ensures) ∙ if1 .taken) (the-point .ensures .0) (c .before .j .given .1) (takes-point (args .s .now)),
-    table-turn (args .s .now) (bytes "[point") (pointRowForm (args .s .now)) 3 (args .at) refl (omega arith) (loop .inv .3)
-    (sym (stands .ensures) ∙ if1 .taken) (the-point .ensures .0) (c .before .j .given .1) rowNumbers 3
-    (λ a n q. length-map (a .numbers) float ∙ fits-point _ _ a n q .number-count) (loop .inv .4)
-    (the-point .ensures .1 .0),
-    table-turn (args .s .now) (bytes "[point") (pointRowForm (args .s .now)) 3 (args .at) refl (omega arith) (loop .inv .3)
-    (sym (stands .ensures) ∙ if1 .taken) (the-point .ensures .0) (c .before .j .given .1) rowWords 3
-    (λ a n q. fits-point _ _ a n q .word-count) (loop .inv .5) (the-point .ensures .1 .1))
+    let the-point = c .before .before .before .before .before .before .before .point in (
+      refl,
+      the-point .kept .1 .1 .0 ∙ loop .inv .1,
+      the-point .kept .1 .1 .1 .0 ∙ loop .inv .2,
+      turn (args .s .now) (bytes "[point") (pointRowForm (args .s .now)) 3 (args .at) refl (omega arith) (loop .inv .3)
+          (sym (stands .ensures) ∙ if1 .taken) (the-point .ensures .0) (c .before .j .given .1) (takes-point (args .s .now)),
+      table-turn (args .s .now) (bytes "[point") (pointRowForm (args .s .now)) 3 (args .at) refl (omega arith) (loop .inv .3)
+          (sym (stands .ensures) ∙ if1 .taken) (the-point .ensures .0) (c .before .j .given .1) rowNumbers 3
+          (λ a n q. length-map (a .numbers) float ∙ fits-point _ _ a n q .number-count) (loop .inv .4)
+          (the-point .ensures .1 .0),
+      table-turn (args .s .now) (bytes "[point") (pointRowForm (args .s .now)) 3 (args .at) refl (omega arith) (loop .inv .3)
+          (sym (stands .ensures) ∙ if1 .taken) (the-point .ensures .0) (c .before .j .given .1) rowWords 3
+          (λ a n q. fits-point _ _ a n q .word-count) (loop .inv .5) (the-point .ensures .1 .1),
+    )
 
 -- src/lib.rt:112:1
 same-length-3 : tie.Need-same-length-3 Inv-loop μ-loop
@@ -163,13 +167,16 @@ same-length-4 c = c .before .before .before .loop .inv .2
 returns-2 : tie.Need-returns-2 Inv-loop μ-loop
 returns-2 c =
     let args = c .before .before .before .before .before .before .before .args in
-    let loop = c .before .before .before .loop in
-    (end (args .s .now) (bytes "[point") (pointRowForm (args .s .now)) 3 (args .at)
-    (sym (c .before .stands .ensures) ∙ c .if1 .left) (loop .inv .3),
-    (table-end (args .s .now) (bytes "[point") (pointRowForm (args .s .now)) 3 (args .at)
-    (sym (c .before .stands .ensures) ∙ c .if1 .left) rowNumbers 3 (loop .inv .4),
-    table-end (args .s .now) (bytes "[point") (pointRowForm (args .s .now)) 3 (args .at)
-    (sym (c .before .stands .ensures) ∙ c .if1 .left) rowWords 3 (loop .inv .5)))
+    let loop = c .before .before .before .loop in (
+      end (args .s .now) (bytes "[point") (pointRowForm (args .s .now)) 3 (args .at)
+          (sym (c .before .stands .ensures) ∙ c .if1 .left) (loop .inv .3),
+      (
+        table-end (args .s .now) (bytes "[point") (pointRowForm (args .s .now)) 3 (args .at)
+            (sym (c .before .stands .ensures) ∙ c .if1 .left) rowNumbers 3 (loop .inv .4),
+        table-end (args .s .now) (bytes "[point") (pointRowForm (args .s .now)) 3 (args .at)
+            (sym (c .before .stands .ensures) ∙ c .if1 .left) rowWords 3 (loop .inv .5),
+      ),
+    )
 
 pub points-spec : {M : Type 1} → statement M
 points-spec =

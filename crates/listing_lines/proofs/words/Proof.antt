@@ -41,10 +41,11 @@ same-length c = c .before .before .before .before .loop .inv .long
 
 -- src/lib.rt:44:13
 returns : tie.Need-returns Inv-loop μ-loop
-returns c =
-    (stop _ _ _ _ _ _ _ _ _ (c .before .before .before .before .loop .inv) (c .before .before .before .loop-test .taken)
-    (number-none _ (sym (c .before .before .word .ensures) ∙ c .enum-told .given .1)),
-    tt)
+returns c = (
+  stop _ _ _ _ _ _ _ _ _ (c .before .before .before .before .loop .inv) (c .before .before .before .loop-test .taken)
+      (number-none _ (sym (c .before .before .word .ensures) ∙ c .enum-told .given .1)),
+  tt,
+)
 
 -- src/lib.rt:46:22
 add-put-word : tie.Need-add-put-word Inv-loop μ-loop
@@ -53,8 +54,10 @@ add-put-word c = search needs
 -- src/lib.rt:46:29
 cast-put-word : tie.Need-cast-put-word Inv-loop μ-loop
 cast-put-word c =
-    record { fits = word-below _ _ _ _
-    (number-is _ (sym (c .before .before .before .before .word .ensures) ∙ c .before .before .b .given .1)) }
+    record {
+      fits = word-below _ _ _ _
+          (number-is _ (sym (c .before .before .before .before .word .ensures) ∙ c .before .before .b .given .1));
+    }
 
 -- src/lib.rt:46:9
 put-word-requires : tie.Need-put-word-requires Inv-loop μ-loop

@@ -74,15 +74,16 @@ loop-less c = search needs
 -- src/lib.rt:174:5
 loop-again : tie.Need-loop-again Inv-loop μ-loop
 loop-again c =
-    let loop = c .before .before .before .before .loop in
-    (let lt = c .before .before .before .loop-test .taken in
-    omega arith,
-    let e = loop .inv .1 in
-    let lt = c .before .before .before .loop-test .taken in
-    let g = c .before .before .before .before .before .before .pre .0 in
-    let m = words-more (c .before .before .before .before .before .before .args .words .now) (loop .i) (omega arith) in
-    let d = c .digits-length .ensures ∙ ap (λ (v : ℕ). length (decimalDigits 20 v)) (c .before .wide .ensures) in
-    omega arith)
+    let loop = c .before .before .before .before .loop in (
+      let lt = c .before .before .before .loop-test .taken in
+          omega arith,
+      let e = loop .inv .1 in
+          let lt = c .before .before .before .loop-test .taken in
+          let g = c .before .before .before .before .before .before .pre .0 in
+          let m = words-more (c .before .before .before .before .before .before .args .words .now) (loop .i) (omega arith) in
+          let d = c .digits-length .ensures ∙ ap (λ (v : ℕ). length (decimalDigits 20 v)) (c .before .wide .ensures) in
+          omega arith,
+    )
 
 -- src/lib.rt:167:1
 returns : tie.Need-returns Inv-loop μ-loop

@@ -25,11 +25,12 @@ abbrev μ-loop : tie.MeasureT-loop
 
 -- src/lib.rt:131:5
 loop-holds : tie.Need-loop-holds Inv-loop μ-loop
-loop-holds c =
-    (omega arith,
-    refl,
-    lines-start edgeLine _ _ (edgeLineRow
-    (meshOf [] [] (c .before .before .before .args .edges .now) (c .before .before .before .args .intervals .now) [])))
+loop-holds c = (
+  omega arith,
+  refl,
+  lines-start edgeLine _ _ (edgeLineRow
+      (meshOf [] [] (c .before .before .before .args .edges .now) (c .before .before .before .args .intervals .now) [])),
+)
 
 -- src/lib.rt:132:9
 write-edge-requires : tie.Need-write-edge-requires Inv-loop μ-loop
@@ -37,16 +38,21 @@ write-edge-requires c κs =
     let args = c .before .before .before .before .before .before .args in
     let pre = c .before .before .before .before .before .before .pre in
     let loop = c .before .before .loop in
-    let loop-test = c .before .loop-test in
-    (let lt = loop-test .taken in
-    let g = pre .0 in
-    omega arith,
-    (let lt = loop-test .taken in
-    let g = pre .1 .0 in
-    omega arith,
-    (lines-turn-room edgeLine _ _ (edgeLineRow (meshOf [] [] (args .edges .now) (args .intervals .now) [])) (loop .e)
-    (loop .inv .2) (loop .inv .1) (loop-test .taken) (pre .1 .1 .0),
-    λ i h. pre .1 .1 .1 i (let lt = loop-test .taken in omega arith))))
+    let loop-test = c .before .loop-test in (
+      let lt = loop-test .taken in
+          let g = pre .0 in
+          omega arith,
+      (
+        let lt = loop-test .taken in
+            let g = pre .1 .0 in
+            omega arith,
+        (
+          lines-turn-room edgeLine _ _ (edgeLineRow (meshOf [] [] (args .edges .now) (args .intervals .now) [])) (loop .e)
+              (loop .inv .2) (loop .inv .1) (loop-test .taken) (pre .1 .1 .0),
+          λ i h. pre .1 .1 .1 i (let lt = loop-test .taken in omega arith),
+        ),
+      ),
+    )
 
 -- src/lib.rt:133:9
 add-e : tie.Need-add-e Inv-loop μ-loop
@@ -60,12 +66,13 @@ loop-less c = search needs
 loop-again : tie.Need-loop-again Inv-loop μ-loop
 loop-again c =
     let args = c .before .before .before .before .before .before .before .before .before .args in
-    let loop = c .before .before .before .before .before .loop in
-    (let lt = c .before .before .before .before .loop-test .taken in
-    omega arith,
-    c .before .before .write-edge .kept .0 ∙ loop .inv .1,
-    lines-turn edgeLine _ _ (edgeLineRow (meshOf [] [] (args .edges .now) (args .intervals .now) [])) (loop .e)
-    (loop .inv .2) (c .before .before .write-edge .ensures))
+    let loop = c .before .before .before .before .before .loop in (
+      let lt = c .before .before .before .before .loop-test .taken in
+          omega arith,
+      c .before .before .write-edge .kept .0 ∙ loop .inv .1,
+      lines-turn edgeLine _ _ (edgeLineRow (meshOf [] [] (args .edges .now) (args .intervals .now) [])) (loop .e)
+          (loop .inv .2) (c .before .before .write-edge .ensures),
+    )
 
 -- src/lib.rt:122:1
 same-length : tie.Need-same-length Inv-loop μ-loop

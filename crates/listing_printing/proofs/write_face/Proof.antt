@@ -26,13 +26,14 @@ write-requires c κs = search needs
 write-words-requires : tie.Need-write-words-requires
 write-words-requires c κs =
     let args = c .before .before .before .before .before .before .before .before .args in
-    let pre = c .before .before .before .before .before .before .before .before .pre in
-    (pre .0,
-    let e = c .before .before .before .write .ensures .place in
-    let k = c .before .before .before .write .kept .0 in
-    let r = face-room (args .faces .now) (args .f) (pre .0) in
-    let q = pre .1 in
-    omega arith)
+    let pre = c .before .before .before .before .before .before .before .before .pre in (
+      pre .0,
+      let e = c .before .before .before .write .ensures .place in
+          let k = c .before .before .before .write .kept .0 in
+          let r = face-room (args .faces .now) (args .f) (pre .0) in
+          let q = pre .1 in
+          omega arith,
+    )
 
 -- src/lib.rt:101:19
 slice-aggregate-write-2 : tie.Need-slice-aggregate-write-2

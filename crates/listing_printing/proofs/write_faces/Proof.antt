@@ -31,13 +31,14 @@ loop-holds c = (omega arith, refl, lines-start faceLine _ _ (faceLineRow (meshOf
 write-face-requires : tie.Need-write-face-requires Inv-loop μ-loop
 write-face-requires c κs =
     let pre = c .before .before .before .before .before .pre in
-    let loop = c .before .before .loop in
-    (let lt = c .before .loop-test .taken in
-    let g = pre .0 in
-    omega arith,
-    lines-turn-room faceLine _ _
-    (faceLineRow (meshOf [] [] [] [] (c .before .before .before .before .before .args .faces .now))) (loop .f)
-    (loop .inv .2) (loop .inv .1) (c .before .loop-test .taken) (pre .1))
+    let loop = c .before .before .loop in (
+      let lt = c .before .loop-test .taken in
+          let g = pre .0 in
+          omega arith,
+      lines-turn-room faceLine _ _
+          (faceLineRow (meshOf [] [] [] [] (c .before .before .before .before .before .args .faces .now))) (loop .f)
+          (loop .inv .2) (loop .inv .1) (c .before .loop-test .taken) (pre .1),
+    )
 
 -- src/lib.rt:148:9
 add-f : tie.Need-add-f Inv-loop μ-loop
@@ -51,12 +52,13 @@ loop-less c = search needs
 loop-again : tie.Need-loop-again Inv-loop μ-loop
 loop-again c =
     let args = c .before .before .before .before .before .before .before .before .args in
-    let loop = c .before .before .before .before .before .loop in
-    (let lt = c .before .before .before .before .loop-test .taken in
-    omega arith,
-    c .before .before .write-face .kept .0 ∙ loop .inv .1,
-    lines-turn faceLine _ _ (faceLineRow (meshOf [] [] [] [] (args .faces .now))) (loop .f) (loop .inv .2)
-    (c .before .before .write-face .ensures))
+    let loop = c .before .before .before .before .before .loop in (
+      let lt = c .before .before .before .before .loop-test .taken in
+          omega arith,
+      c .before .before .write-face .kept .0 ∙ loop .inv .1,
+      lines-turn faceLine _ _ (faceLineRow (meshOf [] [] [] [] (args .faces .now))) (loop .f) (loop .inv .2)
+          (c .before .before .write-face .ensures),
+    )
 
 -- src/lib.rt:139:1
 same-length : tie.Need-same-length Inv-loop μ-loop

@@ -76,12 +76,13 @@ loop-again c =
     let c8 = c .before .before .before .before .before .before .before .before in
     let args = c8 .before .args in
     let loop = c .before .before .before .before .before .before .loop in
-    let loop-test = c .before .before .before .before .before .loop-test in
-    (let lt = loop-test .taken in
-    omega arith,
-    c .before .before .write-bits .kept .0 ∙ loop .inv .1,
-    fields-turn bitsIn _ _ (args .numbers .now) (args .b) nan (loop .j) (loop .inv .2) refl
-    (let lt = loop-test .taken in let g = c8 .before .pre .0 in omega arith) (c .before .before .write-bits .ensures))
+    let loop-test = c .before .before .before .before .before .loop-test in (
+      let lt = loop-test .taken in
+          omega arith,
+      c .before .before .write-bits .kept .0 ∙ loop .inv .1,
+      fields-turn bitsIn _ _ (args .numbers .now) (args .b) nan (loop .j) (loop .inv .2) refl
+          (let lt = loop-test .taken in let g = c8 .before .pre .0 in omega arith) (c .before .before .write-bits .ensures),
+    )
 
 -- src/lib.rt:46:1
 same-length : tie.Need-same-length Inv-loop μ-loop

@@ -25,11 +25,12 @@ abbrev μ-loop : tie.MeasureT-loop
 
 -- src/lib.rt:114:5
 loop-holds : tie.Need-loop-holds Inv-loop μ-loop
-loop-holds c =
-    (omega arith,
-    refl,
-    lines-start pointLine _ _ (pointLineRow
-    (meshOf (c .before .before .before .args .positions .now) (c .before .before .before .args .points .now) [] [] [])))
+loop-holds c = (
+  omega arith,
+  refl,
+  lines-start pointLine _ _ (pointLineRow
+      (meshOf (c .before .before .before .args .positions .now) (c .before .before .before .args .points .now) [] [] [])),
+)
 
 -- src/lib.rt:115:9
 write-point-requires : tie.Need-write-point-requires Inv-loop μ-loop
@@ -37,16 +38,21 @@ write-point-requires c κs =
     let args = c .before .before .before .before .before .before .args in
     let pre = c .before .before .before .before .before .before .pre in
     let loop = c .before .before .loop in
-    let loop-test = c .before .loop-test in
-    (let lt = loop-test .taken in
-    let g = pre .0 in
-    omega arith,
-    (let lt = loop-test .taken in
-    let g = pre .1 .0 in
-    omega arith,
-    (lines-turn-room pointLine _ _ (pointLineRow (meshOf (args .positions .now) (args .points .now) [] [] [])) (loop .p)
-    (loop .inv .2) (loop .inv .1) (loop-test .taken) (pre .1 .1 .0),
-    λ i h. pre .1 .1 .1 i (let lt = loop-test .taken in omega arith))))
+    let loop-test = c .before .loop-test in (
+      let lt = loop-test .taken in
+          let g = pre .0 in
+          omega arith,
+      (
+        let lt = loop-test .taken in
+            let g = pre .1 .0 in
+            omega arith,
+        (
+          lines-turn-room pointLine _ _ (pointLineRow (meshOf (args .positions .now) (args .points .now) [] [] [])) (loop .p)
+              (loop .inv .2) (loop .inv .1) (loop-test .taken) (pre .1 .1 .0),
+          λ i h. pre .1 .1 .1 i (let lt = loop-test .taken in omega arith),
+        ),
+      ),
+    )
 
 -- src/lib.rt:116:9
 add-p : tie.Need-add-p Inv-loop μ-loop
@@ -60,12 +66,13 @@ loop-less c = search needs
 loop-again : tie.Need-loop-again Inv-loop μ-loop
 loop-again c =
     let args = c .before .before .before .before .before .before .before .before .before .args in
-    let loop = c .before .before .before .before .before .loop in
-    (let lt = c .before .before .before .before .loop-test .taken in
-    omega arith,
-    c .before .before .write-point .kept .0 ∙ loop .inv .1,
-    lines-turn pointLine _ _ (pointLineRow (meshOf (args .positions .now) (args .points .now) [] [] [])) (loop .p)
-    (loop .inv .2) (c .before .before .write-point .ensures))
+    let loop = c .before .before .before .before .before .loop in (
+      let lt = c .before .before .before .before .loop-test .taken in
+          omega arith,
+      c .before .before .write-point .kept .0 ∙ loop .inv .1,
+      lines-turn pointLine _ _ (pointLineRow (meshOf (args .positions .now) (args .points .now) [] [] [])) (loop .p)
+          (loop .inv .2) (c .before .before .write-point .ensures),
+    )
 
 -- src/lib.rt:105:1
 same-length : tie.Need-same-length Inv-loop μ-loop

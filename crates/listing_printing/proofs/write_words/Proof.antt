@@ -66,14 +66,15 @@ loop-again c =
     let c8 = c .before .before .before .before .before .before .before .before in
     let args = c8 .before .before .args in
     let loop = c .before .before .before .before .before .before .before .loop in
-    let loop-test = c .before .before .before .before .before .before .loop-test in
-    (let lt = loop-test .taken in
-    omega arith,
-    c .before .before .write-number .kept .0 ∙ loop .inv .1,
-    fields-turn numberField _ _ (args .words .now) (args .b) 0 (loop .j) (loop .inv .2)
-    (ap numberField (c .before .before .before .before .wide .ensures))
-    (let lt = loop-test .taken in let g = c8 .before .before .pre .0 in omega arith)
-    (c .before .before .write-number .ensures))
+    let loop-test = c .before .before .before .before .before .before .loop-test in (
+      let lt = loop-test .taken in
+          omega arith,
+      c .before .before .write-number .kept .0 ∙ loop .inv .1,
+      fields-turn numberField _ _ (args .words .now) (args .b) 0 (loop .j) (loop .inv .2)
+          (ap numberField (c .before .before .before .before .wide .ensures))
+          (let lt = loop-test .taken in let g = c8 .before .before .pre .0 in omega arith)
+          (c .before .before .write-number .ensures),
+    )
 
 -- src/lib.rt:30:1
 same-length : tie.Need-same-length Inv-loop μ-loop

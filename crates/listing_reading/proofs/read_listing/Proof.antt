@@ -151,22 +151,29 @@ zero-rows-requires c κs =
     let if2 = c24 .before .before .before .before .if2 in
     let scan = c16 .before .before .before .before .before .before .scan in
     let m = meshOf (args .positions .now) (args .points .now) (args .edges .now) (args .intervals .now)
-    (args .faces .now) in
-    (let k = scan .kept .1 .0 in
-    let r = room-of _ m (sym (rows-for .ensures) ∙ not-false _ (if2 .left)) .positions in
-    omega arith,
-    (let k = scan .kept .1 .1 .0 in
-    let r = room-of _ m (sym (rows-for .ensures) ∙ not-false _ (if2 .left)) .points in
-    omega arith,
-    (let k = scan .kept .1 .1 .1 .0 in
-    let r = room-of _ m (sym (rows-for .ensures) ∙ not-false _ (if2 .left)) .edges in
-    omega arith,
-    (let k = scan .kept .1 .1 .1 .1 .0 in
-    let r = room-of _ m (sym (rows-for .ensures) ∙ not-false _ (if2 .left)) .intervals in
-    omega arith,
-    let k = scan .kept .1 .1 .1 .1 .1 .0 in
-    let r = room-of _ m (sym (rows-for .ensures) ∙ not-false _ (if2 .left)) .faces in
-    omega arith))))
+    (args .faces .now) in (
+      let k = scan .kept .1 .0 in
+          let r = room-of _ m (sym (rows-for .ensures) ∙ not-false _ (if2 .left)) .positions in
+          omega arith,
+      (
+        let k = scan .kept .1 .1 .0 in
+            let r = room-of _ m (sym (rows-for .ensures) ∙ not-false _ (if2 .left)) .points in
+            omega arith,
+        (
+          let k = scan .kept .1 .1 .1 .0 in
+              let r = room-of _ m (sym (rows-for .ensures) ∙ not-false _ (if2 .left)) .edges in
+              omega arith,
+          (
+            let k = scan .kept .1 .1 .1 .1 .0 in
+                let r = room-of _ m (sym (rows-for .ensures) ∙ not-false _ (if2 .left)) .intervals in
+                omega arith,
+            let k = scan .kept .1 .1 .1 .1 .1 .0 in
+                let r = room-of _ m (sym (rows-for .ensures) ∙ not-false _ (if2 .left)) .faces in
+                omega arith,
+          ),
+        ),
+      ),
+    )
 
 -- src/lib.rt:71:1
 same-length-11 : tie.Need-same-length-11

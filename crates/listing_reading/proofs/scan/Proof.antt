@@ -50,10 +50,11 @@ same-length-2 c = search needs
 -- src/lib.rt:43:9
 returns-2 : tie.Need-returns-2
 returns-2 c =
-    let c8 = c .before .before .before .before .before .before .before .before in
-    (no-points _ (sym (c8 .before .before .stands .ensures) ∙ not-false _ (c8 .before .if1 .left))
-    (c .before .before .before .before .before .before .points .ensures .0) (c .enum-told .given .1),
-    (tt, (tt, (tt, (tt, tt)))))
+    let c8 = c .before .before .before .before .before .before .before .before in (
+      no-points _ (sym (c8 .before .before .stands .ensures) ∙ not-false _ (c8 .before .if1 .left))
+          (c .before .before .before .before .before .before .points .ensures .0) (c .enum-told .given .1),
+      (tt, (tt, (tt, (tt, tt)))),
+    )
 
 -- src/lib.rt:45:25
 edges-requires : tie.Need-edges-requires
@@ -94,11 +95,12 @@ returns-3 c =
     let c8 = c .before .before .before .before .before .before .before .before in
     let c16 = c8 .before .before .before .before .before .before .before .before in
     let stands = c16 .before .before .before .before .stands in
-    let if1 = c16 .before .before .before .if1 in
-    (no-edges _ (sym (stands .ensures) ∙ not-false _ (if1 .left)) (c16 .points .ensures .0)
-    (c8 .before .before .p .given .1) (c .before .before .before .before .before .before .edges .ensures .0)
-    (c .enum-told2 .given .1),
-    (tt, (tt, (tt, (tt, tt)))))
+    let if1 = c16 .before .before .before .if1 in (
+      no-edges _ (sym (stands .ensures) ∙ not-false _ (if1 .left)) (c16 .points .ensures .0)
+          (c8 .before .before .p .given .1) (c .before .before .before .before .before .before .edges .ensures .0)
+          (c .enum-told2 .given .1),
+      (tt, (tt, (tt, (tt, tt)))),
+    )
 
 -- src/lib.rt:48:25
 faces-requires : tie.Need-faces-requires
@@ -147,12 +149,13 @@ returns-4 c =
     let c24 = c16 .before .before .before .before .before .before .before .before in
     let stands = c24 .before .before .before .stands in
     let points = c16 .before .before .before .before .before .before .before .points in
-    let edges = c8 .before .before .before .before .before .edges in
-    (no-faces _ (sym (stands .ensures) ∙ not-false _ (c24 .before .before .if1 .left)) (points .ensures .0)
-    (c16 .before .p .given .1) (edges .ensures .0)
-    (c .before .before .before .before .before .before .before .e .given .1)
-    (c .before .before .before .before .faces .ensures .0) (c .enum-told3 .given .1),
-    (tt, (tt, (tt, (tt, tt)))))
+    let edges = c8 .before .before .before .before .before .edges in (
+      no-faces _ (sym (stands .ensures) ∙ not-false _ (c24 .before .before .if1 .left)) (points .ensures .0)
+          (c16 .before .p .given .1) (edges .ensures .0)
+          (c .before .before .before .before .before .before .before .e .given .1)
+          (c .before .before .before .before .faces .ensures .0) (c .enum-told3 .given .1),
+      (tt, (tt, (tt, (tt, tt)))),
+    )
 
 -- src/lib.rt:51:9
 ends-requires : tie.Need-ends-requires
@@ -195,12 +198,13 @@ returns-5 c =
     let c24 = c16 .before .before .before .before .before .before .before .before in
     let stands = c24 .before .before .before .before .before .before .stands in
     let if1 = c24 .before .before .before .before .before .if1 in
-    let p = c16 .before .before .before .before .p in
-    (no-end _ (sym (stands .ensures) ∙ not-false _ (if1 .left)) (c24 .before .before .points .ensures .0) (p .given .1)
-    (c16 .edges .ensures .0) (c8 .before .before .e .given .1)
-    (c .before .before .before .before .before .before .before .faces .ensures .0)
-    (c .before .before .before .f .given .1) (sym (c .before .ends .ensures) ∙ not-true _ (c .if2 .taken)),
-    (tt, (tt, (tt, (tt, tt)))))
+    let p = c16 .before .before .before .before .p in (
+      no-end _ (sym (stands .ensures) ∙ not-false _ (if1 .left)) (c24 .before .before .points .ensures .0) (p .given .1)
+          (c16 .edges .ensures .0) (c8 .before .before .e .given .1)
+          (c .before .before .before .before .before .before .before .faces .ensures .0)
+          (c .before .before .before .f .given .1) (sym (c .before .ends .ensures) ∙ not-true _ (c .if2 .taken)),
+      (tt, (tt, (tt, (tt, tt)))),
+    )
 
 -- src/lib.rt:31:1
 same-length-17 : tie.Need-same-length-17

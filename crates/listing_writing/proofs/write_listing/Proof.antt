@@ -68,12 +68,13 @@ write-rows-requires c κs =
     let audit = c .before .before .before .before .before .before .audit in
     let if1 = c .before .before .before .before .before .if1 in
     let m = meshOf (args .positions .now) (args .points .now) (args .edges .now) (args .intervals .now)
-    (args .faces .now) in
-    (ready-of _ m (sym (audit .ensures) ∙ not-false _ (if1 .left)),
-    let lo = length-of (args .counts) m (ready-of _ m (sym (audit .ensures) ∙ not-false _ (if1 .left)) .room) in
-    let en = c .before .before .listing-length .ensures in
-    let l = c .before .if3 .left in
-    omega arith)
+    (args .faces .now) in (
+      ready-of _ m (sym (audit .ensures) ∙ not-false _ (if1 .left)),
+      let lo = length-of (args .counts) m (ready-of _ m (sym (audit .ensures) ∙ not-false _ (if1 .left)) .room) in
+          let en = c .before .before .listing-length .ensures in
+          let l = c .before .if3 .left in
+          omega arith,
+    )
 
 -- src/lib.rt:67:1
 same-length : tie.Need-same-length

@@ -26,16 +26,21 @@ write-points-requires : tie.Need-write-points-requires
 write-points-requires c κs =
     let c8 = c .before .before .before .before .before .before .before .before in
     let args = c8 .before .before .before .before .args in
-    let pre = c8 .before .before .before .before .pre in
-    (pre .0 .room .positions,
-    (pre .0 .room .points,
-    (let e = c .before .before .before .write .ensures .place in
-    let k = c .before .before .before .write .kept .0 in
-    let l = length-parts (args .counts)
-    (meshOf (args .positions .now) (args .points .now) (args .edges .now) (args .intervals .now) (args .faces .now)) in
-    let q = pre .1 in
-    omega arith,
-    pre .0 .positions-finite)))
+    let pre = c8 .before .before .before .before .pre in (
+      pre .0 .room .positions,
+      (
+        pre .0 .room .points,
+        (
+          let e = c .before .before .before .write .ensures .place in
+              let k = c .before .before .before .write .kept .0 in
+              let l = length-parts (args .counts)
+              (meshOf (args .positions .now) (args .points .now) (args .edges .now) (args .intervals .now) (args .faces .now)) in
+              let q = pre .1 in
+              omega arith,
+          pre .0 .positions-finite,
+        ),
+      ),
+    )
 
 -- src/lib.rt:60:9
 write-edges-requires : tie.Need-write-edges-requires
@@ -43,18 +48,23 @@ write-edges-requires c κs =
     let c8 = c .before .before .before .before .before .before .before .before in
     let args = c8 .before .before .before .before .before .before .before .before .args in
     let pre = c8 .before .before .before .before .before .before .before .before .pre in
-    let write = c .before .before .before .before .before .before .before .write in
-    (pre .0 .room .edges,
-    (pre .0 .room .intervals,
-    (let e = write .ensures .place in
-    let k = write .kept .0 in
-    let e1 = c .before .before .before .write-points .ensures .place in
-    let k1 = c .before .before .before .write-points .kept .0 in
-    let l = length-parts (args .counts)
-    (meshOf (args .positions .now) (args .points .now) (args .edges .now) (args .intervals .now) (args .faces .now)) in
-    let q = pre .1 in
-    omega arith,
-    pre .0 .intervals-finite)))
+    let write = c .before .before .before .before .before .before .before .write in (
+      pre .0 .room .edges,
+      (
+        pre .0 .room .intervals,
+        (
+          let e = write .ensures .place in
+              let k = write .kept .0 in
+              let e1 = c .before .before .before .write-points .ensures .place in
+              let k1 = c .before .before .before .write-points .kept .0 in
+              let l = length-parts (args .counts)
+              (meshOf (args .positions .now) (args .points .now) (args .edges .now) (args .intervals .now) (args .faces .now)) in
+              let q = pre .1 in
+              omega arith,
+          pre .0 .intervals-finite,
+        ),
+      ),
+    )
 
 -- src/lib.rt:61:9
 write-faces-requires : tie.Need-write-faces-requires
@@ -64,18 +74,19 @@ write-faces-requires c κs =
     let args = c16 .before .before .before .before .args in
     let pre = c16 .before .before .before .before .pre in
     let write = c8 .before .before .before .write in
-    let write-points = c .before .before .before .before .before .before .before .write-points in
-    (pre .0 .room .faces,
-    let e = write .ensures .place in
-    let k = write .kept .0 in
-    let e1 = write-points .ensures .place in
-    let k1 = write-points .kept .0 in
-    let e2 = c .before .before .before .write-edges .ensures .place in
-    let k2 = c .before .before .before .write-edges .kept .0 in
-    let l = length-parts (args .counts)
-    (meshOf (args .positions .now) (args .points .now) (args .edges .now) (args .intervals .now) (args .faces .now)) in
-    let q = pre .1 in
-    omega arith)
+    let write-points = c .before .before .before .before .before .before .before .write-points in (
+      pre .0 .room .faces,
+      let e = write .ensures .place in
+          let k = write .kept .0 in
+          let e1 = write-points .ensures .place in
+          let k1 = write-points .kept .0 in
+          let e2 = c .before .before .before .write-edges .ensures .place in
+          let k2 = c .before .before .before .write-edges .kept .0 in
+          let l = length-parts (args .counts)
+          (meshOf (args .positions .now) (args .points .now) (args .edges .now) (args .intervals .now) (args .faces .now)) in
+          let q = pre .1 in
+          omega arith,
+    )
 
 -- src/lib.rt:62:20
 slice-aggregate-write-2 : tie.Need-slice-aggregate-write-2

@@ -21,10 +21,11 @@ coordinate-requires : tie.Need-coordinate-requires Inv-loop μ-loop
 coordinate-requires c κs = c .before .loop .inv .inside
 
 returns : tie.Need-returns Inv-loop μ-loop
-returns c =
-    (stop _ _ _ _ _ _ _ _ (c .before .before .before .before .loop .inv) (c .before .before .before .loop-test .taken)
-    (number-none _ (sym (c .before .before .coordinate .ensures) ∙ c .enum-told .given .1)),
-    tt)
+returns c = (
+  stop _ _ _ _ _ _ _ _ (c .before .before .before .before .loop .inv) (c .before .before .before .loop-test .taken)
+      (number-none _ (sym (c .before .before .coordinate .ensures) ∙ c .enum-told .given .1)),
+  tt,
+)
 
 loop-again : tie.Need-loop-again Inv-loop μ-loop
 loop-again c =

@@ -43,7 +43,13 @@ same-length-5 c = search needs
 
 -- src/lib.rt:95:1
 returns : tie.Need-returns
-returns c = read-told (c .before .before .before .before .before .before .before .before .before .before .before .before .before .before .before .before .before .before .before .before .before .before .before .before .before .args .counts .now) (c .before .before .before .before .before .before .before .before .before .before .before .before .before .read-listing .ensures) (c .reading-number .ensures) (c .before .store-read .ensures)
+returns c =
+    let c8 = c .before .before .before .before .before .before .before .before in
+    let c16 = c8 .before .before .before .before .before .before .before .before in
+    let c24 = c16 .before .before .before .before .before .before .before .before in
+    let read-listing = c8 .before .before .before .before .before .read-listing in
+    read-told (c24 .before .args .counts .now) (read-listing .ensures) (c .reading-number .ensures)
+    (c .before .store-read .ensures)
 
 pub lavyngo-read-listing-spec : {M : Type 1} → statement M
 lavyngo-read-listing-spec =

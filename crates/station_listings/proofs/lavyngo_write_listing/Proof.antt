@@ -33,7 +33,14 @@ same-length c = search needs
 
 -- src/lib.rt:68:1
 returns : tie.Need-returns
-returns c = written-told (c .before .before .before .before .before .before .before .before .before .before .before .before .before .before .args .length .now) (meshOf (c .before .before .before .before .before .before .before .before .before .before .before .before .before .before .args .positions .now) (c .before .before .before .before .before .before .before .before .before .before .before .before .before .before .args .points .now) (c .before .before .before .before .before .before .before .before .before .before .before .before .before .before .args .edges .now) (c .before .before .before .before .before .before .before .before .before .before .before .before .before .before .args .intervals .now) (c .before .before .before .before .before .before .before .before .before .before .before .before .before .before .args .faces .now)) (c .before .before .before .before .before .before .before .before .before .before .before .before .before .before .args .text .now) (c .before .before .before .before .before .before .before .load-counts .ensures) (c .before .before .before .before .before .write-listing .ensures) (c .writing-number .ensures) (c .before .store-length .ensures)
+returns c =
+    let c8 = c .before .before .before .before .before .before .before .before in
+    let args = c8 .before .before .before .before .before .before .args in
+    written-told (args .length .now)
+    (meshOf (args .positions .now) (args .points .now) (args .edges .now) (args .intervals .now) (args .faces .now))
+    (args .text .now) (c .before .before .before .before .before .before .before .load-counts .ensures)
+    (c .before .before .before .before .before .write-listing .ensures) (c .writing-number .ensures)
+    (c .before .store-length .ensures)
 
 pub lavyngo-write-listing-spec : {M : Type 1} → statement M
 lavyngo-write-listing-spec =
