@@ -1,10 +1,10 @@
 -- What the C functions of the listing answer and leave.
 --     lengthAfter n a      the length n afterwards: it is written only where the answer is 0
 --     countsRead xs a      the array xs of counts afterwards: it is written only where the answer is 0
---     Written              the answer of writing, the length and the output afterwards
---     written n o          the outcome o of writing, if the length was n
---     Read                 the answer of reading, the array of counts and the tables afterwards
---     read xs o            the outcome o of reading, if the array of counts was xs
+--     WritingTold          the answer of writing, the length and the output afterwards
+--     toldWriting n o      the outcome o of writing, if the length was n
+--     ReadingTold          the answer of reading, the array of counts and the tables afterwards
+--     toldReading xs o     the outcome o of reading, if the array of counts was xs
 use mathlib.Core.List.{List, [], _∷_}
 use Prim.Native.Nat.{ℕ}
 use Rattle.tables.specs.Mesh.{Mesh}
@@ -28,18 +28,18 @@ countsRead xs Reading.OverCeilings = xs
 countsRead xs Reading.NoRoom = xs
 countsRead xs Reading.NotClosed = xs
 
-pub record Written : Type 0 where
+pub record WritingTold : Type 0 where
   pub answer : ℕ
-  pub length : ℕ
+  pub count : ℕ
   pub text : List ℕ
 
-abbrev pub written : ℕ → WritingOutcome → Written
-written n o = record { answer = writingNumber (o .answer); length = lengthAfter n (o .answer); text = o .text }
+abbrev pub toldWriting : ℕ → WritingOutcome → WritingTold
+toldWriting n o = record { answer = writingNumber (o .answer); count = lengthAfter n (o .answer); text = o .text }
 
-pub record Read : Type 0 where
+pub record ReadingTold : Type 0 where
   pub answer : ℕ
   pub counts : List ℕ
   pub tables : Mesh
 
-abbrev pub read : List ℕ → ReadingOutcome → Read
-read xs o = record { answer = readingNumber (o .answer); counts = countsRead xs (o .answer); tables = o .tables }
+abbrev pub toldReading : List ℕ → ReadingOutcome → ReadingTold
+toldReading xs o = record { answer = readingNumber (o .answer); counts = countsRead xs (o .answer); tables = o .tables }

@@ -1,12 +1,12 @@
-// The handover listing for stations (document 02, §1): writing and reading as C functions on pointers and lengths
-// (station/lavyngo.h declares them). Every answer is a number: 0 for what is accepted, else that of the ground.
-// Not here: what the functions do (`listing_writing`, `listing_reading`), the other C functions (`station`).
-// Contracts: `lavyngo_write_listing`, `lavyngo_read_listing`. Definitions: `specs/Told.antt`. Laws: `proofs/Laws.antt`.
+// The handover listing for stations (document 02, §1): writing and reading, with the answers and the counts as C callers are told
+// them. Every answer is a number: 0 for what is accepted, else that of the ground.
+// Not here: what the functions do (`listing_writing`, `listing_reading`), the C functions (`station`).
+// Contracts: `write_listing_told`, `read_listing_told`. Definitions: `specs/Told.antt`. Laws: `proofs/Laws.antt`.
 ghost use mathlib.Core.Path.{_≡_};
 ghost use Rattle.tables.specs.Mesh.{meshOf};
 ghost use Rattle.station_answers.specs.Answers.{countsIn};
 ghost use Rattle.listings.specs.Handing.{writingNumber, readingNumber, writeListing, readListing};
-ghost use Rattle.station_listings.specs.Told.{lengthAfter, countsRead, Written, written, Read, read};
+ghost use Rattle.station_listings.specs.Told.{lengthAfter, countsRead, WritingTold, toldWriting, ReadingTold, toldReading};
 use listing_reading::read_listing;
 use listing_writing::write_listing;
 use listings::Reading;
@@ -65,8 +65,7 @@ fn store_read(counts: &mut [usize; 3], answer: Reading)
 }
 
 // Writes the listing of a mesh at the front of the output. How many bytes it has is written if it is accepted.
-#[no_mangle]
-pub extern "C" fn lavyngo_write_listing(
+pub fn write_listing_told(
     positions: &[f64],
     points: &[u32],
     edges: &[u32],
@@ -77,9 +76,9 @@ pub extern "C" fn lavyngo_write_listing(
     length: &mut usize,
 ) -> u32
     ensures { λ r. ⌜
-        _≡_ {A = Written}
-        (record { answer = r; length = now (length .exit); text = now (text .exit) })
-        (written (now (length .entry))
+        _≡_ {A = WritingTold}
+        (record { answer = r; count = now (length .exit); text = now (text .exit) })
+        (toldWriting (now (length .entry))
         (writeListing
         (meshOf (now (positions .entry)) (now (points .entry)) (now (edges .entry)) (now (intervals .entry)) (now (faces .entry)))
         (countsIn (now (counts .entry)))
@@ -92,8 +91,7 @@ pub extern "C" fn lavyngo_write_listing(
 }
 
 // Reads a listing into the lent tables. The counts are written if it is accepted.
-#[no_mangle]
-pub extern "C" fn lavyngo_read_listing(
+pub fn read_listing_told(
     text: &[u8],
     positions: &mut [f64],
     points: &mut [u32],
@@ -103,9 +101,9 @@ pub extern "C" fn lavyngo_read_listing(
     counts: &mut [usize; 3],
 ) -> u32
     ensures { λ r. ⌜
-        _≡_ {A = Read}
+        _≡_ {A = ReadingTold}
         (record { answer = r; counts = now (counts .exit); tables = meshOf (now (positions .exit)) (now (points .exit)) (now (edges .exit)) (now (intervals .exit)) (now (faces .exit)) })
-        (read (now (counts .entry))
+        (toldReading (now (counts .entry))
         (readListing (now (text .entry))
         (meshOf (now (positions .entry)) (now (points .entry)) (now (edges .entry)) (now (intervals .entry)) (now (faces .entry))))) ⌝ }
 {

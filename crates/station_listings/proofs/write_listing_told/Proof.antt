@@ -1,11 +1,11 @@
--- `lavyngo_write_listing` meets its contract: what writing left, and its answer as it is told.
+-- `write_listing_told` meets its contract: what writing left, and its answer as it is told.
 use borrow.Author.Needs.{needs}
 use Rattle.tables.specs.Mesh.{meshOf}
 use Rattle.station_listings.proofs.Laws.{written-told}
-use Rattle.station_listings.proofs.lavyngo_write_listing.Statement.{statement}
-use Rattle.station_listings.proofs.lavyngo_write_listing.Tie as tie
-use Rattle.station_listings.proofs.lavyngo_write_listing.Reads as reads
-use Rattle.station_listings.proofs.lavyngo_write_listing.Lts as lts
+use Rattle.station_listings.proofs.write_listing_told.Statement.{statement}
+use Rattle.station_listings.proofs.write_listing_told.Tie as tie
+use Rattle.station_listings.proofs.write_listing_told.Reads as reads
+use Rattle.station_listings.proofs.write_listing_told.Lts as lts
 use Rattle.listing_writing.proofs.write_listing.Reads as write-listing-reads
 use Rattle.station_answers.proofs.load_counts.Reads as load-counts-reads
 use Rattle.station_listings.proofs.store_length.Reads as store-length-reads
@@ -42,8 +42,8 @@ returns c =
     (c .before .before .before .before .before .write-listing .ensures) (c .writing-number .ensures)
     (c .before .store-length .ensures)
 
-pub lavyngo-write-listing-spec : {M : Type 1} → statement M
-lavyngo-write-listing-spec =
+pub write-listing-told-spec : {M : Type 1} → statement M
+write-listing-told-spec =
     tie.close
     (tie.spec
     load-counts-requires

@@ -1,10 +1,10 @@
--- `lavyngo_read_listing` meets its contract: what reading left, and its answer as it is told.
+-- `read_listing_told` meets its contract: what reading left, and its answer as it is told.
 use borrow.Author.Needs.{needs}
 use Rattle.station_listings.proofs.Laws.{read-told}
-use Rattle.station_listings.proofs.lavyngo_read_listing.Statement.{statement}
-use Rattle.station_listings.proofs.lavyngo_read_listing.Tie as tie
-use Rattle.station_listings.proofs.lavyngo_read_listing.Reads as reads
-use Rattle.station_listings.proofs.lavyngo_read_listing.Lts as lts
+use Rattle.station_listings.proofs.read_listing_told.Statement.{statement}
+use Rattle.station_listings.proofs.read_listing_told.Tie as tie
+use Rattle.station_listings.proofs.read_listing_told.Reads as reads
+use Rattle.station_listings.proofs.read_listing_told.Lts as lts
 use Rattle.listing_reading.proofs.read_listing.Reads as read-listing-reads
 use Rattle.station_listings.proofs.reading_number.Reads as reading-number-reads
 use Rattle.station_listings.proofs.store_read.Reads as store-read-reads
@@ -51,8 +51,8 @@ returns c =
     read-told (c24 .before .args .counts .now) (read-listing .ensures) (c .reading-number .ensures)
     (c .before .store-read .ensures)
 
-pub lavyngo-read-listing-spec : {M : Type 1} → statement M
-lavyngo-read-listing-spec =
+pub read-listing-told-spec : {M : Type 1} → statement M
+read-listing-told-spec =
     tie.close
     (tie.spec
     read-listing-requires
