@@ -17,7 +17,7 @@ use mesh_lines::Run;
 use mesh_text::ends;
 use scratch_rows::rows_for;
 use scratch_rows::within_ceilings;
-use scratch_rows::zero_rows;
+use row_copies::zero_rows;
 use tables::Counts;
 use text_numbers::stands;
 
