@@ -15,7 +15,7 @@ use Rattle.listing_reading.proofs.scan.Reads as scan-reads
 use Rattle.listing_reading.proofs.sizes.Reads as sizes-reads
 use Rattle.scratch_rows.proofs.rows_for.Reads as rows-for-reads
 use Rattle.scratch_rows.proofs.within_ceilings.Reads as within-ceilings-reads
-use Rattle.scratch_rows.proofs.zero_rows.Reads as zero-rows-reads
+use Rattle.row_copies.proofs.zero_rows.Reads as zero-rows-reads
 
 -- src/lib.rt:89:33
 sizes-requires : tie.Need-sizes-requires
