@@ -1,4 +1,4 @@
--- What the parts of `refine` promise. The contract of the whole names none of this.
+-- What a step whose scratch is left aside promises.
 --     SteppedTo a m o         the answer and the tables are those of the step's outcome o, whatever becomes of scratch
 use mathlib.Core.Path.{_≡_}
 use Rattle.tables.specs.Mesh.{Mesh}

@@ -5,10 +5,10 @@ use lib.ListN.{length}
 use lib.Seq.{length-take-le}
 use Rattle.tables.specs.Mesh.{meshOf}
 use Rattle.refine_outputs.proofs.Orders.{length-numbered}
-use Rattle.refine_text.proofs.Outputs.{in-numbered-order}
+use Rattle.numbered_steps.proofs.Steps.{in-numbered-order}
 use borrow.Author.Needs.{needs}
-use Rattle.refine_text.proofs.numbered_step.Statement.{statement}
-use Rattle.refine_text.proofs.numbered_step.Tie as tie
+use Rattle.numbered_steps.proofs.numbered_step.Statement.{statement}
+use Rattle.numbered_steps.proofs.numbered_step.Tie as tie
 
 slice-aggregate-step-by-zeros : tie.Need-slice-aggregate-step-by-zeros
 slice-aggregate-step-by-zeros c =

@@ -1,9 +1,9 @@
 -- step_by_zeros meets its contract.
 use Rattle.tables.specs.Mesh.{meshOf}
-use Rattle.refine_text.proofs.Steps.{stepped-to}
+use Rattle.numbered_steps.proofs.Steps.{stepped-to}
 use borrow.Author.Needs.{needs}
-use Rattle.refine_text.proofs.step_by_zeros.Statement.{statement}
-use Rattle.refine_text.proofs.step_by_zeros.Tie as tie
+use Rattle.numbered_steps.proofs.step_by_zeros.Statement.{statement}
+use Rattle.numbered_steps.proofs.step_by_zeros.Tie as tie
 
 returns : tie.Need-returns
 returns c =
