@@ -5,7 +5,7 @@
     examples/pieces.py --check    says whether they are up to date
 
 core.mesh is a piece of core: eight faces about it, in four rings from the depth 12.0 to 12.4, a flat lower end of one face and a
-broken upper end of four. two-triangles.mesh is the smallest closed mesh. turned.mesh is the core with one face listed the other
+broken upper end of four. two-triangles.mesh is the smallest closed mesh but for the empty one. turned.mesh is the core with one face listed the other
 way round, which is refused with 15.
 """
 import pathlib

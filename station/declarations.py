@@ -21,7 +21,7 @@ def in_c(name, kind):
     inner = kind.removeprefix("&mut ").removeprefix("&")
     if inner == "[usize; 3]":
         return ["%ssize_t %s[3]" % (const, name)]
-    if inner == "[usize; 1]":
+    if inner in ("[usize; 1]", "usize"):
         return ["%ssize_t *%s" % (const, name)]
     element = re.fullmatch(r"\[(\w+)\]", inner)
     return ["%s%s *%s" % (const, SLICES[element[1]], name), "size_t %s_length" % name]

@@ -1,6 +1,6 @@
 /* Lavyngo for stations: closed meshes of points, edges and faces in tables that the caller lends, built from lists or from
-   a text, audited, refined, and asked for an edge at a depth. The functions are those of libstation.a (`rt staticlib station`),
-   for x86-64 Linux.
+   a text, audited, refined, asked for an edge at a depth, and handed over as a listing. The functions are those of
+   libstation.a (`rt staticlib station`), for x86-64 Linux.
 
    Link with: cc program.c target/staticlib/libstation.a
 
@@ -61,6 +61,8 @@ enum lavyngo_answer {
     LAVYNGO_NO_ROOM = 32,             /* tables or scratch have fewer rows than the mesh after the step, or it is too large */
     /* the step; tables untouched, scratch zeroed */
     LAVYNGO_NOT_FINITE = 33,          /* a number of the mesh after the step would not be finite */
+    /* reading a listing, in the place of 1; tables untouched */
+    LAVYNGO_NOT_LISTING = 40,         /* the text is not of the form of the handover listing, text 3 */
     /* the depth finder, which touches nothing; 42 comes before 30, 41 after it */
     LAVYNGO_NOWHERE = 41,             /* no edge crosses the depth */
     LAVYNGO_NOT_FINITE_DEPTH = 42     /* the depth is not finite */
@@ -141,6 +143,25 @@ uint32_t lavyngo_find_depth(
     const uint32_t *edges, size_t edges_length, const double *intervals, size_t intervals_length,
     const uint32_t *faces, size_t faces_length, const size_t counts[3], double depth, size_t *edge);
 
+/* Writes the handover listing of the mesh, text `[mesh 3]`: every row of its points, edges and faces as a line.
+     text         the output; an output that is just as long as the listing suffices
+     written      one word: how many bytes the listing has, written where the answer is 0
+   Answers 0, 30, 2 (over the ceilings), 4 (the output is too short), the first that holds in this order. Writes nothing where the
+   answer is not 0, and no byte behind the listing. */
+uint32_t lavyngo_write_listing(
+    const double *positions, size_t positions_length, const uint32_t *points, size_t points_length,
+    const uint32_t *edges, size_t edges_length, const double *intervals, size_t intervals_length,
+    const uint32_t *faces, size_t faces_length, const size_t counts[3], uint8_t *text, size_t text_length, size_t *written);
+
+/* Reads a handover listing into the tables: the identical rows and counts, every bit. Rows beyond those listed are untouched.
+   Answers 0, 40 (not of the form), 2 (over the ceilings), 4 (fewer rows than are listed), 30 (no closed mesh), the first that
+   holds in this order. 40, 2 and 4 touch nothing; 30 zeroes as many rows of each kind as are listed. */
+uint32_t lavyngo_read_listing(
+    const uint8_t *text, size_t text_length,
+    double *positions, size_t positions_length, uint32_t *points, size_t points_length,
+    uint32_t *edges, size_t edges_length, double *intervals, size_t intervals_length,
+    uint32_t *faces, size_t faces_length, size_t counts[3]);
+
 /* THE SAME BY TABLES
    Nobody needs to write a row's width or to count elements: struct lavyngo_tables holds the five tables of a mesh with their
    rows, and a wrapper for each function takes it. */
@@ -204,6 +225,21 @@ static inline uint32_t lavyngo_tables_find_depth(
     return lavyngo_find_depth(LAVYNGO_LENT(t), counts, depth, edge);
 }
 
+static inline uint32_t lavyngo_tables_write_listing(
+    const struct lavyngo_tables *t, const size_t counts[3], uint8_t *text, size_t text_length, size_t *written) {
+    return lavyngo_write_listing(LAVYNGO_LENT(t), counts, text, text_length, written);
+}
+
+static inline uint32_t lavyngo_tables_read_listing(
+    const uint8_t *text, size_t text_length, const struct lavyngo_tables *t, size_t counts[3]) {
+    return lavyngo_read_listing(text, text_length, LAVYNGO_LENT(t), counts);
+}
+
+/* The most bytes that the listing of a mesh with these counts can have. */
+static inline size_t lavyngo_listing_most(const size_t counts[3]) {
+    return 15 + 93 * counts[LAVYNGO_POINTS] + 112 * counts[LAVYNGO_EDGES] + 62 * counts[LAVYNGO_FACES];
+}
+
 /* The rows that a step of a mesh with these counts needs, in the tables and in scratch. */
 static inline void lavyngo_counts_after(const size_t counts[3], size_t after[3]) {
     const size_t points = counts[LAVYNGO_POINTS], edges = counts[LAVYNGO_EDGES], faces = counts[LAVYNGO_FACES];
@@ -233,6 +269,7 @@ static inline const char *lavyngo_ground_words(uint32_t answer) {
     case LAVYNGO_NOT_EACH_FACE_ONCE: return "the order is not each face once";
     case LAVYNGO_NO_ROOM: return "too few rows for the mesh after the step, or that mesh is too large";
     case LAVYNGO_NOT_FINITE: return "a number of the mesh after the step would not be finite";
+    case LAVYNGO_NOT_LISTING: return "the text is not of the form of a handover listing";
     case LAVYNGO_NOWHERE: return "no edge crosses the depth";
     case LAVYNGO_NOT_FINITE_DEPTH: return "the depth is not finite";
     default: return "no answer of this library";

@@ -132,6 +132,35 @@ impl Tables {
         accepted(answer, counts.array()).map(|_| edge)
     }
 
+    /// Writes the listing of the mesh at the front of an output: how many bytes it has.
+    pub fn write_listing(&self, counts: Counts, text: &mut [u8]) -> Result<usize, Ground> {
+        let mut written = 0;
+        // SAFETY: every pointer goes with its length, and the output overlaps no table.
+        let answer = unsafe {
+            lavyngo_write_listing(
+                self.positions.as_ptr(), self.positions.len(), self.points.as_ptr(), self.points.len(),
+                self.edges.as_ptr(), self.edges.len(), self.intervals.as_ptr(), self.intervals.len(),
+                self.faces.as_ptr(), self.faces.len(), &counts.array(), text.as_mut_ptr(), text.len(), &mut written,
+            )
+        };
+        accepted(answer, counts.array()).map(|_| written)
+    }
+
+    /// Reads a listing: the counts of its mesh.
+    pub fn read_listing(&mut self, text: &[u8]) -> Result<Counts, Ground> {
+        let mut counts = [0; 3];
+        // SAFETY: every pointer goes with its length, and no two tables overlap.
+        let answer = unsafe {
+            lavyngo_read_listing(
+                text.as_ptr(), text.len(),
+                self.positions.as_mut_ptr(), self.positions.len(), self.points.as_mut_ptr(), self.points.len(),
+                self.edges.as_mut_ptr(), self.edges.len(), self.intervals.as_mut_ptr(), self.intervals.len(),
+                self.faces.as_mut_ptr(), self.faces.len(), &mut counts,
+            )
+        };
+        accepted(answer, counts)
+    }
+
     /// Refines the mesh once, visiting the faces in this order: the counts after the step.
     pub fn step(&mut self, counts: Counts, order: &[u32], scratch: &mut Tables) -> Result<Counts, Ground> {
         let mut after = counts.array();
@@ -187,6 +216,18 @@ pub mod raw {
             positions: *const f64, positions_length: usize, points: *const u32, points_length: usize,
             edges: *const u32, edges_length: usize, intervals: *const f64, intervals_length: usize,
             faces: *const u32, faces_length: usize, counts: *const [usize; 3], depth: f64, edge: *mut usize,
+        ) -> u32;
+        pub fn lavyngo_write_listing(
+            positions: *const f64, positions_length: usize, points: *const u32, points_length: usize,
+            edges: *const u32, edges_length: usize, intervals: *const f64, intervals_length: usize,
+            faces: *const u32, faces_length: usize, counts: *const [usize; 3],
+            text: *mut u8, text_length: usize, written: *mut usize,
+        ) -> u32;
+        pub fn lavyngo_read_listing(
+            text: *const u8, text_length: usize,
+            positions: *mut f64, positions_length: usize, points: *mut u32, points_length: usize,
+            edges: *mut u32, edges_length: usize, intervals: *mut f64, intervals_length: usize,
+            faces: *mut u32, faces_length: usize, counts: *mut [usize; 3],
         ) -> u32;
     }
 }

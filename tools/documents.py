@@ -12,12 +12,12 @@ from pathlib import Path
 
 ROOT = Path(__file__).resolve().parent.parent
 
-# The files that state the claims, and those that the contracts of `build`, `build_text`, `audit`, `step`, `refine`, `find_depth` and
-# of the functions for C cite.
+# The files that state the claims, and those that the contracts of `build`, `build_text`, `audit`, `step`, `refine`, `find_depth`, `write_listing`, `read_listing`,
+# `handover` and of the functions for C cite.
 STATED = """
     audited_meshes/Audit audited_meshes/Claims built_meshes/Building built_meshes/Builds built_meshes/Claims built_meshes/Connects
     built_meshes/LentContent building_tests/Lent
-    closed_meshes/Refinement closed_meshes/Renumbering crossings/Claims filed_pieces/Pieces refine_outputs/Claims refine_outputs/Output
+    closed_meshes/Refinement closed_meshes/Renumbering crossings/Claims filed_pieces/Pieces handover_outputs/Claims handover_outputs/Output listings/Claims listings/Handing refine_outputs/Claims refine_outputs/Output
     refined_meshes/Refines runs/Runs station/Station steps/FirstGround steps/LentScratch steps/OneStep steps/Step text_meshes/Claims text_meshes/TextBuilding
 """.split()
 
@@ -42,7 +42,9 @@ ABOUT = {
     "steps": "the step",
     "runs": "demand 3",
     "mesh_answers": "the lines of an answer",
+    "listings": "the handover listing",
     "refine_outputs": "what the program `refine` writes",
+    "handover_outputs": "what the program `handover` writes",
     "crossings": "depths that edges cross, the depth finder",
     "station_answers": "how an answer is told to a C caller",
     "station": "what the C functions answer and leave",

@@ -2,6 +2,7 @@
 
 use crate::library::{self, Counts, Tables};
 use crate::lists::Lists;
+use crate::listings;
 use crate::memory;
 use crate::random::Random;
 use crate::rust::Mesh;
@@ -171,6 +172,36 @@ pub fn run(rust_most: usize) {
     let order: Vec<u32> = (0..counts.faces as u32).collect();
     assert_eq!(library::step(&mut tables, &mut counts.array(), &order, &mut Tables::with_rows(after)), 0);
     step("torus 128 x 128", &tables, after, rust_most);
+}
+
+/// The listing of the largest mesh, the torus of 64 by 64 refined twice: written and read back by the library, the audit included,
+/// and by plain Rust, which audits nothing; and its bytes copied.
+pub fn listing() {
+    let (mut mesh, mut counts) = built(&torus(64).lists);
+    for _ in 0..2 {
+        let after = counts.refined();
+        let order: Vec<u32> = (0..counts.faces as u32).collect();
+        let mut tables = Tables::with_rows(after).over(&mesh);
+        assert_eq!(library::step(&mut tables, &mut counts.array(), &order, &mut Tables::with_rows(after)), 0);
+        (mesh, counts) = (tables, after);
+    }
+    let text = listings::text(&mesh, counts).into_bytes();
+    let output = || vec![0u8; text.len()];
+    let rate = |time: f64| text.len() as f64 * 1e3 / time;
+    let copied = least(9, output, |to| to.copy_from_slice(&text));
+    let written = least(9, output, |to| {
+        assert_eq!(library::write_listing(&mesh, counts.array(), to, &mut 0), 0, "the listing is written");
+    });
+    let read = least(9, || Tables::with_rows(counts), |tables| {
+        assert_eq!(library::read_listing(&text, tables, &mut [0; 3]), 0, "the listing is read");
+    });
+    let rust_written = least(3, String::new, |to| *to = listings::text(&mesh, counts));
+    let rust_read = least(3, || None, |rows| *rows = listings::rows(&text));
+    println!("## The handover listing\n\n{} bytes, of {counts:?}, in MB/s:\n", text.len());
+    println!("| | Written | Read |\n|---|---|---|");
+    println!("| Library, audit included | {:.0} | {:.0} |", rate(written), rate(read));
+    println!("| Rust, `write!` and `parse` | {:.0} | {:.0} |", rate(rust_written), rate(rust_read));
+    println!("| The bytes copied | {:.0} | |\n", rate(copied));
 }
 
 /// Some steps of the torus of 64 by 64 and nothing else, to be watched by a profiler.

@@ -7,7 +7,7 @@ use crate::lists::Lists;
 use crate::names::{self, Names, Register};
 use crate::random::Random;
 use crate::rust::Mesh;
-use crate::{depths, numbers, shapes, spoil};
+use crate::{depths, listings, numbers, shapes, spoil};
 use std::collections::BTreeMap;
 
 /// What is handed in, and what is done with it.
@@ -47,6 +47,8 @@ pub struct Tally {
     pub largest_face: usize,
     /// How often the depth finder gave each answer.
     pub depths: depths::Answers,
+    /// How often writing and reading a listing gave each answer.
+    pub listings: listings::Answers,
 }
 
 /// A change of what the library leaves, to see that it is found.
@@ -195,6 +197,11 @@ fn find_depths(case: &Case, mesh: &Tables, counts: Counts, tally: &mut Tally) ->
     depths::check(&mut Random::new(case.seed ^ 0xdeb7), mesh, counts.array(), 4, &mut tally.depths)
 }
 
+/// The listing of a mesh of the case, written and read back.
+fn hand_over(case: &Case, mesh: &Tables, counts: Counts, tally: &mut Tally) -> Result<(), String> {
+    listings::check(&mut Random::new(case.seed ^ 0x115), mesh, counts.array(), &mut tally.listings)
+}
+
 /// One step by the library and by the Rust. True if it was accepted; the mesh is then the refined one.
 fn step(
     case: &Case, mesh: &mut Tables, counts: &mut Counts, order: Option<&[u32]>, rust: &mut Mesh, tally: &mut Tally,
@@ -232,6 +239,7 @@ fn step(
     demand(tables.same_beyond(after, &before), || String::from("the step touches rows beyond the mesh"))?;
     tally.records += after.records();
     find_depths(case, &theirs, after, tally)?;
+    hand_over(case, &theirs, after, tally)?;
     *mesh = theirs;
     *counts = after;
     Ok(true)
@@ -355,6 +363,7 @@ pub fn check(case: &Case, tally: &mut Tally, tamper: Option<Tamper>) -> Result<(
         rust = Mesh::of_tables(&mesh, counts);
     }
     find_depths(case, &mesh, counts, tally)?;
+    hand_over(case, &mesh, counts, tally)?;
     if counts.refined().faces > CEILINGS.faces {
         return Ok(());
     }

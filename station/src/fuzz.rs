@@ -7,7 +7,7 @@ use crate::library::{self, Counts, Tables};
 use crate::lists::Lists;
 use crate::random::Random;
 use crate::rust::Mesh;
-use crate::{depths, numbers, shapes, spoil};
+use crate::{depths, listings, numbers, shapes, spoil};
 use std::collections::BTreeMap;
 
 #[derive(Default)]
@@ -22,6 +22,7 @@ pub struct Fuzzed {
     pub answers: BTreeMap<u32, u64>,
     pub audits: [u64; 2],
     pub depths: depths::Answers,
+    pub listings: listings::Answers,
 }
 
 /// Any binary64, near ones more often than far ones.
@@ -134,6 +135,7 @@ fn through(
     demand(answer == if closed { 0 } else { 30 }, || format!("the audit answers {answer}, closed is {closed}"))?;
     fuzzed.audits[usize::from(closed)] += 1;
     depths::check(random, &tables, words, 3, &mut fuzzed.depths)?;
+    listings::check(random, &tables, words, &mut fuzzed.listings)?;
 
     let expected = grounds::step(&tables, counts, order, &scratch);
     let (before, before_scratch) = (tables.clone(), scratch.clone());

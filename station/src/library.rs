@@ -174,3 +174,29 @@ pub fn find_depth(tables: &Tables, counts: [usize; 3], depth: f64, edge: &mut us
         )
     }
 }
+
+/// Writes the listing of a mesh. How many bytes it has is written with the answer 0 only.
+pub fn write_listing(tables: &Tables, counts: [usize; 3], text: &mut [u8], written: &mut usize) -> u32 {
+    let t = tables;
+    // SAFETY: each pointer goes with its length; the output overlaps no table.
+    unsafe {
+        lavyngo_write_listing(
+            t.positions.as_ptr(), t.positions.len(), t.points.as_ptr(), t.points.len(), t.edges.as_ptr(), t.edges.len(),
+            t.intervals.as_ptr(), t.intervals.len(), t.faces.as_ptr(), t.faces.len(), &counts, text.as_mut_ptr(), text.len(),
+            written,
+        )
+    }
+}
+
+/// Reads a listing into tables.
+pub fn read_listing(text: &[u8], tables: &mut Tables, counts: &mut [usize; 3]) -> u32 {
+    let t = tables;
+    // SAFETY: each pointer goes with its length, and no table overlaps another.
+    unsafe {
+        lavyngo_read_listing(
+            text.as_ptr(), text.len(), t.positions.as_mut_ptr(), t.positions.len(), t.points.as_mut_ptr(), t.points.len(),
+            t.edges.as_mut_ptr(), t.edges.len(), t.intervals.as_mut_ptr(), t.intervals.len(),
+            t.faces.as_mut_ptr(), t.faces.len(), counts,
+        )
+    }
+}

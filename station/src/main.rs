@@ -17,6 +17,7 @@ mod grounds;
 #[path = "../lavyngo.rs"]
 mod lavyngo;
 mod library;
+mod listings;
 mod lists;
 mod memory;
 mod names;
@@ -89,6 +90,7 @@ fn compare(meshes: u64, seed: u64) -> ExitCode {
                 t.runs_under_names, t.records_under_names
             );
             println!("the depth finder answered: {}", listed(&t.depths));
+            println!("listings written and read were answered: {}", listed(&t.listings));
             println!("none differed");
             ExitCode::SUCCESS
         }
@@ -137,6 +139,7 @@ fn fuzz(cases: u64, seed: u64) -> ExitCode {
             println!("{} audits: {} closed, {} not", f.audits[0] + f.audits[1], f.audits[1], f.audits[0]);
             println!("{} steps answered: {}", f.steps, listed(&f.answers));
             println!("the depth finder answered: {}", listed(&f.depths));
+            println!("listings written and read were answered: {}", listed(&f.listings));
             println!("every answer is document 01's or 02's, every row as its ground promises");
             ExitCode::SUCCESS
         }
@@ -182,6 +185,7 @@ fn command() -> ExitCode {
             ExitCode::SUCCESS
         }
         Some("bench") => {
+            bench::listing();
             bench::run(number(1, 100_000) as usize);
             ExitCode::SUCCESS
         }

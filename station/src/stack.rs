@@ -3,10 +3,10 @@
 
 use crate::library::{self, Counts, Tables};
 use crate::lists::Lists;
-use crate::shapes;
+use crate::{listings, shapes};
 use std::process::{Command, Stdio};
 
-const CALLS: [&str; 5] = ["build", "build_text", "audit", "step", "find_depth"];
+const CALLS: [&str; 7] = ["build", "build_text", "audit", "step", "find_depth", "write_listing", "read_listing"];
 
 /// The cube, so that the stack does not depend on what is worked on.
 fn cube() -> Lists {
@@ -29,6 +29,8 @@ pub fn call(name: &str, bytes: usize) {
     let after = Counts::of(counts).refined();
     let mut refined = Tables::with_rows(after).over(&tables.first(Counts::of(counts)));
     let mut scratch = Tables::with_rows(after);
+    let listing = listings::text(&refined, Counts::of(counts)).into_bytes();
+    let mut output = listing.clone();
     let name = name.to_string();
     let work = move || match name.as_str() {
         "build" => library::build(&lists, &mut tables, &mut counts),
@@ -36,6 +38,8 @@ pub fn call(name: &str, bytes: usize) {
         "audit" => library::audit(&refined, counts),
         "step" => library::step(&mut refined, &mut counts, &[0, 1, 2, 3, 4, 5], &mut scratch),
         "find_depth" => library::find_depth(&refined, counts, 2.0, &mut 0),
+        "write_listing" => library::write_listing(&refined, counts, &mut output, &mut 0),
+        "read_listing" => library::read_listing(&listing, &mut scratch, &mut counts),
         _ => unreachable!("no such function"),
     };
     let thread = std::thread::Builder::new().stack_size(bytes).spawn(work);

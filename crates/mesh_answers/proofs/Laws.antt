@@ -57,28 +57,41 @@ written-append {out} {at} {xs} {i} {o1} {ys} {j} {o2} a b =
 written-byte : (out : List ℕ) (i b : ℕ) → Written out i (b ∷ []) (i + 1) (set out i b)
 written-byte out i b = record { place = refl; list = refl }
 
-module _ (out : List ℕ) (at k n : ℕ) (e : k ≡ 0 → ⊥) where
+-- a number of one digit, and a longer one
+module _ (k n : ℕ) where
+  pub decimal-short : n < 10 → decimalDigits (suc k) n ≡ (48 + n) ∷ []
+  unfolding decimalDigits
+  decimal-short h = rw (lt-ltb n 10 h)
+
+  pub decimal-long : 10 ≤ n → decimalDigits (suc k) n ≡ decimalDigits k (n / 10) ++ ((48 + n % 10) ∷ [])
+  unfolding decimalDigits
+  decimal-long h = rw (le-ltb n 10 h)
+
+-- the same where the number of places is not 0
+module _ (k n : ℕ) (e : k ≡ 0 → ⊥) where
   from-one : k ≡ suc (k - 1)
   from-one = omega arith
 
+  pub length-short : n < 10 → length (decimalDigits k n) ≡ 1
+  length-short h = ap (λ (j : ℕ). length (decimalDigits j n)) from-one ∙ ap length (decimal-short (k - 1) n h)
+
+  pub length-long : 10 ≤ n → length (decimalDigits k n) ≡ length (decimalDigits (k - 1) (n / 10)) + 1
+  length-long h =
+      ap (λ (j : ℕ). length (decimalDigits j n)) from-one ∙ ap length (decimal-long (k - 1) n h) ∙ length-append (decimalDigits (k - 1) (n / 10)) ((48 + n % 10) ∷ [])
+
+module _ (out : List ℕ) (at k n : ℕ) (e : k ≡ 0 → ⊥) where
   pub hex-last : {i b : ℕ} {out′ : List ℕ} → Written out at (hexBytes (k - 1) (n / 16)) i out′ → b ≡ hexByte (n % 16) → Written out at (hexBytes k n) (i + 1) (set out′ i b)
   unfolding hexBytes
   hex-last {i} {b} {out′} h eb =
-      let ek : hexBytes k n ≡ hexBytes (k - 1) (n / 16) ++ (hexByte (n % 16) ∷ []) = ap (λ (j : ℕ). hexBytes j n) from-one in
+      let ek : hexBytes k n ≡ hexBytes (k - 1) (n / 16) ++ (hexByte (n % 16) ∷ []) = ap (λ (j : ℕ). hexBytes j n) (from-one k n e) in
       rw (ek, eb) (written-append h (written-byte out′ i (hexByte (n % 16))))
 
   pub decimal-one : n < 10 → {b : ℕ} → b ≡ 48 + n → Written out at (decimalDigits k n) (at + 1) (set out at b)
-  unfolding decimalDigits
-  decimal-one h eb =
-      let ek : decimalDigits k n ≡ (48 + n) ∷ [] = ap (λ (j : ℕ). decimalDigits j n) from-one ∙ (rw (lt-ltb n 10 h)) in
-      rw (ek, eb) (written-byte out at (48 + n))
+  decimal-one h eb = rw (ap (λ (j : ℕ). decimalDigits j n) (from-one k n e) ∙ decimal-short (k - 1) n h, eb) (written-byte out at (48 + n))
 
   pub decimal-last : 10 ≤ n → {i b : ℕ} {out′ : List ℕ} → Written out at (decimalDigits (k - 1) (n / 10)) i out′ → b ≡ 48 + n % 10
       → Written out at (decimalDigits k n) (i + 1) (set out′ i b)
-  unfolding decimalDigits
-  decimal-last h {i} {b} {out′} d eb =
-      let ek : decimalDigits k n ≡ decimalDigits (k - 1) (n / 10) ++ ((48 + n % 10) ∷ []) = ap (λ (j : ℕ). decimalDigits j n) from-one ∙ (rw (le-ltb n 10 h)) in
-      rw (ek, eb) (written-append d (written-byte out′ i (48 + n % 10)))
+  decimal-last h {i} {b} {out′} d eb = rw (ap (λ (j : ℕ). decimalDigits j n) (from-one k n e) ∙ decimal-long (k - 1) n h, eb) (written-append d (written-byte out′ i (48 + n % 10)))
 
 pub length-number : (n : ℕ) → length (numberField n) ≤ 21
 length-number n = let h = length-decimal 20 n in omega arith

@@ -14,7 +14,7 @@ use Rattle.text_numbers.specs.Numbers.{digitValue, value, digit, bits, digitsFr
 use Rattle.text_numbers.proofs.Laws.{and-both, digit-inside}
 use Rattle.text_numbers.proofs.Turns.{times-found, digit-found, digits-turn, digits-stop}
 use Rattle.mesh_answers.specs.Lines.{decimalDigits, decimalBytes, hexByte, hexBytes}
-use Rattle.mesh_answers.proofs.Laws.{length-hex}
+use Rattle.mesh_answers.proofs.Laws.{length-hex, decimal-short, decimal-long}
 
 -- all bytes are digits below the base
 abbrev Digits : ℕ → List ℕ → Type 0
@@ -94,15 +94,6 @@ decimal-digits (suc k) n = go (ltb n 10) refl (decimal-digits k (n / 10))
     go false e h =
         let m : n % 10 < 10 = omega arith in
         digits-append 10 (decimalDigits k (n / 10)) ((48 + n % 10) ∷ []) h (rw (decimal-digit (n % 10) m) m, tt)
-
-module _ (k n : ℕ) where
-  decimal-short : n < 10 → decimalDigits (suc k) n ≡ (48 + n) ∷ []
-  unfolding decimalDigits
-  decimal-short h = rw (lt-ltb n 10 h)
-
-  decimal-long : 10 ≤ n → decimalDigits (suc k) n ≡ decimalDigits k (n / 10) ++ ((48 + n % 10) ∷ [])
-  unfolding decimalDigits
-  decimal-long h = rw (le-ltb n 10 h)
 
 decimal-value : (k n : ℕ) → n < 10 ^ suc k → value 10 0 (map digitValue (decimalDigits (suc k) n)) ≡ n
 unfolding value

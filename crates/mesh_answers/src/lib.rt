@@ -1,6 +1,6 @@
 // The lines of an answer (document 01, "Mesh text"): `[mesh 8 12 6]`, `[step 26 48 24]`, `[at 0 H H H]`, `[refused N]`.
 // Not here: the reading of texts (`mesh_text`).
-// Contracts: `write_mesh`, `write_step`, `write_at`, `write_refused`. Definitions: `specs/Lines.antt`. Laws for callers: `proofs/Laws.antt`.
+// Contracts: `write`, `write_number`, `write_bits`, `write_mesh`, `write_step`, `write_at`, `write_refused`. Definitions: `specs/Lines.antt`. Laws for callers: `proofs/Laws.antt`.
 ghost use mathlib.Core.Path.{_≡_};
 ghost use Prim.Native.Nat.{_+_, _≤_, _<_};
 ghost use lib.ListN.{length};
@@ -8,7 +8,7 @@ ghost use Rattle.mesh_answers.specs.Lines.{decimalDigits, hexByte, hexBy
 ghost use Rattle.mesh_answers.specs.Writing.{Written};
 
 // Writes the bytes of t from a place on, and answers the place after them.
-fn write(out: &mut [u8], at: usize, t: &[u8]) -> usize
+pub fn write(out: &mut [u8], at: usize, t: &[u8]) -> usize
     requires { ⌜ at + length (now t) ≤ length (now out) ⌝ }
     ensures { λ r. ⌜ Written (now (out .entry)) at (now (t .entry)) r (now (out .exit)) ⌝ }
 {
@@ -41,7 +41,7 @@ fn hex_byte(d: u64) -> u8
 
 // Writes a number in at most k decimal digits, and answers the place after it.
 fn write_decimal(out: &mut [u8], at: usize, n: u64, k: usize) -> usize
-    requires { ⌜ at + k ≤ length (now out) ⌝ }
+    requires { ⌜ at + length (decimalDigits k n) ≤ length (now out) ⌝ }
     ensures { λ r. ⌜ Written (now (out .entry)) at (decimalDigits k n) r (now (out .exit)) ⌝ }
 {
     if k == 0 {
@@ -70,8 +70,8 @@ fn write_hex(out: &mut [u8], at: usize, n: u64, k: usize) -> usize
 }
 
 // Writes a space and a number.
-fn write_number(out: &mut [u8], at: usize, n: u64) -> usize
-    requires { ⌜ at + 21 ≤ length (now out) ⌝ }
+pub fn write_number(out: &mut [u8], at: usize, n: u64) -> usize
+    requires { ⌜ at + length (numberField n) ≤ length (now out) ⌝ }
     ensures { λ r. ⌜ Written (now (out .entry)) at (numberField n) r (now (out .exit)) ⌝ }
 {
     let i = write(out, at, b" ");
@@ -79,7 +79,7 @@ fn write_number(out: &mut [u8], at: usize, n: u64) -> usize
 }
 
 // Writes a space and the bits of a binary64.
-fn write_bits(out: &mut [u8], at: usize, b: u64) -> usize
+pub fn write_bits(out: &mut [u8], at: usize, b: u64) -> usize
     requires { ⌜ at + 17 ≤ length (now out) ⌝ }
     ensures { λ r. ⌜ Written (now (out .entry)) at (bitsField b) r (now (out .exit)) ⌝ }
 {

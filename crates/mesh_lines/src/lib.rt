@@ -1,6 +1,6 @@
 // The lines of mesh text 1 (document 01, "Mesh text"): point lines and face lines, read into lists.
 // Not here: the whole text and its limits (`mesh_text`).
-// Contracts: `points`, `faces`. Definitions: `specs/Grammar.antt` (the lines), `specs/Parts.antt` (the answers and the lists).
+// Contracts: `coordinates`, `points`, `faces`. Definitions: `specs/Grammar.antt` (the lines), `specs/Parts.antt` (the answers and the lists).
 // Laws for callers: `proofs/Laws.antt`, `proofs/Answers.antt`.
 ghost use mathlib.Core.Path.{_≡_};
 ghost use Prim.Native.Nat.{_≤_};
@@ -18,7 +18,7 @@ use text_numbers::float;
 use text_numbers::stands;
 
 // The place after a part of the text.
-enum Place {
+pub enum Place {
     At(usize),
     None,
 }
@@ -42,7 +42,7 @@ pub enum Lines {
 }
 
 // Stores a number, where the list has such a row.
-fn put_number(xs: &mut [f64], i: usize, x: f64)
+pub fn put_number(xs: &mut [f64], i: usize, x: f64)
     ensures { λ r. ⌜ now (xs .exit) ≡ set (now (xs .entry)) i x ⌝ }
 {
     if i < xs.len() {
@@ -51,7 +51,7 @@ fn put_number(xs: &mut [f64], i: usize, x: f64)
 }
 
 // Stores a word, where the list has such a row.
-fn put_word(xs: &mut [u32], i: usize, x: u32)
+pub fn put_word(xs: &mut [u32], i: usize, x: u32)
     ensures { λ r. ⌜ now (xs .exit) ≡ set (now (xs .entry)) i x ⌝ }
 {
     if i < xs.len() {
@@ -70,15 +70,15 @@ fn coordinate(s: &[u8], at: usize) -> Number
     bits(s, at + 1)
 }
 
-// The three coordinates of a point, stored from n on.
-fn coordinates(s: &[u8], at: usize, xs: &mut [f64], n: usize) -> Place
+// As many coordinates as w says, stored from n on.
+pub fn coordinates(s: &[u8], at: usize, w: usize, xs: &mut [f64], n: usize) -> Place
     requires { ⌜ (at ≤ length (now s)) × (n ≤ at) ⌝ }
-    ensures place { λ r. ⌜ r ≡ placeAnswer (times 3 (coordinateForm (now (s .entry))) at) ⌝ }
-    ensures list { λ r. ⌜ AtPlace r (now (xs .exit) ≡ stored (map float) (now (xs .entry)) n (times 3 (coordinateForm (now (s .entry))) at)) ⌝ }
+    ensures place { λ r. ⌜ r ≡ placeAnswer (times w (coordinateForm (now (s .entry))) at) ⌝ }
+    ensures list { λ r. ⌜ AtPlace r (now (xs .exit) ≡ stored (map float) (now (xs .entry)) n (times w (coordinateForm (now (s .entry))) at)) ⌝ }
 {
     let mut i = at;
     let mut k: usize = 0;
-    while k < 3 {
+    while k < w {
         let Number::Is(b, j) = coordinate(s, i) else {
             return Place::None;
         };
@@ -95,7 +95,7 @@ fn point(s: &[u8], at: usize, xs: &mut [f64], n: usize) -> Place
     ensures place { λ r. ⌜ r ≡ placeAnswer (pointForm (now (s .entry)) at) ⌝ }
     ensures list { λ r. ⌜ AtPlace r (now (xs .exit) ≡ stored (map float) (now (xs .entry)) n (pointForm (now (s .entry)) at)) ⌝ }
 {
-    let Place::At(i) = coordinates(s, at, xs, n) else {
+    let Place::At(i) = coordinates(s, at, 3, xs, n) else {
         return Place::None;
     };
     if !stands(s, i, b"]\n") {

@@ -1,6 +1,6 @@
 // Mesh text 1 (document 01, "Mesh text"): its grammar, and a reader of it.
 // Not here: its lines (`mesh_lines`), grounds 3 and later (building), the answers' lines (`mesh_answers`).
-// Contract: `read_text`. Definitions: `specs/Text.antt` (the grammar), `specs/Lists.antt` (the lists that
+// Contracts: `read_text`, `ends`. Definitions: `specs/Text.antt` (the grammar), `specs/Lists.antt` (the lists that
 // a text stands for), `specs/Reading.antt` (the answer and the lent lists).
 // Laws for callers: `proofs/Read.antt`.
 ghost use mathlib.Core.Path.{_≡_};
@@ -55,7 +55,7 @@ fn scan(s: &[u8], xs: &mut [f64], ls: &mut [u32], ps: &mut [u32], ds: &mut [f64]
 }
 
 // Whether the end line stands at a place and is the last of the text.
-fn ends(s: &[u8], at: usize) -> bool
+pub fn ends(s: &[u8], at: usize) -> bool
     requires { ⌜ at ≤ length (now s) ⌝ }
     ensures { λ r. ⌜ r ≡ ends (now (s .entry)) at ⌝ }
 {

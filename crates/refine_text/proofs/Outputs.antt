@@ -4,7 +4,7 @@ use mathlib.Core.List.{List, _++_}
 use Prim.Native.Nat.{ℕ, _+_, _≤_, _<_}
 use native.Mathlib.Nat.{zero-add}
 use native.Mathlib.Omega.{arith}
-use lib.ListN.{length, take, replicate}
+use lib.ListN.{length, replicate}
 use lib.Ieee.{ofBits, binary64}
 use borrow.Author.Tests.{le-leb, lt-leb}
 use Rattle.tables.specs.Mesh.{Mesh, meshOf}
@@ -16,7 +16,6 @@ use Rattle.text_meshes.specs.TextBuilding.{TextOutcome, buildText}
 use Rattle.text_meshes.specs.declared.TextBuilt.{TextBuilt}
 use Rattle.text_meshes.specs.declared.TextBuilt.the-variants.{Accepted, NotText, Refused}
 use Rattle.text_meshes.proofs.Theorem.{accepted-within}
-use Rattle.steps.specs.Step.{step}
 use Rattle.steps.specs.declared.Stepped.{Stepped}
 use Rattle.runs.specs.Runs.{numbered}
 use Rattle.text_numbers.specs.Form.{bytes}
@@ -25,19 +24,10 @@ use Rattle.mesh_answers.specs.Writing.{Written}
 use Rattle.mesh_answers.proofs.Laws.{written-append, length-counts}
 use Rattle.refine_outputs.specs.Output.{zeroTables, stepLines, linesOf, numberedStep, outputIf, outputFrom, output, refine}
 use Rattle.refine_outputs.specs.FirstPoint.{PointReady}
-use Rattle.refine_outputs.proofs.Orders.{take-numbered}
 use Rattle.refine_outputs.proofs.FirstPoint.{point-ready}
-use Rattle.refine_text.specs.Parts.{SteppedTo}
+use Rattle.numbered_steps.specs.Parts.{SteppedTo}
 
 -- ---- the step
-
--- the order that is handed in is the numbered one
-pub in-numbered-order : (m : Mesh) (c : Counts) (o : List ℕ) {a : Stepped} {m' : Mesh} → c .faces ≤ 64 → o ≡ numbered 64
-    → SteppedTo a m' (step m c (take (c .faces) o) zeroTables) → SteppedTo a m' (numberedStep c m)
-unfolding numberedStep
-in-numbered-order m c o few e h =
-    let q : take (c .faces) o ≡ numbered (c .faces) = ap (take (c .faces)) e ∙ take-numbered (c .faces) 64 few in
-    rw q at h
 
 module _ (c : Counts) (m : Mesh) {a : Stepped} {m' : Mesh} (h : SteppedTo a m' (numberedStep c m)) where
   pub ready : PointReady c a (m' .positions)

@@ -1,29 +1,26 @@
 // What the program `refine` writes for the bytes that it reads (document 01, "Mesh text"): the mesh is built from the text, then
 // refined once in numbered order.
-// Not here: reading and writing (`refine`), the definition and its claims (`refine_outputs`), the lines of a step and the numbered
-// order (`refine_parts`).
-// Contract: `refine`. Definitions: `Output` of `refine_outputs`; `specs/Parts.antt`. Laws: `proofs/Steps.antt`, `proofs/Outputs.antt`.
-// Names: `newpositions`, `newpoints`, `newedges`, `newintervals` and `newfaces` are the scratch tables of positions, points, edges, intervals, faces.
+// Not here: reading and writing (`refine`), the definition and its claims (`refine_outputs`), the lines of a step (`refine_parts`),
+// the step in numbered order (`numbered_steps`).
+// Contract: `refine`. Definition: `Output` of `refine_outputs`. Laws: `proofs/Outputs.antt`.
 ghost use mathlib.Core.Path.{_≡_};
 ghost use mathlib.Core.List.{_++_};
 ghost use Prim.Native.Nat.{_≤_};
 ghost use lib.ListN.{length};
 ghost use Rattle.tables.specs.Mesh.{meshOf};
 ghost use Rattle.built_meshes.specs.Lists.{refineLimits};
-ghost use Rattle.steps.specs.Step.{step};
 ghost use Rattle.mesh_answers.specs.Lines.{meshLine};
-ghost use Rattle.refine_outputs.specs.Output.{zeroTables, linesOf, numberedStep, outputFrom, Writing, refine, outputBytes};
+ghost use Rattle.refine_outputs.specs.Output.{linesOf, numberedStep, outputFrom, Writing, refine, outputBytes};
 ghost use Rattle.mesh_answers.specs.Writing.{Written};
-ghost use Rattle.refine_text.specs.Parts.{SteppedTo};
 use answer_numbers::ground_number;
 use building_tests::Bounds;
-use building_tests::REFINE_FACES;
 use mesh_answers::write_mesh;
 use mesh_answers::write_refused;
-use refine_parts::number_faces;
+use numbered_steps::LENT_EDGES;
+use numbered_steps::LENT_FACES;
+use numbered_steps::LENT_POINTS;
+use numbered_steps::numbered_step;
 use refine_parts::write_stepped;
-use refining::step;
-use steps::Stepped;
 use tables::Counts;
 use tables::EDGE_WIDTH;
 use tables::FACE_WIDTH;
@@ -34,78 +31,6 @@ use text_meshes::TextBuilt;
 
 // The most bytes of an output.
 pub const OUTPUT_BYTES: usize = 256;
-
-// The rows of the tables that are lent to building and to the step.
-const LENT_POINTS: usize = 256;
-
-const LENT_EDGES: usize = 512;
-
-const LENT_FACES: usize = 256;
-
-// The step of a mesh in the order handed in, by scratch of zeros.
-fn step_by_zeros(
-    positions: &mut [f64],
-    points: &mut [u32],
-    edges: &mut [u32],
-    intervals: &mut [f64],
-    faces: &mut [u32],
-    counts: Counts,
-    order: &[u32],
-) -> Stepped
-    ensures { λ r. ⌜
-        SteppedTo r (meshOf (now (positions .exit)) (now (points .exit)) (now (edges .exit)) (now (intervals .exit)) (now (faces .exit)))
-        (step (meshOf (now (positions .entry)) (now (points .entry)) (now (edges .entry)) (now (intervals .entry)) (now (faces .entry)))
-        counts (now (order .entry)) zeroTables) ⌝ }
-{
-    let mut newpositions = [0.0; LENT_POINTS * POSITION_WIDTH];
-    let mut newpoints = [0u32; LENT_POINTS * POINT_WIDTH];
-    let mut newedges = [0u32; LENT_EDGES * EDGE_WIDTH];
-    let mut newintervals = [0.0; LENT_EDGES];
-    let mut newfaces = [0u32; LENT_FACES * FACE_WIDTH];
-    step(
-        positions,
-        points,
-        edges,
-        intervals,
-        faces,
-        counts,
-        order,
-        &mut newpositions,
-        &mut newpoints,
-        &mut newedges,
-        &mut newintervals,
-        &mut newfaces,
-    )
-}
-
-// The step of a mesh of at most 64 faces, which are visited in numbered order.
-fn numbered_step(
-    positions: &mut [f64],
-    points: &mut [u32],
-    edges: &mut [u32],
-    intervals: &mut [f64],
-    faces: &mut [u32],
-    counts: Counts,
-) -> Stepped
-    requires { ⌜ counts .faces ≤ refineLimits .faces ⌝ }
-    ensures { λ r. ⌜
-        SteppedTo r (meshOf (now (positions .exit)) (now (points .exit)) (now (edges .exit)) (now (intervals .exit)) (now (faces .exit)))
-        (numberedStep counts
-        (meshOf (now (positions .entry)) (now (points .entry)) (now (edges .entry)) (now (intervals .entry)) (now (faces .entry)))) ⌝ }
-{
-    let mut order = [0u32; REFINE_FACES];
-    number_faces(&mut order);
-    let n = counts.faces;
-    step_by_zeros(
-        positions,
-        points,
-        edges,
-        intervals,
-        faces,
-        counts,
-        &order[..n],
-    )
-}
 
 // Writes the lines of a mesh that is built: its counts, and those of its step.
 fn write_built(

@@ -1,10 +1,10 @@
-// The library for stations: building, the audit, the step and the depth finder as C functions on pointers and lengths
-// (station/lavyngo.h declares them). Every answer is document 01's number or document 02's: 0 for what is accepted, else that of the
-// ground. Counts stand in an array of three that the caller lends: points, edges, faces.
-// Not here: what the functions do (`building`, `text_building`, `audit`, `refining`, `depth_finder`), how an answer is told
-// (`station_answers`).
-// Contracts: `lavyngo_build`, `lavyngo_build_text`, `lavyngo_audit`, `lavyngo_step`, `lavyngo_find_depth`. Definitions:
-// `specs/Station.antt`. Laws: `proofs/Laws.antt`.
+// The library for stations: building, the audit, the step, the depth finder and the handover listing as C functions on pointers
+// and lengths (station/lavyngo.h declares them). Every answer is document 01's number or document 02's: 0 for what is accepted, else
+// that of the ground. Counts stand in an array of three that the caller lends: points, edges, faces.
+// Not here: what the functions do (`building`, `text_building`, `audit`, `refining`, `depth_finder`, `listing_writing`,
+// `listing_reading`), how an answer is told (`station_answers`, `station_listings`).
+// Contracts: `lavyngo_build`, `lavyngo_build_text`, `lavyngo_audit`, `lavyngo_step`, `lavyngo_find_depth`,
+// `lavyngo_write_listing`, `lavyngo_read_listing`. Definitions: `specs/Station.antt`. Laws: `proofs/Laws.antt`.
 ghost use mathlib.Core.Path.{_≡_};
 ghost use Rattle.built_meshes.specs.Building.{build};
 ghost use Rattle.built_meshes.specs.Lists.{generalLimits};
@@ -17,6 +17,8 @@ ghost use Rattle.steps.specs.OneStep.{Binary64};
 ghost use Rattle.station.specs.Station.{BuildingTold, built, textBuilt, audited, StepTold, stepped, Finding, found};
 ghost use Rattle.crossings.specs.Crossings.{find};
 ghost use Rattle.station_answers.specs.Answers.{countsIn};
+ghost use Rattle.listings.specs.Handing.{writeListing, readListing};
+ghost use Rattle.station_listings.specs.Told.{WritingTold, toldWriting, ReadingTold, toldReading};
 use audit::audit;
 use building::build;
 use building_tests::Bounds;
@@ -27,6 +29,8 @@ use station_answers::tell_built;
 use station_answers::tell_crossing;
 use station_answers::tell_stepped;
 use station_answers::tell_text_built;
+use station_listings::read_listing_told;
+use station_listings::write_listing_told;
 use text_building::build_text;
 
 // Builds a mesh from lists in the lent tables. The counts are written if it is accepted.
@@ -200,4 +204,58 @@ pub extern "C" fn lavyngo_find_depth(
         depth,
     );
     tell_crossing(edge, answer)
+}
+
+// Writes the listing of a mesh at the front of the output. How many bytes it has is written if it is accepted.
+#[no_mangle]
+pub extern "C" fn lavyngo_write_listing(
+    positions: &[f64],
+    points: &[u32],
+    edges: &[u32],
+    intervals: &[f64],
+    faces: &[u32],
+    counts: &[usize; 3],
+    text: &mut [u8],
+    written: &mut usize,
+) -> u32
+    ensures { λ r. ⌜
+        _≡_ {A = WritingTold}
+        (record { answer = r; count = now (written .exit); text = now (text .exit) })
+        (toldWriting (now (written .entry))
+        (writeListing
+        (meshOf (now (positions .entry)) (now (points .entry)) (now (edges .entry)) (now (intervals .entry)) (now (faces .entry)))
+        (countsIn (now (counts .entry)))
+        (now (text .entry)))) ⌝ }
+{
+    write_listing_told(
+        positions,
+        points,
+        edges,
+        intervals,
+        faces,
+        counts,
+        text,
+        written,
+    )
+}
+
+// Reads a listing into the lent tables. The counts are written if it is accepted.
+#[no_mangle]
+pub extern "C" fn lavyngo_read_listing(
+    text: &[u8],
+    positions: &mut [f64],
+    points: &mut [u32],
+    edges: &mut [u32],
+    intervals: &mut [f64],
+    faces: &mut [u32],
+    counts: &mut [usize; 3],
+) -> u32
+    ensures { λ r. ⌜
+        _≡_ {A = ReadingTold}
+        (record { answer = r; counts = now (counts .exit); tables = meshOf (now (positions .exit)) (now (points .exit)) (now (edges .exit)) (now (intervals .exit)) (now (faces .exit)) })
+        (toldReading (now (counts .entry))
+        (readListing (now (text .entry))
+        (meshOf (now (positions .entry)) (now (points .entry)) (now (edges .entry)) (now (intervals .entry)) (now (faces .entry))))) ⌝ }
+{
+    read_listing_told(text, positions, points, edges, intervals, faces, counts)
 }

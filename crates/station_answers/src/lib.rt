@@ -30,7 +30,7 @@ pub fn load_counts(counts: &[usize; 3]) -> Counts
 }
 
 // Stores counts in an array.
-fn store_counts(counts: &mut [usize; 3], c: Counts)
+pub fn store_counts(counts: &mut [usize; 3], c: Counts)
     ensures { λ _. ⌜ now (counts .exit) ≡ putRow (now (counts .entry)) 0 (c .points ∷ c .edges ∷ c .faces ∷ []) ⌝ }
 {
     counts[0] = c.points;

@@ -7,6 +7,7 @@ use mathlib.Core.Path.{_≡_}
 use mathlib.Core.List.{List}
 use mathlib.Core.Logic.{_⊎_, _↔_}
 use Prim.Native.Nat.{ℕ, _<_}
+use Rattle.tables.specs.Layout.{pointCeiling, edgeCeiling, faceCeiling}
 use Rattle.tables.specs.Mesh.{Mesh, pointRows, edgeRows, faceRows}
 use Rattle.tables.specs.declared.Counts.{Counts}
 use Rattle.audited_meshes.specs.Audited.{Audited}
@@ -21,7 +22,8 @@ abbrev pub Short : Counts → Mesh → Type 0
 Short c t = (pointRows t < c .points) ⊎ ((edgeRows t < c .edges) ⊎ (faceRows t < c .faces))
 
 abbrev pub No-room : Counts → Mesh → Mesh → Type 0
-No-room c m t = (Short c m ⊎ Short c t) ⊎ ((65536 < c .points) ⊎ ((131072 < c .edges) ⊎ (65536 < c .faces)))
+No-room c m t =
+    (Short c m ⊎ Short c t) ⊎ ((pointCeiling < c .points) ⊎ ((edgeCeiling < c .edges) ⊎ (faceCeiling < c .faces)))
 
 module _ (m : Mesh) (c : Counts) (order : List ℕ) (t : Mesh) where
   -- the grounds that are not met

@@ -3,7 +3,7 @@ use borrow.Author.Needs.{needs}
 use native.Mathlib.Omega.{arith}
 use mathlib.Core.Path.{_∙_}
 use lib.ListN.{length-set}
-use Rattle.mesh_answers.proofs.Laws.{length-decimal, decimal-none, decimal-one, decimal-last}
+use Rattle.mesh_answers.proofs.Laws.{length-short, length-long, decimal-none, decimal-one, decimal-last}
 use Prim.Native.Nat.{ℕ, _<_, _-_, _/_}
 use borrow.Fn.Kinds.{In}
 use borrow.Fn.PlainCycle.{Measures, is, falls, and}
@@ -64,7 +64,8 @@ write-decimal-slice-write-out : (t : ℕ) → write-decimal-lts.Need-slice-write
   write-decimal.Post,
 ) (write-decimal-at t) write-decimal.Post
 write-decimal-slice-write-out t c =
-    let h = c .before .before .if1 .left in
+    let args = c .before .before .before .before .args in
+    let l = length-short (args .k) (args .n) (c .before .before .if1 .left) (c .before .if2 .taken) in
     let p = c .before .before .before .before .pre .1 in
     omega arith
 
@@ -76,7 +77,8 @@ write-decimal-add-result : (t : ℕ) → write-decimal-lts.Need-add-result (
   write-decimal.Post,
 ) (write-decimal-at t) write-decimal.Post
 write-decimal-add-result t c =
-    let h = c .before .before .if1 .left in
+    let args = c .before .before .before .before .args in
+    let l = length-short (args .k) (args .n) (c .before .before .if1 .left) (c .before .if2 .taken) in
     let p = c .before .before .before .before .pre .1 in
     omega arith
 
@@ -115,9 +117,12 @@ write-decimal-write-decimal-requires : (t : ℕ) → write-decimal-lts.Need-writ
   write-decimal.Post,
 ) (write-decimal-at t) write-decimal.Post
 write-decimal-write-decimal-requires t c κs =
+    let args = c .before .before .before .before .args in
+    let pre = c .before .before .before .before .pre in
     let h = c .before .before .if1 .left in
-    let m = c .before .before .before .before .pre .0 in
-    let p = c .before .before .before .before .pre .1 in
+    let l = length-long (args .k) (args .n) h (c .before .if2 .left) in
+    let m = pre .0 in
+    let p = pre .1 in
     omega arith
 
 -- src/lib.rt:57:22
@@ -150,7 +155,7 @@ write-decimal-slice-write-out-2 t c =
     let pre = c .before .before .before .before .before .before .before .before .pre in
     let h = c .before .before .before .before .before .before .if1 .left in
     let e = c .before .before .before .write-decimal .ensures .place in
-    let l = length-decimal (args .k - 1) (args .n / 10) in
+    let l = length-long (args .k) (args .n) h (c .before .before .before .before .before .if2 .left) in
     let s = c .before .before .before .write-decimal .kept .0 in
     let p = pre .1 in
     omega arith
@@ -167,7 +172,7 @@ write-decimal-add-result-2 t c =
     let pre = c .before .before .before .before .before .before .before .before .pre in
     let h = c .before .before .before .before .before .before .if1 .left in
     let e = c .before .before .before .write-decimal .ensures .place in
-    let l = length-decimal (args .k - 1) (args .n / 10) in
+    let l = length-long (args .k) (args .n) h (c .before .before .before .before .before .if2 .left) in
     let s = c .before .before .before .write-decimal .kept .0 in
     let p = pre .1 in
     omega arith

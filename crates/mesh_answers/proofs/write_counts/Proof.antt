@@ -15,17 +15,23 @@ write-requires c κs = search needs
 
 -- src/lib.rt:95:9
 write-number-requires : tie.Need-write-number-requires
-write-number-requires c κs = search needs
+write-number-requires c κs =
+    let l1 = length-number (c .before .before .before .before .before .before .before .args .p) in
+    omega arith
 
 -- src/lib.rt:96:9
 write-number-requires-2 : tie.Need-write-number-requires-2
 write-number-requires-2 c κs =
-    let p = c .before .before .before .before .before .before .before .before .before .before .before .pre in
-    let e0 = c .before .before .before .before .before .before .before .write .ensures .place in
-    let k0 = c .before .before .before .before .before .before .before .write .kept .0 in
+    let c8 = c .before .before .before .before .before .before .before .before in
+    let args = c8 .before .before .before .args in
+    let p = c8 .before .before .before .pre in
+    let write = c .before .before .before .before .before .before .before .write in
+    let e0 = write .ensures .place in
+    let k0 = write .kept .0 in
     let e1 = c .before .before .before .write-number .ensures .place in
     let k1 = c .before .before .before .write-number .kept .0 in
-    let l1 = length-number (c .before .before .before .before .before .before .before .before .before .before .before .args .p) in
+    let l1 = length-number (args .p) in
+    let l2 = length-number (args .e) in
     omega arith
 
 -- src/lib.rt:97:9
@@ -44,6 +50,7 @@ write-number-requires-3 c κs =
     let e2 = c .before .before .before .write-number2 .ensures .place in
     let k2 = c .before .before .before .write-number2 .kept .0 in
     let l2 = length-number (args .e) in
+    let l3 = length-number (args .f) in
     omega arith
 
 -- src/lib.rt:98:19

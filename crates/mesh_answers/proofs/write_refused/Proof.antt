@@ -19,7 +19,7 @@ write-requires c κs = search needs
 
 -- src/lib.rt:135:9
 write-number-requires : tie.Need-write-number-requires
-write-number-requires c κs = search needs
+write-number-requires c κs = let l1 = length-number (c .before .before .before .before .before .before .before .args .n) in omega arith
 
 -- src/lib.rt:136:19
 slice-aggregate-write-2 : tie.Need-slice-aggregate-write-2

@@ -1,0 +1,28 @@
+-- main meets its contract: the bytes that are written are there.
+use mathlib.Core.Path.{sym}
+use lib.Seq.{length-take-le}
+use Rattle.handover_outputs.proofs.Theorem.{answer-fits}
+use borrow.Author.Needs.{needs}
+use Rattle.handover.proofs.main.Statement.{statement}
+use Rattle.handover.proofs.main.Tie as tie
+
+array-share-prefix-out : tie.Need-array-share-prefix-out
+array-share-prefix-out c = (answer-fits _ _ (c .before .handover .ensures))
+
+slice-aggregate-write-all : tie.Need-slice-aggregate-write-all
+slice-aggregate-write-all c = sym (length-take-le (c .before .before .handover .result) (c .before .before .handover .last .1 .0) (answer-fits _ _ (c .before .before .handover .ensures)))
+
+pub main-spec : {M : Type 1} → statement M
+main-spec =
+    tie.close
+    (tie.spec
+    (λ c. search needs)
+    (λ c κs. search needs)
+    (λ c. search needs)
+    (λ c. search needs)
+    (λ c. search needs)
+    (λ c κs. search needs)
+    array-share-prefix-out
+    slice-aggregate-write-all
+    (λ c κs. search needs)
+    (λ c. search needs))

@@ -1,0 +1,140 @@
+-- Reading a listing into tables m: r is the answer for its sizes np, ne and nf; q and the tables xs, ps, es, ds and fs are what the
+-- second scan leaves.
+use mathlib.Core.List.{List, [], _∷_, _++_, map}
+use mathlib.Core.Path.{_≡_, refl, sym, ap, _∙_}
+use mathlib.Core.Bool.{Bool, true, false}
+use Prim.Native.Nat.{ℕ, suc, _+_, _*_, _≤_}
+use native.Mathlib.Omega.{arith}
+use lib.ListN.{length, set, drop, replicate}
+use lib.Seq.{sets, drop-set-lt}
+use lib.Ieee.{Float, binary64, ofBits}
+use Rattle.text_numbers.specs.Form.{Parsed, parsed, unparsed}
+use Rattle.tables.specs.Mesh.{Mesh, meshOf}
+use Rattle.tables.specs.Rows.{zeroed}
+use Rattle.text_numbers.specs.Numbers.{float}
+use Rattle.tables.specs.declared.Counts.{Counts}
+use Rattle.tables.specs.Counted.{rowsFor, zeroedRows}
+use Rattle.steps.specs.Step.{withinCeilings}
+use Rattle.mesh_lines.specs.Parts.{stored}
+use Rattle.mesh_lines.specs.Grammar.{flat}
+use Rattle.listings.specs.Printing.{Row, Rows, FitPoint, FitEdge, FitFace, FitRows}
+use Rattle.listings.proofs.Parts.{all-to, numbers-count, length-flat}
+use Rattle.listings.proofs.Theorem.{accepted}
+use Rattle.listings.proofs.Whole.{printed-of-listing}
+use Rattle.listings.specs.Grammar.{listing}
+use Rattle.listings.specs.Handing.{listedCounts, withListing as storedRows, passesAudit, ReadingOutcome, readRows, readFound, readListing}
+use Rattle.listings.specs.declared.Reading.the-variants as Reading
+use Rattle.listing_reading.specs.Parts.{totalOf, AtTotal, positionsIn, pointsIn, edgesIn, intervalsIn, facesIn}
+use Rattle.listing_reading.specs.declared.Total.{Total}
+use Rattle.listing_reading.specs.declared.Total.the-variants as Total
+
+total-of : (x : Parsed Rows) {p e f : ℕ} → totalOf x ≡ Total.Of p e f
+    → (t : Rows) × (n : ℕ) × (x ≡ parsed t n) × (listedCounts t ≡ record { points = p; edges = e; faces = f })
+total-of (parsed t n) {p} {e} {f} g =
+    let ep : length (t .points) ≡ p = cc in
+    let ee : length (t .edges) ≡ e = cc in
+    let ef : length (t .faces) ≡ f = cc in
+    (t, n, refl, λ i. record { points = ep i; edges = ee i; faces = ef i })
+total-of unparsed g = let z : _≡_ {A = ℕ} 0 1 = cc in absurd (omega arith)
+
+total-none : (x : Parsed Rows) → totalOf x ≡ Total.None → x ≡ unparsed
+total-none (parsed t n) e = cc
+total-none unparsed e = refl
+
+-- elements stored at the front are zeroed with it
+drop-sets : {A : Type 0} (vs xs : List A) (i n : ℕ) → i + length vs ≤ n → drop n (sets xs i vs) ≡ drop n xs
+drop-sets [] xs i n h = refl
+drop-sets (v ∷ vs) xs i n h = drop-sets vs (set xs i v) (suc i) n (omega arith) ∙ drop-set-lt n xs i v (omega arith)
+
+zeroed-sets : {A : Type 0} (n : ℕ) (z : A) (xs vs : List A) → length vs ≡ n → zeroed n z (sets xs 0 vs) ≡ zeroed n z xs
+unfolding zeroed
+zeroed-sets n z xs vs e = ap (λ l. replicate n z ++ l) (drop-sets vs xs 0 n (omega arith))
+
+zeroed-stored : (t : Rows) (m : Mesh) → FitRows t → zeroedRows (listedCounts t) (storedRows t m) ≡ zeroedRows (listedCounts t) m
+unfolding zeroedRows
+zeroed-stored t m f =
+    let a = zeroed-sets (length (t .points) * 3) (ofBits binary64 0) (m .positions) (positionsIn t)
+    (length-flat (λ (r : Row). map float (r .numbers)) 3 (t .points)
+    (all-to FitPoint (λ (r : Row). length (map float (r .numbers)) ≡ 3) (λ r o. numbers-count r (o .0)) (t .points)
+    (f .points-fit))) in
+    let b = zeroed-sets (length (t .points) * 3) 0 (m .points) (pointsIn t)
+    (length-flat (λ (r : Row). r .words) 3 (t .points)
+    (all-to FitPoint (λ (r : Row). length (r .words) ≡ 3) (λ r o. o .0 .word-count) (t .points) (f .points-fit))) in
+    let c = zeroed-sets (length (t .edges) * 8) 0 (m .edges) (edgesIn t)
+    (length-flat (λ (r : Row). r .words) 8 (t .edges)
+    (all-to FitEdge (λ (r : Row). length (r .words) ≡ 8) (λ r o. o .word-count) (t .edges) (f .edges-fit))) in
+    let d1 = length-flat (λ (r : Row). map float (r .numbers)) 1 (t .edges)
+    (all-to FitEdge (λ (r : Row). length (map float (r .numbers)) ≡ 1) (λ r o. numbers-count r o) (t .edges)
+    (f .edges-fit)) in
+    let d = zeroed-sets (length (t .edges)) (ofBits binary64 0) (m .intervals) (intervalsIn t) (omega arith) in
+    let e = zeroed-sets (length (t .faces) * 5) 0 (m .faces) (facesIn t)
+    (length-flat (λ (r : Row). r .words) 5 (t .faces)
+    (all-to FitFace (λ (r : Row). length (r .words) ≡ 5) (λ r o. o .word-count) (t .faces) (f .faces-fit))) in
+    λ i. record { positions = a i; points = b i; edges = c i; intervals = d i; faces = e i }
+
+-- rows that fail the audit are zeroed
+refused : (a b d : Bool) (t : Rows) (m : Mesh) → a ≡ true → b ≡ true → d ≡ false
+    → readRows a b d t m ≡ record { answer = Reading.NotClosed; tables = zeroedRows (listedCounts t) m }
+refused a b d t m ea eb ed = rw (ea, eb, ed)
+
+module _ (s : List ℕ) (m : Mesh) {r : Total} (er : r ≡ totalOf (listing s)) where
+  pub not-listing : r ≡ Total.None → record { answer = Reading.NotListing; tables = m } ≡ readListing s m
+  unfolding readFound
+  not-listing en = rw (total-none (listing s) (sym er ∙ en))
+
+  module _ {p e f : ℕ} (ep : r ≡ Total.Of p e f) where
+    pub over : withinCeilings (record { points = p; edges = e; faces = f }) ≡ false
+        → record { answer = Reading.OverCeilings; tables = m } ≡ readListing s m
+    unfolding readFound
+    over ew = let (t, n, et, ec) = total-of (listing s) (sym er ∙ ep) in rw (et, ec, ew)
+
+    module _ (ew : withinCeilings (record { points = p; edges = e; faces = f }) ≡ true) where
+      pub no-room : rowsFor (record { points = p; edges = e; faces = f }) m ≡ false
+          → record { answer = Reading.NoRoom; tables = m } ≡ readListing s m
+      unfolding readFound
+      no-room em = let (t, n, et, ec) = total-of (listing s) (sym er ∙ ep) in rw (et, ec, ew, em)
+
+      module _ (em : rowsFor (record { points = p; edges = e; faces = f }) m ≡ true)
+          {q : Total} (eq : q ≡ totalOf (listing s)) (xs : List Float) (ps es : List ℕ) (ds : List Float) (fs : List ℕ)
+          (ex : AtTotal q (xs ≡ stored positionsIn (m .positions) 0 (listing s))) (epp : AtTotal q (ps ≡ stored pointsIn (m .points) 0 (listing s)))
+          (ee : AtTotal q (es ≡ stored edgesIn (m .edges) 0 (listing s))) (ed : AtTotal q (ds ≡ stored intervalsIn (m .intervals) 0 (listing s)))
+          (ef : AtTotal q (fs ≡ stored facesIn (m .faces) 0 (listing s))) where
+        -- the second scan has stored the rows
+        scanned : (t : Rows) (n : ℕ) → listing s ≡ parsed t n → meshOf xs ps es ds fs ≡ storedRows t m
+        scanned t n et =
+            let eo : q ≡ Total.Of p e f = eq ∙ sym er ∙ ep in
+            let ax : xs ≡ sets (m .positions) 0 (positionsIn t) = rw (eo, et) at ex in
+            let ap′ : ps ≡ sets (m .points) 0 (pointsIn t) = rw (eo, et) at epp in
+            let ae : es ≡ sets (m .edges) 0 (edgesIn t) = rw (eo, et) at ee in
+            let ad : ds ≡ sets (m .intervals) 0 (intervalsIn t) = rw (eo, et) at ed in
+            let af : fs ≡ sets (m .faces) 0 (facesIn t) = rw (eo, et) at ef in
+            λ i. record { positions = ax i; points = ap′ i; edges = ae i; intervals = ad i; faces = af i }
+
+        pub read : passesAudit (meshOf xs ps es ds fs) (record { points = p; edges = e; faces = f }) ≡ true
+            → record { answer = Reading.Read (record { points = p; edges = e; faces = f }); tables = meshOf xs ps es ds fs } ≡ readListing s m
+        unfolding readFound
+        read ea =
+            let (t, n, et, ec) = total-of (listing s) (sym er ∙ ep) in
+            let es′ = scanned t n et in
+            let ea′ : passesAudit (storedRows t m) (record { points = p; edges = e; faces = f }) ≡ true = rw es′ at ea in
+            sym (ap (λ (x : Parsed Rows). readFound x m) et
+            ∙ accepted (withinCeilings (listedCounts t)) (rowsFor (listedCounts t) m) (passesAudit (storedRows t m) (listedCounts t)) t m
+            (ap withinCeilings ec ∙ ew) (ap (λ (k : Counts). rowsFor k m) ec ∙ em) (ap (passesAudit (storedRows t m)) ec ∙ ea′)
+            ∙ (λ i. record { answer = Reading.Read (ec i); tables = sym es′ i }))
+
+        pub zeroes : passesAudit (meshOf xs ps es ds fs) (record { points = p; edges = e; faces = f }) ≡ false
+            → (m′ : Mesh) → m′ ≡ zeroedRows (record { points = p; edges = e; faces = f }) (meshOf xs ps es ds fs)
+            → record { answer = Reading.NotClosed; tables = m′ } ≡ readListing s m
+        unfolding readFound
+        zeroes ea m′ e′ =
+            let (t, n, et, ec) = total-of (listing s) (sym er ∙ ep) in
+            let es′ = scanned t n et in
+            let ea′ : passesAudit (storedRows t m) (record { points = p; edges = e; faces = f }) ≡ false = rw es′ at ea in
+            let fit = printed-of-listing s t n et .0 in
+            let z : m′ ≡ zeroedRows (listedCounts t) m =
+            e′ ∙ ap (zeroedRows (record { points = p; edges = e; faces = f })) es′ ∙ ap (λ (c : Counts). zeroedRows c (storedRows t m)) (sym ec)
+            ∙ zeroed-stored t m fit in
+            sym (ap (λ (x : Parsed Rows). readFound x m) et
+            ∙ refused (withinCeilings (listedCounts t)) (rowsFor (listedCounts t) m) (passesAudit (storedRows t m) (listedCounts t)) t m
+            (ap withinCeilings ec ∙ ew) (ap (λ (k : Counts). rowsFor k m) ec ∙ em) (ap (passesAudit (storedRows t m)) ec ∙ ea′)
+            ∙ (λ i. record { answer = Reading.NotClosed; tables = sym z i }))

@@ -1,0 +1,4 @@
+pub mod Printing
+pub mod Grammar
+pub mod Handing
+pub mod Claims
