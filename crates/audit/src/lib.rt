@@ -34,7 +34,9 @@ fn counts_fit(
     faces: &[u32],
     counts: Counts,
 ) -> bool
-    ensures { λ r. ⌜ r ≡ rowsFor (countsOf (counts .points) (counts .edges) (counts .faces)) (meshOf (now (positions .entry)) (now (points .entry)) (now (edges .entry)) (now (intervals .entry)) (now (faces .entry))) ⌝ }
+    ensures { λ r. ⌜
+        r ≡ rowsFor (countsOf (counts .points) (counts .edges) (counts .faces))
+        (meshOf (now (positions .entry)) (now (points .entry)) (now (edges .entry)) (now (intervals .entry)) (now (faces .entry))) ⌝ }
 {
     if point_rows(positions, points) < counts.points {
         return false;
@@ -106,7 +108,10 @@ pub fn audit(
     faces: &[u32],
     counts: Counts,
 ) -> bool
-    ensures { λ r. ⌜ r ≡ audit (meshOf (now (positions .entry)) (now (points .entry)) (now (edges .entry)) (now (intervals .entry)) (now (faces .entry))) (counts .points) (counts .edges) (counts .faces) ⌝ }
+    ensures { λ r. ⌜
+        r ≡ audit
+        (meshOf (now (positions .entry)) (now (points .entry)) (now (edges .entry)) (now (intervals .entry)) (now (faces .entry)))
+        (counts .points) (counts .edges) (counts .faces) ⌝ }
 {
     if !counts_fit(positions, points, edges, intervals, faces, counts) {
         return false;

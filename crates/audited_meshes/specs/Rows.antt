@@ -14,7 +14,8 @@ use lib.Ieee.Scale.{finite}
 use Rattle.closed_meshes.specs.Mesh.{MeshOver, Place, place0, place1, place2, place3}
 use Rattle.closed_meshes.specs.Closed.{Closed}
 use Rattle.closed_meshes.specs.Renumbering.{Row}
-use Rattle.tables.specs.Mesh.{Mesh, none, x, y, z, valence, start, mark, origin, dest, leftFace, rightFace, leftCw, leftAcw, rightCw, rightAcw, interval, faceStart, corner, pointRows, edgeRows, faceRows}
+use Rattle.tables.specs.Mesh.{Mesh, none, x, y, z, valence, start, mark, origin, dest, leftFace}
+use Rattle.tables.specs.Mesh.{rightFace, leftCw, leftAcw, rightCw, rightAcw, interval, faceStart, corner, pointRows, edgeRows, faceRows}
 use Rattle.audited_meshes.specs.Audit.{intervalFit}
 
 abbrev pub place : Place → ℕ

@@ -51,7 +51,17 @@ fn conclude(
     requires { ⌜ nl ≤ length (now intervals) ⌝ }
     requires { ⌜ nf * faceWidth ≤ length (now faces) ⌝ }
     requires { ⌜ k ≤ nl ⌝ }
-    ensures { λ r. ⌜ _≡_ {A = BuildOutcome} (record { answer = r; tables = meshOf (now (positions .exit)) (now (points .exit)) (now (edges .exit)) (now (intervals .exit)) (now (faces .exit)) }) (concluded (now (coordinates .entry)) (length (now (coordinates .entry)) / positionWidth) nl nf (meshOf (now (positions .entry)) (now (points .entry)) (now (edges .entry)) (now (intervals .entry)) (now (faces .entry))) k (wholeVerdict (meshOf (now (positions .entry)) (now (points .entry)) (now (edges .entry)) (now (intervals .entry)) (now (faces .entry))) (length (now (coordinates .entry)) / positionWidth) k)) ⌝ }
+    ensures { λ r. ⌜
+        _≡_ {A = BuildOutcome} (record {
+          answer = r;
+          tables = meshOf (now (positions .exit)) (now (points .exit))
+              (now (edges .exit)) (now (intervals .exit)) (now (faces .exit));
+        }) (concluded (now (coordinates .entry))
+        (length (now (coordinates .entry)) / positionWidth) nl nf
+        (meshOf (now (positions .entry)) (now (points .entry)) (now (edges .entry)) (now (intervals .entry)) (now (faces .entry))) k
+        (wholeVerdict
+        (meshOf (now (positions .entry)) (now (points .entry)) (now (edges .entry)) (now (intervals .entry)) (now (faces .entry)))
+        (length (now (coordinates .entry)) / positionWidth) k)) ⌝ }
 {
     let np = coordinates.len() / POSITION_WIDTH;
     let ne = index(k);
@@ -90,7 +100,16 @@ fn build_zeroed(
 ) -> Built
     requires { ⌜ Zeroed (lists (now coordinates) (now sides) (now listed) (now beside)) (meshOf (now positions) (now points) (now edges) (now intervals) (now faces)) ⌝ }
     requires { ⌜ generalLimits .points + 2 * generalLimits .listed ≤ length (now chain) ⌝ }
-    ensures { λ r. ⌜ ((m : Mesh) → Begun (lists (now (coordinates .entry)) (now (sides .entry)) (now (listed .entry)) (now (beside .entry))) m → (meshOf (now (positions .entry)) (now (points .entry)) (now (edges .entry)) (now (intervals .entry)) (now (faces .entry))) ≡ zeroedRows (rowsOf (lists (now (coordinates .entry)) (now (sides .entry)) (now (listed .entry)) (now (beside .entry)))) m → _≡_ {A = BuildOutcome} (record { answer = r; tables = meshOf (now (positions .exit)) (now (points .exit)) (now (edges .exit)) (now (intervals .exit)) (now (faces .exit)) }) (answeredFrom (lists (now (coordinates .entry)) (now (sides .entry)) (now (listed .entry)) (now (beside .entry))) m)) ⌝ }
+    ensures { λ r. ⌜
+        ((m : Mesh) → Begun (lists (now (coordinates .entry)) (now (sides .entry)) (now (listed .entry)) (now (beside .entry))) m →
+        (meshOf (now (positions .entry)) (now (points .entry)) (now (edges .entry)) (now (intervals .entry)) (now (faces .entry)))
+        ≡ zeroedRows (rowsOf (lists (now (coordinates .entry)) (now (sides .entry)) (now (listed .entry)) (now (beside .entry)))) m →
+        _≡_ {A = BuildOutcome} (record {
+          answer = r;
+          tables = meshOf (now (positions .exit)) (now (points .exit))
+              (now (edges .exit)) (now (intervals .exit)) (now (faces .exit));
+        })
+        (answeredFrom (lists (now (coordinates .entry)) (now (sides .entry)) (now (listed .entry)) (now (beside .entry))) m)) ⌝ }
 {
     let np = coordinates.len() / POSITION_WIDTH;
     let nl = listed.len();
@@ -138,7 +157,14 @@ fn build_begun(
     faces: &mut [u32],
 ) -> Built
     requires { ⌜ Begun (lists (now coordinates) (now sides) (now listed) (now beside)) (meshOf (now positions) (now points) (now edges) (now intervals) (now faces)) ⌝ }
-    ensures { λ r. ⌜ _≡_ {A = BuildOutcome} (record { answer = r; tables = meshOf (now (positions .exit)) (now (points .exit)) (now (edges .exit)) (now (intervals .exit)) (now (faces .exit)) }) (answeredFrom (lists (now (coordinates .entry)) (now (sides .entry)) (now (listed .entry)) (now (beside .entry))) (meshOf (now (positions .entry)) (now (points .entry)) (now (edges .entry)) (now (intervals .entry)) (now (faces .entry)))) ⌝ }
+    ensures { λ r. ⌜
+        _≡_ {A = BuildOutcome} (record {
+          answer = r;
+          tables = meshOf (now (positions .exit)) (now (points .exit))
+              (now (edges .exit)) (now (intervals .exit)) (now (faces .exit));
+        })
+        (answeredFrom (lists (now (coordinates .entry)) (now (sides .entry)) (now (listed .entry)) (now (beside .entry)))
+        (meshOf (now (positions .entry)) (now (points .entry)) (now (edges .entry)) (now (intervals .entry)) (now (faces .entry)))) ⌝ }
 {
     zero_rows(
         positions,
@@ -178,7 +204,14 @@ pub fn build(
     faces: &mut [u32],
     bounds: Bounds,
 ) -> Built
-    ensures { λ r. ⌜ _≡_ {A = BuildOutcome} (record { answer = r; tables = meshOf (now (positions .exit)) (now (points .exit)) (now (edges .exit)) (now (intervals .exit)) (now (faces .exit)) }) (build (limitsOf bounds) (lists (now (coordinates .entry)) (now (sides .entry)) (now (listed .entry)) (now (beside .entry))) (meshOf (now (positions .entry)) (now (points .entry)) (now (edges .entry)) (now (intervals .entry)) (now (faces .entry)))) ⌝ }
+    ensures { λ r. ⌜
+        _≡_ {A = BuildOutcome} (record {
+          answer = r;
+          tables = meshOf (now (positions .exit)) (now (points .exit))
+              (now (edges .exit)) (now (intervals .exit)) (now (faces .exit));
+        }) (build (limitsOf bounds)
+        (lists (now (coordinates .entry)) (now (sides .entry)) (now (listed .entry)) (now (beside .entry)))
+        (meshOf (now (positions .entry)) (now (points .entry)) (now (edges .entry)) (now (intervals .entry)) (now (faces .entry)))) ⌝ }
 {
     if !counts_fit(coordinates, sides, listed, beside, bounds) {
         return Built::Refused(Ground::OverCounts);

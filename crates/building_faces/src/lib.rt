@@ -69,7 +69,11 @@ fn turn_place(
     requires { ⌜ i < n ⌝ }
     requires { ⌜ ring .edges ≤ a + i ⌝ }
     requires { ⌜ (0 < i → Closing ring) ⌝ }
-    ensures { λ r. ⌜ ((cs : List Float) (ss : List ℕ) (ps : List Float) (fs : List ℕ) → _≡_ {A = Progress FaceState} (turnOf (meshOf ps (now (points .exit)) (now (edges .exit)) (now (intervals .exit)) fs) r) (turn (lists cs ss (now (listed .entry)) (now (beside .entry))) f a n i (faceStateOf (meshOf ps (now (points .entry)) (now (edges .entry)) (now (intervals .entry)) fs) ring))) ⌝ }
+    ensures { λ r. ⌜
+        ((cs : List Float) (ss : List ℕ) (ps : List Float) (fs : List ℕ) → _≡_ {A = Progress FaceState} (turnOf (meshOf ps
+        (now (points .exit)) (now (edges .exit)) (now (intervals .exit)) fs) r) (turn (lists cs ss (now (listed .entry))
+        (now (beside .entry))) f a n i (faceStateOf (meshOf ps (now (points .entry)) (now (edges .entry)) (now (intervals .entry))
+        fs) ring))) ⌝ }
     ensures { λ r. ⌜ TurnStands np (now (points .exit)) (now (edges .exit)) (now (chain .exit)) (a + i + 1) r ⌝ }
 {
     let p = listed[a + i];
@@ -115,7 +119,11 @@ fn enter_places(
     requires { ⌜ ListedFrom np (now listed) a n ⌝ }
     requires { ⌜ 0 < n ⌝ }
     requires { ⌜ k ≤ a ⌝ }
-    ensures { λ r. ⌜ ((cs : List Float) (ss : List ℕ) (ps : List Float) (fs : List ℕ) → _≡_ {A = Progress FaceState} (turnOf (meshOf ps (now (points .exit)) (now (edges .exit)) (now (intervals .exit)) fs) r) (places n (lists cs ss (now (listed .entry)) (now (beside .entry))) f a n 0 (on (faceStateAt (meshOf ps (now (points .entry)) (now (edges .entry)) (now (intervals .entry)) fs) k)))) ⌝ }
+    ensures { λ r. ⌜
+        ((cs : List Float) (ss : List ℕ) (ps : List Float) (fs : List ℕ) → _≡_ {A = Progress FaceState} (turnOf (meshOf ps
+        (now (points .exit)) (now (edges .exit)) (now (intervals .exit)) fs) r) (places n (lists cs ss (now (listed .entry))
+        (now (beside .entry))) f a n 0 (on (faceStateAt (meshOf ps (now (points .entry)) (now (edges .entry))
+        (now (intervals .entry)) fs) k)))) ⌝ }
     ensures { λ r. ⌜ TurnStands np (now (points .exit)) (now (edges .exit)) (now (chain .exit)) (a + n) r ⌝ }
 {
     let mut ring = RingEdges {
@@ -172,7 +180,11 @@ fn enter_perimeter(
     requires { ⌜ 0 < n ⌝ }
     requires { ⌜ k ≤ a ⌝ }
     requires { ⌜ f * faceWidth + faceWidth ≤ length (now faces) ⌝ }
-    ensures { λ r. ⌜ ((cs : List Float) (ss : List ℕ) (ps : List Float) → _≡_ {A = Progress BuildState} (stateOf (meshOf ps (now (points .exit)) (now (edges .exit)) (now (intervals .exit)) (now (faces .exit))) r) (closedUp f (places n (lists cs ss (now (listed .entry)) (now (beside .entry))) f a n 0 (on (faceStateAt (meshOf ps (now (points .entry)) (now (edges .entry)) (now (intervals .entry)) (now (faces .entry))) k))))) ⌝ }
+    ensures { λ r. ⌜
+        ((cs : List Float) (ss : List ℕ) (ps : List Float) → _≡_ {A = Progress BuildState} (stateOf (meshOf ps (now (points .exit))
+        (now (edges .exit)) (now (intervals .exit)) (now (faces .exit))) r) (closedUp f (places n (lists cs ss (now (listed .entry))
+        (now (beside .entry))) f a n 0 (on (faceStateAt (meshOf ps (now (points .entry)) (now (edges .entry))
+        (now (intervals .entry)) (now (faces .entry))) k))))) ⌝ }
     ensures { λ r. ⌜ FaceStands np (now (points .exit)) (now (edges .exit)) (now (chain .exit)) (a + n) r ⌝ }
 {
     match enter_places(
@@ -225,7 +237,11 @@ fn enter_face(
     requires { ⌜ Sided (now sides) (now listed) f a n ⌝ }
     requires { ⌜ k ≤ a ⌝ }
     requires { ⌜ f * faceWidth + faceWidth ≤ length (now faces) ⌝ }
-    ensures { λ r. ⌜ ((cs : List Float) (ps : List Float) → length cs / positionWidth ≡ np → _≡_ {A = Progress BuildState} (stateOf (meshOf ps (now (points .exit)) (now (edges .exit)) (now (intervals .exit)) (now (faces .exit))) r) (facePassed (lists cs (now (sides .entry)) (now (listed .entry)) (now (beside .entry))) f a (stateAt (meshOf ps (now (points .entry)) (now (edges .entry)) (now (intervals .entry)) (now (faces .entry))) k))) ⌝ }
+    ensures { λ r. ⌜
+        ((cs : List Float) (ps : List Float) → length cs / positionWidth ≡ np → _≡_ {A = Progress BuildState} (stateOf (meshOf ps
+        (now (points .exit)) (now (edges .exit)) (now (intervals .exit)) (now (faces .exit))) r) (facePassed (lists cs
+        (now (sides .entry)) (now (listed .entry)) (now (beside .entry))) f a (stateAt (meshOf ps (now (points .entry))
+        (now (edges .entry)) (now (intervals .entry)) (now (faces .entry))) k))) ⌝ }
     ensures { λ r. ⌜ FaceStands np (now (points .exit)) (now (edges .exit)) (now (chain .exit)) (a + n) r ⌝ }
 {
     match face_verdict(sides, listed, beside, np, index(f), a, n) {
@@ -264,7 +280,11 @@ pub fn enter_faces(
     requires { ⌜ length (now sides) / 4 ≤ generalLimits .faces ⌝ }
     requires { ⌜ length (now sides) / 4 * faceWidth ≤ length (now faces) ⌝ }
     requires { ⌜ offset (lists [] (now sides) [] []) (length (now sides) / 4) ≡ length (now listed) ⌝ }
-    ensures { λ r. ⌜ ((cs : List Float) (ps : List Float) → length cs / positionWidth ≡ np → _≡_ {A = Progress BuildState} (stateOf (meshOf ps (now (points .exit)) (now (edges .exit)) (now (intervals .exit)) (now (faces .exit))) r) (facesFrom (length (now (sides .entry)) / 4) (lists cs (now (sides .entry)) (now (listed .entry)) (now (beside .entry))) 0 0 (on (stateAt (meshOf ps (now (points .entry)) (now (edges .entry)) (now (intervals .entry)) (now (faces .entry))) 0)))) ⌝ }
+    ensures { λ r. ⌜
+        ((cs : List Float) (ps : List Float) → length cs / positionWidth ≡ np → _≡_ {A = Progress BuildState} (stateOf (meshOf ps
+        (now (points .exit)) (now (edges .exit)) (now (intervals .exit)) (now (faces .exit))) r) (facesFrom
+        (length (now (sides .entry)) / 4) (lists cs (now (sides .entry)) (now (listed .entry)) (now (beside .entry))) 0 0 (on
+        (stateAt (meshOf ps (now (points .entry)) (now (edges .entry)) (now (intervals .entry)) (now (faces .entry))) 0)))) ⌝ }
     ensures { λ r. ⌜ FaceStands np (now (points .exit)) (now (edges .exit)) (now (chain .exit)) (length (now (listed .entry))) r ⌝ }
 {
     let nf = sides.len() / 4;

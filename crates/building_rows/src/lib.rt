@@ -56,7 +56,11 @@ pub fn zero_rows(
     requires { ⌜ nl * edgeWidth ≤ length (now edges) ⌝ }
     requires { ⌜ nl ≤ length (now intervals) ⌝ }
     requires { ⌜ nf * faceWidth ≤ length (now faces) ⌝ }
-    ensures { λ _. ⌜ _≡_ {A = Mesh} (meshOf (now (positions .exit)) (now (points .exit)) (now (edges .exit)) (now (intervals .exit)) (now (faces .exit))) (zeroedRows (countsOf np nl nf) (meshOf (now (positions .entry)) (now (points .entry)) (now (edges .entry)) (now (intervals .entry)) (now (faces .entry)))) ⌝ }
+    ensures { λ _. ⌜
+        _≡_ {A = Mesh}
+        (meshOf (now (positions .exit)) (now (points .exit)) (now (edges .exit)) (now (intervals .exit)) (now (faces .exit)))
+        (zeroedRows (countsOf np nl nf)
+        (meshOf (now (positions .entry)) (now (points .entry)) (now (edges .entry)) (now (intervals .entry)) (now (faces .entry)))) ⌝ }
 {
     zero_numbers(positions, np * POSITION_WIDTH);
     zero_words(points, np * POINT_WIDTH);

@@ -56,7 +56,9 @@ fn every_edged(points: &[u32], np: usize) -> bool
 fn walk_passes_all(points: &[u32], edges: &[u32], ne: usize, p: usize) -> bool
     requires { ⌜ p * pointWidth + pointWidth ≤ length (now points) ⌝ }
     requires { ⌜ ne * edgeWidth ≤ length (now edges) ⌝ }
-    ensures { λ r. ⌜ r ≡ not (ltb (passed (pointWalk (pointTables (now (points .entry)) (now (edges .entry))) ne (valence (pointTables (now (points .entry)) []) p) p)) (valence (pointTables (now (points .entry)) []) p)) ⌝ }
+    ensures { λ r. ⌜
+        r ≡ not (ltb (passed (pointWalk (pointTables (now (points .entry)) (now (edges .entry))) ne (valence
+        (pointTables (now (points .entry)) []) p) p)) (valence (pointTables (now (points .entry)) []) p)) ⌝ }
 {
     let v = index(points[p * POINT_WIDTH]);
     match point_walk(edges, points, ne, v, p) {

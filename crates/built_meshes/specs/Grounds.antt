@@ -28,7 +28,8 @@ use Rattle.built_meshes.specs.Faces.{sumsApart}
 use Rattle.built_meshes.specs.Places.{pointOf, IsPlace, Runs, Between, Differ, Earlier}
 use Rattle.built_meshes.specs.Answers.{groundNumber}
 use Rattle.built_meshes.specs.declared.Ground.{Ground}
-use Rattle.built_meshes.specs.declared.Ground.the-variants.{OverCounts, UnfitNumber, FewRows, FaceSize, OutOfRange, PointTwice, NonRectangularFace, EdgeTripleFace, SameWay, MissingFace, NoEdge, MissedEdge}
+use Rattle.built_meshes.specs.declared.Ground.the-variants.{OverCounts, UnfitNumber, FewRows, FaceSize, OutOfRange, PointTwice}
+use Rattle.built_meshes.specs.declared.Ground.the-variants.{NonRectangularFace, EdgeTripleFace, SameWay, MissingFace, NoEdge, MissedEdge}
 
 -- 2: over the limits, or list lengths disagree
 pub data Over-counts (c : Sizes) (l : Lists) : Type 0 where

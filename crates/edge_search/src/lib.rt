@@ -176,7 +176,10 @@ fn make_edge(
     requires { ⌜ EdgeRoom np (now edges) (now intervals) (now chain) k ⌝ }
     requires { ⌜ p < np ⌝ }
     requires { ⌜ q < np ⌝ }
-    ensures { λ _. ⌜ ((ps : List Float) (fs : List ℕ) → _≡_ {A = Mesh} (meshOf ps (now (points .exit)) (now (edges .exit)) (now (intervals .exit)) fs) (newEdge (meshOf ps (now (points .entry)) (now (edges .entry)) (now (intervals .entry)) fs) k f p q v)) ⌝ }
+    ensures { λ _. ⌜
+        ((ps : List Float) (fs : List ℕ) → _≡_ {A = Mesh} (meshOf ps (now (points .exit)) (now (edges .exit))
+        (now (intervals .exit)) fs) (newEdge (meshOf ps (now (points .entry)) (now (edges .entry)) (now (intervals .entry)) fs) k f
+        p q v)) ⌝ }
     ensures { λ _. ⌜ Standing np (now (points .exit)) (now (edges .exit)) (now (chain .exit)) (k + 1) ⌝ }
 {
     chain_edge(chain, np, k, p, q);
@@ -230,7 +233,9 @@ pub fn enter(
     requires { ⌜ EdgeRoom np (now edges) (now intervals) (now chain) k ⌝ }
     requires { ⌜ p < np ⌝ }
     requires { ⌜ q < np ⌝ }
-    ensures { λ r. ⌜ ((ps : List Float) (fs : List ℕ) → EnteredBy r (meshOf ps (now (points .entry)) (now (edges .entry)) (now (intervals .entry)) fs) (meshOf ps (now (points .exit)) (now (edges .exit)) (now (intervals .exit)) fs) k f p q v) ⌝ }
+    ensures { λ r. ⌜
+        ((ps : List Float) (fs : List ℕ) → EnteredBy r (meshOf ps (now (points .entry)) (now (edges .entry))
+        (now (intervals .entry)) fs) (meshOf ps (now (points .exit)) (now (edges .exit)) (now (intervals .exit)) fs) k f p q v) ⌝ }
     ensures { λ r. ⌜ Standing np (now (points .exit)) (now (edges .exit)) (now (chain .exit)) (edgesAfter r k) ⌝ }
 {
     match find_edge(points, edges, chain, np, k, p, q) {

@@ -1,5 +1,4 @@
 // The end of a step that has passed its tests: the refined mesh made and committed, or ground 33.
-// Names: `places`, `rows`, `halves`, `lengths` and `quads` are the scratch tables of positions, points, edges, intervals, faces.
 // Not here: the parts (`step_parts`), the tests (`step_grounds`), the whole step (`refining`).
 // Contract: `finish`. Definition: `steps`, specs/Step.antt, `step`. Laws: `proofs/Laws.antt`.
 ghost use mathlib.Core.Path.{_≡_};
@@ -23,21 +22,25 @@ pub fn finish(
     counts: Counts,
     order: &[u32],
     c: Counts,
-    places: &mut [f64],
-    rows: &mut [u32],
-    halves: &mut [u32],
-    lengths: &mut [f64],
-    quads: &mut [u32],
+    newpositions: &mut [f64],
+    newpoints: &mut [u32],
+    newedges: &mut [u32],
+    newintervals: &mut [f64],
+    newfaces: &mut [u32],
 ) -> Stepped
     requires { ⌜
         Passed (meshOf (now positions) (now points) (now edges) (now intervals) (now faces)) counts (now order)
-        (meshOf (now places) (now rows) (now halves) (now lengths) (now quads)) c ⌝ }
+        (meshOf (now newpositions) (now newpoints) (now newedges) (now newintervals) (now newfaces)) c ⌝ }
     ensures { λ r. ⌜
         _≡_ {A = StepOutcome}
-        (record { answer = r; tables = meshOf (now (positions .exit)) (now (points .exit)) (now (edges .exit)) (now (intervals .exit)) (now (faces .exit)); scratch = meshOf (now (places .exit)) (now (rows .exit)) (now (halves .exit)) (now (lengths .exit)) (now (quads .exit)) })
+        (record {
+          answer = r;
+          tables = meshOf (now (positions .exit)) (now (points .exit)) (now (edges .exit)) (now (intervals .exit)) (now (faces .exit));
+          scratch = meshOf (now (newpositions .exit)) (now (newpoints .exit)) (now (newedges .exit)) (now (newintervals .exit)) (now (newfaces .exit));
+        })
         (step (meshOf (now (positions .entry)) (now (points .entry)) (now (edges .entry)) (now (intervals .entry)) (now (faces .entry)))
         counts (now (order .entry))
-        (meshOf (now (places .entry)) (now (rows .entry)) (now (halves .entry)) (now (lengths .entry)) (now (quads .entry)))) ⌝ }
+        (meshOf (now (newpositions .entry)) (now (newpoints .entry)) (now (newedges .entry)) (now (newintervals .entry)) (now (newfaces .entry)))) ⌝ }
 {
     if make_from_rows(
         positions,
@@ -48,19 +51,19 @@ pub fn finish(
         counts,
         order,
         c,
-        places,
-        rows,
-        halves,
-        lengths,
-        quads,
+        newpositions,
+        newpoints,
+        newedges,
+        newintervals,
+        newfaces,
     ) {
         commit(
             c,
-            places,
-            rows,
-            halves,
-            lengths,
-            quads,
+            newpositions,
+            newpoints,
+            newedges,
+            newintervals,
+            newfaces,
             positions,
             points,
             edges,
@@ -69,6 +72,6 @@ pub fn finish(
         );
         return Stepped::Refined(c);
     }
-    zero_rows(c, places, rows, halves, lengths, quads);
+    zero_rows(c, newpositions, newpoints, newedges, newintervals, newfaces);
     Stepped::NotFinite
 }

@@ -109,7 +109,9 @@ fn point(s: &[u8], at: usize, xs: &mut [f64], n: usize) -> Place
 pub fn points(s: &[u8], at: usize, xs: &mut [f64]) -> Run
     requires { ⌜ at ≤ length (now s) ⌝ }
     ensures run { λ r. ⌜ r ≡ runAnswer length (many (now (s .entry)) (bytes "[point") (pointForm (now (s .entry))) (length (now (s .entry))) at) ⌝ }
-    ensures list { λ r. ⌜ AtRun r (now (xs .exit) ≡ stored (flat (map float)) (now (xs .entry)) 0 (many (now (s .entry)) (bytes "[point") (pointForm (now (s .entry))) (length (now (s .entry))) at)) ⌝ }
+    ensures list { λ r. ⌜
+        AtRun r (now (xs .exit) ≡ stored (flat (map float)) (now (xs .entry)) 0 (many (now (s .entry)) (bytes "[point")
+        (pointForm (now (s .entry))) (length (now (s .entry))) at)) ⌝ }
 {
     let mut i = at;
     let mut k: usize = 0;
@@ -246,9 +248,15 @@ fn face(
 pub fn faces(s: &[u8], at: usize, ls: &mut [u32], ps: &mut [u32], ds: &mut [f64]) -> Lines
     requires { ⌜ at ≤ length (now s) ⌝ }
     ensures faces { λ r. ⌜ r ≡ linesAnswer (many (now (s .entry)) (bytes "[face") (faceForm (now (s .entry))) (length (now (s .entry))) at) ⌝ }
-    ensures lengths { λ r. ⌜ AtLines r (now (ls .exit) ≡ stored (flat (map lengthWord)) (now (ls .entry)) 0 (many (now (s .entry)) (bytes "[face") (faceForm (now (s .entry))) (length (now (s .entry))) at)) ⌝ }
-    ensures points { λ r. ⌜ AtLines r (now (ps .exit) ≡ stored (flat (flat sidePoints)) (now (ps .entry)) 0 (many (now (s .entry)) (bytes "[face") (faceForm (now (s .entry))) (length (now (s .entry))) at)) ⌝ }
-    ensures intervals { λ r. ⌜ AtLines r (now (ds .exit) ≡ stored (flat (flat sideIntervals)) (now (ds .entry)) 0 (many (now (s .entry)) (bytes "[face") (faceForm (now (s .entry))) (length (now (s .entry))) at)) ⌝ }
+    ensures lengths { λ r. ⌜
+        AtLines r (now (ls .exit) ≡ stored (flat (map lengthWord)) (now (ls .entry)) 0 (many (now (s .entry)) (bytes "[face")
+        (faceForm (now (s .entry))) (length (now (s .entry))) at)) ⌝ }
+    ensures points { λ r. ⌜
+        AtLines r (now (ps .exit) ≡ stored (flat (flat sidePoints)) (now (ps .entry)) 0 (many (now (s .entry)) (bytes "[face")
+        (faceForm (now (s .entry))) (length (now (s .entry))) at)) ⌝ }
+    ensures intervals { λ r. ⌜
+        AtLines r (now (ds .exit) ≡ stored (flat (flat sideIntervals)) (now (ds .entry)) 0 (many (now (s .entry)) (bytes "[face")
+        (faceForm (now (s .entry))) (length (now (s .entry))) at)) ⌝ }
 {
     let mut i = at;
     let mut k: usize = 0;

@@ -66,7 +66,9 @@ fn radial_terms(
     s: WeightedSum,
 ) -> WeightedSum
     requires { ⌜ RadialFits (now edges) (now intervals) r (now newpositions) (now newedges) (now newfaces) ⌝ }
-    ensures { λ t. ⌜ t ≡ radialTerms (now (edges .entry)) (now (intervals .entry)) (edgePointAt (now (newpositions .entry)) (now (newedges .entry))) (facePointAt (now (newpositions .entry)) (now (newfaces .entry))) p r s ⌝ }
+    ensures { λ t. ⌜
+        t ≡ radialTerms (now (edges .entry)) (now (intervals .entry)) (edgePointAt (now (newpositions .entry))
+        (now (newedges .entry))) (facePointAt (now (newpositions .entry)) (now (newfaces .entry))) p r s ⌝ }
 {
     let next = acw_about(edges, p, r);
     let f = face_between(edges, intervals, r, next);
@@ -92,7 +94,9 @@ fn radial_sum(
     n: usize,
 ) -> WeightedSum
     requires { ⌜ RadialFits (now edges) (now intervals) start (now newpositions) (now newedges) (now newfaces) ⌝ }
-    ensures { λ t. ⌜ t ≡ radialSum (now (edges .entry)) (now (intervals .entry)) (edgePointAt (now (newpositions .entry)) (now (newedges .entry))) (facePointAt (now (newpositions .entry)) (now (newfaces .entry))) p start n ⌝ }
+    ensures { λ t. ⌜
+        t ≡ radialSum (now (edges .entry)) (now (intervals .entry)) (edgePointAt (now (newpositions .entry))
+        (now (newedges .entry))) (facePointAt (now (newpositions .entry)) (now (newfaces .entry))) p start n ⌝ }
 {
     let mut s = WeightedSum {
         sum: Position::origin(),
@@ -139,7 +143,10 @@ pub fn old_point(
     p: usize,
 ) -> Placed
     requires { ⌜ OldPointFits (now positions) (now points) (now edges) (now intervals) (now newpositions) (now newedges) (now newfaces) p ⌝ }
-    ensures { λ r. ⌜ r ≡ placedAt (oldPoint (now (positions .entry)) (now (points .entry)) (now (edges .entry)) (now (intervals .entry)) (edgePointAt (now (newpositions .entry)) (now (newedges .entry))) (facePointAt (now (newpositions .entry)) (now (newfaces .entry))) p) ⌝ }
+    ensures { λ r. ⌜
+        r ≡ placedAt (oldPoint (now (positions .entry)) (now (points .entry)) (now (edges .entry)) (now (intervals .entry))
+        (edgePointAt (now (newpositions .entry)) (now (newedges .entry))) (facePointAt (now (newpositions .entry))
+        (now (newfaces .entry))) p) ⌝ }
 {
     let point = load_point(positions, points, p);
     let start = index(point.incoming_edge);

@@ -108,7 +108,8 @@ fn place_old_points(
     requires { ⌜ OldPointsFit (now positions) (now points) (now edges) (now intervals) np (now newedges) (now newfaces) (now newpositions) ⌝ }
     ensures { λ r. ⌜
         placedBy np (λ p. p)
-        (λ p ps. oldPoint (now (positions .entry)) (now (points .entry)) (now (edges .entry)) (now (intervals .entry)) (edgePointAt ps (now (newedges .entry))) (facePointAt ps (now (newfaces .entry))) p)
+        (λ p ps. oldPoint (now (positions .entry)) (now (points .entry)) (now (edges .entry)) (now (intervals .entry))
+        (edgePointAt ps (now (newedges .entry))) (facePointAt ps (now (newfaces .entry))) p)
         (so-far (now (newpositions .entry)))
         ≡ came r (now (newpositions .exit)) ⌝ }
 {

@@ -30,7 +30,11 @@ pub fn step(
 ) -> Stepped
     ensures outcome { λ r. ⌜
         _≡_ {A = StepOutcome}
-        (record { answer = r; tables = meshOf (now (positions .exit)) (now (points .exit)) (now (edges .exit)) (now (intervals .exit)) (now (faces .exit)); scratch = meshOf (now (newpositions .exit)) (now (newpoints .exit)) (now (newedges .exit)) (now (newintervals .exit)) (now (newfaces .exit)) })
+        (record {
+          answer = r;
+          tables = meshOf (now (positions .exit)) (now (points .exit)) (now (edges .exit)) (now (intervals .exit)) (now (faces .exit));
+          scratch = meshOf (now (newpositions .exit)) (now (newpoints .exit)) (now (newedges .exit)) (now (newintervals .exit)) (now (newfaces .exit));
+        })
         (step (meshOf (now (positions .entry)) (now (points .entry)) (now (edges .entry)) (now (intervals .entry)) (now (faces .entry)))
         counts (now (order .entry))
         (meshOf (now (newpositions .entry)) (now (newpoints .entry)) (now (newedges .entry)) (now (newintervals .entry)) (now (newfaces .entry)))) ⌝ }

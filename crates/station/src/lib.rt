@@ -149,7 +149,12 @@ pub extern "C" fn lavyngo_step(
 ) -> u32
     ensures outcome { λ r. ⌜
         _≡_ {A = StepTold}
-        (record { answer = r; counts = now (counts .exit); tables = meshOf (now (positions .exit)) (now (points .exit)) (now (edges .exit)) (now (intervals .exit)) (now (faces .exit)); scratch = meshOf (now (newpositions .exit)) (now (newpoints .exit)) (now (newedges .exit)) (now (newintervals .exit)) (now (newfaces .exit)) })
+        (record {
+          answer = r;
+          counts = now (counts .exit);
+          tables = meshOf (now (positions .exit)) (now (points .exit)) (now (edges .exit)) (now (intervals .exit)) (now (faces .exit));
+          scratch = meshOf (now (newpositions .exit)) (now (newpoints .exit)) (now (newedges .exit)) (now (newintervals .exit)) (now (newfaces .exit));
+        })
         (stepped (now (counts .entry))
         (step (meshOf (now (positions .entry)) (now (points .entry)) (now (edges .entry)) (now (intervals .entry)) (now (faces .entry)))
         (countsIn (now (counts .entry))) (now (order .entry))

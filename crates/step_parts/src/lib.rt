@@ -1,6 +1,5 @@
 // The two parts of a step that has passed its tests: the refined mesh made in scratch, of the rows that the counts count, and the
 // refined mesh committed to the tables.
-// Names: `places`, `rows`, `halves`, `lengths` and `quads` are the scratch tables of positions, points, edges, intervals, faces.
 // Not here: the parts put together (`finishing`), the tests (`step_grounds`).
 // Contracts: `make_from_rows`, `commit`. Definitions: `steps`, specs/Step.antt; `specs/Passed.antt`.
 ghost use mathlib.Core.Path.{_≡_};
@@ -28,25 +27,25 @@ pub fn make_from_rows(
     counts: Counts,
     order: &[u32],
     c: Counts,
-    places: &mut [f64],
-    rows: &mut [u32],
-    halves: &mut [u32],
-    lengths: &mut [f64],
-    quads: &mut [u32],
+    newpositions: &mut [f64],
+    newpoints: &mut [u32],
+    newedges: &mut [u32],
+    newintervals: &mut [f64],
+    newfaces: &mut [u32],
 ) -> bool
     requires { ⌜
         Passed (meshOf (now positions) (now points) (now edges) (now intervals) (now faces)) counts (now order)
-        (meshOf (now places) (now rows) (now halves) (now lengths) (now quads)) c ⌝ }
+        (meshOf (now newpositions) (now newpoints) (now newedges) (now newintervals) (now newfaces)) c ⌝ }
     ensures { λ r. ⌜
         made
         (firstRows counts (meshOf (now (positions .entry)) (now (points .entry)) (now (edges .entry)) (now (intervals .entry)) (now (faces .entry))))
         counts
         (now (order .entry))
-        (firstRows c (meshOf (now (places .entry)) (now (rows .entry)) (now (halves .entry)) (now (lengths .entry)) (now (quads .entry))))
-        ≡ madeAs r (firstRows c (meshOf (now (places .exit)) (now (rows .exit)) (now (halves .exit)) (now (lengths .exit)) (now (quads .exit)))) ⌝ }
+        (firstRows c (meshOf (now (newpositions .entry)) (now (newpoints .entry)) (now (newedges .entry)) (now (newintervals .entry)) (now (newfaces .entry))))
+        ≡ madeAs r (firstRows c (meshOf (now (newpositions .exit)) (now (newpoints .exit)) (now (newedges .exit)) (now (newintervals .exit)) (now (newfaces .exit)))) ⌝ }
     ensures { λ _. ⌜
-        zeroedRows c (meshOf (now (places .exit)) (now (rows .exit)) (now (halves .exit)) (now (lengths .exit)) (now (quads .exit)))
-        ≡ zeroedRows c (meshOf (now (places .entry)) (now (rows .entry)) (now (halves .entry)) (now (lengths .entry)) (now (quads .entry))) ⌝ }
+        zeroedRows c (meshOf (now (newpositions .exit)) (now (newpoints .exit)) (now (newedges .exit)) (now (newintervals .exit)) (now (newfaces .exit)))
+        ≡ zeroedRows c (meshOf (now (newpositions .entry)) (now (newpoints .entry)) (now (newedges .entry)) (now (newintervals .entry)) (now (newfaces .entry))) ⌝ }
 {
     let p = counts.points * POINT_WIDTH;
     let e = counts.edges * EDGE_WIDTH;
@@ -61,50 +60,50 @@ pub fn make_from_rows(
         counts,
         order,
         c,
-        places,
-        rows,
-        halves,
-        lengths,
-        quads,
+        newpositions,
+        newpoints,
+        newedges,
+        newintervals,
+        newfaces,
     )
 }
 
 // Copies the refined mesh, of the counts c, from scratch to the tables, and zeroes scratch.
 pub fn commit(
     c: Counts,
-    places: &mut [f64],
-    rows: &mut [u32],
-    halves: &mut [u32],
-    lengths: &mut [f64],
-    quads: &mut [u32],
+    newpositions: &mut [f64],
+    newpoints: &mut [u32],
+    newedges: &mut [u32],
+    newintervals: &mut [f64],
+    newfaces: &mut [u32],
     positions: &mut [f64],
     points: &mut [u32],
     edges: &mut [u32],
     intervals: &mut [f64],
     faces: &mut [u32],
 )
-    requires { ⌜ Room c (meshOf (now places) (now rows) (now halves) (now lengths) (now quads)) ⌝ }
+    requires { ⌜ Room c (meshOf (now newpositions) (now newpoints) (now newedges) (now newintervals) (now newfaces)) ⌝ }
     requires { ⌜ Room c (meshOf (now positions) (now points) (now edges) (now intervals) (now faces)) ⌝ }
     ensures { λ _. ⌜
         meshOf (now (positions .exit)) (now (points .exit)) (now (edges .exit)) (now (intervals .exit)) (now (faces .exit))
-        ≡ overRows c (meshOf (now (places .entry)) (now (rows .entry)) (now (halves .entry)) (now (lengths .entry)) (now (quads .entry)))
+        ≡ overRows c (meshOf (now (newpositions .entry)) (now (newpoints .entry)) (now (newedges .entry)) (now (newintervals .entry)) (now (newfaces .entry)))
         (meshOf (now (positions .entry)) (now (points .entry)) (now (edges .entry)) (now (intervals .entry)) (now (faces .entry))) ⌝ }
     ensures { λ _. ⌜
-        meshOf (now (places .exit)) (now (rows .exit)) (now (halves .exit)) (now (lengths .exit)) (now (quads .exit))
-        ≡ zeroedRows c (meshOf (now (places .entry)) (now (rows .entry)) (now (halves .entry)) (now (lengths .entry)) (now (quads .entry))) ⌝ }
+        meshOf (now (newpositions .exit)) (now (newpoints .exit)) (now (newedges .exit)) (now (newintervals .exit)) (now (newfaces .exit))
+        ≡ zeroedRows c (meshOf (now (newpositions .entry)) (now (newpoints .entry)) (now (newedges .entry)) (now (newintervals .entry)) (now (newfaces .entry))) ⌝ }
 {
     copy_rows(
         c,
-        places,
-        rows,
-        halves,
-        lengths,
-        quads,
+        newpositions,
+        newpoints,
+        newedges,
+        newintervals,
+        newfaces,
         positions,
         points,
         edges,
         intervals,
         faces,
     );
-    zero_rows(c, places, rows, halves, lengths, quads);
+    zero_rows(c, newpositions, newpoints, newedges, newintervals, newfaces);
 }

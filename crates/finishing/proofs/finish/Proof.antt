@@ -18,7 +18,7 @@ commit-requires c κs =
     let a = c40 .before .before .before .args in
     let p = c40 .before .before .before .pre in
     let v = c16 .before .before .before .before .before .make-from-rows in
-    let t : Mesh = meshOf (a .places .now) (a .rows .now) (a .halves .now) (a .lengths .now) (a .quads .now) in
+    let t : Mesh = meshOf (a .newpositions .now) (a .newpoints .now) (a .newedges .now) (a .newintervals .now) (a .newfaces .now) in
     let t₁ : Mesh = meshOf (v .last .1 .1 .1 .1 .1 .1 .1 .1 .0) (v .last .1 .1 .1 .1 .1 .1 .1 .1 .1 .0)
     (v .last .1 .1 .1 .1 .1 .1 .1 .1 .1 .1 .0) (v .last .1 .1 .1 .1 .1 .1 .1 .1 .1 .1 .1 .0)
     (v .last .1 .1 .1 .1 .1 .1 .1 .1 .1 .1 .1 .1 .0) in (
@@ -63,7 +63,7 @@ returns c =
     let if1 = c24 .before .before .before .before .before .before .before .if1 in
     let commit = c16 .before .before .before .before .commit in
     let m : Mesh = meshOf (a .positions .now) (a .points .now) (a .edges .now) (a .intervals .now) (a .faces .now) in
-    let t : Mesh = meshOf (a .places .now) (a .rows .now) (a .halves .now) (a .lengths .now) (a .quads .now) in
+    let t : Mesh = meshOf (a .newpositions .now) (a .newpoints .now) (a .newedges .now) (a .newintervals .now) (a .newfaces .now) in
     let t₁ : Mesh = meshOf (v .last .1 .1 .1 .1 .1 .1 .1 .1 .0) (v .last .1 .1 .1 .1 .1 .1 .1 .1 .1 .0)
     (v .last .1 .1 .1 .1 .1 .1 .1 .1 .1 .1 .0) (v .last .1 .1 .1 .1 .1 .1 .1 .1 .1 .1 .1 .0)
     (v .last .1 .1 .1 .1 .1 .1 .1 .1 .1 .1 .1 .1 .0) in
@@ -79,7 +79,7 @@ zero-rows-requires c κs =
     let a = c32 .before .before .before .before .before .before .args in
     let p = c32 .before .before .before .before .before .before .pre in
     let v = c16 .make-from-rows in
-    let t : Mesh = meshOf (a .places .now) (a .rows .now) (a .halves .now) (a .lengths .now) (a .quads .now) in
+    let t : Mesh = meshOf (a .newpositions .now) (a .newpoints .now) (a .newedges .now) (a .newintervals .now) (a .newfaces .now) in
     let t₁ : Mesh = meshOf (v .last .1 .1 .1 .1 .1 .1 .1 .1 .0) (v .last .1 .1 .1 .1 .1 .1 .1 .1 .1 .0)
     (v .last .1 .1 .1 .1 .1 .1 .1 .1 .1 .1 .0) (v .last .1 .1 .1 .1 .1 .1 .1 .1 .1 .1 .1 .0)
     (v .last .1 .1 .1 .1 .1 .1 .1 .1 .1 .1 .1 .1 .0) in
@@ -100,7 +100,7 @@ returns-2 c =
     let p = c48 .before .pre in
     let v = c24 .before .before .before .make-from-rows in
     let m : Mesh = meshOf (a .positions .now) (a .points .now) (a .edges .now) (a .intervals .now) (a .faces .now) in
-    let t : Mesh = meshOf (a .places .now) (a .rows .now) (a .halves .now) (a .lengths .now) (a .quads .now) in
+    let t : Mesh = meshOf (a .newpositions .now) (a .newpoints .now) (a .newedges .now) (a .newintervals .now) (a .newfaces .now) in
     let t₁ : Mesh = meshOf (v .last .1 .1 .1 .1 .1 .1 .1 .1 .0) (v .last .1 .1 .1 .1 .1 .1 .1 .1 .1 .0)
     (v .last .1 .1 .1 .1 .1 .1 .1 .1 .1 .1 .0) (v .last .1 .1 .1 .1 .1 .1 .1 .1 .1 .1 .1 .0)
     (v .last .1 .1 .1 .1 .1 .1 .1 .1 .1 .1 .1 .1 .0) in
