@@ -33,7 +33,7 @@ def exported(source):
     found = {}
     for name, parameters, result in re.findall(form, source, re.S):
         pairs = re.findall(r"(\w+):\s*([^,]+?)\s*(?:,|$)", parameters.strip())
-        found[name] = (RESULTS[result], sum((in_c(*pair) for pair in pairs), []))
+        found[name] = (RESULTS[result], sum((in_c(*pair) for pair in pairs), []) or ["void"])
     return found
 
 

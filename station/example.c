@@ -38,6 +38,7 @@ static uint32_t step(void) {
 }
 
 int main(void) {
+    if (lavyngo_version() != LAVYNGO_VERSION) return fputs("the library is of another version than its header\n", stderr), 1;
     if (!lavyngo_numbers_fit()) return fputs("this program is not run with the numbers of binary64\n", stderr), 1;
     uint32_t answer = build_cube();
     for (int stage = 0; answer == LAVYNGO_ACCEPTED && stage < 3; stage++) {

@@ -51,6 +51,7 @@ fn example() -> Result<(), Ground> {
 }
 
 fn main() {
+    assert_eq!(lavyngo::version(), lavyngo::VERSION);
     if let Err(Ground(number)) = example() {
         println!("[refused {number}]");
         std::process::exit(1);

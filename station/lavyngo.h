@@ -23,6 +23,11 @@
    The functions keep nothing between calls and may be called from several threads with tables of their own. Nothing is
    allocated; the deepest call takes less than 640 KiB of stack.
 
+   POWER
+   The promises are about calls that come back. After a call that was cut off, by lost power say, the tables that it may write
+   have any content, and an audit that passes does not make them the mesh that was there before: take them for lost, and build or
+   read the mesh again. What a call only reads is as it was. Where tables outlast the power, keep the listing of the mesh.
+
    ANSWERS
    0 is accepted. Any other number is the ground of the refusal, the first that holds, in this order. "Untouched" and
    "zeroed" say what the lent tables are then: "zeroed" is said of the rows that are counted (building: as many points,
@@ -67,6 +72,12 @@ enum lavyngo_answer {
     LAVYNGO_NOWHERE = 41,             /* no edge crosses the depth */
     LAVYNGO_NOT_FINITE_DEPTH = 42     /* the depth is not finite */
 };
+
+/* The version of this header: 1 for document 01, and one more for each request of document 02 that is in it. */
+#define LAVYNGO_VERSION 5
+
+/* The version of the library that is linked. A station asks once whether it is that of the header. */
+uint32_t lavyngo_version(void);
 
 /* Elements of a row, and the place of each in its row. */
 enum {

@@ -11,6 +11,14 @@ pub const POINT: usize = 3;
 pub const EDGE: usize = 8;
 pub const FACE: usize = 5;
 
+/// The version of this module, and of the header.
+pub const VERSION: u32 = 5;
+
+/// The version of the library that is linked.
+pub fn version() -> u32 {
+    unsafe { lavyngo_version() }
+}
+
 /// A corner that is no point.
 pub const NONE: u32 = u32::MAX;
 
@@ -186,6 +194,7 @@ fn accepted(answer: u32, counts: [usize; 3]) -> Result<Counts, Ground> {
 /// The functions as lavyngo.h declares them.
 pub mod raw {
     unsafe extern "C" {
+        pub fn lavyngo_version() -> u32;
         pub fn lavyngo_build(
             coordinates: *const f64, coordinates_length: usize, sides: *const u32, sides_length: usize,
             listed: *const u32, listed_length: usize, beside: *const f64, beside_length: usize,

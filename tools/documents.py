@@ -17,7 +17,8 @@ ROOT = Path(__file__).resolve().parent.parent
 STATED = """
     audited_meshes/Audit audited_meshes/Claims built_meshes/Building built_meshes/Builds built_meshes/Claims built_meshes/Connects
     built_meshes/LentContent building_tests/Lent
-    closed_meshes/Refinement closed_meshes/Renumbering crossings/Claims filed_pieces/Pieces handover_outputs/Claims handover_outputs/Output listings/Claims listings/Handing refine_outputs/Claims refine_outputs/Output
+    closed_meshes/Refinement closed_meshes/Renumbering crossings/Claims filed_pieces/Pieces handover_outputs/Claims handover_outputs/Output listings/Claims listings/Handing mesh_printing/Claims outcomes/Outcomes refine_outputs/Bytes
+    refine_outputs/Claims refine_outputs/Output step_runs/Claims
     refined_meshes/Refines runs/Runs station/Station steps/FirstGround steps/LentScratch steps/OneStep steps/Step text_meshes/Claims text_meshes/TextBuilding
 """.split()
 
@@ -41,8 +42,11 @@ ABOUT = {
     "position_rules": "the position rules",
     "steps": "the step",
     "runs": "demand 3",
+    "step_runs": "a list of steps as a function makes it",
+    "outcomes": "demand 1",
     "mesh_answers": "the lines of an answer",
     "listings": "the handover listing",
+    "mesh_printing": "the printing of mesh text 1",
     "refine_outputs": "what the program `refine` writes",
     "handover_outputs": "what the program `handover` writes",
     "crossings": "depths that edges cross, the depth finder",

@@ -8,7 +8,7 @@
   --try                at each hole of a need try the default answers, one check for each, and keep what closes
   --try --answers 'A;B'
                        the same with answers of your own, in this order
-  --fn F               only what concerns the function F (also limits --write, --try, --tidy, --inline and --bind)
+  --fn F               only what concerns the function F (also limits --write, --try, --tidy, --inline, --apart and --bind)
   --need N             the full text of the goal and of the error at the declaration N (with --fn F where N is not unique)
   --fn F --paths N     the paths into `c` at the need N (with --all also those of the rules, as `.slice-known .given`)
   --renew F            print F's skeleton anew after an edit of its code, and bring the old answers back by name
@@ -19,6 +19,8 @@
   --tidy               drop the `as reads`, `as lts` and `-reads` lines that nothing cites, and the source places, from files with
                        no hole
   --inline             the same, and put the default answers into the call of `tie.spec`, as (λ c. search needs)
+  --apart              the opposite of --inline: every answer is a declaration of its own. All that one declaration searches for is
+                       held in memory until it is checked: so for a function of ten slices
   --holes              pass --allow-holes, so that a declaration that cites a hole is checked too
   --cut N              cut texts at N characters (default 700; 0: never)
   --last               read the output of the last run again and run nothing
@@ -411,6 +413,38 @@ def tidy(root, name, fn, inline):
             print(f"  {fn_of(str(p))}: {old.count(chr(10))} lines, now {t.count(chr(10))}")
 
 
+def apart(root, name, fn):
+    """Give the answers that stand in the call of `tie.spec` declarations of their own, where the order of the needs has them."""
+    gen = None
+    for p in proof_files(root, name, fn):
+        t = p.read_text()
+        at = re.search(rf"^(?:pub )?{NAME}-spec :[^\n]*\n{NAME}-spec =\s*tie\.close\s*\(tie\.spec\s", t, re.M)
+        if not at or "(λ c" not in t[at.end() :]:
+            continue
+        gen = gen or generated(root, name)
+        tie = [q for q in gen.rglob("Tie.antt") if str(q.parent).endswith("proofs/" + fn_of(str(p)))]
+        needs = spec_needs(tie[0]) if tie else []
+        answers = [m.group(0) for m in re.finditer(r"\(λ c(?: κs)?\.[^()]*(?:\([^()]*\)[^()]*)*\)|[^\s()]+", t[at.end() :])]
+        if len(answers) != len(needs):
+            print(f"proof_loop: {fn_of(str(p))}: {len(answers)} answers, {len(needs)} needs: left as it is")
+            continue
+        head = t[: at.start()]
+        loops = " ".join(a for a, n in zip(answers, needs) if not n)
+        before = 0
+        for i, (answer, need) in enumerate(zip(answers, needs)):
+            m = re.match(r"\(λ (c(?: κs)?)\. (.*)\)$", answer, re.S)
+            if m:
+                unit = f"{need} : tie.Need-{need}{' ' + loops if loops else ''}\n{need} {m.group(1)} = {m.group(2)}\n\n"
+                nexts = [n for n, a in zip(needs[i + 1 :], answers[i + 1 :]) if a == n]
+                found = next((f for n in nexts if (f := re.search(rf"^(?:-- [^\n]*\n)*{re.escape(n)} :", head, re.M))), None)
+                before = found.start() if found else len(head)
+                head = head[:before] + unit + head[before:]
+                answers[i] = need
+        p.write_text(head + t[at.start() : at.end()].rstrip() + "\n    " + "\n    ".join(answers) + ")\n")
+        print(f"  {fn_of(str(p))}: {len(answers)} answers apart")
+    formatted(root)
+
+
 HOLE = re.compile(rf"^({NAME})((?: c(?: κs)?)|(?: t c(?: κs)?)) = \?[ \t]*$", re.M)
 
 
@@ -630,6 +664,7 @@ def main():
     a.add_argument("--answers-of", default="")
     a.add_argument("--tidy", action="store_true")
     a.add_argument("--inline", action="store_true")
+    a.add_argument("--apart", action="store_true")
     a.add_argument("--holes", action="store_true")
     a.add_argument("--last", action="store_true")
     a.add_argument("--cut", type=int, default=700)
@@ -654,6 +689,8 @@ def main():
         return 0
     if o.tidy or o.inline:
         tidy(root, name, o.fn, o.inline)
+    if o.apart:
+        apart(root, name, o.fn)
     if o.renew:
         renew(root, name, o.renew, words)
         expand(root, name, o.renew)

@@ -1,5 +1,4 @@
 -- The whole audit from its parts. Assumes nothing.
---     counts-points, counts-edges, counts-faces      what the test of the counts decides, in turn
 --     counts-rows       counts that fit have their words in the tables
 --     ends-below        the ends of edges that pass their test are points
 --     rows-points .., walks-valences .., audit-counts ..      the parts of the tests in turn; the audit is made of the test of the
@@ -12,10 +11,9 @@ use native.Mathlib.Omega.{arith}
 use lib.Dec.{eqb, leb}
 use lib.ListN.{length}
 use lib.Ieee.{Float}
-use borrow.Author.Tests.{le-leb, lt-leb}
 use Rattle.closed_meshes.specs.Renumbering.{sumTo}
 use Rattle.tables.specs.Counted.{countsOf, rowsFor}
-use Rattle.tables.specs.Mesh.{Mesh, valence, start, origin, dest, leftFace, rightFace, interval, meshOf, pointRows as pointsOf, edgeRows as edgesOf, faceRows as facesOf}
+use Rattle.tables.specs.Mesh.{Mesh, valence, start, origin, dest, leftFace, rightFace, interval, meshOf}
 use Rattle.audited_meshes.specs.Folds.{every}
 use Rattle.audited_meshes.specs.Walks.{Walk, back, lost, passed, acwOfPoint, faceWalk, pointWalk}
 use Rattle.audited_meshes.specs.Audit.{edgeInRange, intervalFit, linked, audit}
@@ -26,22 +24,9 @@ use Rattle.audited_meshes.proofs.Quick.{quick-is-audit}
 use Rattle.tables.specs.Parts.{faceTables, pointTables, positionTables, edgeTables}
 use Rattle.audit.specs.Parts.{rowsFit, walksFit}
 use Rattle.audit_tests.specs.Parts.{walkFits, facesWalked}
-use Rattle.audit_tests.proofs.Laws.{and-false, every-cong, first-of-three, second-of-three, third-of-three, first-of-four, second-of-four, third-of-four, fourth-of-four}
+use Rattle.audit_tests.proofs.Laws.{every-cong, first-of-three, second-of-three, third-of-three, first-of-four, second-of-four, third-of-four, fourth-of-four}
 
 module _ (m : Mesh) (np ne nf : ℕ) where
-  pub counts-points : (r : ℕ) → r ≡ pointsOf m → r < np → false ≡ rowsFor (countsOf np ne nf) m
-  unfolding rowsFor
-  counts-points r e l = sym (rw (lt-leb np (pointsOf m) (omega arith)))
-
-  pub counts-edges : (r : ℕ) → r ≡ edgesOf m → r < ne → false ≡ rowsFor (countsOf np ne nf) m
-  unfolding rowsFor
-  counts-edges r e l = sym (rw (lt-leb ne (edgesOf m) (omega arith), and-false (leb np (pointsOf m))))
-
-  pub counts-faces : (r s t : ℕ) → r ≡ pointsOf m → s ≡ edgesOf m → t ≡ facesOf m → np ≤ r → ne ≤ s → leb nf t ≡ rowsFor (countsOf np ne nf) m
-  unfolding rowsFor
-  counts-faces r s t a b c k l =
-      ap (leb nf) c ∙ sym (rw (le-leb np (pointsOf m) (omega arith), le-leb ne (edgesOf m) (omega arith)))
-
   pub record Rows : Type 0 where
     pub positions-fit : np * 3 ≤ length (m .positions)
     pub points-fit : np * 3 ≤ length (m .points)

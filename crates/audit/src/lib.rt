@@ -9,7 +9,6 @@ ghost use Prim.Native.Nat.{ℕ, _*_, _≤_, _<_};
 ghost use lib.ListN.{length};
 ghost use Rattle.tables.specs.Layout.{positionWidth, pointWidth, edgeWidth, faceWidth};
 ghost use Rattle.tables.specs.Mesh.{origin, dest, meshOf};
-ghost use Rattle.tables.specs.Counted.{countsOf, rowsFor};
 ghost use Rattle.audited_meshes.specs.Audit.{audit};
 ghost use Rattle.tables.specs.Parts.{faceTables};
 ghost use Rattle.audit.specs.Parts.{rowsFit, walksFit};
@@ -20,32 +19,8 @@ use audit_faces::faces_fit;
 use audit_tests::points::point_walks_fit;
 use audit_tests::points::points_fit;
 use audit_tests::points::valences_fit;
+use counted_rows::rows_for;
 use tables::Counts;
-use tables::edge_rows;
-use tables::face_rows;
-use tables::point_rows;
-
-// Whether the counts fit the lent rows.
-fn counts_fit(
-    positions: &[f64],
-    points: &[u32],
-    edges: &[u32],
-    intervals: &[f64],
-    faces: &[u32],
-    counts: Counts,
-) -> bool
-    ensures { λ r. ⌜
-        r ≡ rowsFor (countsOf (counts .points) (counts .edges) (counts .faces))
-        (meshOf (now (positions .entry)) (now (points .entry)) (now (edges .entry)) (now (intervals .entry)) (now (faces .entry))) ⌝ }
-{
-    if point_rows(positions, points) < counts.points {
-        return false;
-    }
-    if edge_rows(edges, intervals) < counts.edges {
-        return false;
-    }
-    counts.faces <= face_rows(faces)
-}
 
 // The tests of single rows.
 fn rows_fit(
@@ -113,7 +88,7 @@ pub fn audit(
         (meshOf (now (positions .entry)) (now (points .entry)) (now (edges .entry)) (now (intervals .entry)) (now (faces .entry)))
         (counts .points) (counts .edges) (counts .faces) ⌝ }
 {
-    if !counts_fit(positions, points, edges, intervals, faces, counts) {
+    if !rows_for(counts, positions, points, edges, intervals, faces) {
         return false;
     }
     if !rows_fit(positions, points, edges, intervals, faces, counts) {

@@ -15,7 +15,9 @@ use Rattle.audited_meshes.specs.Walks.{Walk, back, lost, passed, firstPoint, fa
 use Rattle.audited_meshes.specs.Quick.{faceFit, faceBack}
 use Rattle.walks.specs.declared.FaceBorder.{FaceBorder}
 use Rattle.walks.specs.Border.{borderOf, border}
-use Rattle.walks.proofs.Laws.{border-point, border-walk, getD-map}
+use Rattle.walks.specs.Steps.{passedBy}
+use Rattle.walks.specs.declared.Passed.the-variants as Passed
+use Rattle.walks.proofs.Laws.{border-point, border-walk, border-passed, passed-back, passed-lost, getD-map}
 use Rattle.walks.proofs.Back.{faceWalk-within}
 use Rattle.audit_tests.specs.Parts.{differAt, faceSize, facesWalked}
 use Rattle.audit_tests.proofs.Laws.{and-false, every-none, every-more, every-stop, every-all, every-cong, sumTo-none, sumTo-more, sumTo-stop, sumTo-all}
@@ -57,13 +59,12 @@ module _ (m : Mesh) (f : ℕ) (es : List ℕ) where
 abbrev sizeBy : Mesh → ℕ → Walk → ℕ
 sizeBy m f w = cond (faceBack m f w) (passed w) 0
 
-walk-short : (m : Mesh) (f : ℕ) (w : Walk) → borderOf m f w .n < 3 → sizeBy m f w ≡ 0
+walk-short : (m : Mesh) (f : ℕ) (w : Walk) → passed w < 3 → sizeBy m f w ≡ 0
 unfolding faceBack
 walk-short m f (back es) l = rw (lt-leb 3 (length es) l)
 walk-short m f lost l = refl
 
-walk-size : (m : Mesh) (f : ℕ) (w : Walk) → 3 ≤ borderOf m f w .n
-    → sizeBy m f w ≡ cond (allApart (borderOf m f w .points) (borderOf m f w .n)) (borderOf m f w .n) 0
+walk-size : (m : Mesh) (f : ℕ) (w : Walk) → 3 ≤ passed w → sizeBy m f w ≡ cond (allApart (borderOf m f w .points) (passed w)) (passed w) 0
 unfolding faceBack
 walk-size m f (back es) l = rw (le-leb 3 (length es) l) (ap (λ (d : Bool). cond d (length es) 0) (sym (apart-border m f es)))
 walk-size m f lost l = absurd (omega arith)
@@ -72,21 +73,30 @@ module _ (m : Mesh) (ne f : ℕ) (b : FaceBorder) (e : b ≡ border m ne f) wher
   by-walk : b ≡ borderOf m f (faceWalk m ne f)
   by-walk = e ∙ border-walk m ne f
 
-  pub size-within : b .n ≤ 64
-  size-within = subst (λ (k : ℕ). k ≤ 64) (sym (ap (λ (x : FaceBorder). x .n) by-walk ∙ count-border (faceWalk m ne f))) (faceWalk-within m ne f)
-    where
-      count-border : (w : Walk) → borderOf m f w .n ≡ passed w
-      count-border (back es) = refl
-      count-border lost = refl
+  passed-is : passedBy (faceWalk m ne f) ≡ b .passed
+  passed-is = sym (ap (λ (x : FaceBorder). x .passed) e ∙ border-passed m ne f)
 
-  pub size-short : b .n < 3 → 0 ≡ faceSize m ne f
-  size-short l = sym (walk-short m f (faceWalk m ne f) (subst (λ (x : FaceBorder). x .n < 3) by-walk l))
+  pub size-lost : b .passed ≡ Passed.Lost → 0 ≡ faceSize m ne f
+  size-lost h =
+      let z = passed-lost (faceWalk m ne f) (passed-is ∙ h) in
+      sym (walk-short m f (faceWalk m ne f) (omega arith))
 
-  pub size-is : 3 ≤ b .n → (d : Bool) → d ≡ allApart (b .points) (b .n) → cond d (b .n) 0 ≡ faceSize m ne f
-  size-is l d q =
-      sym (walk-size m f (faceWalk m ne f) (subst (λ (x : FaceBorder). 3 ≤ x .n) by-walk l)
-      ∙ ap (λ (x : FaceBorder). cond (allApart (x .points) (x .n)) (x .n) 0) (sym by-walk)
-      ∙ ap (λ (t : Bool). cond t (b .n) 0) (sym q))
+  module _ {n : ℕ} (came : b .passed ≡ Passed.Back n) where
+    count : passed (faceWalk m ne f) ≡ n
+    count = passed-back (faceWalk m ne f) (passed-is ∙ came)
+
+    pub size-within : n ≤ 64
+    size-within = rw (← count) (faceWalk-within m ne f)
+
+    pub size-short : n < 3 → 0 ≡ faceSize m ne f
+    size-short l = sym (walk-short m f (faceWalk m ne f) (rw count l))
+
+    pub size-is : 3 ≤ n → (d : Bool) → d ≡ allApart (b .points) n → cond d n 0 ≡ faceSize m ne f
+    size-is l d q =
+        sym (walk-size m f (faceWalk m ne f) (rw count l)
+        ∙ ap (λ (x : FaceBorder). cond (allApart (x .points) (passed (faceWalk m ne f))) (passed (faceWalk m ne f)) 0) (sym by-walk)
+        ∙ ap (λ (k : ℕ). cond (allApart (b .points) k) k 0) count
+        ∙ ap (λ (t : Bool). cond t n 0) (sym q))
 
 -- ---- the sizes of faces in turn
 

@@ -21,6 +21,7 @@ use tables::LONGEST_PERIMETER;
 use tables::SECOND_CORNER_WORD;
 use tables::THIRD_CORNER_WORD;
 use tables::index;
+use walks::Passed;
 use walks::t_nurcc_face::put_border;
 
 // Whether a corner is a point number or the none mark.
@@ -108,7 +109,9 @@ fn face_size(edges: &[u32], faces: &[u32], ne: usize, f: usize) -> usize
 {
     let mut perimeter = [0u32; LONGEST_PERIMETER];
     let mut points = [0u32; LONGEST_BORDER];
-    let n = put_border(edges, faces, ne, f, &mut perimeter, &mut points);
+    let Passed::Back(n) = put_border(edges, faces, ne, f, &mut perimeter, &mut points) else {
+        return 0;
+    };
     if n < 3 {
         return 0;
     }

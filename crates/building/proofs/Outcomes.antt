@@ -1,6 +1,5 @@
 -- How building begins and ends, over plain variables. Assumes nothing.
 --     concluded-fit, concluded-unfit    the ends of `conclude`
---     zeroedTo-rows                     the rows that ground 4 counts, by their numbers
 --     Rooms, rooms, rooms-of            what the tables have room for when no ground up to 4 holds, and when they are zeroed
 --     standing-none                     nothing stands in zeroed tables
 --     stopped-outcome, on-outcome       the answer when a face was refused, and when all faces stand
@@ -56,10 +55,6 @@ module _ (cs : List Float) (np nl nf : ℕ) (m : Mesh) (k : ℕ) (v : Verdict) w
   concluded-unfit g new h z = rw (h, z)
 
 -- ---- before the faces
-
-pub zeroedTo-rows : (l : Lists) (m : Mesh)
-    → zeroedRows (countsOf (pointsOf l) (length (l .listed)) (facesOf l)) m ≡ zeroedRows (rowsOf l) m
-zeroedTo-rows l m = refl
 
 -- what the tables have room for
 pub record Rooms (l : Lists) (m : Mesh) : Type 0 where
@@ -200,9 +195,6 @@ module _ (l : Lists) (m t : Mesh) (begun : Begun l m) (zero : t ≡ zeroedRows (
 pub numbers-same : (cs : List Float) (ss ls : List ℕ) (be : List Float) → listedFit (lists cs [] [] be) ≡ listedFit (lists cs ss ls be)
 unfolding listedFit
 numbers-same cs ss ls be = refl
-
-pub rows-same : (l : Lists) (m : Mesh) → rowsFor (countsOf (pointsOf l) (length (l .listed)) (facesOf l)) m ≡ rowsFor (rowsOf l) m
-rows-same l m = refl
 
 module _ (b : Bounds) (l : Lists) (m : Mesh) where
   pub refused-counts : countsFit (limitsOf b) l ≡ false → buildRefusal OverCounts m ≡ build (limitsOf b) l m

@@ -17,8 +17,6 @@ use building_faces::Faced;
 use building_faces::enter_faces;
 use building_lists::counts_fit;
 use building_lists::numbers_fit;
-use building_rows::rows_fit;
-use building_rows::zero_rows;
 use building_tests::Bounds;
 use building_tests::MOST_LISTED;
 use building_tests::MOST_POINTS;
@@ -27,6 +25,8 @@ use building_whole::whole::whole_verdict;
 use built_meshes::Built;
 use built_meshes::Ground;
 use built_meshes::Verdict;
+use counted_rows::rows_for;
+use counted_rows::zero_rows;
 use tables::Counts;
 use tables::POSITION_WIDTH;
 use tables::copy_numbers;
@@ -76,7 +76,18 @@ fn conclude(
             })
         }
         Verdict::Unfit(g) => {
-            zero_rows(positions, points, edges, intervals, faces, np, nl, nf);
+            zero_rows(
+                Counts {
+                    points: np,
+                    edges: nl,
+                    faces: nf,
+                },
+                positions,
+                points,
+                edges,
+                intervals,
+                faces,
+            );
             Built::Refused(g)
         }
     }
@@ -138,7 +149,18 @@ fn build_zeroed(
             k,
         ),
         Faced::Stopped(g) => {
-            zero_rows(positions, points, edges, intervals, faces, np, nl, nf);
+            zero_rows(
+                Counts {
+                    points: np,
+                    edges: nl,
+                    faces: nf,
+                },
+                positions,
+                points,
+                edges,
+                intervals,
+                faces,
+            );
             Built::Refused(g)
         }
     }
@@ -167,14 +189,16 @@ fn build_begun(
         (meshOf (now (positions .entry)) (now (points .entry)) (now (edges .entry)) (now (intervals .entry)) (now (faces .entry)))) ⌝ }
 {
     zero_rows(
+        Counts {
+            points: coordinates.len() / POSITION_WIDTH,
+            edges: listed.len(),
+            faces: sides.len() / 4,
+        },
         positions,
         points,
         edges,
         intervals,
         faces,
-        coordinates.len() / POSITION_WIDTH,
-        listed.len(),
-        sides.len() / 4,
     );
     let mut chain = [0u32; CHAIN];
     build_zeroed(
@@ -219,15 +243,17 @@ pub fn build(
     if !numbers_fit(coordinates, beside) {
         return Built::Refused(Ground::UnfitNumber);
     }
-    if !rows_fit(
+    if !rows_for(
+        Counts {
+            points: coordinates.len() / POSITION_WIDTH,
+            edges: listed.len(),
+            faces: sides.len() / 4,
+        },
         positions,
         points,
         edges,
         intervals,
         faces,
-        coordinates.len() / POSITION_WIDTH,
-        listed.len(),
-        sides.len() / 4,
     ) {
         return Built::Refused(Ground::FewRows);
     }

@@ -23,6 +23,7 @@ use records::load_position;
 use tables::LONGEST_BORDER;
 use tables::LONGEST_PERIMETER;
 use tables::index;
+use walks::Passed;
 use walks::t_nurcc_face::put_border;
 
 // The interval of an edge, and those after two steps anticlockwise and two steps clockwise about one of its points.
@@ -120,7 +121,9 @@ pub fn face_point(
 {
     let mut perimeter = [0u32; LONGEST_PERIMETER];
     let mut points = [0u32; LONGEST_BORDER];
-    let n = put_border(edges, faces, ne, f, &mut perimeter, &mut points);
+    let Passed::Back(n) = put_border(edges, faces, ne, f, &mut perimeter, &mut points) else {
+        return Placed::NotFinite;
+    };
     let s = window_sum(positions, edges, intervals, &points, &perimeter, n);
     s.sum.over(s.weight).placed()
 }

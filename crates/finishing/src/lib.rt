@@ -5,7 +5,7 @@ ghost use mathlib.Core.Path.{_≡_};
 ghost use Rattle.tables.specs.Mesh.{meshOf};
 ghost use Rattle.steps.specs.Step.{step, StepOutcome};
 ghost use Rattle.step_parts.specs.Passed.{Passed};
-use row_copies::zero_rows;
+use counted_rows::zero_rows;
 use step_parts::commit;
 use step_parts::make_from_rows;
 use steps::Stepped;

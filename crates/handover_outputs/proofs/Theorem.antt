@@ -21,8 +21,8 @@ use Rattle.steps.specs.Step.{withinCeilings}
 use Rattle.steps.specs.declared.Stepped.{Stepped}
 use Rattle.steps.specs.declared.Stepped.the-variants as Stepped
 use Rattle.listings.specs.Handing.{listingOf, passesAudit, written, writeListing}
-use Rattle.refine_outputs.specs.Output.{zeroTables, numberedStep, Writing, writingIf}
-use Rattle.handover_outputs.specs.Output.{listedBytes, listed, steppedBytes, builtBytes, handoverFrom, handoverOutput, handover}
+use Rattle.refine_outputs.specs.Output.{zeroTables, numberedStep, Writing}
+use Rattle.handover_outputs.specs.Output.{listedBytes, listed, steppedBytes, builtBytes, handoverFrom, handoverOutput, writingIf, handover}
 use Rattle.handover_outputs.specs.Claims.{Long-text, Output-fits}
 
 pub long-text : Long-text

@@ -4,11 +4,14 @@
 --     steppedBytes a m out    the same after a step, by its answer and the tables m that it left
 --     handoverFrom s m out    what is written for the text s, by the tables m
 --     handoverOutput s out    the whole output
+--     writingIf fits xs out   the bytes xs at the front of the bytes out, if these are enough; else nothing is written
 --     handover s out          the output at the front of the bytes that are lent; nothing where these are fewer than outputBytes
+use mathlib.Core.Bool.{Bool, true, false}
 use mathlib.Core.List.{List}
 use Prim.Native.Nat.{ℕ}
 use lib.Dec.{leb}
 use lib.ListN.{length}
+use lib.Seq.{sets}
 use Rattle.tables.specs.Mesh.{Mesh}
 use Rattle.tables.specs.declared.Counts.{Counts}
 use Rattle.building_tests.specs.declared.Bounds.the-variants.{Refine}
@@ -22,7 +25,7 @@ use Rattle.mesh_answers.specs.Lines.{refusedLine}
 use Rattle.listings.specs.Handing.{listingOf, writeListing, writingNumber}
 use Rattle.listings.specs.declared.Writing.{Writing}
 use Rattle.listings.specs.declared.Writing.the-variants as Writing
-use Rattle.refine_outputs.specs.Output.{outputBytes, zeroTables, groundLine, numberedStep, writingIf}
+use Rattle.refine_outputs.specs.Output.{outputBytes, zeroTables, groundLine, numberedStep}
 use Rattle.refine_outputs.specs.Output as refine
 
 abbrev pub listedBytes : Writing → List ℕ → List ℕ
@@ -61,6 +64,10 @@ handoverFrom s m out = let o = buildText Refine s m in builtBytes (o .answer) (o
 unfoldable pub handoverOutput : List ℕ → List ℕ → List ℕ
 unfolding handoverFrom zeroTables
 handoverOutput s out = handoverFrom s zeroTables out
+
+abbrev pub writingIf : Bool → List ℕ → List ℕ → refine.Writing
+writingIf true xs out = record { count = length xs; out = sets out 0 xs }
+writingIf false xs out = record { count = 0; out = out }
 
 unfoldable pub handover : List ℕ → List ℕ → refine.Writing
 unfolding handoverOutput

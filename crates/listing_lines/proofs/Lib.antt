@@ -4,3 +4,4 @@ pub mod PointLine
 pub mod EdgeLine
 pub mod FaceLine
 pub mod Progress
+pub mod Scanned

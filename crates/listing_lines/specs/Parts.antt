@@ -1,16 +1,26 @@
--- How the parts of the reader answer. The contract of the whole reader names none of this.
+-- How the parts of the reader, and the scan of the whole listing, answer. The contract of the reader names none of this.
 --     lastWord v x        the last of the words that were found, v if they are none, and the place after them
 --     AtNumber r P        what is promised where something was found
 --     same ws             words as they are
 --     rowNumbers rowWords r what a row puts into the tables
+--     totalOf x           the answer to what a scan of the whole found
+--     AtTotal t P         what is promised where a listing was found
+--     Listing s           the text is a listing
+--     positionsIn pointsIn edgesIn intervalsIn facesIn t     what the rows put into each table
+use mathlib.Core.Path.{_≡_}
 use mathlib.Core.List.{List, map}
 use Prim.Native.Nat.{ℕ}
+use lib.ListN.{length}
 use lib.Ieee.{Float}
-use Rattle.text_numbers.specs.Form.{Parsed, ifParsed}
+use Rattle.text_numbers.specs.Form.{Parsed, parsed, ifParsed}
 use Rattle.text_numbers.specs.Numbers.{float}
 use Rattle.text_numbers.specs.declared.Number.{Number}
 use Rattle.text_numbers.specs.declared.Number.the-variants as Number
-use Rattle.listings.specs.Printing.{Row, last}
+use Rattle.listings.specs.Printing.{Row, Rows, last}
+use Rattle.listings.specs.Grammar.{listing}
+use Rattle.listings.specs.Handing.{numbersIn, wordsIn}
+use Rattle.listing_lines.specs.declared.Total.{Total}
+use Rattle.listing_lines.specs.declared.Total.the-variants as Total
 
 abbrev pub lastWord : ℕ → Parsed (List ℕ) → Number
 lastWord v x = ifParsed (λ ws n. Number.Is (last v ws) n) Number.None x
@@ -27,3 +37,28 @@ rowNumbers r = map float (r .numbers)
 
 abbrev pub rowWords : Row → List ℕ
 rowWords r = r .words
+
+abbrev pub totalOf : Parsed Rows → Total
+totalOf x = ifParsed (λ t n. Total.Of (length (t .points)) (length (t .edges)) (length (t .faces))) Total.None x
+
+abbrev pub AtTotal : Total → Type 0 → Type 0
+AtTotal (Total.Of p e f) P = P
+AtTotal Total.None P = Unit {0}
+
+abbrev pub Listing : List ℕ → Type 0
+Listing s = (t : Rows) × (n : ℕ) × (listing s ≡ parsed t n)
+
+abbrev pub positionsIn : Rows → List Float
+positionsIn t = numbersIn (t .points)
+
+abbrev pub pointsIn : Rows → List ℕ
+pointsIn t = wordsIn (t .points)
+
+abbrev pub edgesIn : Rows → List ℕ
+edgesIn t = wordsIn (t .edges)
+
+abbrev pub intervalsIn : Rows → List Float
+intervalsIn t = numbersIn (t .edges)
+
+abbrev pub facesIn : Rows → List ℕ
+facesIn t = wordsIn (t .faces)

@@ -1,20 +1,21 @@
-// The lines of a handover listing (document 02, §1), read into the rows of tables, as far as these have rows.
-// Not here: the whole listing and its grounds (`listing_reading`), the printing of lines (`listing_printing`).
-// Contracts: `points`, `edges`, `faces`. Definitions: `listings`, specs/Grammar.antt (the lines); `specs/Parts.antt` (the answers).
-// Laws: `proofs/Laws.antt` (how far a line goes), `proofs/Progress.antt` (one turn of a loop over lines).
+// The lines of a handover listing (document 02, §1), counted, and read into the rows of tables, as far as these have rows.
+// Not here: the grounds of a listing (`listing_reading`), the printing of lines (`listing_printing`).
+// Contracts: `sizes`, `store_rows`. Definitions: `listings`, specs/Grammar.antt (the lines); `specs/Parts.antt` (the answers).
+// Laws: `proofs/Laws.antt` (how far a line goes), `proofs/Progress.antt` (one turn of a loop over lines), `proofs/Scanned.antt` (the whole).
 ghost use mathlib.Core.Path.{_≡_};
 ghost use Prim.Native.Nat.{_≤_};
 ghost use lib.ListN.{length};
 ghost use Rattle.text_numbers.specs.Form.{bytes, times, many};
 ghost use Rattle.text_numbers.specs.Answers.{number};
 ghost use Rattle.mesh_lines.specs.Parts.{placeAnswer, runAnswer, stored, AtPlace, AtRun};
-ghost use Rattle.listings.specs.Grammar.{wordForm, pointRowForm, edgeRowForm, faceRowForm};
+ghost use Rattle.listings.specs.Grammar.{wordForm, pointRowForm, edgeRowForm, faceRowForm, listing};
 ghost use Rattle.listings.specs.Handing.{numbersIn, wordsIn};
-ghost use Rattle.listing_lines.specs.Parts.{lastWord, AtNumber, same, rowNumbers, rowWords};
+ghost use Rattle.listing_lines.specs.Parts.{lastWord, AtNumber, same, rowNumbers, rowWords, totalOf, AtTotal, Listing, positionsIn, pointsIn, edgesIn, intervalsIn, facesIn};
 use mesh_lines::Place;
 use mesh_lines::Run;
 use mesh_lines::coordinates;
 use mesh_lines::put_word;
+use mesh_text::ends;
 use tables::EDGE_WIDTH;
 use tables::FACE_WIDTH;
 use tables::POINT_WIDTH;
@@ -111,9 +112,9 @@ fn face(s: &[u8], at: usize, ws: &mut [u32], n: usize) -> Place
     Place::At(i + 2)
 }
 
-// The point lines, and how many they are. Where one is not of the form, the tables are left free here and in `edges` and `faces`:
-// the reader of a whole listing stores nothing for its caller before it has scanned it once.
-pub fn points(s: &[u8], at: usize, xs: &mut [f64], ws: &mut [u32]) -> Run
+// The point lines, and how many they are. Where one is not of the form, the tables are left free here, in `edges`, `faces` and `scan`:
+// none of these is public, and `store_rows` scans only what is a listing.
+fn points(s: &[u8], at: usize, xs: &mut [f64], ws: &mut [u32]) -> Run
     requires { ⌜ at ≤ length (now s) ⌝ }
     ensures run { λ r. ⌜ r ≡ runAnswer length (many (now (s .entry)) (bytes "[point") (pointRowForm (now (s .entry))) (length (now (s .entry))) at) ⌝ }
     ensures numbers { λ r. ⌜ AtRun r (now (xs .exit) ≡ stored numbersIn (now (xs .entry)) 0 (many (now (s .entry)) (bytes "[point") (pointRowForm (now (s .entry))) (length (now (s .entry))) at)) ⌝ }
@@ -132,7 +133,7 @@ pub fn points(s: &[u8], at: usize, xs: &mut [f64], ws: &mut [u32]) -> Run
 }
 
 // The edge lines, and how many they are.
-pub fn edges(s: &[u8], at: usize, ws: &mut [u32], xs: &mut [f64]) -> Run
+fn edges(s: &[u8], at: usize, ws: &mut [u32], xs: &mut [f64]) -> Run
     requires { ⌜ at ≤ length (now s) ⌝ }
     ensures run { λ r. ⌜ r ≡ runAnswer length (many (now (s .entry)) (bytes "[edge") (edgeRowForm (now (s .entry))) (length (now (s .entry))) at) ⌝ }
     ensures words { λ r. ⌜ AtRun r (now (ws .exit) ≡ stored wordsIn (now (ws .entry)) 0 (many (now (s .entry)) (bytes "[edge") (edgeRowForm (now (s .entry))) (length (now (s .entry))) at)) ⌝ }
@@ -151,7 +152,7 @@ pub fn edges(s: &[u8], at: usize, ws: &mut [u32], xs: &mut [f64]) -> Run
 }
 
 // The face lines, and how many they are.
-pub fn faces(s: &[u8], at: usize, ws: &mut [u32]) -> Run
+fn faces(s: &[u8], at: usize, ws: &mut [u32]) -> Run
     requires { ⌜ at ≤ length (now s) ⌝ }
     ensures run { λ r. ⌜ r ≡ runAnswer length (many (now (s .entry)) (bytes "[face") (faceRowForm (now (s .entry))) (length (now (s .entry))) at) ⌝ }
     ensures words { λ r. ⌜ AtRun r (now (ws .exit) ≡ stored wordsIn (now (ws .entry)) 0 (many (now (s .entry)) (bytes "[face") (faceRowForm (now (s .entry))) (length (now (s .entry))) at)) ⌝ }
@@ -166,4 +167,75 @@ pub fn faces(s: &[u8], at: usize, ws: &mut [u32]) -> Run
         k += 1;
     }
     Run::Of(k, i)
+}
+
+// How many points, edges and faces a whole listing has.
+pub enum Total {
+    Of(usize, usize, usize),
+    None,
+}
+
+// The whole listing, its rows stored in the tables as far as these have rows.
+fn scan(
+    s: &[u8],
+    xs: &mut [f64],
+    ps: &mut [u32],
+    es: &mut [u32],
+    ds: &mut [f64],
+    fs: &mut [u32],
+) -> Total
+    ensures sizes { λ r. ⌜ r ≡ totalOf (listing (now (s .entry))) ⌝ }
+    ensures positions { λ r. ⌜ AtTotal r (now (xs .exit) ≡ stored positionsIn (now (xs .entry)) 0 (listing (now (s .entry)))) ⌝ }
+    ensures points { λ r. ⌜ AtTotal r (now (ps .exit) ≡ stored pointsIn (now (ps .entry)) 0 (listing (now (s .entry)))) ⌝ }
+    ensures edges { λ r. ⌜ AtTotal r (now (es .exit) ≡ stored edgesIn (now (es .entry)) 0 (listing (now (s .entry)))) ⌝ }
+    ensures intervals { λ r. ⌜ AtTotal r (now (ds .exit) ≡ stored intervalsIn (now (ds .entry)) 0 (listing (now (s .entry)))) ⌝ }
+    ensures faces { λ r. ⌜ AtTotal r (now (fs .exit) ≡ stored facesIn (now (fs .entry)) 0 (listing (now (s .entry)))) ⌝ }
+{
+    if !stands(s, 0, b"[mesh 3]\n") {
+        return Total::None;
+    }
+    let Run::Of(p, i) = points(s, 9, xs, ps) else {
+        return Total::None;
+    };
+    let Run::Of(e, j) = edges(s, i, es, ds) else {
+        return Total::None;
+    };
+    let Run::Of(f, k) = faces(s, j, fs) else {
+        return Total::None;
+    };
+    if !ends(s, k) {
+        return Total::None;
+    }
+    Total::Of(p, e, f)
+}
+
+// How many points, edges and faces a listing has. Its rows are stored nowhere.
+pub fn sizes(s: &[u8]) -> Total
+    ensures { λ r. ⌜ r ≡ totalOf (listing (now (s .entry))) ⌝ }
+{
+    let mut xs = [0.0; 1];
+    let mut ps = [0u32; 1];
+    let mut es = [0u32; 1];
+    let mut ds = [0.0; 1];
+    let mut fs = [0u32; 1];
+    scan(s, &mut xs, &mut ps, &mut es, &mut ds, &mut fs)
+}
+
+// Stores the rows of a listing in the tables, as far as these have rows.
+pub fn store_rows(
+    s: &[u8],
+    xs: &mut [f64],
+    ps: &mut [u32],
+    es: &mut [u32],
+    ds: &mut [f64],
+    fs: &mut [u32],
+)
+    requires { ⌜ Listing (now s) ⌝ }
+    ensures positions { λ _. ⌜ now (xs .exit) ≡ stored positionsIn (now (xs .entry)) 0 (listing (now (s .entry))) ⌝ }
+    ensures points { λ _. ⌜ now (ps .exit) ≡ stored pointsIn (now (ps .entry)) 0 (listing (now (s .entry))) ⌝ }
+    ensures edges { λ _. ⌜ now (es .exit) ≡ stored edgesIn (now (es .entry)) 0 (listing (now (s .entry))) ⌝ }
+    ensures intervals { λ _. ⌜ now (ds .exit) ≡ stored intervalsIn (now (ds .entry)) 0 (listing (now (s .entry))) ⌝ }
+    ensures faces { λ _. ⌜ now (fs .exit) ≡ stored facesIn (now (fs .entry)) 0 (listing (now (s .entry))) ⌝ }
+{
+    scan(s, xs, ps, es, ds, fs);
 }

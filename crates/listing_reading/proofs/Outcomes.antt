@@ -1,4 +1,4 @@
--- Reading a listing into tables m: r is the answer for its sizes np, ne and nf; q and the tables xs, ps, es, ds and fs are what the
+-- Reading a listing into tables m: r is the answer for its sizes np, ne and nf; the tables xs, ps, es, ds and fs are what the
 -- second scan leaves.
 use mathlib.Core.List.{List, [], _∷_, _++_, map}
 use mathlib.Core.Path.{_≡_, refl, sym, ap, _∙_}
@@ -24,9 +24,9 @@ use Rattle.listings.proofs.Whole.{printed-of-listing}
 use Rattle.listings.specs.Grammar.{listing}
 use Rattle.listings.specs.Handing.{listedCounts, withListing as storedRows, passesAudit, ReadingOutcome, readRows, readFound, readListing}
 use Rattle.listings.specs.declared.Reading.the-variants as Reading
-use Rattle.listing_reading.specs.Parts.{totalOf, AtTotal, positionsIn, pointsIn, edgesIn, intervalsIn, facesIn}
-use Rattle.listing_reading.specs.declared.Total.{Total}
-use Rattle.listing_reading.specs.declared.Total.the-variants as Total
+use Rattle.listing_lines.specs.Parts.{totalOf, Listing, positionsIn, pointsIn, edgesIn, intervalsIn, facesIn}
+use Rattle.listing_lines.specs.declared.Total.{Total}
+use Rattle.listing_lines.specs.declared.Total.the-variants as Total
 
 total-of : (x : Parsed Rows) {p e f : ℕ} → totalOf x ≡ Total.Of p e f
     → (t : Rows) × (n : ℕ) × (x ≡ parsed t n) × (listedCounts t ≡ record { points = p; edges = e; faces = f })
@@ -83,6 +83,9 @@ module _ (s : List ℕ) (m : Mesh) {r : Total} (er : r ≡ totalOf (listing s)) 
   not-listing en = rw (total-none (listing s) (sym er ∙ en))
 
   module _ {p e f : ℕ} (ep : r ≡ Total.Of p e f) where
+    pub is-listing : Listing s
+    is-listing = let (t, n, et, ec) = total-of (listing s) (sym er ∙ ep) in (t, n, et)
+
     pub over : withinCeilings (record { points = p; edges = e; faces = f }) ≡ false
         → record { answer = Reading.OverCeilings; tables = m } ≡ readListing s m
     unfolding readFound
@@ -95,19 +98,18 @@ module _ (s : List ℕ) (m : Mesh) {r : Total} (er : r ≡ totalOf (listing s)) 
       no-room em = let (t, n, et, ec) = total-of (listing s) (sym er ∙ ep) in rw (et, ec, ew, em)
 
       module _ (em : rowsFor (record { points = p; edges = e; faces = f }) m ≡ true)
-          {q : Total} (eq : q ≡ totalOf (listing s)) (xs : List Float) (ps es : List ℕ) (ds : List Float) (fs : List ℕ)
-          (ex : AtTotal q (xs ≡ stored positionsIn (m .positions) 0 (listing s))) (epp : AtTotal q (ps ≡ stored pointsIn (m .points) 0 (listing s)))
-          (ee : AtTotal q (es ≡ stored edgesIn (m .edges) 0 (listing s))) (ed : AtTotal q (ds ≡ stored intervalsIn (m .intervals) 0 (listing s)))
-          (ef : AtTotal q (fs ≡ stored facesIn (m .faces) 0 (listing s))) where
+          (xs : List Float) (ps es : List ℕ) (ds : List Float) (fs : List ℕ)
+          (ex : xs ≡ stored positionsIn (m .positions) 0 (listing s)) (epp : ps ≡ stored pointsIn (m .points) 0 (listing s))
+          (ee : es ≡ stored edgesIn (m .edges) 0 (listing s)) (ed : ds ≡ stored intervalsIn (m .intervals) 0 (listing s))
+          (ef : fs ≡ stored facesIn (m .faces) 0 (listing s)) where
         -- the second scan has stored the rows
         scanned : (t : Rows) (n : ℕ) → listing s ≡ parsed t n → meshOf xs ps es ds fs ≡ storedRows t m
         scanned t n et =
-            let eo : q ≡ Total.Of p e f = eq ∙ sym er ∙ ep in
-            let ax : xs ≡ sets (m .positions) 0 (positionsIn t) = rw (eo, et) at ex in
-            let ap′ : ps ≡ sets (m .points) 0 (pointsIn t) = rw (eo, et) at epp in
-            let ae : es ≡ sets (m .edges) 0 (edgesIn t) = rw (eo, et) at ee in
-            let ad : ds ≡ sets (m .intervals) 0 (intervalsIn t) = rw (eo, et) at ed in
-            let af : fs ≡ sets (m .faces) 0 (facesIn t) = rw (eo, et) at ef in
+            let ax : xs ≡ sets (m .positions) 0 (positionsIn t) = rw et at ex in
+            let ap′ : ps ≡ sets (m .points) 0 (pointsIn t) = rw et at epp in
+            let ae : es ≡ sets (m .edges) 0 (edgesIn t) = rw et at ee in
+            let ad : ds ≡ sets (m .intervals) 0 (intervalsIn t) = rw et at ed in
+            let af : fs ≡ sets (m .faces) 0 (facesIn t) = rw et at ef in
             λ i. record { positions = ax i; points = ap′ i; edges = ae i; intervals = ad i; faces = af i }
 
         pub read : passesAudit (meshOf xs ps es ds fs) (record { points = p; edges = e; faces = f }) ≡ true

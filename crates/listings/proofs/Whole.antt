@@ -1,6 +1,7 @@
 -- A text is a listing exactly if it is the printing of rows that fit. Assumes nothing.
 --     printed-of-listing     what is read is the printing of its rows
 --     listing-at             the printing of rows that fit is read back
+-- What is `pub` besides serves the printing of mesh text 1 too (`mesh_printing`).
 use mathlib.Core.Path.{_≡_, refl, sym, ap, _∙_, subst}
 use mathlib.Core.List.{List, [], _∷_, _++_}
 use mathlib.Core.Bool.{Bool, true, false, _&&_}
@@ -30,7 +31,7 @@ byte-of-stands s (b ∷ t) at (suc i) e h =
     let p : at + suc i ≡ at + 1 + i = omega arith in
     rw p (byte-of-stands s t (at + 1) i (first-stands s at b t e .1) (omega arith))
 
-whole-of-stands : (s t : List ℕ) → stands s 0 t ≡ true → length s ≡ length t → s ≡ t
+pub whole-of-stands : (s t : List ℕ) → stands s 0 t ≡ true → length s ≡ length t → s ≡ t
 whole-of-stands s t e h = ext-getD 0 s t h λ i k. zero-left i ∙ byte-of-stands s t 0 i e (rw h at k)
   where
     zero-left : (i : ℕ) → getD s i 0 ≡ getD s (0 + i) 0
@@ -46,11 +47,11 @@ stands-of-bytes s (b ∷ t) at h =
     next : (i : ℕ) → getD s (at + 1 + i) 0 ≡ getD s (at + suc i) 0
     next i = let p : at + 1 + i ≡ at + suc i = omega arith in rw p
 
-stands-whole : (s : List ℕ) → stands s 0 s ≡ true
+pub stands-whole : (s : List ℕ) → stands s 0 s ≡ true
 stands-whole s = stands-of-bytes s s 0 λ i k. let p : 0 + i ≡ i = omega arith in rw p
 
--- a line is at least one byte long
-flat-longer : (b : ℕ) (t : List ℕ) (pr : Row → List ℕ) (l : List Row) → length l ≤ length (flat (λ a. (b ∷ t) ++ pr a) l)
+-- what is printed after a byte is at least one byte long
+pub flat-longer : {A : Type 0} (b : ℕ) (t : List ℕ) (pr : A → List ℕ) (l : List A) → length l ≤ length (flat (λ a. (b ∷ t) ++ pr a) l)
 unfolding flat
 flat-longer b t pr [] = omega arith
 flat-longer b t pr (a ∷ l) =
@@ -60,18 +61,18 @@ flat-longer b t pr (a ∷ l) =
 
 module _ (s : List ℕ) where
   -- the first bytes of a line that stands
-  head : (n b0 b1 b2 : ℕ) (xs : List ℕ) → stands s n (b0 ∷ b1 ∷ b2 ∷ xs) ≡ true
+  pub head : (n b0 b1 b2 : ℕ) (xs : List ℕ) → stands s n (b0 ∷ b1 ∷ b2 ∷ xs) ≡ true
       → (getD s n 0 ≡ b0) × (getD s (n + 1) 0 ≡ b1) × (getD s (n + 1 + 1) 0 ≡ b2)
   head n b0 b1 b2 xs e =
       let (e0, r0) = first-stands s n b0 (b1 ∷ b2 ∷ xs) e in
       let (e1, r1) = first-stands s (n + 1) b1 (b2 ∷ xs) r0 in
       (e0, e1, first-stands s (n + 1 + 1) b2 xs r1 .0)
 
-  bracket-leads : (n : ℕ) → getD s n 0 ≡ 91 → NoDigit s n
+  pub bracket-leads : (n : ℕ) → getD s n 0 ≡ 91 → NoDigit s n
   unfolding digitValue
   bracket-leads n e = rw e (omega arith)
 
-  line-leads : (b : ℕ) (t : List ℕ) (pr : Row → List ℕ) → Leads s (λ a. (91 ∷ b ∷ t) ++ pr a)
+  pub line-leads : {A : Type 0} (b : ℕ) (t : List ℕ) (pr : A → List ℕ) → Leads s (λ a. (91 ∷ b ∷ t) ++ pr a)
   line-leads b t pr at a e = bracket-leads at (first-stands s at 91 ((b ∷ t) ++ pr a) e .0)
 
   -- what stands after the lines of a kind begins another line
@@ -109,13 +110,13 @@ module _ (s : List ℕ) where
   after-faces n e = let (e0, e1, e2) = head n 91 101 110 (100 ∷ 93 ∷ 10 ∷ []) e in (bracket-leads n e0, rw (e0, e1))
 
   -- the end line is the last
-  end-of-ends : (n : ℕ) → ends s n ≡ true → (stands s n (bytes "[end]\n") ≡ true) × (n + 6 ≡ length s)
+  pub end-of-ends : (n : ℕ) → ends s n ≡ true → (stands s n (bytes "[end]\n") ≡ true) × (n + 6 ≡ length s)
   unfolding ends
   end-of-ends n e =
       let (a, b) = and-both (stands s n (bytes "[end]\n")) (eqb (n + 6) (length s)) e in
       (a, eqb-true (n + 6) (length s) b)
 
-  ends-of-end : (n : ℕ) → stands s n (bytes "[end]\n") ≡ true → n + 6 ≡ length s → ends s n ≡ true
+  pub ends-of-end : (n : ℕ) → stands s n (bytes "[end]\n") ≡ true → n + 6 ≡ length s → ends s n ≡ true
   unfolding ends
   ends-of-end n a e = rw (a, eq-eqb (n + 6) (length s) e)
 

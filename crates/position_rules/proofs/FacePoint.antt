@@ -18,6 +18,7 @@ use Rattle.tables.specs.Parts.{faceTables, withoutPoints}
 use Rattle.walks.specs.Border.{padded, borderOf, border}
 use Rattle.audited_meshes.specs.Folds.{again}
 use Rattle.walks.specs.declared.FaceBorder.{FaceBorder}
+use Rattle.walks.specs.declared.Passed.the-variants as Passed
 use Rattle.walks.proofs.Laws.{getD-padded, border-walk, border-point, border-point-again}
 use Rattle.position_rules.specs.declared.WeightedSum.{WeightedSum}
 use Rattle.position_rules.specs.FacePoint.{windowSum, overWeight, facePointOver, facePointAbout, facePointIn}
@@ -31,8 +32,24 @@ border-back : (m : Mesh) (ne f : ℕ) (es : List ℕ) → faceWalk m ne f ≡ ba
 border-back m ne f es w = border-walk m ne f ∙ ap (borderOf m f) w
 
 module _ (ps : List Float) (es : List ℕ) (is : List Float) (fs : List ℕ) (ne f : ℕ) (h : FacePointFits ps es is fs ne f) where
-  pub border-edges-fit : (b : FaceBorder) → b ≡ border (faceTables es fs) ne f → BorderFits es is (b .edges) (b .n)
-  border-edges-fit b e = rw (e, border-back (faceTables es fs) ne f (h .border) (h .walked))
+  -- the walk comes back
+  passed-is : (b : FaceBorder) → b ≡ border (faceTables es fs) ne f → Passed.Back (length (h .border)) ≡ b .passed
+  passed-is b e = sym (ap (λ (x : FaceBorder). x .passed) (e ∙ border-back (faceTables es fs) ne f (h .border) (h .walked)))
+
+  pub never-lost : (b : FaceBorder) → b ≡ border (faceTables es fs) ne f → b .passed ≡ Passed.Lost → ⊥
+  never-lost b e l = back-or-lost (passed-is b e ∙ l)
+    where
+      back-or-lost : {k : ℕ} → Passed.Back k ≡ Passed.Lost → ⊥
+      back-or-lost q = let z : _≡_ {A = ℕ} 0 1 = cc in omega arith
+
+  count : (b : FaceBorder) → b ≡ border (faceTables es fs) ne f → {n : ℕ} → b .passed ≡ Passed.Back n → n ≡ length (h .border)
+  count b e came = same (passed-is b e ∙ came)
+    where
+      same : {k n : ℕ} → Passed.Back k ≡ Passed.Back n → n ≡ k
+      same q = cc
+
+  pub border-edges-fit : (b : FaceBorder) → b ≡ border (faceTables es fs) ne f → {n : ℕ} → b .passed ≡ Passed.Back n → BorderFits es is (b .edges) n
+  border-edges-fit b e came = rw (count b e came, e, border-back (faceTables es fs) ne f (h .border) (h .walked))
       (record {
         rows = ne;
         fit = h .fit;
@@ -59,8 +76,8 @@ module _ (ps : List Float) (es : List ℕ) (is : List Float) (fs : List ℕ) (ne
           (rw (border-point-again (faceTables es fs) f (h .border) 0 (omega (arith, h .at-least-3)) (omega arith))
           (point-there 0 (omega (arith, h .at-least-3))))
 
-  pub border-points-fit : (b : FaceBorder) → b ≡ border (faceTables es fs) ne f → PointsFit ps (b .points) (b .n)
-  border-points-fit b e = rw (e, border-back (faceTables es fs) ne f (h .border) (h .walked))
+  pub border-points-fit : (b : FaceBorder) → b ≡ border (faceTables es fs) ne f → {n : ℕ} → b .passed ≡ Passed.Back n → PointsFit ps (b .points) n
+  border-points-fit b e came = rw (count b e came, e, border-back (faceTables es fs) ne f (h .border) (h .walked))
       (record { points-there = λ j l. there j l (decLt j (length (h .border))) })
     where
       there : (j : ℕ) → j < length (h .border) + 4 → Dec (j < length (h .border))
@@ -92,12 +109,13 @@ module _ (ps : List Float) (es : List ℕ) (is : List Float) (fs : List ℕ) (ne
       ap₂ (λ (pt ed : ℕ → ℕ). windowSum ps es is pt ed (length (h .border)))
       (fun-ext (λ j. getD-padded 68 bp j)) (fun-ext (λ j. getD-padded 64 (h .border) (around (length (h .border)) j)))
 
-  pub facePoint-of-border : (b : FaceBorder) (s : WeightedSum) → b ≡ border (faceTables es fs) ne f
-      → s ≡ windowSum ps es is (λ j. getD (b .points) j 0) (λ j. getD (b .edges) (around (b .n) j) 0) (b .n)
+  pub facePoint-of-border : (b : FaceBorder) (s : WeightedSum) → b ≡ border (faceTables es fs) ne f → {n : ℕ} → b .passed ≡ Passed.Back n
+      → s ≡ windowSum ps es is (λ j. getD (b .points) j 0) (λ j. getD (b .edges) (around n j) 0) n
       → overWeight s ≡ facePointIn (withoutPoints ps es is fs) ne f
   unfolding facePointAbout facePointOver
-  facePoint-of-border b s e q =
-      let Sum : FaceBorder → WeightedSum = λ x. windowSum ps es is (λ j. getD (x .points) j 0) (λ j. getD (x .edges) (around (x .n) j) 0) (x .n) in
-      let arrays : s ≡ Sum (borderOf (faceTables es fs) f (back (h .border))) =
-      q ∙ ap Sum (e ∙ border-back (faceTables es fs) ne f (h .border) (h .walked)) in
+  facePoint-of-border b s e {n} came q =
+      let Sum : FaceBorder → ℕ → WeightedSum = λ x k. windowSum ps es is (λ j. getD (x .points) j 0) (λ j. getD (x .edges) (around k j) 0) k in
+      let arrays : s ≡ Sum (borderOf (faceTables es fs) f (back (h .border))) (length (h .border)) =
+      q ∙ ap (Sum b) (count b e came)
+      ∙ ap (λ (x : FaceBorder). Sum x (length (h .border))) (e ∙ border-back (faceTables es fs) ne f (h .border) (h .walked)) in
       ap overWeight (arrays ∙ sum-of-arrays) ∙ sym about

@@ -2,8 +2,8 @@
 --     FacePointTables      the face point looks at the tables of positions, edges, intervals and faces alone
 --     WindowEdges          the edges of a face point's windows are the ones between their points: of all edges, the border's own edge
 --                          alone touches two consecutive points
---     EdgePointStands      where the face points stand in their newpositions, the rule for edges gives the edge points
---     OldPointStands       where face points and edge points stand in their newpositions, the rule for old points gives the old points
+--     EdgePointStands      where the face points stand in their places, the rule for edges gives the edge points
+--     OldPointStands       where face points and edge points stand in their places, the rule for old points gives the old points
 --     JoiningFits          where the face point is finite, every joining interval of the face is finite with the sign bit clear: it is
 --                          the sum of the intervals next to an edge of the border, each whole or halved
 --     RadialRound          the edges of the rule for old points are those that the walk about the point passes, once round

@@ -4,7 +4,7 @@
 --     BorderFits es is bs n    the n edges bs of a border are there, 3 to 64 of them
 --     PointsFit ps bp n        the n + 4 points bp of a border are there
 --     FacePointFits            what the face point asks; EdgePointFits, OldPointFits likewise
---     NewPointsFit             the newpositions of the new points are there
+--     NewPointsFit             the places of the new points are there
 --     PlacesFit, RadialFits    the edges about a point are there, the faces between them, and the new points of both
 use mathlib.Core.Path.{_≡_}
 use mathlib.Core.List.{List}
@@ -76,7 +76,7 @@ pub record FacePointFits (ps : List Float) (es : List ℕ) (is : List Float) (fs
   pub at-most-64 : length border ≤ longestPerimeter
   pub edges-below : (j : ℕ) → j < length border → getD border j 0 < ne
 
--- the newpositions of the new points: of the edge point of each edge and of the face point of each face
+-- the places of the new points: of the edge point of each edge and of the face point of each face
 pub record NewPointsFit (ne nf : ℕ) (new : List Float) (es′ fs′ : List ℕ) : Type 0 where
   pub edge-row : (e : ℕ) → e < ne → e * edgeWidth + edgeWidth ≤ length es′
   pub edge-place : (e : ℕ) → e < ne → getD es′ (e * edgeWidth + destWord) 0 * positionWidth + positionWidth ≤ length new

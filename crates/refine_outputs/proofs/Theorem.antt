@@ -1,17 +1,16 @@
 -- The claims of the output. Assumes nothing.
 --     long-text, two-answers, fits     the claims of `specs/Claims.antt`
---     answer-fits                      no more bytes are answered than are lent
+--     answer-fits                      no more bytes are answered than the output that is left has
 use mathlib.Core.Path.{_≡_, refl, sym, ap, _∙_}
-use mathlib.Core.Bool.{Bool, true, false}
+use mathlib.Core.Bool.{true}
 use mathlib.Core.List.{List}
 use mathlib.Core.Logic.{_⊎_, inl, inr}
 use Prim.Native.Nat.{ℕ, zero, suc, _≤_}
 use native.Mathlib.Omega.{arith}
-use lib.Dec.{leb}
 use lib.Ieee.{Float, ofBits, toBits, binary64}
 use lib.ListN.{length, length-append, length-replicate}
 use lib.Seq.{length-sets}
-use borrow.Author.Tests.{lt-ltb, leb-true}
+use borrow.Author.Tests.{lt-ltb}
 use Rattle.tables.specs.Mesh.{Mesh, pointRows, edgeRows, faceRows}
 use Rattle.tables.specs.Records.{positionAt}
 use Rattle.tables.specs.declared.Counts.{Counts}
@@ -32,7 +31,7 @@ use Rattle.steps.specs.declared.Stepped.{Stepped}
 use Rattle.steps.specs.declared.Stepped.the-variants.{Refined, NotClosed, NotEachFaceOnce, NoRoom, NotFinite}
 use Rattle.steps.proofs.Grounds.{step-is}
 use Rattle.runs.specs.Runs.{numbered}
-use Rattle.refine_outputs.specs.Output.{zeroTables, pointLines, stepLines, linesOf, numberedStep, outputIf, output, Writing, writingIf, refine}
+use Rattle.refine_outputs.specs.Output.{zeroTables, pointLines, stepLines, linesOf, numberedStep, outputIf, output, Writing, refine}
 use Rattle.refine_outputs.specs.Claims.{Two-answers}
 use Rattle.refine_outputs.specs.Bytes.{Long-text, Output-fits}
 use Rattle.refine_outputs.proofs.Orders.{numbered-once}
@@ -120,17 +119,13 @@ length-output NotText m = let h = length-refused 1 in omega arith
 length-output (Refused g) m = let h = length-refused (groundNumber g) in omega arith
 
 pub fits : Output-fits
-unfolding refine output
-fits s out = go (leb 256 (length out)) refl
-  where
-    go : (b : Bool) → leb 256 (length out) ≡ b → writingIf b (output s) out .count ≤ length (writingIf b (output s) out .out)
-    go true e =
-        let h = leb-true 256 (length out) e in
-        let k = length-output (buildText Refine s zeroTables .answer) (buildText Refine s zeroTables .tables) in
-        let l = length-sets out 0 (output s) in
-        omega arith
-    go false e = omega arith
+unfolding output
+fits s = length-output (buildText Refine s zeroTables .answer) (buildText Refine s zeroTables .tables)
 
 -- the same of what the function answers and leaves
-pub answer-fits : (s out : List ℕ) {r : ℕ} {out' : List ℕ} → record { count = r; out = out' } ≡ refine s out → r ≤ length out'
-answer-fits s out e = rw (ap (λ (w : Writing). w .count) e, ap (λ (w : Writing). w .out) e) (fits s out)
+pub answer-fits : (s out : List ℕ) {r : ℕ} {out' : List ℕ} → 256 ≤ length out → record { count = r; out = out' } ≡ refine s out → r ≤ length out'
+unfolding refine
+answer-fits s out h e =
+    let k = fits s in
+    let l = length-sets out 0 (output s) in
+    rw (ap (λ (w : Writing). w .count) e, ap (λ (w : Writing). w .out) e) (omega arith)

@@ -1,17 +1,15 @@
 -- What the program `refine` writes for the bytes of a text (document 01, "Mesh text").
 --     zeroTables              the tables that it lends, and its scratch: zeros, with rows for 256 points, 512 edges and 256 faces
---     outputBytes             the most bytes of an output
+--     outputBytes             how many bytes are lent for an output
 --     pointLine ps            where point 0 is, by the table of positions ps
 --     groundLine ns           the line of a ground, by document 01's numbers of the answer
 --     stepLines c a ps        the lines after a step of a mesh with the counts c, by its answer and the positions that it left
 --     numberedStep c m        the step of the mesh with the counts c in the tables m, its faces visited in numbered order
 --     output s                the whole output
 --     Writing                 how many bytes are written, and the lent bytes afterwards
---     refine s out            the output at the front of the bytes that are lent; nothing where these are fewer than outputBytes
-use mathlib.Core.Bool.{Bool, true, false}
+--     refine s out            the output at the front of the bytes out that are lent
 use mathlib.Core.List.{List, [], _∷_, _++_}
 use Prim.Native.Nat.{ℕ, zero, suc, _*_}
-use lib.Dec.{leb}
 use lib.ListN.{length, replicate}
 use lib.Seq.{sets}
 use lib.Ieee.{Float, ofBits, toBits, binary64}
@@ -86,10 +84,6 @@ pub record Writing : Type 0 where
   pub count : ℕ
   pub out : List ℕ
 
-abbrev pub writingIf : Bool → List ℕ → List ℕ → Writing
-writingIf true xs out = record { count = length xs; out = sets out 0 xs }
-writingIf false xs out = record { count = 0; out = out }
-
 unfoldable pub refine : List ℕ → List ℕ → Writing
 unfolding output
-refine s out = writingIf (leb outputBytes (length out)) (output s) out
+refine s out = record { count = length (output s); out = sets out 0 (output s) }

@@ -1,12 +1,11 @@
 -- The output as its parts are written. Assumes nothing.
 use mathlib.Core.Path.{_≡_, refl, sym, ap, _∙_}
 use mathlib.Core.List.{List, _++_}
-use Prim.Native.Nat.{ℕ, _+_, _≤_, _<_}
+use Prim.Native.Nat.{ℕ, _+_, _≤_}
 use native.Mathlib.Nat.{zero-add}
 use native.Mathlib.Omega.{arith}
 use lib.ListN.{length, replicate}
 use lib.Ieee.{ofBits, binary64}
-use borrow.Author.Tests.{le-leb, lt-leb}
 use Rattle.tables.specs.Mesh.{Mesh, meshOf}
 use Rattle.tables.specs.declared.Counts.{Counts}
 use Rattle.built_meshes.specs.Answers.{groundNumber}
@@ -83,17 +82,13 @@ module _ (s : List ℕ) (m : Mesh) {a : TextBuilt} {m' : Mesh} (e : record { ans
 -- ---- the whole
 
 module _ (s out : List ℕ) where
-  pub no-room : length out < 256 → record { count = 0; out = out } ≡ refine s out
+  written-output : {r : ℕ} {out' : List ℕ} → Written out 0 (output s) r out' → record { count = r; out = out' } ≡ refine s out
   unfolding refine
-  no-room h = rw (lt-leb 256 (length out) h)
+  written-output w = rw (w .place, w .list, zero-add (length (output s)))
 
-  written-output : {r : ℕ} {out' : List ℕ} → 256 ≤ length out → Written out 0 (output s) r out' → record { count = r; out = out' } ≡ refine s out
-  unfolding refine
-  written-output h w = rw (le-leb 256 (length out) h, w .place, w .list, zero-add (length (output s)))
-
-  pub written-by-zeros : {r : ℕ} {out' : List ℕ} → 256 ≤ length out
+  pub written-by-zeros : {r : ℕ} {out' : List ℕ}
       → Written out 0
       (outputFrom s (meshOf (replicate 768 (ofBits binary64 0)) (replicate 768 0) (replicate 4096 0) (replicate 512 (ofBits binary64 0)) (replicate 1280 0))) r out'
       → record { count = r; out = out' } ≡ refine s out
   unfolding output zeroTables
-  written-by-zeros h w = written-output h w
+  written-by-zeros w = written-output w

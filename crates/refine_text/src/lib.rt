@@ -29,7 +29,7 @@ use tables::POSITION_WIDTH;
 use text_building::build_text;
 use text_meshes::TextBuilt;
 
-// The most bytes of an output.
+// The bytes that are lent for an output: they hold every one (`Output-fits` of `refine_outputs`).
 pub const OUTPUT_BYTES: usize = 256;
 
 // Writes the lines of a mesh that is built: its counts, and those of its step.
@@ -97,14 +97,10 @@ fn write_output(
     }
 }
 
-// Writes the output for a text of any bytes at the front of `out`, and answers how many bytes that are. Where fewer than 256
-// bytes are lent, nothing is written.
-pub fn refine(text: &[u8], out: &mut [u8]) -> usize
+// Writes the output for a text of any bytes at the front of `out`, and answers how many bytes that are.
+pub fn refine(text: &[u8], out: &mut [u8; OUTPUT_BYTES]) -> usize
     ensures { λ r. ⌜ _≡_ {A = Writing} (record { count = r; out = now (out .exit) }) (refine (now (text .entry)) (now (out .entry))) ⌝ }
 {
-    if out.len() < OUTPUT_BYTES {
-        return 0;
-    }
     let mut positions = [0.0; LENT_POINTS * POSITION_WIDTH];
     let mut points = [0u32; LENT_POINTS * POINT_WIDTH];
     let mut edges = [0u32; LENT_EDGES * EDGE_WIDTH];

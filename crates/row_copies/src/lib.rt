@@ -1,12 +1,12 @@
-// The rows that a mesh with given counts takes in five tables, copied over those of other tables, and zeroed.
-// Not here: whether there is room for them (`scratch_rows`).
-// Contracts: `copy_rows`, `zero_rows`. Definitions: `steps`, specs/Step.antt.
+// The rows that a mesh with given counts takes in five tables, copied over those of other tables.
+// Not here: whether there is room for them, and the rows zeroed (`counted_rows`).
+// Contract: `copy_rows`. Definition: `tables`, specs/Counted.antt.
 ghost use mathlib.Core.Path.{_≡_};
 ghost use Prim.Native.Nat.{_*_, _≤_};
 ghost use lib.ListN.{length};
 ghost use Rattle.tables.specs.Layout.{positionWidth, pointWidth, edgeWidth, faceWidth};
 ghost use Rattle.tables.specs.Mesh.{Mesh, meshOf};
-ghost use Rattle.tables.specs.Counted.{zeroedRows, overRows};
+ghost use Rattle.tables.specs.Counted.{overRows};
 use tables::Counts;
 use tables::EDGE_WIDTH;
 use tables::FACE_WIDTH;
@@ -14,35 +14,6 @@ use tables::POINT_WIDTH;
 use tables::POSITION_WIDTH;
 use tables::copy_numbers;
 use tables::copy_words;
-use tables::zero_numbers;
-use tables::zero_words;
-
-// Zeroes the rows of a mesh with these counts.
-pub fn zero_rows(
-    c: Counts,
-    positions: &mut [f64],
-    points: &mut [u32],
-    edges: &mut [u32],
-    intervals: &mut [f64],
-    faces: &mut [u32],
-)
-    requires { ⌜ c .points * positionWidth ≤ length (now positions) ⌝ }
-    requires { ⌜ c .points * pointWidth ≤ length (now points) ⌝ }
-    requires { ⌜ c .edges * edgeWidth ≤ length (now edges) ⌝ }
-    requires { ⌜ c .edges ≤ length (now intervals) ⌝ }
-    requires { ⌜ c .faces * faceWidth ≤ length (now faces) ⌝ }
-    ensures { λ _. ⌜
-        _≡_ {A = Mesh}
-        (meshOf (now (positions .exit)) (now (points .exit)) (now (edges .exit)) (now (intervals .exit)) (now (faces .exit)))
-        (zeroedRows c
-        (meshOf (now (positions .entry)) (now (points .entry)) (now (edges .entry)) (now (intervals .entry)) (now (faces .entry)))) ⌝ }
-{
-    zero_numbers(positions, c.points * POSITION_WIDTH);
-    zero_words(points, c.points * POINT_WIDTH);
-    zero_words(edges, c.edges * EDGE_WIDTH);
-    zero_numbers(intervals, c.edges);
-    zero_words(faces, c.faces * FACE_WIDTH);
-}
 
 // Copies the rows of a mesh with these counts over the tables.
 pub fn copy_rows(

@@ -7,6 +7,7 @@
 --     stepped xs o            the outcome o of a step
 --     Finding                 the answer of the depth finder, and the array of one edge afterwards
 --     found xs r              the answer r of the depth finder, if the array of one edge was xs
+--     libraryVersion          the version of the library: 1 for document 01, and one more for each request of document 02 that is in it
 use mathlib.Core.Bool.{cond}
 use mathlib.Core.List.{List}
 use Prim.Native.Nat.{ℕ}
@@ -59,3 +60,6 @@ pub record Finding : Type 0 where
 
 abbrev pub found : List ℕ → Crossing → Finding
 found xs r = record { answer = crossings.numberOf r; edge = edgeAfter xs r }
+
+abbrev pub libraryVersion : ℕ
+libraryVersion = 5

@@ -4,7 +4,7 @@
 // Not here: what the functions do (`building`, `text_building`, `audit`, `refining`, `depth_finder`, `listing_writing`,
 // `listing_reading`), how an answer is told (`station_answers`, `station_listings`).
 // Contracts: `lavyngo_build`, `lavyngo_build_text`, `lavyngo_audit`, `lavyngo_step`, `lavyngo_find_depth`,
-// `lavyngo_write_listing`, `lavyngo_read_listing`. Definitions: `specs/Station.antt`. Laws: `proofs/Laws.antt`.
+// `lavyngo_write_listing`, `lavyngo_read_listing`, `lavyngo_version`. Definitions: `specs/Station.antt`. Laws: `proofs/Laws.antt`.
 ghost use mathlib.Core.Path.{_≡_};
 ghost use Rattle.built_meshes.specs.Building.{build};
 ghost use Rattle.built_meshes.specs.Lists.{generalLimits};
@@ -14,7 +14,7 @@ ghost use Rattle.text_meshes.specs.TextBuilding.{buildText};
 ghost use Rattle.tables.specs.Mesh.{meshOf};
 ghost use Rattle.steps.specs.Step.{step};
 ghost use Rattle.steps.specs.OneStep.{Binary64};
-ghost use Rattle.station.specs.Station.{BuildingTold, built, textBuilt, audited, StepTold, stepped, Finding, found};
+ghost use Rattle.station.specs.Station.{BuildingTold, built, textBuilt, audited, StepTold, stepped, Finding, found, libraryVersion};
 ghost use Rattle.crossings.specs.Crossings.{find};
 ghost use Rattle.station_answers.specs.Answers.{countsIn};
 ghost use Rattle.listings.specs.Handing.{writeListing, readListing};
@@ -32,6 +32,10 @@ use station_answers::tell_text_built;
 use station_listings::read_listing_told;
 use station_listings::write_listing_told;
 use text_building::build_text;
+
+// The version of the library: 1 for document 01, and one more for each request of document 02 that is in it. LAVYNGO_VERSION in the
+// header is the same number.
+pub const LIBRARY_VERSION: u32 = 5;
 
 // Builds a mesh from lists in the lent tables. The counts are written if it is accepted.
 #[no_mangle]
@@ -263,4 +267,12 @@ pub extern "C" fn lavyngo_read_listing(
         (meshOf (now (positions .entry)) (now (points .entry)) (now (edges .entry)) (now (intervals .entry)) (now (faces .entry))))) ⌝ }
 {
     read_listing_told(text, positions, points, edges, intervals, faces, counts)
+}
+
+// The version of the library, which is that of its header.
+#[no_mangle]
+pub extern "C" fn lavyngo_version() -> u32
+    ensures { λ r. ⌜ r ≡ libraryVersion ⌝ }
+{
+    LIBRARY_VERSION
 }

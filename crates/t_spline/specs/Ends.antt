@@ -1,7 +1,9 @@
 -- What stands at the ends and the sides of an edge, and its neighbours about them, as the Rust's methods give them.
 --     connectionAt i           the connection with a number; a number past the last one is read as the last
 --     acwAtEnd end             which neighbour is next anticlockwise about the point at that end; cwAtEnd: clockwise
+--     otherEnd end             the other end
 --     acwOnSide side           which neighbour is next anticlockwise about the face on that side; cwOnSide: clockwise
+--     firstEnd side            the end at which a walk anticlockwise about the face on that side comes to the edge
 --     pointAtEnd e end         the point at that end
 --     faceFromSide e side      the face on that side
 --     endOf e p                the end at which e has the point p: the origin is looked at first
@@ -11,7 +13,7 @@
 use mathlib.Core.Bool.{cond}
 use Prim.Native.Nat.{ℕ}
 use lib.Dec.{eqb}
-use Rattle.t_spline.specs.Edge.{none, connectionOf, sameFace}
+use Rattle.t_spline.specs.Edge.{none, connectionOf}
 use Rattle.t_spline.specs.declared.TnurccEdge.{TnurccEdge}
 use Rattle.t_spline.specs.declared.TnurccConnection.{TnurccConnection}
 use Rattle.t_spline.specs.declared.TnurccConnection.the-variants.{LeftCw, LeftAcw, RightCw, RightAcw}
@@ -35,6 +37,10 @@ abbrev pub cwAtEnd : TnurccVertexEnd → TnurccConnection
 cwAtEnd Origin = RightAcw
 cwAtEnd Dest = LeftAcw
 
+abbrev pub otherEnd : TnurccVertexEnd → TnurccVertexEnd
+otherEnd Origin = Dest
+otherEnd Dest = Origin
+
 abbrev pub acwOnSide : TnurccFaceSide → TnurccConnection
 acwOnSide Left = LeftAcw
 acwOnSide Right = RightAcw
@@ -42,6 +48,10 @@ acwOnSide Right = RightAcw
 abbrev pub cwOnSide : TnurccFaceSide → TnurccConnection
 cwOnSide Left = LeftCw
 cwOnSide Right = RightCw
+
+abbrev pub firstEnd : TnurccFaceSide → TnurccVertexEnd
+firstEnd Left = Origin
+firstEnd Right = Dest
 
 abbrev pub pointAtEnd : TnurccEdge → TnurccVertexEnd → ℕ
 pointAtEnd e Origin = e .origin
@@ -55,8 +65,7 @@ abbrev pub endOf : TnurccEdge → ℕ → PointEnd
 endOf e p = cond (eqb (e .origin) p) (PointEnds.At Origin) (cond (eqb (e .dest) p) (PointEnds.At Dest) PointEnds.Nowhere)
 
 abbrev pub sideOf : TnurccEdge → ℕ → FaceSide
-sideOf e f =
-    cond (sameFace (e .«face_left») f) (FaceSides.At Left) (cond (sameFace (e .«face_right») f) (FaceSides.At Right) FaceSides.Nowhere)
+sideOf e f = cond (eqb (e .«face_left») f) (FaceSides.At Left) (cond (eqb (e .«face_right») f) (FaceSides.At Right) FaceSides.Nowhere)
 
 abbrev pub neighbourIf : TnurccEdge → (TnurccVertexEnd → TnurccConnection) → PointEnd → ℕ
 neighbourIf e choice (PointEnds.At end) = connectionOf e (choice end)

@@ -1,7 +1,7 @@
 // The methods of an edge, by value: its ends, its sides, the choice of a neighbour, and a neighbour set.
 ghost use mathlib.Core.Path.{_≡_};
 ghost use Rattle.t_spline.specs.Edge.{connectionOf, withConnection, sameFace, commonFace};
-ghost use Rattle.t_spline.specs.Ends.{acwAtEnd, cwAtEnd, acwOnSide, cwOnSide, pointAtEnd, faceFromSide, endOf, sideOf, acwFromPoint, cwFromPoint, acwFromFace, cwFromFace, commonPoint};
+ghost use Rattle.t_spline.specs.Ends.{acwAtEnd, cwAtEnd, otherEnd, acwOnSide, cwOnSide, firstEnd, pointAtEnd, faceFromSide, endOf, sideOf, acwFromPoint, cwFromPoint, acwFromFace, cwFromFace, commonPoint};
 use crate::FaceSide;
 use crate::NONE;
 use crate::PointEnd;
@@ -30,6 +30,16 @@ impl TnurccVertexEnd {
             TnurccVertexEnd::Dest => TnurccConnection::LeftAcw,
         }
     }
+
+    // The other end.
+    pub fn other(self) -> TnurccVertexEnd
+        ensures { λ r. ⌜ r ≡ otherEnd self ⌝ }
+    {
+        match self {
+            TnurccVertexEnd::Origin => TnurccVertexEnd::Dest,
+            TnurccVertexEnd::Dest => TnurccVertexEnd::Origin,
+        }
+    }
 }
 
 impl TnurccFaceSide {
@@ -50,6 +60,16 @@ impl TnurccFaceSide {
         match self {
             TnurccFaceSide::Left => TnurccConnection::LeftCw,
             TnurccFaceSide::Right => TnurccConnection::RightCw,
+        }
+    }
+
+    // The end at which a walk anticlockwise about the face on this side comes to the edge.
+    pub fn first_end(self) -> TnurccVertexEnd
+        ensures { λ r. ⌜ r ≡ firstEnd self ⌝ }
+    {
+        match self {
+            TnurccFaceSide::Left => TnurccVertexEnd::Origin,
+            TnurccFaceSide::Right => TnurccVertexEnd::Dest,
         }
     }
 }
@@ -113,34 +133,34 @@ impl TnurccEdge {
         }
     }
 
-    // The end at which the edge has the point.
-    pub fn point_end(self, point: u32) -> PointEnd
+    // The end at which the edge has the point of this row.
+    pub fn point_end(self, point: usize) -> PointEnd
         ensures { λ r. ⌜ r ≡ endOf self point ⌝ }
     {
-        if self.origin == point {
+        if self.origin as usize == point {
             return PointEnd::At(TnurccVertexEnd::Origin);
         }
-        if self.dest == point {
+        if self.dest as usize == point {
             return PointEnd::At(TnurccVertexEnd::Dest);
         }
         PointEnd::Nowhere
     }
 
-    // The side on which the edge has the face.
-    pub fn face_side(self, face: u32) -> FaceSide
+    // The side on which the edge has the face of this row.
+    pub fn face_side(self, face: usize) -> FaceSide
         ensures { λ r. ⌜ r ≡ sideOf self face ⌝ }
     {
-        if same_face(self.face_left, face) {
+        if self.face_left as usize == face {
             return FaceSide::At(TnurccFaceSide::Left);
         }
-        if same_face(self.face_right, face) {
+        if self.face_right as usize == face {
             return FaceSide::At(TnurccFaceSide::Right);
         }
         FaceSide::Nowhere
     }
 
     // The next edge anticlockwise about the point, `NONE` where it is no end of the edge.
-    pub fn acw_edge_from_point(self, point: u32) -> u32
+    pub fn acw_edge_from_point(self, point: usize) -> u32
         ensures { λ r. ⌜ r ≡ acwFromPoint self point ⌝ }
     {
         match self.point_end(point) {
@@ -150,7 +170,7 @@ impl TnurccEdge {
     }
 
     // The next edge clockwise about the point, `NONE` where it is no end of the edge.
-    pub fn cw_edge_from_point(self, point: u32) -> u32
+    pub fn cw_edge_from_point(self, point: usize) -> u32
         ensures { λ r. ⌜ r ≡ cwFromPoint self point ⌝ }
     {
         match self.point_end(point) {
@@ -160,7 +180,7 @@ impl TnurccEdge {
     }
 
     // The next edge anticlockwise about the face, `NONE` where the edge has it on no side.
-    pub fn acw_edge_from_face(self, face: u32) -> u32
+    pub fn acw_edge_from_face(self, face: usize) -> u32
         ensures { λ r. ⌜ r ≡ acwFromFace self face ⌝ }
     {
         match self.face_side(face) {
@@ -170,7 +190,7 @@ impl TnurccEdge {
     }
 
     // The next edge clockwise about the face, `NONE` where the edge has it on no side.
-    pub fn cw_edge_from_face(self, face: u32) -> u32
+    pub fn cw_edge_from_face(self, face: usize) -> u32
         ensures { λ r. ⌜ r ≡ cwFromFace self face ⌝ }
     {
         match self.face_side(face) {

@@ -35,7 +35,7 @@ use Rattle.text_meshes.specs.Within.{Untouched-early, Within-limits, Acc
 use Rattle.text_meshes.specs.Claims as Claims
 use Rattle.text_meshes.specs.declared.TextBuilt.the-variants.{Accepted, NotText, Refused}
 
-few-faces : (b : Bounds) → limitsOf b .faces ≤ noRow
+pub few-faces : (b : Bounds) → limitsOf b .faces ≤ noRow
 few-faces General = omega arith
 few-faces Refine = omega arith
 
@@ -97,7 +97,7 @@ told-accepted : (a : Built) {k : Counts} → told a ≡ Accepted k → a ≡ Bui
 told-accepted (Built.Accepted k') {k} e = let z : k' ≡ k = cc in ap Built.Accepted z
 told-accepted (Built.Refused g) e = cc
 
-told-refused : (a : Built) {g : Ground} → told a ≡ Refused g → a ≡ Built.Refused g
+pub told-refused : (a : Built) {g : Ground} → told a ≡ Refused g → a ≡ Built.Refused g
 told-refused (Built.Accepted k) e = cc
 told-refused (Built.Refused g') {g} e = let z : g' ≡ g = cc in ap Built.Refused z
 

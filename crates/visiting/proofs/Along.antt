@@ -16,7 +16,8 @@ use Rattle.audited_meshes.specs.Walks.{edgesOf, passed, faceWalk}
 use Rattle.tables.specs.Parts.{faceTables}
 use Rattle.walks.specs.Border.{padded, border}
 use Rattle.walks.specs.declared.FaceBorder.{FaceBorder}
-use Rattle.walks.proofs.Laws.{getD-padded}
+use Rattle.walks.specs.declared.Passed.the-variants as Passed
+use Rattle.walks.proofs.Laws.{getD-padded, passed-back, border-passed}
 use Rattle.refined_meshes.specs.Turns.{turns, filled}
 use Rattle.refined_meshes.specs.State.{State, takeRows}
 use Rattle.refined_meshes.specs.Ring.{Ring, firstHalfOf, secondHalfOf, putJoin, putFirst, putSecond, putNewFace, putFacePoint}
@@ -26,7 +27,7 @@ use Rattle.splitting.proofs.Laws.{splitAll-faces}
 use Rattle.ring_places.specs.declared.RingRows.{RingRows}
 use Rattle.ring_places.specs.Rings.{ring}
 use Rattle.refined_meshes.proofs.Laws.{visitAlong-same}
-use Rattle.visiting.proofs.Laws.{border-edges, border-n, visitAlong-bare}
+use Rattle.visiting.proofs.Laws.{border-edges, visitAlong-bare}
 
 -- the ring that the code holds is the ring of the state
 module _ (oe pe hs gs ms : List ℕ) (ds : List Float) (rows : RingRows) (s : State) where
@@ -107,11 +108,13 @@ module _ (oe ps ps1 ps2 es es1 es2 fs fs2 pe : List ℕ) (is is1 is2 found : Lis
 
 -- a visit goes along the border of its face
 pub visited-border : (oe of : List ℕ) (np ne f : ℕ) (about : FaceBorder) (s : State) → about ≡ border (faceTables oe of) ne f
-    → visitAlong (faceTables oe []) np f (about .edges) (about .n) s ≡ visit (faceTables oe of) np ne f s
+    → {n : ℕ} → about .passed ≡ Passed.Back n → visitAlong (faceTables oe []) np f (about .edges) n s ≡ visit (faceTables oe of) np ne f s
 unfolding visit
-visited-border oe of np ne f about s h =
+visited-border oe of np ne f about s h {n} came =
     let m : Mesh = faceTables oe of in
     let es : List ℕ = edgesOf (faceWalk m ne f) in
-    rw (h, border-edges m ne f, border-n m ne f)
+    let count : n ≡ passed (faceWalk m ne f) =
+    sym (passed-back (faceWalk m ne f) (sym (ap (λ (x : FaceBorder). x .passed) h ∙ border-passed m ne f) ∙ came)) in
+    rw (h, border-edges m ne f, count)
     (visitAlong-bare m np f (padded 64 es) (passed (faceWalk m ne f)) s
     ∙ visitAlong-same m np f (passed (faceWalk m ne f)) (padded 64 es) es (λ i l. getD-padded 64 es i) s)

@@ -1,5 +1,5 @@
 -- The laws of rings and visits that the code goes by. Assumes nothing.
---     border-edges, border-n               the border of a face holds its perimeter, padded, and its size
+--     border-edges                         the border of a face holds its perimeter, padded
 --     visits-none, visits-more             no visits, and one more
 --     visit-bare, visits-bare              a visit looks at the mesh's edges and faces alone
 --     refinedRows-bare                     so do all visits, begun with a copy of the rows
@@ -13,7 +13,7 @@ use lib.Ieee.{Float}
 use Rattle.tables.specs.declared.Counts.{Counts}
 use Rattle.tables.specs.Mesh.{Mesh}
 use Rattle.tables.specs.Rows.{over}
-use Rattle.audited_meshes.specs.Walks.{Walk, back, lost, edgesOf, passed, faceWalk}
+use Rattle.audited_meshes.specs.Walks.{Walk, back, lost, edgesOf, faceWalk}
 use Rattle.walks.specs.Border.{padded, border, borderOf}
 use Rattle.tables.specs.Parts.{faceTables}
 use Rattle.refined_meshes.specs.State.{State, copied}
@@ -28,14 +28,6 @@ unfolding border
 border-edges m ne f = go (faceWalk m ne f)
   where
     go : (w : Walk) → borderOf m f w .edges ≡ padded 64 (edgesOf w)
-    go (back es) = refl
-    go lost = refl
-
-pub border-n : (m : Mesh) (ne f : ℕ) → border m ne f .n ≡ passed (faceWalk m ne f)
-unfolding border
-border-n m ne f = go (faceWalk m ne f)
-  where
-    go : (w : Walk) → borderOf m f w .n ≡ passed w
     go (back es) = refl
     go lost = refl
 

@@ -1,7 +1,8 @@
 -- Where a visit finds its rows and has room, over plain variables. Assumes nothing.
+--     never-lost         of a visit that fits the walk comes back
 --     along-of-visit     a visit that fits, along its perimeter
 --     ring-fits          what its ring then needs
-use mathlib.Core.Path.{_≡_, refl, _∙_, ap, subst}
+use mathlib.Core.Path.{_≡_, refl, sym, _∙_, ap, subst}
 use mathlib.Core.List.{List, []}
 use Prim.Native.Nat.{ℕ, zero, suc, _+_, _-_, _*_, _≤_, _<_}
 use native.Mathlib.Nat.{add-zero}
@@ -14,8 +15,9 @@ use Rattle.tables.specs.Mesh.{Mesh}
 use Rattle.audited_meshes.specs.Walks.{edgesOf, passed, faceWalk}
 use Rattle.walks.specs.Border.{padded, border}
 use Rattle.walks.specs.declared.FaceBorder.{FaceBorder}
+use Rattle.walks.specs.declared.Passed.the-variants as Passed
 use Rattle.tables.specs.Parts.{faceTables}
-use Rattle.walks.proofs.Laws.{getD-padded}
+use Rattle.walks.proofs.Laws.{getD-padded, passed-back, passed-lost, border-passed}
 use Rattle.refined_meshes.specs.Turns.{filled}
 use Rattle.refined_meshes.specs.State.{State, edgeOf, takeRows, putEdge, putPoint, putStart}
 use Rattle.refined_meshes.specs.Split.{splitEdge}
@@ -28,7 +30,7 @@ use Rattle.ring_places.specs.Rings.{Rows}
 use Rattle.refined_meshes.proofs.Turns.{getD-filled}
 use Rattle.refined_meshes.proofs.Laws.{splitAll-same}
 use Rattle.visiting.specs.Visiting.{Ceilings, RingFits, AlongFits}
-use Rattle.visiting.proofs.Laws.{border-edges, border-n}
+use Rattle.visiting.proofs.Laws.{border-edges}
 
 split-points : (e : ℕ) (s : State) → splitEdge e s .pointsTaken ≡ s .pointsTaken + 1
 unfolding splitEdge putEdge putPoint putStart
@@ -144,13 +146,25 @@ along-places oe np f pe es n s same h =
       seconds = λ i l. rw (all, same i) (h .seconds i l);
     }
 
+-- of a visit that fits the walk comes back
+pub never-lost : (oe of : List ℕ) (np ne nf f : ℕ) (s : State) (about : FaceBorder) → about ≡ border (faceTables oe of) ne f
+    → VisitFits (faceTables oe of) np ne nf f s → about .passed ≡ Passed.Lost → ⊥
+never-lost oe of np ne nf f s about b h e =
+    let m : Mesh = faceTables oe of in
+    let none = passed-lost (faceWalk m ne f) (sym (ap (λ (x : FaceBorder). x .passed) b ∙ border-passed m ne f) ∙ e) in
+    let low = h .size-low in
+    omega arith
+
 -- a visit that fits goes along the border of its face
 pub along-of-visit : (oe of : List ℕ) (np ne nf f : ℕ) (s : State) (about : FaceBorder) → about ≡ border (faceTables oe of) ne f
-    → Ceilings np ne nf → ne * 8 ≤ length oe → VisitFits (faceTables oe of) np ne nf f s → AlongFits oe np f (about .edges) (about .n) s
-along-of-visit oe of np ne nf f s about b limits r h =
+    → {n : ℕ} → about .passed ≡ Passed.Back n → Ceilings np ne nf → ne * 8 ≤ length oe → VisitFits (faceTables oe of) np ne nf f s
+    → AlongFits oe np f (about .edges) n s
+along-of-visit oe of np ne nf f s about b {n} came limits r h =
     let m : Mesh = faceTables oe of in
     let places : List ℕ = edgesOf (faceWalk m ne f) in
-    rw (b, border-edges m ne f, border-n m ne f)
+    let count : n ≡ passed (faceWalk m ne f) =
+    sym (passed-back (faceWalk m ne f) (sym (ap (λ (x : FaceBorder). x .passed) b ∙ border-passed m ne f) ∙ came)) in
+    rw (b, border-edges m ne f, count)
     (along-places oe np f (padded 64 places) places (passed (faceWalk m ne f)) s (getD-padded 64 places)
     (along-of-edges m np ne nf f s h limits r))
 

@@ -38,6 +38,7 @@ use tables::POINT_WIDTH;
 use tables::copy_numbers;
 use tables::copy_words;
 use tables::index;
+use walks::Passed;
 use walks::t_nurcc_face::put_border;
 
 // Stores the edges of a ring: the joining edges, then the halves on the side of the face.
@@ -208,7 +209,9 @@ fn visit(
 {
     let mut perimeter = [0u32; LONGEST_PERIMETER];
     let mut about = [0u32; LONGEST_BORDER];
-    let n = put_border(edges, faces, old.edges, f, &mut perimeter, &mut about);
+    let Passed::Back(n) = put_border(edges, faces, old.edges, f, &mut perimeter, &mut about) else {
+        return taken;
+    };
     visit_along(
         edges,
         newpoints,

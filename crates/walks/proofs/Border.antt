@@ -7,12 +7,12 @@ use mathlib.Core.Logic.{_≢_}
 use Prim.Native.Nat.{ℕ, _+_, _<_, _≤_}
 use native.Mathlib.Omega.{arith}
 use lib.Dec.{ltb}
-use borrow.Author.Tests.{lt-ltb}
 use lib.ListN.{length, set, replicate, length-append, length-map}
 use Rattle.tables.specs.Mesh.{Mesh, faceStart}
 use Rattle.audited_meshes.specs.Walks.{back, lost, borders, acwOfFace, firstPoint, faceWalk}
 use Rattle.walks.specs.declared.Step.the-variants.{To, Lost}
 use Rattle.walks.specs.declared.FaceBorder.{FaceBorder}
+use Rattle.walks.specs.declared.Passed.the-variants as Passed
 use Rattle.walks.specs.Steps.{toIf}
 use Rattle.walks.specs.Border.{padded, borderOf, border}
 use Rattle.audited_meshes.specs.Folds.{again}
@@ -45,7 +45,7 @@ module _ (m : Mesh) (ne f : ℕ) where
 
   -- arrays of 0 are the border of a walk that is lost
   pub cleared : (es ps : List ℕ) → es ≡ replicate 64 0 → ps ≡ replicate 68 0 → border m ne f ≡ borderOf m f lost
-      → _≡_ {A = FaceBorder} (record { back = ltb 0 0; n = 0; edges = es; points = ps }) (border m ne f)
+      → _≡_ {A = FaceBorder} (record { passed = Passed.Lost; edges = es; points = ps }) (border m ne f)
   unfolding padded
   cleared es ps a b h = rw (a, b) (sym h)
 
@@ -83,14 +83,14 @@ module _ (m : Mesh) (ne f : ℕ) where
 
       pub border-last : (qs : List ℕ) → next ≡ faceStart m f
           → ((xs : List ℕ) → length xs ≡ n + 1 → set ps n p ≡ padded 68 xs → qs ≡ padded 68 (again 4 xs))
-          → _≡_ {A = FaceBorder} (record { back = ltb 0 (n + 1); n = n + 1; edges = set es n e; points = qs }) (border m ne f)
+          → _≡_ {A = FaceBorder} (record { passed = Passed.Back (n + 1); edges = set es n e; points = qs }) (border m ne f)
       unfolding border
       border-last qs b four =
           let t = to-is (on e) (firstPoint m f e) (acwOfFace m f e) p next to in
           let whole : List ℕ = h .passed ++ e ∷ [] in
           let w = walking-last (acwOfFace m f) on (faceStart m f) 64 (faceWalk m ne f) (h .passed) n e (h .way) l (t .0) (t .2 ∙ b) in
           let long : length whole ≡ n + 1 = length-append (h .passed) (e ∷ []) ∙ ap (λ (i : ℕ). i + 1) (h .way .count) in
-          rw (w, lt-ltb 0 (n + 1) (omega arith), edges-longer l, four (map (firstPoint m f) whole) (length-map whole (firstPoint m f) ∙ long) (points-longer p (t .1) l), ← long)
+          rw (w, edges-longer l, four (map (firstPoint m f) whole) (length-map whole (firstPoint m f) ∙ long) (points-longer p (t .1) l), ← long)
 
     pub border-lost : Lost ≡ toIf (on e) (firstPoint m f e) (acwOfFace m f e) → n < 64 → border m ne f ≡ borderOf m f lost
     unfolding border

@@ -3,6 +3,7 @@
 --     length-again, getD-again, getD-again-more  the points followed by the first k again: how many, the points, the first again
 --     four-again                                 what stands after the first four were stored behind the last
 --     border-walk, border-point, border-point-again                  the border by the walk, and its points by their places where it comes back
+--     border-passed, passed-back, passed-lost    what the walk answers, and how many edges that are
 use mathlib.Core.Path.{_≡_, refl, sym, _∙_, ap, subst}
 use mathlib.Core.List.{List, [], _∷_, _++_, append-assoc, map}
 use Prim.Native.Nat.{ℕ, zero, suc, _+_, _-_, _<_, _≤_}
@@ -12,8 +13,10 @@ use native.Mathlib.Decide.{decLt}
 use lib.ListN.{length, getD, set, replicate, length-append, List·getD-append, length-map}
 use lib.Seq.{set-append-seam, getD-at}
 use Rattle.tables.specs.Mesh.{Mesh}
-use Rattle.audited_meshes.specs.Walks.{back, firstPoint, faceWalk}
+use Rattle.audited_meshes.specs.Walks.{Walk, back, lost, passed, firstPoint, faceWalk}
 use Rattle.walks.specs.Border.{padded, borderOf, border}
+use Rattle.walks.specs.Steps.{passedBy}
+use Rattle.walks.specs.declared.Passed.the-variants as Passed
 use Rattle.audited_meshes.specs.Folds.{again}
 
 less-one : (k n : ℕ) → n < k → k - n ≡ suc (k - suc n)
@@ -98,6 +101,23 @@ module _ (ps : List ℕ) (n : ℕ) (h : n ≤ 64) (q : length ps ≡ n) where
 pub border-walk : (m : Mesh) (ne f : ℕ) → border m ne f ≡ borderOf m f (faceWalk m ne f)
 unfolding border
 border-walk m ne f = refl
+
+-- what a walk answers is how many edges it passed, or that it passed none
+pub passed-back : (w : Walk) {n : ℕ} → passedBy w ≡ Passed.Back n → passed w ≡ n
+passed-back (back es) h = cc
+passed-back lost h = cc
+
+pub passed-lost : (w : Walk) → passedBy w ≡ Passed.Lost → passed w ≡ 0
+passed-lost (back es) h = cc
+passed-lost lost h = refl
+
+pub border-passed : (m : Mesh) (ne f : ℕ) → border m ne f .passed ≡ passedBy (faceWalk m ne f)
+unfolding border
+border-passed m ne f = go (faceWalk m ne f)
+  where
+    go : (w : Walk) → borderOf m f w .passed ≡ passedBy w
+    go (back es) = refl
+    go lost = refl
 
 pub getD-map : (g : ℕ → ℕ) (xs : List ℕ) (i : ℕ) → i < length xs → getD (map g xs) i 0 ≡ g (getD xs i 0)
 getD-map g [] i l = absurd (omega arith)

@@ -29,11 +29,10 @@ pub enum FoundEdge {
     Nowhere,
 }
 
-// The border of a face: whether the walk met its start; then the number of edges, the edges, and the points at which the walk
+// The border of a face: the number of edges that the walk passed, or that it is lost; the edges, and the points at which the walk
 // comes to each of them, followed by the first four again. The rest of the arrays is 0.
 pub struct FaceBorder {
-    pub back: bool,
-    pub n: usize,
+    pub passed: Passed,
     pub edges: [u32; LONGEST_PERIMETER],
     pub points: [u32; LONGEST_BORDER],
 }

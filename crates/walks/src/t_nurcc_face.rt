@@ -2,7 +2,6 @@
 ghost use mathlib.Core.Path.{_≡_};
 ghost use mathlib.Core.List.{List};
 ghost use Prim.Native.Nat.{ℕ, _+_, _*_, _≤_};
-ghost use lib.Dec.{ltb};
 ghost use lib.ListN.{length, replicate};
 ghost use Rattle.tables.specs.Layout.{edgeWidth, faceWidth, longestPerimeter, longestBorder};
 ghost use Rattle.walks.specs.declared.FaceBorder.{FaceBorder};
@@ -10,6 +9,7 @@ ghost use Rattle.tables.specs.Parts.{faceTables};
 ghost use Rattle.walks.specs.Border.{padded, border};
 ghost use Rattle.audited_meshes.specs.Folds.{again};
 use crate::FaceBorder;
+use crate::Passed;
 use crate::Step;
 use crate::t_nurcc_iter::face_step;
 use tables::FACE_WIDTH;
@@ -40,7 +40,7 @@ fn clear(perimeter: &mut [u32; LONGEST_PERIMETER], points: &mut [u32; LONGEST_BO
 }
 
 // Stores the border of face f, from its start edge along the edges below ne, in arrays of 0: its edges, and its points with the
-// first four again. Answers the number of its edges, 0 if the walk is lost; then the arrays are 0.
+// first four again. Answers the number of its edges, or that the walk is lost; then the arrays are 0.
 pub fn put_border(
     edges: &[u32],
     faces: &[u32],
@@ -48,14 +48,14 @@ pub fn put_border(
     f: usize,
     perimeter: &mut [u32; LONGEST_PERIMETER],
     points: &mut [u32; LONGEST_BORDER],
-) -> usize
+) -> Passed
     requires { ⌜ ne * edgeWidth ≤ length (now edges) ⌝ }
     requires { ⌜ f * faceWidth + faceWidth ≤ length (now faces) ⌝ }
     requires { ⌜ now perimeter ≡ replicate longestPerimeter 0 ⌝ }
     requires { ⌜ now points ≡ replicate longestBorder 0 ⌝ }
     ensures { λ r. ⌜
         _≡_ {A = FaceBorder}
-        (record { back = ltb 0 r; n = r; edges = now (perimeter .exit); points = now (points .exit) })
+        (record { passed = r; edges = now (perimeter .exit); points = now (points .exit) })
         (border (faceTables (now (edges .entry)) (now (faces .entry))) ne f) ⌝ }
 {
     let start = faces[f * FACE_WIDTH];
@@ -64,19 +64,19 @@ pub fn put_border(
     while n < LONGEST_PERIMETER {
         let Step::To { point, next } = face_step(edges, ne, f, index(e)) else {
             clear(perimeter, points);
-            return 0;
+            return Passed::Lost;
         };
         perimeter[n] = e;
         points[n] = point;
         n += 1;
         if next == start {
             put_first_four(points, n);
-            return n;
+            return Passed::Back(n);
         }
         e = next;
     }
     clear(perimeter, points);
-    0
+    Passed::Lost
 }
 
 // The border of face f, from its start edge, along the edges below ne.
@@ -87,10 +87,9 @@ pub fn border(edges: &[u32], faces: &[u32], ne: usize, f: usize) -> FaceBorder
 {
     let mut perimeter = [0u32; LONGEST_PERIMETER];
     let mut points = [0u32; LONGEST_BORDER];
-    let n = put_border(edges, faces, ne, f, &mut perimeter, &mut points);
+    let passed = put_border(edges, faces, ne, f, &mut perimeter, &mut points);
     FaceBorder {
-        back: 0 < n,
-        n,
+        passed,
         edges: perimeter,
         points,
     }

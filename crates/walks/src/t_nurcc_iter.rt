@@ -9,8 +9,8 @@ ghost use Rattle.tables.specs.Parts.{faceTables, pointTables};
 use crate::Passed;
 use crate::Step;
 use records::load_edge_words;
-use t_spline::TnurccFaceSide;
-use t_spline::TnurccVertexEnd;
+use t_spline::FaceSide;
+use t_spline::PointEnd;
 use tables::FACE_WIDTH;
 use tables::LONGEST_PERIMETER;
 use tables::POINT_WIDTH;
@@ -26,19 +26,13 @@ pub fn face_step(edges: &[u32], ne: usize, f: usize, e: usize) -> Step
         return Step::Lost;
     }
     let edge = load_edge_words(edges, e);
-    if index(edge.face_left) == f {
-        return Step::To {
-            point: edge.point_at_end(TnurccVertexEnd::Origin),
-            next: edge.acw_edge_from_side(TnurccFaceSide::Left),
-        };
+    match edge.face_side(f) {
+        FaceSide::At(side) => Step::To {
+            point: edge.point_at_end(side.first_end()),
+            next: edge.acw_edge_from_side(side),
+        },
+        FaceSide::Nowhere => Step::Lost,
     }
-    if index(edge.face_right) == f {
-        return Step::To {
-            point: edge.point_at_end(TnurccVertexEnd::Dest),
-            next: edge.acw_edge_from_side(TnurccFaceSide::Right),
-        };
-    }
-    Step::Lost
 }
 
 // One step about point p from edge e, among the edges below ne.
@@ -50,19 +44,13 @@ pub fn point_step(edges: &[u32], ne: usize, p: usize, e: usize) -> Step
         return Step::Lost;
     }
     let edge = load_edge_words(edges, e);
-    if index(edge.origin) == p {
-        return Step::To {
-            point: edge.point_at_end(TnurccVertexEnd::Dest),
-            next: edge.acw_edge_from_end(TnurccVertexEnd::Origin),
-        };
+    match edge.point_end(p) {
+        PointEnd::At(end) => Step::To {
+            point: edge.point_at_end(end.other()),
+            next: edge.acw_edge_from_end(end),
+        },
+        PointEnd::Nowhere => Step::Lost,
     }
-    if index(edge.dest) == p {
-        return Step::To {
-            point: edge.point_at_end(TnurccVertexEnd::Origin),
-            next: edge.acw_edge_from_end(TnurccVertexEnd::Dest),
-        };
-    }
-    Step::Lost
 }
 
 // The number of edges that the walk about face f passes, of at most 64.

@@ -12,7 +12,7 @@ returns c =
     let a = c .before .before .before .before .before .before .before .args in
     audit-counts (a .positions .now) (a .points .now) (a .edges .now) (a .intervals .now) (a .faces .now)
     (a .counts .points) (a .counts .edges) (a .counts .faces)
-    (sym (c .before .counts-fit .ensures) ∙ not-true _ (c .if1 .taken))
+    (sym (c .before .rows-for .ensures) ∙ not-true _ (c .if1 .taken))
 
 rows-fit-requires : tie.Need-rows-fit-requires
 rows-fit-requires c κs =
@@ -20,7 +20,7 @@ rows-fit-requires c κs =
     let r = counts-rows
     (meshOf (a .positions .now) (a .points .now) (a .edges .now) (a .intervals .now) (a .faces .now))
     (a .counts .points) (a .counts .edges) (a .counts .faces)
-    (sym (c .before .counts-fit .ensures) ∙ not-false _ (c .if1 .left)) in
+    (sym (c .before .rows-for .ensures) ∙ not-false _ (c .if1 .left)) in
     (r .positions-fit, (r .points-fit, (r .edges-fit, (r .intervals-fit, r .faces-fit))))
 
 returns-2 : tie.Need-returns-2
@@ -36,7 +36,7 @@ walks-fit-requires c κs =
     let r = counts-rows
     (meshOf (a .positions .now) (a .points .now) (a .edges .now) (a .intervals .now) (a .faces .now))
     (a .counts .points) (a .counts .edges) (a .counts .faces)
-    (sym (c .before .before .before .counts-fit .ensures) ∙ not-false _ (c .before .before .if1 .left)) in
+    (sym (c .before .before .before .rows-for .ensures) ∙ not-false _ (c .before .before .if1 .left)) in
     let ends = ends-below (a .positions .now) (a .points .now) (a .edges .now) (a .intervals .now) (a .faces .now)
     (a .counts .points) (a .counts .edges) (a .counts .faces)
     (sym (c .before .rows-fit .ensures) ∙ not-false _ (c .if2 .left)) in
@@ -48,7 +48,7 @@ returns-3 c =
     c .walks-fit .ensures
     ∙ audit-walks (a .positions .now) (a .points .now) (a .edges .now) (a .intervals .now) (a .faces .now)
     (a .counts .points) (a .counts .edges) (a .counts .faces)
-    (sym (c .before .before .before .before .counts-fit .ensures) ∙ not-false _ (c .before .before .before .if1 .left))
+    (sym (c .before .before .before .before .rows-for .ensures) ∙ not-false _ (c .before .before .before .if1 .left))
     (sym (c .before .before .rows-fit .ensures) ∙ not-false _ (c .before .if2 .left))
 
 pub audit-spec : {M : Type 1} → statement M

@@ -3,7 +3,7 @@ use borrow.Author.Tests.{not-true, not-false}
 use mathlib.Core.Path.{_∙_, sym}
 use Rattle.tables.specs.Mesh.{meshOf}
 use Rattle.building_tests.specs.Lent.{lists}
-use Rattle.building.proofs.Outcomes.{numbers-same, rows-same, refused-counts, refused-numbers, refused-rows, begun-build}
+use Rattle.building.proofs.Outcomes.{numbers-same, refused-counts, refused-numbers, refused-rows, begun-build}
 use borrow.Author.Needs.{needs}
 use Rattle.building.proofs.build.Statement.{statement}
 use Rattle.building.proofs.build.Tie as tie
@@ -40,7 +40,7 @@ returns-3 c =
     (sym (numbers-same (args .coordinates .now) (args .sides .now) (args .listed .now) (args .beside .now))
     ∙ sym (c8 .numbers-fit .ensures)
     ∙ not-false _ (c .before .before .before .before .before .before .before .if2 .left))
-    (sym (rows-same l m) ∙ sym (c .before .rows-fit .ensures) ∙ not-true _ (c .if3 .taken))
+    (sym (c .before .rows-for .ensures) ∙ not-true _ (c .if3 .taken))
 
 build-begun-requires : tie.Need-build-begun-requires
 build-begun-requires c κs =
@@ -57,9 +57,7 @@ build-begun-requires c κs =
       counts = (sym (counts-fit .ensures) ∙ not-false _ (if1 .left));
       numbers = (sym (numbers-same (args .coordinates .now) (args .sides .now) (args .listed .now) (args .beside .now))
           ∙ sym (numbers-fit .ensures) ∙ not-false _ (if2 .left));
-      rows = (sym (rows-same (lists (args .coordinates .now) (args .sides .now) (args .listed .now) (args .beside .now))
-          (meshOf (args .positions .now) (args .points .now) (args .edges .now) (args .intervals .now) (args .faces .now)))
-          ∙ sym (c .before .before .before .before .before .before .rows-fit .ensures)
+      rows = (sym (c .before .before .before .before .before .before .rows-for .ensures)
           ∙ not-false _ (c .before .before .before .before .before .if3 .left));
     }
 
@@ -78,8 +76,7 @@ returns-4 c =
     (sym (c24 .before .before .counts-fit .ensures) ∙ not-false _ (c24 .before .if1 .left))
     (sym (numbers-same (args .coordinates .now) (args .sides .now) (args .listed .now) (args .beside .now))
     ∙ sym (c24 .numbers-fit .ensures) ∙ not-false _ (if2 .left))
-    (sym (rows-same l m) ∙ sym (c16 .before .rows-fit .ensures) ∙ not-false _ (c16 .if3 .left))
-    (c8 .before .before .build-begun .ensures)
+    (sym (c16 .before .rows-for .ensures) ∙ not-false _ (c16 .if3 .left)) (c8 .before .before .build-begun .ensures)
 
 pub build-spec : {M : Type 1} → statement M
 build-spec =

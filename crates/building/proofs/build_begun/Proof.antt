@@ -1,8 +1,7 @@
 -- build_begun meets its contract: the counted rows are zeroed first.
-use mathlib.Core.Path.{_∙_}
 use Rattle.tables.specs.Mesh.{meshOf}
 use Rattle.building_tests.specs.Lent.{lists}
-use Rattle.building.proofs.Outcomes.{rooms, zeroedTo-rows, links-room}
+use Rattle.building.proofs.Outcomes.{rooms, links-room}
 use borrow.Author.Needs.{needs}
 use Rattle.building.proofs.build_begun.Statement.{statement}
 use Rattle.building.proofs.build_begun.Tie as tie
@@ -25,15 +24,8 @@ build-zeroed-requires c κs =
     let args = c24 .before .before .before .before .before .before .before .args in
     let pre = c24 .before .before .before .before .before .before .before .pre in
     let m = meshOf (args .positions .now) (args .points .now) (args .edges .now) (args .intervals .now)
-    (args .faces .now) in (
-      record {
-        lent = m;
-        begun = pre;
-        zero = c16 .zero-rows .ensures
-            ∙ zeroedTo-rows (lists (args .coordinates .now) (args .sides .now) (args .listed .now) (args .beside .now)) m;
-      },
-      links-room,
-    )
+    (args .faces .now) in
+    (record { lent = m; begun = pre; zero = c16 .zero-rows .ensures }, links-room)
 
 returns : tie.Need-returns
 returns c =
@@ -48,8 +40,7 @@ returns c =
     let build-zeroed = c8 .before .before .before .build-zeroed in
     let m = meshOf (args .positions .now) (args .points .now) (args .edges .now) (args .intervals .now)
     (args .faces .now) in
-    build-zeroed .ensures m (pre) (zero-rows .ensures
-    ∙ zeroedTo-rows (lists (args .coordinates .now) (args .sides .now) (args .listed .now) (args .beside .now)) m)
+    build-zeroed .ensures m (pre) (zero-rows .ensures)
 
 pub build-begun-spec : {M : Type 1} → statement M
 build-begun-spec =

@@ -8,6 +8,9 @@ use borrow.Author.Needs.{needs}
 use Rattle.finishing.proofs.finish.Statement.{statement}
 use Rattle.finishing.proofs.finish.Tie as tie
 
+make-from-rows-requires : tie.Need-make-from-rows-requires
+make-from-rows-requires c κs = search needs
+
 commit-requires : tie.Need-commit-requires
 commit-requires c κs =
     let c8 = c .before .before .before .before .before .before .before .before in
@@ -27,6 +30,30 @@ commit-requires c κs =
           (v .kept .1 .1 .1 .1 .1 .1 .1 .1 .1 .1 .1 .1 .0) (p .scratch),
       p .room,
     )
+
+same-length : tie.Need-same-length
+same-length c = search needs
+
+same-length-2 : tie.Need-same-length-2
+same-length-2 c = search needs
+
+same-length-3 : tie.Need-same-length-3
+same-length-3 c = search needs
+
+same-length-4 : tie.Need-same-length-4
+same-length-4 c = search needs
+
+same-length-5 : tie.Need-same-length-5
+same-length-5 c = search needs
+
+same-length-6 : tie.Need-same-length-6
+same-length-6 c = search needs
+
+same-length-7 : tie.Need-same-length-7
+same-length-7 c = search needs
+
+same-length-8 : tie.Need-same-length-8
+same-length-8 c = search needs
 
 same-length-9 : tie.Need-same-length-9
 same-length-9 c =
@@ -88,6 +115,36 @@ zero-rows-requires c κs =
     (v .kept .1 .1 .1 .1 .1 .1 .1 .1 .1 .1 .1 .1 .0) (p .scratch) in
     (r .positions, (r .points, (r .edges, (r .intervals, r .faces))))
 
+same-length-11 : tie.Need-same-length-11
+same-length-11 c = search needs
+
+same-length-12 : tie.Need-same-length-12
+same-length-12 c = search needs
+
+same-length-13 : tie.Need-same-length-13
+same-length-13 c = search needs
+
+same-length-14 : tie.Need-same-length-14
+same-length-14 c = search needs
+
+same-length-15 : tie.Need-same-length-15
+same-length-15 c = search needs
+
+same-length-16 : tie.Need-same-length-16
+same-length-16 c = search needs
+
+same-length-17 : tie.Need-same-length-17
+same-length-17 c = search needs
+
+same-length-18 : tie.Need-same-length-18
+same-length-18 c = search needs
+
+same-length-19 : tie.Need-same-length-19
+same-length-19 c = search needs
+
+same-length-20 : tie.Need-same-length-20
+same-length-20 c = search needs
+
 returns-2 : tie.Need-returns-2
 returns-2 c =
     let c8 = c .before .before .before .before .before .before .before .before in
@@ -112,28 +169,28 @@ pub finish-spec : {M : Type 1} → statement M
 finish-spec =
     tie.close
     (tie.spec
-    (λ c κs. search needs)
+    make-from-rows-requires
     commit-requires
-    (λ c. search needs)
-    (λ c. search needs)
-    (λ c. search needs)
-    (λ c. search needs)
-    (λ c. search needs)
-    (λ c. search needs)
-    (λ c. search needs)
-    (λ c. search needs)
+    same-length
+    same-length-2
+    same-length-3
+    same-length-4
+    same-length-5
+    same-length-6
+    same-length-7
+    same-length-8
     same-length-9
     same-length-10
     returns
     zero-rows-requires
-    (λ c. search needs)
-    (λ c. search needs)
-    (λ c. search needs)
-    (λ c. search needs)
-    (λ c. search needs)
-    (λ c. search needs)
-    (λ c. search needs)
-    (λ c. search needs)
-    (λ c. search needs)
-    (λ c. search needs)
+    same-length-11
+    same-length-12
+    same-length-13
+    same-length-14
+    same-length-15
+    same-length-16
+    same-length-17
+    same-length-18
+    same-length-19
+    same-length-20
     returns-2)

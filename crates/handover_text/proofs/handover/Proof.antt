@@ -7,6 +7,27 @@ use Rattle.handover_text.proofs.handover.Tie as tie
 returns : tie.Need-returns
 returns c = no-room (c .before .before .before .args .text .now) (c .before .before .before .args .out .now) (c .if1 .taken)
 
+slice-aggregate-write-output : tie.Need-slice-aggregate-write-output
+slice-aggregate-write-output c = search needs
+
+slice-aggregate-write-output-2 : tie.Need-slice-aggregate-write-output-2
+slice-aggregate-write-output-2 c = search needs
+
+slice-aggregate-write-output-3 : tie.Need-slice-aggregate-write-output-3
+slice-aggregate-write-output-3 c = search needs
+
+slice-aggregate-write-output-4 : tie.Need-slice-aggregate-write-output-4
+slice-aggregate-write-output-4 c = search needs
+
+slice-aggregate-write-output-5 : tie.Need-slice-aggregate-write-output-5
+slice-aggregate-write-output-5 c = search needs
+
+write-output-requires : tie.Need-write-output-requires
+write-output-requires c κs = search needs
+
+same-length : tie.Need-same-length
+same-length c = search needs
+
 returns-2 : tie.Need-returns-2
 returns-2 c =
     let c8 = c .before .before .before .before .before .before .before .before in
@@ -21,11 +42,11 @@ handover-spec =
     tie.close
     (tie.spec
     returns
-    (λ c. search needs)
-    (λ c. search needs)
-    (λ c. search needs)
-    (λ c. search needs)
-    (λ c. search needs)
-    (λ c κs. search needs)
-    (λ c. search needs)
+    slice-aggregate-write-output
+    slice-aggregate-write-output-2
+    slice-aggregate-write-output-3
+    slice-aggregate-write-output-4
+    slice-aggregate-write-output-5
+    write-output-requires
+    same-length
     returns-2)

@@ -5,6 +5,30 @@ use borrow.Author.Needs.{needs}
 use Rattle.handover_text.proofs.write_built.Statement.{statement}
 use Rattle.handover_text.proofs.write_built.Tie as tie
 
+numbered-step-requires : tie.Need-numbered-step-requires
+numbered-step-requires c κs = search needs
+
+write-handed-requires : tie.Need-write-handed-requires
+write-handed-requires c κs = search needs
+
+same-length : tie.Need-same-length
+same-length c = search needs
+
+same-length-2 : tie.Need-same-length-2
+same-length-2 c = search needs
+
+same-length-3 : tie.Need-same-length-3
+same-length-3 c = search needs
+
+same-length-4 : tie.Need-same-length-4
+same-length-4 c = search needs
+
+same-length-5 : tie.Need-same-length-5
+same-length-5 c = search needs
+
+same-length-6 : tie.Need-same-length-6
+same-length-6 c = search needs
+
 returns : tie.Need-returns
 returns c =
     let c8 = c .before .before .before .before .before .before .before .before in
@@ -20,12 +44,12 @@ pub write-built-spec : {M : Type 1} → statement M
 write-built-spec =
     tie.close
     (tie.spec
-    (λ c κs. search needs)
-    (λ c κs. search needs)
-    (λ c. search needs)
-    (λ c. search needs)
-    (λ c. search needs)
-    (λ c. search needs)
-    (λ c. search needs)
-    (λ c. search needs)
+    numbered-step-requires
+    write-handed-requires
+    same-length
+    same-length-2
+    same-length-3
+    same-length-4
+    same-length-5
+    same-length-6
     returns)

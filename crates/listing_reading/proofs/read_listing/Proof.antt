@@ -1,35 +1,24 @@
 -- `read_listing` meets its contract: the listing is counted, then the counts are tested, then its rows are stored and audited.
 use borrow.Author.Needs.{needs}
 use native.Mathlib.Omega.{arith}
-use mathlib.Core.Path.{_≡_, refl, sym, ap, _∙_}
+use mathlib.Core.List.{[]}
+use mathlib.Core.Path.{sym, _∙_}
 use borrow.Author.Tests.{not-true, not-false}
 use Rattle.tables.specs.Mesh.{meshOf}
 use Rattle.listings.proofs.ReadBack.{room-of}
-use Rattle.listing_reading.proofs.Outcomes.{not-listing, over, no-room, read, zeroes}
+use Rattle.listing_reading.proofs.Outcomes.{not-listing, is-listing, over, no-room, read, zeroes}
 use Rattle.listing_reading.proofs.read_listing.Statement.{statement}
 use Rattle.listing_reading.proofs.read_listing.Tie as tie
-use Rattle.listing_reading.proofs.read_listing.Reads as reads
-use Rattle.listing_reading.proofs.read_listing.Lts as lts
-use Rattle.audit.proofs.audit.Reads as audit-reads
-use Rattle.listing_reading.proofs.scan.Reads as scan-reads
-use Rattle.listing_reading.proofs.sizes.Reads as sizes-reads
-use Rattle.scratch_rows.proofs.rows_for.Reads as rows-for-reads
-use Rattle.scratch_rows.proofs.within_ceilings.Reads as within-ceilings-reads
-use Rattle.row_copies.proofs.zero_rows.Reads as zero-rows-reads
 
--- src/lib.rt:89:33
 sizes-requires : tie.Need-sizes-requires
 sizes-requires c κs = search needs
 
--- src/lib.rt:89:19
 enum-known-np : tie.Need-enum-known-np
 enum-known-np c = search needs
 
--- src/lib.rt:90:9
 enum-told : tie.Need-enum-told
 enum-told c = search needs
 
--- src/lib.rt:90:9
 returns : tie.Need-returns
 returns c =
     let args = c .before .before .before .before .before .before .before .before .before .args in
@@ -37,11 +26,9 @@ returns c =
     (meshOf (args .positions .now) (args .points .now) (args .edges .now) (args .intervals .now) (args .faces .now))
     (c .before .before .sizes .ensures) (c .enum-told .given .1)
 
--- src/lib.rt:97:9
 within-ceilings-requires : tie.Need-within-ceilings-requires
 within-ceilings-requires c κs = search needs
 
--- src/lib.rt:98:9
 returns-2 : tie.Need-returns-2
 returns-2 c =
     let c8 = c .before .before .before .before .before .before .before .before in
@@ -51,31 +38,24 @@ returns-2 c =
     (c .before .before .before .before .before .sizes .ensures) (c .before .before .before .np .given .1)
     (sym (c .before .within-ceilings .ensures) ∙ not-true _ (c .if1 .taken))
 
--- src/lib.rt:100:9
 rows-for-requires : tie.Need-rows-for-requires
 rows-for-requires c κs = search needs
 
--- src/lib.rt:101:9
 same-length : tie.Need-same-length
 same-length c = search needs
 
--- src/lib.rt:101:9
 same-length-2 : tie.Need-same-length-2
 same-length-2 c = search needs
 
--- src/lib.rt:101:9
 same-length-3 : tie.Need-same-length-3
 same-length-3 c = search needs
 
--- src/lib.rt:101:9
 same-length-4 : tie.Need-same-length-4
 same-length-4 c = search needs
 
--- src/lib.rt:101:9
 same-length-5 : tie.Need-same-length-5
 same-length-5 c = search needs
 
--- src/lib.rt:101:9
 returns-3 : tie.Need-returns-3
 returns-3 c =
     let c8 = c .before .before .before .before .before .before .before .before in
@@ -89,35 +69,31 @@ returns-3 c =
     ∙ not-false _ (c .before .before .before .before .before .before .before .if1 .left))
     (sym (c .before .rows-for .ensures) ∙ not-true _ (c .if2 .taken))
 
--- src/lib.rt:103:5
-scan-requires : tie.Need-scan-requires
-scan-requires c κs = search needs
+store-rows-requires : tie.Need-store-rows-requires
+store-rows-requires c κs =
+    let c8 = c .before .before .before .before .before .before .before .before in
+    let c16 = c8 .before .before .before .before .before .before .before .before in
+    let np = c8 .before .before .before .before .before .before .before .np in
+    is-listing _ (meshOf [] [] [] [] []) (c16 .before .sizes .ensures) (np .given .1)
 
--- src/lib.rt:104:8
 audit-requires : tie.Need-audit-requires
 audit-requires c κs = search needs
 
--- src/lib.rt:105:9
 same-length-6 : tie.Need-same-length-6
 same-length-6 c = search needs
 
--- src/lib.rt:105:9
 same-length-7 : tie.Need-same-length-7
 same-length-7 c = search needs
 
--- src/lib.rt:105:9
 same-length-8 : tie.Need-same-length-8
 same-length-8 c = search needs
 
--- src/lib.rt:105:9
 same-length-9 : tie.Need-same-length-9
 same-length-9 c = search needs
 
--- src/lib.rt:105:9
 same-length-10 : tie.Need-same-length-10
 same-length-10 c = search needs
 
--- src/lib.rt:105:9
 returns-4 : tie.Need-returns-4
 returns-4 c =
     let c8 = c .before .before .before .before .before .before .before .before in
@@ -130,15 +106,14 @@ returns-4 c =
     let within-ceilings = c24 .before .before .before .before .before .before .before .within-ceilings in
     let if1 = c24 .before .before .before .before .before .before .if1 in
     let if2 = c16 .before .before .before .before .before .before .before .if2 in
-    let scan = c16 .before .scan in
+    let store = c16 .before .store-rows in
     read _
     (meshOf (args .positions .now) (args .points .now) (args .edges .now) (args .intervals .now) (args .faces .now))
     (sizes .ensures) (c32 .before .np .given .1) (sym (within-ceilings .ensures) ∙ not-false _ (if1 .left))
-    (sym (c24 .rows-for .ensures) ∙ not-false _ (if2 .left)) (scan .ensures .0) _ _ _ _ _ (scan .ensures .1 .0)
-    (scan .ensures .1 .1 .0) (scan .ensures .1 .1 .1 .0) (scan .ensures .1 .1 .1 .1 .0) (scan .ensures .1 .1 .1 .1 .1)
+    (sym (c24 .rows-for .ensures) ∙ not-false _ (if2 .left)) _ _ _ _ _ (store .ensures .0) (store .ensures .1 .0)
+    (store .ensures .1 .1 .0) (store .ensures .1 .1 .1 .0) (store .ensures .1 .1 .1 .1)
     (sym (c .before .audit .ensures) ∙ c .if3 .taken)
 
--- src/lib.rt:107:5
 zero-rows-requires : tie.Need-zero-rows-requires
 zero-rows-requires c κs =
     let c8 = c .before .before .before .before .before .before .before .before in
@@ -149,25 +124,25 @@ zero-rows-requires c κs =
     let args = c40 .before .before .before .before .before .before .before .args in
     let rows-for = c24 .before .before .before .before .before .rows-for in
     let if2 = c24 .before .before .before .before .if2 in
-    let scan = c16 .before .before .before .before .before .before .scan in
+    let store = c16 .before .before .before .before .before .before .store-rows in
     let m = meshOf (args .positions .now) (args .points .now) (args .edges .now) (args .intervals .now)
     (args .faces .now) in (
-      let k = scan .kept .1 .0 in
+      let k = store .kept .1 .0 in
           let r = room-of _ m (sym (rows-for .ensures) ∙ not-false _ (if2 .left)) .positions in
           omega arith,
       (
-        let k = scan .kept .1 .1 .0 in
+        let k = store .kept .1 .1 .0 in
             let r = room-of _ m (sym (rows-for .ensures) ∙ not-false _ (if2 .left)) .points in
             omega arith,
         (
-          let k = scan .kept .1 .1 .1 .0 in
+          let k = store .kept .1 .1 .1 .0 in
               let r = room-of _ m (sym (rows-for .ensures) ∙ not-false _ (if2 .left)) .edges in
               omega arith,
           (
-            let k = scan .kept .1 .1 .1 .1 .0 in
+            let k = store .kept .1 .1 .1 .1 .0 in
                 let r = room-of _ m (sym (rows-for .ensures) ∙ not-false _ (if2 .left)) .intervals in
                 omega arith,
-            let k = scan .kept .1 .1 .1 .1 .1 .0 in
+            let k = store .kept .1 .1 .1 .1 .1 .0 in
                 let r = room-of _ m (sym (rows-for .ensures) ∙ not-false _ (if2 .left)) .faces in
                 omega arith,
           ),
@@ -175,27 +150,21 @@ zero-rows-requires c κs =
       ),
     )
 
--- src/lib.rt:71:1
 same-length-11 : tie.Need-same-length-11
 same-length-11 c = search needs
 
--- src/lib.rt:71:1
 same-length-12 : tie.Need-same-length-12
 same-length-12 c = search needs
 
--- src/lib.rt:71:1
 same-length-13 : tie.Need-same-length-13
 same-length-13 c = search needs
 
--- src/lib.rt:71:1
 same-length-14 : tie.Need-same-length-14
 same-length-14 c = search needs
 
--- src/lib.rt:71:1
 same-length-15 : tie.Need-same-length-15
 same-length-15 c = search needs
 
--- src/lib.rt:71:1
 returns-5 : tie.Need-returns-5
 returns-5 c =
     let c8 = c .before .before .before .before .before .before .before .before in
@@ -210,12 +179,12 @@ returns-5 c =
     let within-ceilings = c40 .before .before .before .before .before .before .before .within-ceilings in
     let if1 = c40 .before .before .before .before .before .before .if1 in
     let if2 = c32 .before .before .before .before .before .before .before .if2 in
-    let scan = c32 .before .scan in
+    let store = c32 .before .store-rows in
     zeroes _
     (meshOf (args .positions .now) (args .points .now) (args .edges .now) (args .intervals .now) (args .faces .now))
     (sizes .ensures) (c48 .before .np .given .1) (sym (within-ceilings .ensures) ∙ not-false _ (if1 .left))
-    (sym (c40 .rows-for .ensures) ∙ not-false _ (if2 .left)) (scan .ensures .0) _ _ _ _ _ (scan .ensures .1 .0)
-    (scan .ensures .1 .1 .0) (scan .ensures .1 .1 .1 .0) (scan .ensures .1 .1 .1 .1 .0) (scan .ensures .1 .1 .1 .1 .1)
+    (sym (c40 .rows-for .ensures) ∙ not-false _ (if2 .left)) _ _ _ _ _ (store .ensures .0) (store .ensures .1 .0)
+    (store .ensures .1 .1 .0) (store .ensures .1 .1 .1 .0) (store .ensures .1 .1 .1 .1)
     (sym (c16 .before .audit .ensures) ∙ c16 .if3 .left) _ (c8 .before .before .zero-rows .ensures)
 
 pub read-listing-spec : {M : Type 1} → statement M
@@ -235,7 +204,7 @@ read-listing-spec =
     same-length-4
     same-length-5
     returns-3
-    scan-requires
+    store-rows-requires
     audit-requires
     same-length-6
     same-length-7

@@ -5,12 +5,48 @@ use borrow.Author.Needs.{needs}
 use Rattle.oracle_steps.proofs.step_lent.Statement.{statement}
 use Rattle.oracle_steps.proofs.step_lent.Tie as tie
 
+least-requires : tie.Need-least-requires
+least-requires c κs = search needs
+
+least-requires-2 : tie.Need-least-requires-2
+least-requires-2 c κs = search needs
+
+least-requires-3 : tie.Need-least-requires-3
+least-requires-3 c κs = search needs
+
+least-requires-4 : tie.Need-least-requires-4
+least-requires-4 c κs = search needs
+
+least-requires-5 : tie.Need-least-requires-5
+least-requires-5 c κs = search needs
+
+least-requires-6 : tie.Need-least-requires-6
+least-requires-6 c κs = search needs
+
+least-requires-7 : tie.Need-least-requires-7
+least-requires-7 c κs = search needs
+
+least-requires-8 : tie.Need-least-requires-8
+least-requires-8 c κs = search needs
+
+least-requires-9 : tie.Need-least-requires-9
+least-requires-9 c κs = search needs
+
+least-requires-10 : tie.Need-least-requires-10
+least-requires-10 c κs = search needs
+
+slice-relend-prefix-step : tie.Need-slice-relend-prefix-step
+slice-relend-prefix-step c = search needs
+
 slice-aggregate-step : tie.Need-slice-aggregate-step
 slice-aggregate-step c =
     let c8 = c .before .before .before .before .before .before .before .before in
     let c16 = c8 .before .before .before .before .before .before .before .before in
     let args = c16 .before .before .before .before .before .before .args in
     sym (length-take-le _ (args .positions .now) (c8 .before .before .least .ensures .1))
+
+slice-relend-prefix-step-2 : tie.Need-slice-relend-prefix-step-2
+slice-relend-prefix-step-2 c = search needs
 
 slice-aggregate-step-2 : tie.Need-slice-aggregate-step-2
 slice-aggregate-step-2 c =
@@ -19,12 +55,18 @@ slice-aggregate-step-2 c =
     let args = c16 .before .before .before .before .before .before .before .args in
     sym (length-take-le _ (args .points .now) (c8 .before .before .least2 .ensures .1))
 
+slice-relend-prefix-step-3 : tie.Need-slice-relend-prefix-step-3
+slice-relend-prefix-step-3 c = search needs
+
 slice-aggregate-step-3 : tie.Need-slice-aggregate-step-3
 slice-aggregate-step-3 c =
     let c8 = c .before .before .before .before .before .before .before .before in
     let c16 = c8 .before .before .before .before .before .before .before .before in
     let args = c16 .before .before .before .before .before .before .before .before .args in
     sym (length-take-le _ (args .edges .now) (c8 .before .before .least3 .ensures .1))
+
+slice-relend-prefix-step-4 : tie.Need-slice-relend-prefix-step-4
+slice-relend-prefix-step-4 c = search needs
 
 slice-aggregate-step-4 : tie.Need-slice-aggregate-step-4
 slice-aggregate-step-4 c =
@@ -33,12 +75,18 @@ slice-aggregate-step-4 c =
     let c24 = c16 .before .before .before .before .before .before .before .before in
     sym (length-take-le _ (c24 .before .args .intervals .now) (c8 .before .before .least4 .ensures .1))
 
+slice-relend-prefix-step-5 : tie.Need-slice-relend-prefix-step-5
+slice-relend-prefix-step-5 c = search needs
+
 slice-aggregate-step-5 : tie.Need-slice-aggregate-step-5
 slice-aggregate-step-5 c =
     let c8 = c .before .before .before .before .before .before .before .before in
     let c16 = c8 .before .before .before .before .before .before .before .before in
     let c24 = c16 .before .before .before .before .before .before .before .before in
     sym (length-take-le _ (c24 .before .before .args .faces .now) (c8 .before .before .least5 .ensures .1))
+
+slice-relend-prefix-step-6 : tie.Need-slice-relend-prefix-step-6
+slice-relend-prefix-step-6 c = search needs
 
 slice-aggregate-step-6 : tie.Need-slice-aggregate-step-6
 slice-aggregate-step-6 c =
@@ -48,6 +96,9 @@ slice-aggregate-step-6 c =
     let args = c24 .before .before .before .args in
     sym (length-take-le _ (args .newpositions .now) (c8 .before .before .least6 .ensures .1))
 
+slice-relend-prefix-step-7 : tie.Need-slice-relend-prefix-step-7
+slice-relend-prefix-step-7 c = search needs
+
 slice-aggregate-step-7 : tie.Need-slice-aggregate-step-7
 slice-aggregate-step-7 c =
     let c8 = c .before .before .before .before .before .before .before .before in
@@ -55,6 +106,9 @@ slice-aggregate-step-7 c =
     let c24 = c16 .before .before .before .before .before .before .before .before in
     let args = c24 .before .before .before .before .args in
     sym (length-take-le _ (args .newpoints .now) (c8 .before .before .least7 .ensures .1))
+
+slice-relend-prefix-step-8 : tie.Need-slice-relend-prefix-step-8
+slice-relend-prefix-step-8 c = search needs
 
 slice-aggregate-step-8 : tie.Need-slice-aggregate-step-8
 slice-aggregate-step-8 c =
@@ -64,6 +118,9 @@ slice-aggregate-step-8 c =
     let args = c24 .before .before .before .before .before .args in
     sym (length-take-le _ (args .newedges .now) (c8 .before .before .least8 .ensures .1))
 
+slice-relend-prefix-step-9 : tie.Need-slice-relend-prefix-step-9
+slice-relend-prefix-step-9 c = search needs
+
 slice-aggregate-step-9 : tie.Need-slice-aggregate-step-9
 slice-aggregate-step-9 c =
     let c8 = c .before .before .before .before .before .before .before .before in
@@ -71,6 +128,9 @@ slice-aggregate-step-9 c =
     let c24 = c16 .before .before .before .before .before .before .before .before in
     let args = c24 .before .before .before .before .before .before .args in
     sym (length-take-le _ (args .newintervals .now) (c8 .before .before .least9 .ensures .1))
+
+slice-relend-prefix-step-10 : tie.Need-slice-relend-prefix-step-10
+slice-relend-prefix-step-10 c = search needs
 
 slice-aggregate-step-10 : tie.Need-slice-aggregate-step-10
 slice-aggregate-step-10 c =
@@ -80,49 +140,85 @@ slice-aggregate-step-10 c =
     let args = c24 .before .before .before .before .before .before .before .args in
     sym (length-take-le _ (args .newfaces .now) (c8 .before .before .least10 .ensures .1))
 
+step-requires : tie.Need-step-requires
+step-requires c κs = search needs
+
+same-length : tie.Need-same-length
+same-length c = search needs
+
+same-length-2 : tie.Need-same-length-2
+same-length-2 c = search needs
+
+same-length-3 : tie.Need-same-length-3
+same-length-3 c = search needs
+
+same-length-4 : tie.Need-same-length-4
+same-length-4 c = search needs
+
+same-length-5 : tie.Need-same-length-5
+same-length-5 c = search needs
+
+same-length-6 : tie.Need-same-length-6
+same-length-6 c = search needs
+
+same-length-7 : tie.Need-same-length-7
+same-length-7 c = search needs
+
+same-length-8 : tie.Need-same-length-8
+same-length-8 c = search needs
+
+same-length-9 : tie.Need-same-length-9
+same-length-9 c = search needs
+
+same-length-10 : tie.Need-same-length-10
+same-length-10 c = search needs
+
+returns : tie.Need-returns
+returns c = search needs
+
 pub step-lent-spec : {M : Type 1} → statement M
 step-lent-spec =
     tie.close
     (tie.spec
-    (λ c κs. search needs)
-    (λ c κs. search needs)
-    (λ c κs. search needs)
-    (λ c κs. search needs)
-    (λ c κs. search needs)
-    (λ c κs. search needs)
-    (λ c κs. search needs)
-    (λ c κs. search needs)
-    (λ c κs. search needs)
-    (λ c κs. search needs)
-    (λ c. search needs)
+    least-requires
+    least-requires-2
+    least-requires-3
+    least-requires-4
+    least-requires-5
+    least-requires-6
+    least-requires-7
+    least-requires-8
+    least-requires-9
+    least-requires-10
+    slice-relend-prefix-step
     slice-aggregate-step
-    (λ c. search needs)
+    slice-relend-prefix-step-2
     slice-aggregate-step-2
-    (λ c. search needs)
+    slice-relend-prefix-step-3
     slice-aggregate-step-3
-    (λ c. search needs)
+    slice-relend-prefix-step-4
     slice-aggregate-step-4
-    (λ c. search needs)
+    slice-relend-prefix-step-5
     slice-aggregate-step-5
-    (λ c. search needs)
+    slice-relend-prefix-step-6
     slice-aggregate-step-6
-    (λ c. search needs)
+    slice-relend-prefix-step-7
     slice-aggregate-step-7
-    (λ c. search needs)
+    slice-relend-prefix-step-8
     slice-aggregate-step-8
-    (λ c. search needs)
+    slice-relend-prefix-step-9
     slice-aggregate-step-9
-    (λ c. search needs)
+    slice-relend-prefix-step-10
     slice-aggregate-step-10
-    (λ c κs. search needs)
-    (λ c. search needs)
-    (λ c. search needs)
-    (λ c. search needs)
-    (λ c. search needs)
-    (λ c. search needs)
-    (λ c. search needs)
-    (λ c. search needs)
-    (λ c. search needs)
-    (λ c. search needs)
-    (λ c. search needs)
-    (λ c. search needs))
+    step-requires
+    same-length
+    same-length-2
+    same-length-3
+    same-length-4
+    same-length-5
+    same-length-6
+    same-length-7
+    same-length-8
+    same-length-9
+    same-length-10
+    returns)

@@ -7,10 +7,12 @@ use Rattle.refine.proofs.main.Statement.{statement}
 use Rattle.refine.proofs.main.Tie as tie
 
 array-share-prefix-out : tie.Need-array-share-prefix-out
-array-share-prefix-out c = (answer-fits _ _ (c .before .refine .ensures))
+array-share-prefix-out c = (answer-fits _ _ (search needs) (c .refine .ensures))
 
 slice-aggregate-write-all : tie.Need-slice-aggregate-write-all
-slice-aggregate-write-all c = sym (length-take-le (c .before .before .refine .result) (c .before .before .refine .last .1 .0) (answer-fits _ _ (c .before .before .refine .ensures)))
+slice-aggregate-write-all c =
+    sym (length-take-le (c .before .refine .result) (c .before .refine .last .1 .0)
+    (answer-fits _ _ (search needs) (c .before .refine .ensures)))
 
 pub main-spec : {M : Type 1} → statement M
 main-spec =
@@ -18,7 +20,6 @@ main-spec =
     (tie.spec
     (λ c. search needs)
     (λ c κs. search needs)
-    (λ c. search needs)
     (λ c. search needs)
     (λ c. search needs)
     (λ c κs. search needs)

@@ -5,6 +5,12 @@ use borrow.Author.Needs.{needs}
 use Rattle.refine_text.proofs.write_built.Statement.{statement}
 use Rattle.refine_text.proofs.write_built.Tie as tie
 
+write-mesh-requires : tie.Need-write-mesh-requires
+write-mesh-requires c κs = search needs
+
+numbered-step-requires : tie.Need-numbered-step-requires
+numbered-step-requires c κs = search needs
+
 write-stepped-requires : tie.Need-write-stepped-requires
 write-stepped-requires c κs =
     let c8 = c .before .before .before .before .before .before .before .before in
@@ -19,6 +25,24 @@ write-stepped-requires c κs =
           (meshOf (args .positions .now) (args .points .now) (args .edges .now) (args .intervals .now) (args .faces .now))
           (numbered-step .ensures),
     )
+
+same-length : tie.Need-same-length
+same-length c = search needs
+
+same-length-2 : tie.Need-same-length-2
+same-length-2 c = search needs
+
+same-length-3 : tie.Need-same-length-3
+same-length-3 c = search needs
+
+same-length-4 : tie.Need-same-length-4
+same-length-4 c = search needs
+
+same-length-5 : tie.Need-same-length-5
+same-length-5 c = search needs
+
+same-length-6 : tie.Need-same-length-6
+same-length-6 c = search needs
 
 returns : tie.Need-returns
 returns c =
@@ -36,13 +60,13 @@ pub write-built-spec : {M : Type 1} → statement M
 write-built-spec =
     tie.close
     (tie.spec
-    (λ c κs. search needs)
-    (λ c κs. search needs)
+    write-mesh-requires
+    numbered-step-requires
     write-stepped-requires
-    (λ c. search needs)
-    (λ c. search needs)
-    (λ c. search needs)
-    (λ c. search needs)
-    (λ c. search needs)
-    (λ c. search needs)
+    same-length
+    same-length-2
+    same-length-3
+    same-length-4
+    same-length-5
+    same-length-6
     returns)

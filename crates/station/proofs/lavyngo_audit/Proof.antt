@@ -6,6 +6,12 @@ use Rattle.station.proofs.Laws.{audited-closed, audited-open}
 use Rattle.station.proofs.lavyngo_audit.Statement.{statement}
 use Rattle.station.proofs.lavyngo_audit.Tie as tie
 
+load-counts-requires : tie.Need-load-counts-requires
+load-counts-requires c κs = search needs
+
+audit-requires : tie.Need-audit-requires
+audit-requires c κs = search needs
+
 returns : tie.Need-returns
 returns c =
     let a = c .before .before .before .before .before .before .before .before .args in
@@ -19,4 +25,8 @@ returns-2 c =
     (c .before .before .load-counts .ensures) ((sym (c .before .audit .ensures) ∙ c .if1 .left))
 
 pub lavyngo-audit-spec : {M : Type 1} → statement M
-lavyngo-audit-spec = tie.close (tie.spec (λ c κs. search needs) (λ c κs. search needs) returns returns-2)
+lavyngo-audit-spec = tie.close (tie.spec
+    load-counts-requires
+    audit-requires
+    returns
+    returns-2)

@@ -4,6 +4,27 @@ use Rattle.station.proofs.Laws.{built-told}
 use Rattle.station.proofs.lavyngo_build.Statement.{statement}
 use Rattle.station.proofs.lavyngo_build.Tie as tie
 
+build-requires : tie.Need-build-requires
+build-requires c κs = search needs
+
+tell-built-requires : tie.Need-tell-built-requires
+tell-built-requires c κs = search needs
+
+same-length : tie.Need-same-length
+same-length c = search needs
+
+same-length-2 : tie.Need-same-length-2
+same-length-2 c = search needs
+
+same-length-3 : tie.Need-same-length-3
+same-length-3 c = search needs
+
+same-length-4 : tie.Need-same-length-4
+same-length-4 c = search needs
+
+same-length-5 : tie.Need-same-length-5
+same-length-5 c = search needs
+
 returns : tie.Need-returns
 returns c =
     let c8 = c .before .before .before .before .before .before .before .before in
@@ -17,11 +38,11 @@ pub lavyngo-build-spec : {M : Type 1} → statement M
 lavyngo-build-spec =
     tie.close
     (tie.spec
-    (λ c κs. search needs)
-    (λ c κs. search needs)
-    (λ c. search needs)
-    (λ c. search needs)
-    (λ c. search needs)
-    (λ c. search needs)
-    (λ c. search needs)
+    build-requires
+    tell-built-requires
+    same-length
+    same-length-2
+    same-length-3
+    same-length-4
+    same-length-5
     returns)

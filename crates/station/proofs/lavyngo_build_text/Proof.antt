@@ -4,6 +4,27 @@ use Rattle.station.proofs.Laws.{text-told}
 use Rattle.station.proofs.lavyngo_build_text.Statement.{statement}
 use Rattle.station.proofs.lavyngo_build_text.Tie as tie
 
+build-text-requires : tie.Need-build-text-requires
+build-text-requires c κs = search needs
+
+tell-text-built-requires : tie.Need-tell-text-built-requires
+tell-text-built-requires c κs = search needs
+
+same-length : tie.Need-same-length
+same-length c = search needs
+
+same-length-2 : tie.Need-same-length-2
+same-length-2 c = search needs
+
+same-length-3 : tie.Need-same-length-3
+same-length-3 c = search needs
+
+same-length-4 : tie.Need-same-length-4
+same-length-4 c = search needs
+
+same-length-5 : tie.Need-same-length-5
+same-length-5 c = search needs
+
 returns : tie.Need-returns
 returns c =
     let c8 = c .before .before .before .before .before .before .before .before in
@@ -17,11 +38,11 @@ pub lavyngo-build-text-spec : {M : Type 1} → statement M
 lavyngo-build-text-spec =
     tie.close
     (tie.spec
-    (λ c κs. search needs)
-    (λ c κs. search needs)
-    (λ c. search needs)
-    (λ c. search needs)
-    (λ c. search needs)
-    (λ c. search needs)
-    (λ c. search needs)
+    build-text-requires
+    tell-text-built-requires
+    same-length
+    same-length-2
+    same-length-3
+    same-length-4
+    same-length-5
     returns)

@@ -6,6 +6,15 @@ use borrow.Author.Needs.{needs}
 use Rattle.station.proofs.lavyngo_find_depth.Statement.{statement}
 use Rattle.station.proofs.lavyngo_find_depth.Tie as tie
 
+load-counts-requires : tie.Need-load-counts-requires
+load-counts-requires c κs = search needs
+
+find-depth-requires : tie.Need-find-depth-requires
+find-depth-requires c κs = search needs
+
+tell-crossing-requires : tie.Need-tell-crossing-requires
+tell-crossing-requires c κs = search needs
+
 returns : tie.Need-returns
 returns c =
     let a = c .before .before .before .before .before .before .before .before .before .args in
@@ -14,4 +23,8 @@ returns c =
 
 pub lavyngo-find-depth-spec : {M : Type 1} → statement M
 lavyngo-find-depth-spec =
-    tie.close (tie.spec (λ c κs. search needs) (λ c κs. search needs) (λ c κs. search needs) returns)
+    tie.close (tie.spec
+    load-counts-requires
+    find-depth-requires
+    tell-crossing-requires
+    returns)

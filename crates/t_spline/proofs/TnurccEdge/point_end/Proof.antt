@@ -1,5 +1,5 @@
--- point_end meets its contract: each test decides one of the definition's.
 use borrow.Author.Tests.{eq-eqb, ne-eqb}
+use borrow.Author.Needs.{needs}
 use Rattle.t_spline.proofs.TnurccEdge.point_end.Statement.{statement}
 use Rattle.t_spline.proofs.TnurccEdge.point_end.Tie as tie
 
@@ -13,4 +13,4 @@ returns-3 : tie.Need-returns-3
 returns-3 c = simp (ne-eqb _ _ (c .before .before .if1 .left), ne-eqb _ _ (c .if2 .left))
 
 pub point-end-spec : {M : Type 1} → statement M
-point-end-spec = tie.close (tie.spec returns returns-2 returns-3)
+point-end-spec = tie.close (tie.spec (λ c. search needs) returns (λ c. search needs) returns-2 returns-3)

@@ -1,7 +1,8 @@
--- point_step meets its contract: each test decides one of the definition's.
+-- point_step meets its contract: what `point_end` finds decides the definition's tests.
+use mathlib.Core.Path.{sym, _∙_}
 use borrow.Author.Tests.{le-ltb}
+use Rattle.walks.proofs.FromEdge.{point-at, point-nowhere}
 use borrow.Author.Needs.{needs}
-use Rattle.walks.proofs.FromEdge.{point-origin, point-dest, point-neither}
 use Rattle.walks.proofs.t_nurcc_iter.point_step.Statement.{statement}
 use Rattle.walks.proofs.t_nurcc_iter.point_step.Tie as tie
 
@@ -10,26 +11,18 @@ returns c = simp (le-ltb _ _ (c .if1 .taken))
 
 returns-2 : tie.Need-returns-2
 returns-2 c =
-    point-origin (c .before .before .before .before .before .before .before .args .edges .now) _
-    (c .before .before .before .before .load-edge-words .ensures) _ (c .before .before .before .index .ensures) _
-    (c .before .before .before .before .before .if1 .left) (c .before .before .if2 .taken)
+    let args = c .before .before .before .before .before .before .before .before .before .before .args in
+    let if1 = c .before .before .before .before .before .before .before .before .if1 in
+    point-at (args .edges .now) _ (c .before .before .before .before .before .before .before .load-edge-words .ensures)
+    _ _ (if1 .left) (sym (c .before .before .before .before .before .before .point-end .ensures)
+    ∙ c .before .before .before .before .end .given .1) (c .before .before .other .ensures)
     (c .before .point-at-end .ensures) (c .acw-edge-from-end .ensures)
 
 returns-3 : tie.Need-returns-3
 returns-3 c =
-    let args = c .before .before .before .before .before .before .before .before .before .args in
-    point-dest (args .edges .now) _ (c .before .before .before .before .before .before .load-edge-words .ensures) _
-    (c .before .before .before .before .before .index .ensures) _
-    (c .before .before .before .before .before .before .before .if1 .left)
-    (c .before .before .before .before .if2 .left) (c .before .before .before .index2 .ensures)
-    (c .before .before .if3 .taken) (c .before .point-at-end2 .ensures) (c .acw-edge-from-end2 .ensures)
-
-returns-4 : tie.Need-returns-4
-returns-4 c =
-    point-neither (c .before .before .before .before .before .before .before .args .edges .now) _
-    (c .before .before .before .before .load-edge-words .ensures) _ (c .before .before .before .index .ensures) _
-    (c .before .before .before .before .before .if1 .left) (c .before .before .if2 .left) (c .before .index2 .ensures)
-    (c .if3 .left)
+    point-nowhere (c .before .before .before .before .before .before .args .edges .now) _
+    (c .before .before .before .load-edge-words .ensures) _ _ (c .before .before .before .before .if1 .left)
+    (sym (c .before .before .point-end .ensures) ∙ c .enum-told .given .1)
 
 pub point-step-spec : {M : Type 1} → statement M
 point-step-spec =
@@ -38,11 +31,10 @@ point-step-spec =
     returns
     (λ c κs. search needs)
     (λ c κs. search needs)
+    (λ c. search needs)
     (λ c κs. search needs)
     (λ c κs. search needs)
+    (λ c κs. search needs)
+    (λ c. search needs)
     returns-2
-    (λ c κs. search needs)
-    (λ c κs. search needs)
-    (λ c κs. search needs)
-    returns-3
-    returns-4)
+    returns-3)
