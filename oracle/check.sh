@@ -1,5 +1,5 @@
 #!/bin/sh
-# Builds the oracle if it is not up to date, and checks that it gives document 01's figures.
+# Builds the oracle if it is not up to date, and checks that it gives document 01's figures and document 02's.
 # Needed: as for build.sh.
 set -eu
 here=$(cd "$(dirname "$0")" && pwd)
@@ -75,9 +75,25 @@ expect "a third face" "[error 14]" "$(answers error-14 1 | stage 0)"
 expect "an open mesh" "[error 20]" "$(answers error-20 1 | stage 0)"
 expect "a panic" "[panic]" "$(answers beyond-11 1 | stage 0)"
 expect "a walk without end" "[endless]" "$(answers beyond-10-one 1 | stage 1)"
-expect "another version" "[error 1]" "$(mesh cube | sed 's/mesh 1/mesh 2/' | oracle 1 | stage 0)"
+expect "another version" "[error 1]" "$(mesh cube | sed 's/mesh 1/mesh 3/' | oracle 1 | stage 0)"
 expect "a leading zero" "[error 1]" "$(mesh cube | sed 's/\[7 /[07 /' | oracle 1 | stage 0)"
+# The six files once more, of which one stands there altered already, or twice over.
+altered=$here/target/tree/altered
+twice=$here/target/twice
+rm -rf "$twice"
+cp -rL "$here/target/tree/t_spline" "$twice"
+cat "$here/target/tree/t_spline/t_nurcc/mod.rs" >>"$twice/t_nurcc/mod.rs"
+occurs() {
+    python3 "$here/alter.py" "$1" "$here/target/again" 4-side-test 2>&1 | sed 's/, not once.*//'
+}
+expect "an altered piece that does not occur" "alteration 4-side-test: in t_nurcc/mod.rs this occurs 0 times" "$(occurs "$altered")"
+expect "an altered piece that occurs twice" "alteration 4-side-test: in t_nurcc/mod.rs this occurs 2 times" "$(occurs "$twice")"
 expect "no last byte 10" "[error 1]" "$(printf '[mesh 1]\n[end]' | oracle 1 | stage 0)"
+expect "text 2, an interval belongs to the edge that arrives" "$(answers text-2-cube 2)" \
+    "$(mesh text-2-cube | sed "s/mesh 2/mesh 1/; s/ $one]]/ -]]/g; s/ $two]]/ $one]]/g; s/ -]]/ $two]]/g" | oracle 2)"
+expect "text 2, sums 2, 0, 2, 0 pass" "8 12 6" "$(answers text-2-triangles 1 | stage 1 | counts)"
+expect "text 2, its own side test is passed over" "8 12 6" "$(answers beyond-13-sums-1-2-2-1 1 | stage 0 | counts)"
+expect "text 2, a third face" "[error 14]" "$(answers error-14-text-2 1 | stage 0)"
 expect "several texts in one input" "$(answers cube 1; answers error-13 1; answers two-triangles 1)" \
     "$( (mesh cube; mesh error-13; mesh two-triangles) | oracle 1)"
 

@@ -1,5 +1,5 @@
 #!/usr/bin/env python3
-"""Writes the sample meshes into a folder: NAME.mesh (mesh text 1), NAME.orders for those that are visited in listed
+"""Writes the sample meshes into a folder: NAME.mesh (mesh text 1 or 2), NAME.orders for those that are visited in listed
 orders, and INDEX with a line for each sample: its name, its number of steps, what it is.
 
     generate.py FOLDER
@@ -51,10 +51,10 @@ def hexadecimal(x):
     return struct.pack(">d", x).hex()
 
 
-def text(mesh):
-    """Mesh text 1. A side's first point is the one listed last before it, going round; an empty side is `[0]`."""
+def text(mesh, version=1):
+    """A mesh text. A side's first point is the one listed last before it, going round; in version 1 an empty side is `[0]`."""
     points, faces = mesh
-    lines = ["[mesh 1]"]
+    lines = ["[mesh %d]" % version]
     for point in points:
         lines.append("[point %s]" % " ".join(map(hexadecimal, point)))
     for face in faces:
@@ -62,11 +62,15 @@ def text(mesh):
         last = listed[-1] if listed else 0
         sides = []
         for side in face:
-            first = last if side else 0
+            first = last if side or version == 2 else 0
             sides.append("[%s]" % " ".join([str(first)] + ["[%d %s]" % (p, hexadecimal(d)) for p, d in side]))
             last = side[-1][0] if side else last
         lines.append("[face %s]" % " ".join(sides))
     return "\n".join(lines + ["[end]", ""])
+
+
+def text_2(mesh):
+    return text(mesh, 2)
 
 
 def in_sides(border, intervals, lengths):
@@ -102,6 +106,19 @@ def balanced(border, intervals):
     intervals = list(intervals)
     intervals[n - 1 if difference > 0 else first - 1] += abs(difference)
     return in_sides(border, intervals, halves(n))
+
+
+def pairwise(border, intervals):
+    """The face for text 2 with these intervals: of two opposite sides the lesser is raised at its end until their sums agree."""
+    n = len(border)
+    lengths = halves(n) if n > 3 else [1, 0, 2, 0]
+    sides = in_sides(border, intervals, lengths)
+    for one, other in ((sides[0], sides[2]), (sides[1], sides[3])):
+        difference = sum(d for _, d in one) - sum(d for _, d in other)
+        if difference != 0:
+            raised = other if difference > 0 else one
+            raised[-1] = raised[-1][0], raised[-1][1] + abs(difference)
+    return sides
 
 
 CUBE = [[0, 2, 3, 1], [4, 5, 7, 6], [0, 1, 5, 4], [2, 6, 7, 3], [0, 4, 6, 2], [1, 3, 7, 5]]
@@ -162,6 +179,13 @@ def unevenly(shape, seed):
     random = Random(seed)
     points, borders = shape
     return points, [balanced(border, [random.below(1 << random.below(14)) / 8 for _ in border]) for border in borders]
+
+
+def unevenly_2(shape, seed):
+    """The same for text 2."""
+    random = Random(seed)
+    points, borders = shape
+    return points, [pairwise(border, [random.below(1 << random.below(14)) / 8 for _ in border]) for border in borders]
 
 
 def together(*meshes):
@@ -227,7 +251,7 @@ def orders(seed, shape, steps):
 
 
 def samples():
-    """Yields name, number of steps, what it is, the mesh, and the visiting orders if they are listed."""
+    """Yields name, number of steps, what it is, the mesh or its text, and the visiting orders if they are listed."""
     cube = cube_points(), CUBE
     valence_2 = [[0, 8, 2, 3, 9, 1], [4, 10, 5, 7, 6], [0, 1, 5, 10, 4], [2, 6, 7, 3], [0, 4, 6, 2, 8], [1, 9, 3, 7, 5]]
     middles = [(-1.0, 0.0, -1.0), (1.0, 0.0, -1.0), (0.0, -1.0, 1.0)]
@@ -346,12 +370,65 @@ def samples():
     yield "beyond-22", 1, "document 01: 22. Two tetrahedra with a point in common", \
         (TETRAHEDRON[0] + points[:3], [even([p + shift for p in b]) for shift in (0, 3) for b in TETRAHEDRON[1]])
 
+    def cube_2(intervals, last=None):
+        """The cube as a text 2, these intervals beside the points of each face, of the last face perhaps others."""
+        sides = [in_sides(b, intervals, [1, 1, 1, 1]) for b in CUBE[:5]]
+        return text_2((points, sides + [in_sides(CUBE[5], last or intervals, [1, 1, 1, 1])]))
+
+    def pillow_2(n, intervals, lengths):
+        shape = TWO_TRIANGLES if n == 3 else pillow(n)
+        return text_2((shape[0], [in_sides(b, intervals, lengths) for b in shape[1]]))
+
+    def edited(text, old, new):
+        assert text.count(old) == 1
+        return text.replace(old, new)
+
+    one = hexadecimal(1.0)
+    ones, last = cube_2([1.0] * 4), "[3 [7 %s]]" % one
+    triangles = pillow_2(3, [1.0, 1.0, 2.0], [2, 0, 1, 0])
+    yield "text-2-cube", 1, "text 2: the cube, intervals 1, 2, 1, 2 beside the points of each face", \
+        cube_2([1.0, 2.0, 1.0, 2.0])
+    yield "text-2-cube-uneven", 1, "text 2: the cube, random intervals", text_2(unevenly_2(cube, 16))
+    yield "text-2-triangles", 2, "text 2: two triangles, sums 2, 0, 2, 0 each, two sides empty", triangles
+    yield "text-2-triangles-uneven", 2, "text 2: two triangles, random intervals, two sides empty", \
+        text_2(unevenly_2(TWO_TRIANGLES, 17))
+    yield "text-2-one-side", 1, "text 2: all points on one side, intervals t/4", \
+        pillow_2(3, [SMALL / 4] * 3, [0, 3, 0, 0])
+    yield "text-2-sums-t-t-0-0", 1, "text 2: the sums t, t, 0, 0 pass, which meet 13 in text 1", \
+        pillow_2(4, [SMALL, SMALL, 0.0, 0.0], [1, 1, 1, 1])
+    yield "text-2-prism-5", 1, "text 2: the prism over a pentagon, random intervals", text_2(unevenly_2(prism(5), 18))
+    yield "text-2-random", 1, "text 2: a random closed mesh, random intervals", text_2(unevenly_2(dented(3, 8), 19))
+    yield "text-2-orders", 1, "text 2: the prism over a triangle, random intervals, in a random order", \
+        text_2(unevenly_2(prism(3), 20)), orders(21, prism(3), 1)
+    yield "error-14-text-2", 1, "text 2: two triangles back to back and a third one on an edge", \
+        text_2((points, [pairwise(b, [1.0] * 3) for b in ([0, 1, 2], [0, 2, 1], [1, 0, 3])]))
+    yield "error-20-text-2", 1, "text 2: one triangle", text_2((points[:3], [pairwise([0, 1, 2], [1.0] * 3)]))
+    yield "beyond-13-sums-1-2-2-1", 0, "document 02: 13. The sums 1, 2, 2, 1, which pass in text 1", \
+        cube_2([1.0, 2.0, 2.0, 1.0])
+    yield "beyond-13-rounding", 0, "document 02: 13. The sums 0.5, 1e17, 0.25, 1e17, which pass in text 1", \
+        pillow_2(4, [0.5, 1e17, 0.25, 1e17], [1, 1, 1, 1])
+    yield "beyond-13-other-pair", 0, "document 02: 13. The sums 1, 0.5, 1, 0.25 of the last face", \
+        cube_2([1.0] * 4, [1.0, 0.5, 1.0, 0.25])
+    yield "beyond-43", 0, "document 02: 43. A first point of the last face that is not the point listed last before it", \
+        edited(ones, last, last.replace("[3 [", "[1 ["))
+    yield "beyond-43-empty-side", 0, "document 02: 43. The first point of an empty side", \
+        edited(triangles, "[1] [1 [0", "[0] [1 [0")
+    yield "beyond-43-out-of-range", 0, "document 02: 43. A first point out of the points' range", \
+        edited(ones, last, last.replace("[3 [", "[4294967295 ["))
+    skewed = cube_2([1.0] * 4, [1.0, 1.0, 1.0, 2.0])
+    yield "beyond-43-before-13", 0, "document 02: 43. A first point that disagrees, in a face whose sums disagree too", \
+        edited(skewed, last, last.replace("[3 [", "[1 ["))
+    yield "beyond-12-before-43", 0, "document 02: 12. A point twice in a face, whose first points disagree too", \
+        edited(ones, last, last.replace("[3 [7", "[1 [1"))
+    yield "beyond-13-before-43", 0, "document 02: 13. Sums that disagree, before a first point of the next face", \
+        edited(cube_2([1.0, 2.0, 2.0, 1.0], [1.0] * 4), last, last.replace("[3 [", "[1 ["))
+
 
 def main(folder):
     folder = pathlib.Path(folder)
     index = []
     for name, steps, what, mesh, *orders_listed in samples():
-        (folder / (name + ".mesh")).write_text(text(mesh))
+        (folder / (name + ".mesh")).write_text(mesh if isinstance(mesh, str) else text(mesh))
         if orders_listed:
             lines = ["[order %s]\n" % " ".join(map(str, order)) for order in orders_listed[0]]
             (folder / (name + ".orders")).write_text("".join(lines))

@@ -10,12 +10,12 @@
 #     station/harness.sh profile [STEPS]            steps of the torus of 64 by 64, for a profiler
 #     station/harness.sh stack                      the stack that each function takes
 #
-# Needed: the Rattle kit, rustc, cc, and the six Rust files (oracle/README.md).
+# Needed: the Rattle kit, rustc, cc, python3, and the six Rust files (oracle/README.md).
 set -eu
 here=$(cd "$(dirname "$0")" && pwd)
 root=$here/..
 . "$root/tools/needed.sh"
-needed station/harness.sh rt cc rustc sources
+needed station/harness.sh rt cc rustc python3 sources
 out=$here/target
 library=$root/target/staticlib/libstation.a
 oracle=$root/oracle/target/liboracle.rlib

@@ -46,7 +46,7 @@ extern "C" {
 enum lavyngo_answer {
     LAVYNGO_ACCEPTED = 0,
     /* building; tables untouched */
-    LAVYNGO_NOT_TEXT = 1,             /* the text is not of the form of mesh text 1 */
+    LAVYNGO_NOT_TEXT = 1,             /* the text is not of the form of mesh texts 1 and 2 */
     LAVYNGO_OVER_COUNTS = 2,          /* over 4,096 points, 4,096 faces or 16,384 listed points, or list lengths disagree */
     LAVYNGO_UNFIT_NUMBER = 3,         /* a number is not finite, or the sign bit of an interval is set */
     LAVYNGO_FEW_ROWS = 4,             /* fewer rows than points, faces, or listed points for edges */
@@ -54,7 +54,8 @@ enum lavyngo_answer {
     LAVYNGO_FACE_SIZE = 10,           /* a face of fewer than 3 or more than 64 listed points */
     LAVYNGO_OUT_OF_RANGE = 11,        /* a listed point that is no point */
     LAVYNGO_POINT_TWICE = 12,         /* a point twice in a face */
-    LAVYNGO_NON_RECTANGULAR_FACE = 13, /* side sums s0 - s2 + s1 - s3 not from -0.000001 to 0.000001 */
+    LAVYNGO_FIRST_POINT = 43,         /* version 2: a side's first point is not the point listed last before it */
+    LAVYNGO_NON_RECTANGULAR_FACE = 13, /* side sums s0 - s2 + s1 - s3 (version 2: s0 - s2 or s1 - s3) not from -0.000001 to 0.000001 */
     LAVYNGO_EDGE_TRIPLE_FACE = 14,    /* an edge that has two faces already */
     LAVYNGO_SAME_WAY = 15,            /* the second face of an edge runs the same way */
     LAVYNGO_MISSING_FACE = 20,        /* an edge with one face */
@@ -74,7 +75,7 @@ enum lavyngo_answer {
 };
 
 /* The version of this header: 1 for document 01, and one more for each request of document 02 that is in it. */
-#define LAVYNGO_VERSION 5
+#define LAVYNGO_VERSION 6
 
 /* The version of the library that is linked. A station asks once whether it is that of the header. */
 uint32_t lavyngo_version(void);
@@ -117,7 +118,22 @@ uint32_t lavyngo_build(
     uint32_t *edges, size_t edges_length, double *intervals, size_t intervals_length,
     uint32_t *faces, size_t faces_length, size_t counts[3]);
 
-/* Builds a mesh from mesh text 1, as lavyngo_build does from its lists. Answers 0, 1 to 4, 10 to 22. */
+/* Builds a mesh from lists of version 2: as lavyngo_build, with three differences.
+     firsts       4 a face: the first point of each side. It must be the point that the face lists last before the side,
+                  going round; over empty sides, the nearest one back; for an empty side too. Another number of them is 2
+     beside       edge i takes the interval beside point i + 1, and the last edge the one beside point 0
+     13           s0 - s2 and s1 - s3 must each be from -0.000001 to 0.000001
+   Answers 0, 2 to 4, 10 to 22, and 43 after 12 and before 13. */
+uint32_t lavyngo_build_2(
+    const double *coordinates, size_t coordinates_length, const uint32_t *sides, size_t sides_length,
+    const uint32_t *firsts, size_t firsts_length,
+    const uint32_t *listed, size_t listed_length, const double *beside, size_t beside_length,
+    double *positions, size_t positions_length, uint32_t *points, size_t points_length,
+    uint32_t *edges, size_t edges_length, double *intervals, size_t intervals_length,
+    uint32_t *faces, size_t faces_length, size_t counts[3]);
+
+/* Builds a mesh from mesh text 1 or 2, as its head says: as lavyngo_build does from its lists, or lavyngo_build_2.
+   Answers 0, 1 to 4, 10 to 22, 43. */
 uint32_t lavyngo_build_text(
     const uint8_t *text, size_t text_length,
     double *positions, size_t positions_length, uint32_t *points, size_t points_length,
@@ -214,6 +230,15 @@ static inline uint32_t lavyngo_tables_build(
     const struct lavyngo_tables *t, size_t counts[3]) {
     return lavyngo_build(coordinates, coordinates_length, sides, sides_length, listed, listed_length, beside, beside_length,
                          LAVYNGO_LENT(t), counts);
+}
+
+static inline uint32_t lavyngo_tables_build_2(
+    const double *coordinates, size_t coordinates_length, const uint32_t *sides, size_t sides_length,
+    const uint32_t *firsts, size_t firsts_length,
+    const uint32_t *listed, size_t listed_length, const double *beside, size_t beside_length,
+    const struct lavyngo_tables *t, size_t counts[3]) {
+    return lavyngo_build_2(coordinates, coordinates_length, sides, sides_length, firsts, firsts_length, listed, listed_length,
+                           beside, beside_length, LAVYNGO_LENT(t), counts);
 }
 
 static inline uint32_t lavyngo_tables_build_text(

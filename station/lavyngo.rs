@@ -12,7 +12,7 @@ pub const EDGE: usize = 8;
 pub const FACE: usize = 5;
 
 /// The version of this module, and of the header.
-pub const VERSION: u32 = 5;
+pub const VERSION: u32 = 6;
 
 /// The version of the library that is linked.
 pub fn version() -> u32 {
@@ -98,7 +98,24 @@ impl Tables {
         accepted(answer, counts)
     }
 
-    /// Builds a mesh from a text.
+    /// Builds a mesh from lists of version 2, with the first points of the sides, four a face.
+    pub fn build_2(&mut self, lists: Lists, firsts: &[u32]) -> Result<Counts, Ground> {
+        let mut counts = [0; 3];
+        // SAFETY: as above.
+        let answer = unsafe {
+            lavyngo_build_2(
+                lists.coordinates.as_ptr(), lists.coordinates.len(), lists.sides.as_ptr(), lists.sides.len(),
+                firsts.as_ptr(), firsts.len(),
+                lists.listed.as_ptr(), lists.listed.len(), lists.beside.as_ptr(), lists.beside.len(),
+                self.positions.as_mut_ptr(), self.positions.len(), self.points.as_mut_ptr(), self.points.len(),
+                self.edges.as_mut_ptr(), self.edges.len(), self.intervals.as_mut_ptr(), self.intervals.len(),
+                self.faces.as_mut_ptr(), self.faces.len(), &mut counts,
+            )
+        };
+        accepted(answer, counts)
+    }
+
+    /// Builds a mesh from a text, of version 1 or 2.
     pub fn build_text(&mut self, text: &[u8]) -> Result<Counts, Ground> {
         let mut counts = [0; 3];
         // SAFETY: as above.
@@ -197,6 +214,14 @@ pub mod raw {
         pub fn lavyngo_version() -> u32;
         pub fn lavyngo_build(
             coordinates: *const f64, coordinates_length: usize, sides: *const u32, sides_length: usize,
+            listed: *const u32, listed_length: usize, beside: *const f64, beside_length: usize,
+            positions: *mut f64, positions_length: usize, points: *mut u32, points_length: usize,
+            edges: *mut u32, edges_length: usize, intervals: *mut f64, intervals_length: usize,
+            faces: *mut u32, faces_length: usize, counts: *mut [usize; 3],
+        ) -> u32;
+        pub fn lavyngo_build_2(
+            coordinates: *const f64, coordinates_length: usize, sides: *const u32, sides_length: usize,
+            firsts: *const u32, firsts_length: usize,
             listed: *const u32, listed_length: usize, beside: *const f64, beside_length: usize,
             positions: *mut f64, positions_length: usize, points: *mut u32, points_length: usize,
             edges: *mut u32, edges_length: usize, intervals: *mut f64, intervals_length: usize,

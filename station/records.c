@@ -16,7 +16,7 @@ static size_t text_length;
 
 /* What the text lists, read without any care: it is known to be of the form. */
 static double coordinates[3 * LAVYNGO_MOST_POINTS], beside[LAVYNGO_MOST_LISTED];
-static uint32_t sides[4 * LAVYNGO_MOST_FACES], listed[LAVYNGO_MOST_LISTED];
+static uint32_t sides[4 * LAVYNGO_MOST_FACES], firsts[4 * LAVYNGO_MOST_FACES], listed[LAVYNGO_MOST_LISTED];
 static size_t nc, ns, nl;
 
 struct tables {
@@ -41,6 +41,7 @@ static double number_at(const char *at) {
 /* The listed points of a side that begins at its first point; the place after the side. */
 static const char *read_side(const char *at) {
     uint32_t n = 0;
+    firsts[ns] = (uint32_t)strtoul(at, (char **)&at, 10);
     while (*at != ']') {
         if (*at++ != '[') continue;
         listed[nl] = (uint32_t)strtoul(at, (char **)&at, 10);
@@ -65,6 +66,11 @@ static void read_lists(void) {
 
 static uint32_t build_lists(struct tables *t, size_t c[3]) {
     size_t np = nc / 3, nf = ns / 4;
+    if (strncmp((const char *)text, "[mesh 2]", 8) == 0)
+        return lavyngo_build_2(coordinates, nc, sides, ns, firsts, ns, listed, nl, beside, nl,
+                               LENT(t->positions, LAVYNGO_POSITION, np), LENT(t->points, LAVYNGO_POINT, np),
+                               LENT(t->edges, LAVYNGO_EDGE, nl), LENT(t->intervals, LAVYNGO_INTERVAL, nl),
+                               LENT(t->faces, LAVYNGO_FACE, nf), c);
     return lavyngo_build(coordinates, nc, sides, ns, listed, nl, beside, nl, LENT(t->positions, LAVYNGO_POSITION, np),
                          LENT(t->points, LAVYNGO_POINT, np), LENT(t->edges, LAVYNGO_EDGE, nl),
                          LENT(t->intervals, LAVYNGO_INTERVAL, nl), LENT(t->faces, LAVYNGO_FACE, nf), c);

@@ -17,7 +17,7 @@ ROOT = Path(__file__).resolve().parent.parent
 STATED = """
     audited_meshes/Audit audited_meshes/Claims built_meshes/Building built_meshes/Builds built_meshes/Claims built_meshes/Connects
     built_meshes/LentContent building_tests/Lent
-    closed_meshes/Refinement closed_meshes/Renumbering crossings/Claims filed_pieces/Pieces handover_outputs/Claims handover_outputs/Output listings/Claims listings/Handing mesh_printing/Claims outcomes/Outcomes refine_outputs/Bytes
+    closed_meshes/Refinement closed_meshes/Renumbering crossings/Claims filed_pieces/Pieces filed_pieces/TextTwo handover_outputs/Claims handover_outputs/Output listings/Claims listings/Handing mesh_printing/Claims outcomes/Outcomes refine_outputs/Bytes
     refine_outputs/Claims refine_outputs/Output step_runs/Claims
     refined_meshes/Refines runs/Runs station/Station steps/FirstGround steps/LentScratch steps/OneStep steps/Step text_meshes/Claims text_meshes/TextBuilding
 """.split()
@@ -33,8 +33,8 @@ ABOUT = {
     "t_nurcc_edge": "connecting two rows",
     "audited_meshes": "the audit",
     "text_numbers": "forms on bytes, decimal and hexadecimal numbers",
-    "mesh_lines": "the lines of mesh text 1",
-    "mesh_text": "mesh text 1",
+    "mesh_lines": "the lines of mesh texts 1 and 2",
+    "mesh_text": "mesh texts 1 and 2",
     "built_meshes": "building",
     "building_tests": "the lists that building is handed",
     "text_meshes": "building from a text",
@@ -46,13 +46,13 @@ ABOUT = {
     "outcomes": "demand 1",
     "mesh_answers": "the lines of an answer",
     "listings": "the handover listing",
-    "mesh_printing": "the printing of mesh text 1",
+    "mesh_printing": "the printing of mesh texts 1 and 2",
     "refine_outputs": "what the program `refine` writes",
     "handover_outputs": "what the program `handover` writes",
     "crossings": "depths that edges cross, the depth finder",
     "station_answers": "how an answer is told to a C caller",
     "station": "what the C functions answer and leave",
-    "filed_pieces": "document 01's starred pieces",
+    "filed_pieces": "document 01's starred pieces, and pieces of mesh text 2",
 }
 USE = re.compile(r"^use Rattle·(\w+?)(?:·specs\.specs|\.specs)\.(\w+)", re.M)
 
@@ -83,7 +83,7 @@ def table(found):
 def missing():
     """What documents name and is not there."""
     for document in [ROOT / "README.md", ROOT / "NOTICE", *sorted((ROOT / "docs").glob("**/*.md"))]:
-        for path in re.findall(r"crates/[a-z_]+(?:/[A-Za-z_]+)*(?:\.[a-z]+)?", document.read_text()):
+        for path in re.findall(r"crates/[a-z_]+(?:/[A-Za-z0-9_]+)*(?:\.[a-z]+)?", document.read_text()):
             if not (ROOT / path).exists():
                 yield f"{document.name} names {path}"
     for row in (ROOT / "docs" / "HOLLOW.md").read_text().split("\n"):

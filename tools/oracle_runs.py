@@ -5,8 +5,8 @@
     tools/oracle_runs.py --check  says whether they are what it would write, and fails if not
     tools/oracle_runs.py --count  says how many samples and listings they hold, and how many bad inputs of each ground
 
-What is expected of a sample is what the oracle recorded of the Rust (oracle/samples/NAME.out); where document 01 refuses what the
-Rust accepts, it is the ground of document 01: the one that oracle/samples/INDEX names, or 33 where a recorded number is not finite.
+What is expected of a sample is what the oracle recorded of the Rust (oracle/samples/NAME.out); where document 01 or 02 refuses what
+the Rust accepts, it is the ground there: the one that oracle/samples/INDEX names, or 33 where a recorded number is not finite.
 What is expected of a bad input is the ground of document 01. Nothing is taken from the program. The form of the input stands in
 crates/oracle_records/src/lib.rt and heads.rt.
 
@@ -177,7 +177,7 @@ def error(answer):
 def add_samples(records):
     for name, steps, what in samples():
         text, answers, listed = read(name, ".mesh"), stages(name), orders(name)
-        ground = re.match(r"document 01: ([0-9]+)\.", what)
+        ground = re.match(r"document 0[12]: ([0-9]+)\.", what)
         if ground:
             records.refuse(name, int(ground[1]), text)
             continue
@@ -229,8 +229,10 @@ def add_unformed(records):
         "two texts": good + good,
         "two end lines": good + b"[end]\n",
         "a byte 10 before": b"\n" + good,
-        "version 2": edited(good, b"[mesh 1]", b"[mesh 2]"),
+        "version 0": edited(good, b"[mesh 1]", b"[mesh 0]"),
+        "version 3": edited(good, b"[mesh 1]", b"[mesh 3]"),
         "version 01": edited(good, b"[mesh 1]", b"[mesh 01]"),
+        "version 02": edited(good, b"[mesh 1]", b"[mesh 02]"),
         "version 10": edited(good, b"[mesh 1]", b"[mesh 10]"),
         "carriage returns": good.replace(b"\n", b"\r\n"),
         "carriage returns for bytes 10": good.replace(b"\n", b"\r"),

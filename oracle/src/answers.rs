@@ -1,10 +1,11 @@
 //! What the Rust answers to a text: the records after building and after each step, or the line that says why not.
 
+use crate::altered;
 use crate::errors::{Error, Result};
 use crate::monstertruck_core::Position;
 use crate::parking_lot::{self, Endless};
 use crate::t_spline::Tnurcc;
-use crate::text::{self, MeshText};
+use crate::text::{self, MeshText, Side, Version};
 use std::panic::{AssertUnwindSafe, catch_unwind};
 
 /// The order in which one step visits the faces.
@@ -47,10 +48,32 @@ fn build(text: &[u8]) -> std::result::Result<Tnurcc<Position>, String> {
     build_of(mesh)
 }
 
-/// The mesh that the Rust builds of points and faces, or the line of its refusal.
+/// The mesh that the Rust builds of points and faces, or the line of its refusal. Of version 2 it is given the same edges
+/// and intervals, its own side test passed over.
 pub fn build_of(mesh: MeshText) -> std::result::Result<Tnurcc<Position>, String> {
     let listed: usize = mesh.faces.iter().flatten().map(|side| side.1.len()).sum();
-    watched(listed, || Tnurcc::try_new(mesh.points, mesh.faces))
+    let MeshText { version, points, faces } = mesh;
+    match version {
+        Version::One => watched(listed, || Tnurcc::try_new(points, faces)),
+        Version::Two => watched(listed, || altered::Tnurcc::try_new(points, faces.into_iter().map(turned).collect()))
+            .map(|altered| {
+                let tnurcc = Tnurcc::of_listing(&altered.listing());
+                altered.release();
+                tnurcc
+            }),
+    }
+}
+
+/// A face of version 2 with each interval moved to the point that its edge leaves, as the Rust reads it: the one beside
+/// point i + 1 to point i, the one beside the first point listed to the last.
+fn turned(mut sides: [Side; 4]) -> [Side; 4] {
+    let mut intervals: Vec<f64> = sides.iter().flat_map(|side| &side.1).map(|entry| entry.1).collect();
+    if !intervals.is_empty() {
+        intervals.rotate_left(1);
+    }
+    let entries = sides.iter_mut().flat_map(|side| &mut side.1);
+    entries.zip(intervals).for_each(|(entry, interval)| entry.1 = interval);
+    sides
 }
 
 /// One step of the Rust.

@@ -1,4 +1,4 @@
-//! The oracle: the six Rust files of T-NURCC, compiled unchanged, run on mesh text 1.
+//! The oracle: the six Rust files of T-NURCC, compiled unchanged, run on mesh texts 1 and 2.
 //!
 //!     oracle K < TEXTS
 //!

@@ -1,13 +1,21 @@
-//! The reader of mesh text 1 (document 01, "Mesh text"). It looks at the form alone: numbers that are not finite or out
-//! of range go to the Rust as they are.
+//! The reader of mesh texts 1 and 2 (document 01, "Mesh text"; document 02, section 4). It looks at the form alone: numbers
+//! that are not finite or out of range go to the Rust as they are.
 
 use crate::monstertruck_core::Position;
 
 /// A side: its first point, then the points listed, each with its interval.
 pub type Side = (usize, Vec<(usize, f64)>);
 
+/// What the number in a text's head says: in version 2 an interval belongs to the edge that arrives at its point.
+#[derive(Clone, Copy, PartialEq, Eq, Debug)]
+pub enum Version {
+    One,
+    Two,
+}
+
 /// What a text says, in the shape that `Tnurcc::try_new` takes.
 pub struct MeshText {
+    pub version: Version,
     pub points: Vec<Position>,
     pub faces: Vec<[Side; 4]>,
 }
@@ -15,7 +23,7 @@ pub struct MeshText {
 /// The mesh of a text, or `None` if the text is not of the form.
 pub fn read(text: &[u8]) -> Option<MeshText> {
     let mut reader = Reader { rest: text };
-    reader.word("[mesh 1]\n")?;
+    let version = reader.version()?;
     let mut points = Vec::new();
     while reader.begins("[point ") {
         points.push(reader.point()?);
@@ -25,7 +33,7 @@ pub fn read(text: &[u8]) -> Option<MeshText> {
         faces.push(reader.face()?);
     }
     reader.word("[end]\n")?;
-    reader.rest.is_empty().then_some(MeshText { points, faces })
+    reader.rest.is_empty().then_some(MeshText { version, points, faces })
 }
 
 /// The face numbers of a line `[order N N ..]`, or `None` if it is no such line.
@@ -46,6 +54,13 @@ struct Reader<'a> {
 }
 
 impl Reader<'_> {
+    fn version(&mut self) -> Option<Version> {
+        if self.word("[mesh 1]\n").is_some() {
+            return Some(Version::One);
+        }
+        self.word("[mesh 2]\n").map(|()| Version::Two)
+    }
+
     fn begins(&self, word: &str) -> bool {
         self.rest.starts_with(word.as_bytes())
     }

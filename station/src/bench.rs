@@ -94,16 +94,20 @@ fn write_and_copy(tables: &mut Tables, scratch: &mut Tables, after: Counts) {
 
 fn building(samples: &[Sample], rust_most: usize) {
     println!("## Building\n");
-    println!("| Mesh | Faces | Library, µs | ns a face | Rust, µs | ns a face | Times as fast |");
-    println!("|---|---|---|---|---|---|---|");
+    println!("| Mesh | Faces | Library, µs | ns a face | Version 2, µs | Times version 1 | Rust, µs | ns a face | Times as fast |");
+    println!("|---|---|---|---|---|---|---|---|---|");
     for sample in samples {
         let lists = &sample.lists;
         let faces = lists.faces();
         let room = Counts { points: lists.points(), edges: lists.listed.len(), faces };
+        let version_2 = Lists { firsts: Some(Vec::new()), ..lists.clone() }.fitted();
         let runs = (2_000_000 / lists.listed.len()).clamp(20, 2000);
-        let ours = least(runs, || Tables::patterned(room, 0), |tables| {
-            black_box(library::build(lists, tables, &mut [0; 3]));
-        });
+        let time = |lists: &Lists| {
+            least(runs, || Tables::patterned(room, 0), |tables| {
+                assert_eq!(library::build(lists, tables, &mut [0; 3]), 0, "the sample is built");
+            })
+        };
+        let (ours, two) = (time(lists), time(&version_2));
         let theirs = (faces <= rust_most).then(|| {
             let runs = (400_000_000 / faces.pow(2).max(1)).clamp(3, 50);
             least(runs, || None, |mesh| *mesh = Mesh::build(lists).ok())
@@ -111,10 +115,13 @@ fn building(samples: &[Sample], rust_most: usize) {
         let per = |time: f64| time / faces as f64;
         match theirs {
             Some(rust) => println!(
-                "| {} | {faces} | {:.1} | {:.0} | {:.0} | {:.0} | {:.0} |",
-                sample.name, ours / 1e3, per(ours), rust / 1e3, per(rust), rust / ours
+                "| {} | {faces} | {:.1} | {:.0} | {:.1} | {:.2} | {:.0} | {:.0} | {:.0} |",
+                sample.name, ours / 1e3, per(ours), two / 1e3, two / ours, rust / 1e3, per(rust), rust / ours
             ),
-            None => println!("| {} | {faces} | {:.1} | {:.0} | not run | | |", sample.name, ours / 1e3, per(ours)),
+            None => println!(
+                "| {} | {faces} | {:.1} | {:.0} | {:.1} | {:.2} | not run | | |",
+                sample.name, ours / 1e3, per(ours), two / 1e3, two / ours
+            ),
         }
     }
     println!();

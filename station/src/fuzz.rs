@@ -54,10 +54,12 @@ fn any_lists(random: &mut Random) -> Lists {
     let listed = sides.iter().sum::<u32>() as usize;
     let mut lists = Lists {
         coordinates: numbers(random, 3 * np),
+        firsts: random.once_in(2).then(Vec::new),
         listed: words(random, listed, np.max(1)),
         intervals: numbers(random, listed),
         sides,
-    };
+    }
+    .fitted();
     if random.once_in(5) {
         spoil::lists(random, &mut lists);
     }
@@ -203,7 +205,7 @@ fn damaged(random: &mut Random, fuzzed: &mut Fuzzed) -> Result<(), String> {
 fn text(random: &mut Random, fuzzed: &mut Fuzzed) -> Result<(), String> {
     let mut bytes: Vec<u8> = match random.below(8) {
         0 => (0..random.below(60)).map(|_| random.word() as u8).collect(),
-        1 => (0..random.below(90)).map(|_| random.of(b"[] \n01af[mesh 1]\n[end]\n[point [face ")).collect(),
+        1 => (0..random.below(90)).map(|_| random.of(b"[] \n012af[mesh 1]\n[end]\n[point [face ")).collect(),
         2 => any_lists(random).text().unwrap_or_default().into_bytes(),
         _ => {
             let shape = shapes::closed(random);

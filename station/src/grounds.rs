@@ -1,4 +1,4 @@
-//! Document 01's grounds and its audit, written down once more in plain Rust, to say which answer is expected of the
+//! Document 01's grounds and its audit, and document 02's grounds of mesh text 2, written down once more in plain Rust, to say which answer is expected of the
 //! library. Nothing here is taken from the library, and nothing is quick.
 
 use crate::library::{Counts, NONE, Tables};
@@ -30,11 +30,12 @@ fn is_interval(d: f64) -> bool {
     d.is_finite() && d.is_sign_positive()
 }
 
-/// The faces in turn: 10 to 13 of each, then 14 and 15 of its edges.
+/// The faces in turn: 10 to 12, 43 and 13 of each, then 14 and 15 of its edges.
 fn faces(lists: &Lists) -> Result<(), u32> {
     // For each two points that an edge joins: from which to which it runs, and whether it has a second face.
     let mut edges: HashMap<(u32, u32), ((u32, u32), bool)> = HashMap::new();
-    for (sides, (begin, n)) in lists.sides.chunks_exact(4).zip(lists.places()) {
+    let agreed = lists.agreed();
+    for (f, (sides, (begin, n))) in lists.sides.chunks_exact(4).zip(lists.places()).enumerate() {
         let border = &lists.listed[begin..begin + n];
         let mut at = begin;
         let four = [0, 1, 2, 3].map(|k: usize| {
@@ -50,7 +51,10 @@ fn faces(lists: &Lists) -> Result<(), u32> {
         if border.iter().collect::<HashSet<_>>().len() < n {
             return Err(12);
         }
-        if !sums_agree(four) {
+        if lists.firsts.as_ref().is_some_and(|firsts| firsts[4 * f..4 * f + 4] != agreed[4 * f..4 * f + 4]) {
+            return Err(43);
+        }
+        if !sums_agree(lists.version(), four) {
             return Err(13);
         }
         for i in 0..n {

@@ -107,9 +107,21 @@ impl Tables {
     }
 }
 
-/// Builds from lists. The answer is document 01's number, 0 for accepted.
+/// Builds from lists of either version. The answer is document 01's number, or 02's, 0 for accepted.
 pub fn build(lists: &Lists, tables: &mut Tables, counts: &mut [usize; 3]) -> u32 {
     let (t, l) = (tables, lists);
+    if let Some(firsts) = &l.firsts {
+        // SAFETY: each pointer goes with its length, no table overlaps another, and the counts are three words.
+        return unsafe {
+            lavyngo_build_2(
+                l.coordinates.as_ptr(), l.coordinates.len(), l.sides.as_ptr(), l.sides.len(), firsts.as_ptr(), firsts.len(),
+                l.listed.as_ptr(), l.listed.len(), l.intervals.as_ptr(), l.intervals.len(),
+                t.positions.as_mut_ptr(), t.positions.len(), t.points.as_mut_ptr(), t.points.len(),
+                t.edges.as_mut_ptr(), t.edges.len(), t.intervals.as_mut_ptr(), t.intervals.len(),
+                t.faces.as_mut_ptr(), t.faces.len(), counts,
+            )
+        };
+    }
     // SAFETY: each pointer goes with its length, no table overlaps another, and the counts are three words.
     unsafe {
         lavyngo_build(

@@ -75,8 +75,8 @@ fn compare(meshes: u64, seed: u64) -> ExitCode {
                 return ExitCode::FAILURE;
             }
             println!(
-                "seed {seed}: {} meshes, {} of them also as texts; {} accepted, faces of up to {} sides",
-                t.meshes, t.texts, t.accepted, t.largest_face
+                "seed {seed}: {} meshes, {} of them of version 2, {} also as texts; {} accepted, faces of up to {} sides",
+                t.meshes, t.version_2, t.texts, t.accepted, t.largest_face
             );
             println!("building refused, by ground: {}", listed(&t.refused));
             println!("of these also refused by the Rust, with its own error: {}", listed(&t.refused_by_both));
@@ -156,7 +156,8 @@ static LAST_PANIC: Mutex<String> = Mutex::new(String::new());
 fn main() -> ExitCode {
     std::panic::set_hook(Box::new(|info| *LAST_PANIC.lock().expect("one thread") = info.to_string()));
     std::panic::catch_unwind(command).unwrap_or_else(|_| {
-        println!("{}", LAST_PANIC.lock().expect("one thread"));
+        let said = LAST_PANIC.lock().expect("one thread").clone();
+        println!("{said}");
         ExitCode::FAILURE
     })
 }

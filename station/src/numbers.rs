@@ -4,6 +4,7 @@
 use crate::lists::Lists;
 use crate::random::Random;
 use crate::shapes::Shape;
+use oracle::text::Version;
 
 const T: f64 = 0.000001;
 
@@ -15,6 +16,8 @@ enum Intervals {
     Full,
     ManyZeros,
     AboutT,
+    /// Ones beside some of the least numbers, whose halves are rounded.
+    Least,
     Power(i32),
     Mixed,
 }
@@ -54,6 +57,7 @@ fn interval(random: &mut Random, kind: Intervals) -> f64 {
         Intervals::Full => unit(random) * 4.0,
         Intervals::ManyZeros => random.of(&[0.0, 0.0, 0.0, 1.0, 0.5]),
         Intervals::AboutT => T * random.of(&[0.0, 0.0625, 0.125, 0.25, 0.5, 1.0]),
+        Intervals::Least => random.of(&[1.0, 1.0, 1.0, 0.0, power(-1074), 2.0 * power(-1074), 3.0 * power(-1074)]),
         Intervals::Power(exponent) => power(exponent) * random.of(&[1.0, 1.0, 2.0, 0.5]),
         Intervals::Mixed => match random.below(8) {
             0 => 0.0,
@@ -85,10 +89,18 @@ fn coordinate(random: &mut Random, kind: Coordinates) -> f64 {
     }
 }
 
-/// Document 01's test 13.
-pub fn sums_agree(sides: [&[f64]; 4]) -> bool {
-    let [s0, s1, s2, s3] = sides.map(|side| side.iter().fold(0.0, |sum, d| sum + d));
-    (-T..=T).contains(&(s0 - s2 + s1 - s3))
+fn sum(part: &[f64]) -> f64 {
+    part.iter().fold(0.0, |sum, d| sum + d)
+}
+
+/// Test 13: in version 1 document 01's, in version 2 document 02's, pair by pair.
+pub fn sums_agree(version: Version, sides: [&[f64]; 4]) -> bool {
+    let [s0, s1, s2, s3] = sides.map(sum);
+    let small = |difference: f64| (-T..=T).contains(&difference);
+    match version {
+        Version::One => small(s0 - s2 + s1 - s3),
+        Version::Two => small(s0 - s2) && small(s1 - s3),
+    }
 }
 
 /// Lengths of four sides in which the first two have `first` of n points.
@@ -106,40 +118,60 @@ fn cut<'a>(intervals: &'a [f64], lengths: &[usize; 4]) -> [&'a [f64]; 4] {
     })
 }
 
+/// Two parts of the intervals of a face that are held against each other: the first two sides and the last two, or two
+/// opposite sides.
+fn parts(version: Version, lengths: &[usize; 4]) -> Vec<(std::ops::Range<usize>, std::ops::Range<usize>)> {
+    let [a, b, c, d] = *lengths;
+    let n = a + b + c + d;
+    match version {
+        Version::One => vec![(0..a + b, a + b..n)],
+        Version::Two => vec![(0..a, a + b..a + b + c), (a..a + b, a + b + c..n)],
+    }
+}
+
 /// Intervals for a border of n points and the lengths of its sides, so that the sums agree if some tries find it.
-fn face(random: &mut Random, n: usize, kind: Intervals) -> (Vec<f64>, [usize; 4]) {
+fn face(random: &mut Random, n: usize, kind: Intervals, version: Version) -> (Vec<f64>, [usize; 4]) {
     for _ in 0..8 {
         let mut intervals: Vec<f64> = (0..n).map(|_| interval(random, kind)).collect();
         let first = random.between(1, n - 1);
         let lengths = lengths(random, n, first);
-        if sums_agree(cut(&intervals, &lengths)) {
+        if sums_agree(version, cut(&intervals, &lengths)) {
             return (intervals, lengths);
         }
-        let sum = |part: &[f64]| part.iter().fold(0.0, |sum, d| sum + d);
-        let difference = sum(&intervals[..first]) - sum(&intervals[first..]);
-        let raised = if difference > 0.0 { random.between(first, n - 1) } else { random.below(first) };
-        intervals[raised] += difference.abs();
-        if intervals[raised].is_finite() && sums_agree(cut(&intervals, &lengths)) {
+        for (one, other) in parts(version, &lengths) {
+            let difference = sum(&intervals[one.clone()]) - sum(&intervals[other.clone()]);
+            let lesser = if difference > 0.0 { other } else { one };
+            if !lesser.is_empty() {
+                intervals[random.between(lesser.start, lesser.end - 1)] += difference.abs();
+            }
+        }
+        if intervals.iter().all(|d| d.is_finite()) && sums_agree(version, cut(&intervals, &lengths)) {
             return (intervals, lengths);
         }
     }
-    // One on each half, and noughts.
+    // One on each of two parts, and noughts.
     let first = random.between(1, n - 1);
+    let lengths = lengths(random, n, first);
     let mut intervals = vec![0.0; n];
     let d = interval(random, kind);
-    intervals[random.below(first)] = d;
-    intervals[random.between(first, n - 1)] = d;
-    (intervals, lengths(random, n, first))
+    for (one, other) in parts(version, &lengths) {
+        if !one.is_empty() && !other.is_empty() {
+            intervals[random.between(one.start, one.end - 1)] = d;
+            intervals[random.between(other.start, other.end - 1)] = d;
+        }
+    }
+    (intervals, lengths)
 }
 
 /// The shape with numbers of no extreme.
 pub fn ordinary(random: &mut Random, shape: &Shape) -> Lists {
-    lists(random, shape, Intervals::Full, Coordinates::Full)
+    lists(random, shape, Intervals::Full, Coordinates::Full, Version::One)
 }
 
 /// The shape with numbers of some kind.
 pub fn numbered(random: &mut Random, shape: &Shape) -> Lists {
-    let intervals = match random.below(16) {
+    let version = random.of(&[Version::One, Version::Two]);
+    let intervals = match random.below(17) {
         0..=2 => Intervals::Ones,
         3..=6 => Intervals::Eighths,
         7 | 8 => Intervals::Full,
@@ -147,6 +179,7 @@ pub fn numbered(random: &mut Random, shape: &Shape) -> Lists {
         10 => Intervals::AboutT,
         11 | 12 => Intervals::Power(random.between(0, 502) as i32 * random.of(&[1, -1])),
         13 => Intervals::Power(random.between(500, 1022) as i32 * random.of(&[1, -1])),
+        14 => Intervals::Least,
         _ => Intervals::Mixed,
     };
     let coordinates = match random.below(10) {
@@ -157,20 +190,20 @@ pub fn numbered(random: &mut Random, shape: &Shape) -> Lists {
         8 => Coordinates::Subnormal,
         _ => Coordinates::Mixed,
     };
-    lists(random, shape, intervals, coordinates)
+    lists(random, shape, intervals, coordinates, version)
 }
 
-fn lists(random: &mut Random, shape: &Shape, intervals: Intervals, coordinates: Coordinates) -> Lists {
-    let mut lists = Lists::default();
+fn lists(random: &mut Random, shape: &Shape, intervals: Intervals, coordinates: Coordinates, version: Version) -> Lists {
+    let mut lists = Lists { firsts: (version == Version::Two).then(Vec::new), ..Lists::default() };
     lists.coordinates.extend((0..3 * shape.points).map(|_| coordinate(random, coordinates)));
     for border in &shape.borders {
         let (numbers, lengths) = match border.len() {
             0 | 1 => (vec![0.0; border.len()], [border.len(), 0, 0, 0]),
-            n => face(random, n, intervals),
+            n => face(random, n, intervals, version),
         };
         lists.sides.extend(lengths.map(|length| length as u32));
         lists.listed.extend(border.iter().map(|&p| p as u32));
         lists.intervals.extend(numbers);
     }
-    lists
+    lists.fitted()
 }

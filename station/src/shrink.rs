@@ -59,7 +59,7 @@ fn plain(lists: &Lists) -> Lists {
 /// What may be tried of a case, the largest cuts first.
 fn smaller(case: &Case) -> Vec<Case> {
     let mut tries = Vec::new();
-    let with = |lists: Lists| Case { lists, ..case.clone() };
+    let with = |lists: Lists| Case { lists: lists.fitted(), ..case.clone() };
     if case.numbered.len() > 1 {
         tries.push(Case { numbered: case.numbered[..1].to_vec(), ..case.clone() });
     }
@@ -79,6 +79,9 @@ fn smaller(case: &Case) -> Vec<Case> {
         return tries;
     }
     let lists = &case.lists;
+    if lists.firsts.is_some() {
+        tries.push(with(Lists { firsts: None, ..lists.clone() }));
+    }
     let evened = plain(lists);
     if evened.intervals != lists.intervals || evened.sides != lists.sides {
         tries.push(with(evened));
@@ -116,7 +119,7 @@ fn size(case: &Case) -> usize {
     let noughts = lists.coordinates.iter().filter(|x| x.to_bits() == 0).count();
     let ones = lists.intervals.iter().filter(|&&d| d == 1.0).count();
     1000 * (lists.listed.len() + lists.faces() + lists.points()) - noughts - ones + lists.intervals.len()
-        + 10 * case.numbered.len() + case.spare + usize::from(case.scrambled) + usize::from(case.two_runs)
+        + 100 * usize::from(lists.firsts.is_some()) + 10 * case.numbered.len() + case.spare + usize::from(case.scrambled) + usize::from(case.two_runs)
         + case.numbered.iter().filter(|numbered| !**numbered).count()
 }
 

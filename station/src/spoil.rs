@@ -9,8 +9,37 @@ use crate::random::Random;
 const NO_NUMBERS: [f64; 3] = [f64::NAN, f64::INFINITY, f64::NEG_INFINITY];
 const NO_INTERVALS: [f64; 5] = [f64::NAN, f64::INFINITY, -1.0, -0.0, -5e-324];
 
-/// The lists with something wrong, as a rule: now and then the change does no harm.
+/// The lists with something wrong, as a rule: now and then the change does no harm. In version 2 the first points agree with
+/// the lists that were changed, or it is they that are wrong.
 pub fn lists(random: &mut Random, lists: &mut Lists) {
+    if random.once_in(5) && lists.firsts.is_some() {
+        return first_points(random, lists);
+    }
+    other_lists(random, lists);
+    *lists = std::mem::take(lists).fitted();
+}
+
+/// A first point that is another one, or in range no more, now and then in a face whose sums are made to disagree too; or one
+/// too few or too many.
+fn first_points(random: &mut Random, lists: &mut Lists) {
+    let (points, places) = (lists.points() as u32, lists.places());
+    let Some(firsts) = &mut lists.firsts else { return };
+    if firsts.is_empty() || random.once_in(6) {
+        match random.below(2) {
+            0 => drop(firsts.pop()),
+            _ => firsts.push(0),
+        }
+        return;
+    }
+    let (side, other) = (random.below(firsts.len()), random.of(firsts));
+    firsts[side] = random.of(&[other, other, 0, points, NONE]);
+    let (begin, size) = places[side / 4];
+    if size > 0 && random.once_in(3) {
+        lists.intervals[begin + random.below(size)] += 1.0;
+    }
+}
+
+fn other_lists(random: &mut Random, lists: &mut Lists) {
     let Some(faces) = lists.faces().checked_sub(1) else {
         return shorten(random, lists);
     };

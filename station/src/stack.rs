@@ -6,7 +6,7 @@ use crate::lists::Lists;
 use crate::{listings, shapes};
 use std::process::{Command, Stdio};
 
-const CALLS: [&str; 7] = ["build", "build_text", "audit", "step", "find_depth", "write_listing", "read_listing"];
+const CALLS: [&str; 8] = ["build", "build_2", "build_text", "audit", "step", "find_depth", "write_listing", "read_listing"];
 
 /// The cube, so that the stack does not depend on what is worked on.
 fn cube() -> Lists {
@@ -14,6 +14,7 @@ fn cube() -> Lists {
     Lists {
         coordinates: (0..3 * shape.points).map(|k| k as f64).collect(),
         sides: vec![1; 24],
+        firsts: None,
         listed: shape.borders.concat().into_iter().map(|p| p as u32).collect(),
         intervals: vec![1.0; 24],
     }
@@ -22,6 +23,7 @@ fn cube() -> Lists {
 /// Makes one call in a thread of so much stack. If it is not enough, the system ends this process.
 pub fn call(name: &str, bytes: usize) {
     let lists = cube();
+    let version_2 = Lists { firsts: Some(Vec::new()), ..lists.clone() }.fitted();
     let text = lists.text().expect("the cube has a text");
     let room = Counts { points: 8, edges: 24, faces: 6 };
     let (mut tables, mut counts) = (Tables::with_rows(room), [0; 3]);
@@ -34,6 +36,7 @@ pub fn call(name: &str, bytes: usize) {
     let name = name.to_string();
     let work = move || match name.as_str() {
         "build" => library::build(&lists, &mut tables, &mut counts),
+        "build_2" => library::build(&version_2, &mut tables, &mut counts),
         "build_text" => library::build_text(text.as_bytes(), &mut tables, &mut counts),
         "audit" => library::audit(&refined, counts),
         "step" => library::step(&mut refined, &mut counts, &[0, 1, 2, 3, 4, 5], &mut scratch),

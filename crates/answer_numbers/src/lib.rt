@@ -1,4 +1,4 @@
-// The answers of building and of the step in document 01's numbers, as values.
+// The answers of building and of the step in the documents' numbers, as values.
 // Contracts: `ground_number`, `step_number`. Definitions: `groundNumber` of `built_meshes`, specs/Answers.antt; `specs/Numbers.antt`.
 ghost use mathlib.Core.Path.{_≡_};
 ghost use Rattle.built_meshes.specs.Answers.{groundNumber};
@@ -6,7 +6,7 @@ ghost use Rattle.answer_numbers.specs.Numbers.{stepNumber};
 use built_meshes::Ground;
 use steps::Stepped;
 
-// Document 01's number of a ground of building.
+// The documents' number of a ground of building.
 pub fn ground_number(g: Ground) -> u32
     ensures { λ r. ⌜ r ≡ groundNumber g ⌝ }
 {
@@ -17,6 +17,7 @@ pub fn ground_number(g: Ground) -> u32
         Ground::FaceSize => 10,
         Ground::OutOfRange => 11,
         Ground::PointTwice => 12,
+        Ground::FirstPoint => 43,
         Ground::NonRectangularFace => 13,
         Ground::EdgeTripleFace => 14,
         Ground::SameWay => 15,

@@ -4,11 +4,13 @@
 --     standing-none                     nothing stands in zeroed tables
 --     stopped-outcome, on-outcome       the answer when a face was refused, and when all faces stand
 --     refused-counts .. begun-build     the answer by the tests before the faces
+--     promised                          an outcome, and its answer in the documents' numbers
 use mathlib.Core.Path.{_≡_, refl, sym, _∙_, ap, subst}
 use mathlib.Core.Bool.{true, false, _&&_}
 use mathlib.Core.List.{List, []}
 use Prim.Native.Nat.{ℕ, zero, _*_, _≤_, _<_}
 use native.Mathlib.Nat.{le-of-eq}
+use borrow.Author.Tests.{eqb-true}
 use native.Mathlib.Omega.{arith}
 use lib.Ieee.{Float, ofBits, binary64}
 use lib.ListN.{length, getD, drop, replicate, List·getD-append, getD-replicate, length-replicate}
@@ -16,11 +18,13 @@ use Rattle.tables.specs.Mesh.{Mesh, none, meshOf}
 use Rattle.tables.specs.Rows.{over, zeroed}
 use Rattle.tables.specs.Counted.{countsOf, rowsFor, zeroedRows}
 use Rattle.tables.proofs.Laws.{length-zeroed}
-use Rattle.built_meshes.specs.Lists.{Lists, pointsOf, facesOf, rowsOf, offset, countsFit, listedFit}
+use Rattle.built_meshes.specs.Lists.{Lists, pointsOf, facesOf, rowsOf, offset, firstsCounted, countsFit, listedFit}
 use Rattle.tables.specs.declared.Sizes.{Sizes}
 use Rattle.built_meshes.specs.Perimeters.{BuildState, Progress, on, stopped}
+use Rattle.built_meshes.specs.Answers.{builtNumbers}
 use Rattle.built_meshes.specs.Building.{BuildOutcome, buildRefusal, wholeIf, facesFrom, answered, allFaces, buildIf, build}
 use Rattle.built_meshes.specs.Whole.{marked, finished, wholeVerdict}
+use Rattle.built_meshes.specs.declared.Version.{Version}
 use Rattle.built_meshes.specs.declared.Ground.{Ground}
 use Rattle.built_meshes.specs.declared.Ground.the-variants.{OverCounts, UnfitNumber, FewRows}
 use Rattle.built_meshes.specs.declared.Verdict.{Verdict}
@@ -28,7 +32,7 @@ use Rattle.built_meshes.specs.declared.Verdict.the-variants.{Fit, Unfit}
 use Rattle.built_meshes.specs.declared.Built.the-variants.{Accepted, Refused}
 use Rattle.built_meshes.proofs.Begin.{Counted, counts-is, numbers-is, Roomy, rows-is, listed-all}
 use Rattle.built_meshes.proofs.Theorem.{tablesOf, zeroed-after}
-use Rattle.building_tests.specs.Lent.{lists, limitsOf}
+use Rattle.building_tests.specs.Lent.{lists, listsIn, FirstsGiven, limitsOf}
 use Rattle.building_tests.specs.declared.Bounds.{Bounds}
 use Rattle.building_tests.specs.declared.Bounds.the-variants.{General, Refine}
 use Rattle.edge_search.specs.Chains.{Newest, Standing}
@@ -68,6 +72,7 @@ pub record Rooms (l : Lists) (m : Mesh) : Type 0 where
   pub listed-few : length (l .listed) ≤ 16384
   pub beside : length (l .intervals) ≡ length (l .listed)
   pub all-listed : offset l (facesOf l) ≡ length (l .listed)
+  pub firsts-given : FirstsGiven (l .version) (l .sides) (l .firsts)
 
 limits-few : (b : Bounds) → (limitsOf b .points ≤ 4096) × (limitsOf b .faces ≤ 4096) × (limitsOf b .listed ≤ 16384)
 limits-few General = (omega arith, omega arith, omega arith)
@@ -90,6 +95,7 @@ rooms l m h =
       listed-few = omega (arith, counted .listed-few, few .2);
       beside = sym (counted .alike);
       all-listed = listed-all c l m counted (numbers-is l (h .numbers)) roomy (omega (arith, few .1));
+      firsts-given = λ two. eqb-true (length (l .firsts)) (length (l .sides)) (subst (λ v. firstsCounted v l ≡ true) two (counted .firsts-alike));
     }
 
 pub rooms-zeroed : (l : Lists) (m t : Mesh) → t ≡ zeroedRows (rowsOf l) m → Rooms l m → Rooms l t
@@ -107,6 +113,7 @@ rooms-zeroed l m t z r =
       listed-few = r .listed-few;
       beside = r .beside;
       all-listed = r .all-listed;
+      firsts-given = r .firsts-given;
     })
 
 -- the room of zeroed tables
@@ -192,9 +199,9 @@ module _ (l : Lists) (m t : Mesh) (begun : Begun l m) (zero : t ≡ zeroedRows (
 
 -- ---- the tests before the faces
 
-pub numbers-same : (cs : List Float) (ss ls : List ℕ) (be : List Float) → listedFit (lists cs [] [] be) ≡ listedFit (lists cs ss ls be)
+pub numbers-same : (v : Version) (cs : List Float) (ss fs ls : List ℕ) (be : List Float) → listedFit (lists cs [] [] be) ≡ listedFit (listsIn v cs ss fs ls be)
 unfolding listedFit
-numbers-same cs ss ls be = refl
+numbers-same v cs ss fs ls be = refl
 
 module _ (b : Bounds) (l : Lists) (m : Mesh) where
   pub refused-counts : countsFit (limitsOf b) l ≡ false → buildRefusal OverCounts m ≡ build (limitsOf b) l m
@@ -213,6 +220,10 @@ module _ (b : Bounds) (l : Lists) (m : Mesh) where
       → o ≡ build (limitsOf b) l m
   unfolding build buildIf answeredFrom
   begun-build o h k r a = a ∙ rw (h, k, r)
+
+-- an outcome, and its answer in the documents' numbers
+pub promised : {o p : BuildOutcome} → o ≡ p → (o ≡ p) × (builtNumbers (o .answer) ≡ builtNumbers (p .answer))
+promised e = (e, ap (λ (o : BuildOutcome). builtNumbers (o .answer)) e)
 
 -- the links at the beginning
 pub links-room : 36864 ≤ length (replicate {A = ℕ} 36864 0)

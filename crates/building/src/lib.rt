@@ -1,5 +1,5 @@
-// Building: lists of coordinates, side lengths, listed points and intervals become a mesh in the lent tables, or meet the first ground
-// that holds (document 01, "Building" and "Grounds").
+// Building: lists of coordinates, side lengths, first points, listed points and intervals, of either version, become a mesh in the lent tables, or meet the first ground
+// that holds (document 01, "Building" and "Grounds"; document 02, §4).
 // Carries over `try_new` of t_nurcc/mod.rs.
 // Contract: `build`. Definitions: `Building` of `built_meshes`; `specs/Concluding.antt`.
 ghost use mathlib.Core.Path.{_≡_};
@@ -8,10 +8,11 @@ ghost use lib.ListN.{length};
 ghost use Rattle.tables.specs.Layout.{positionWidth, pointWidth, edgeWidth, faceWidth};
 ghost use Rattle.tables.specs.Mesh.{Mesh, meshOf};
 ghost use Rattle.built_meshes.specs.Lists.{generalLimits, rowsOf};
+ghost use Rattle.built_meshes.specs.Answers.{builtNumbers};
 ghost use Rattle.built_meshes.specs.Building.{BuildOutcome, build};
 ghost use Rattle.tables.specs.Counted.{zeroedRows};
 ghost use Rattle.built_meshes.specs.Whole.{wholeVerdict};
-ghost use Rattle.building_tests.specs.Lent.{lists, limitsOf};
+ghost use Rattle.building_tests.specs.Lent.{listsIn, limitsOf};
 ghost use Rattle.building.specs.Concluding.{concluded, answeredFrom, Begun, Zeroed};
 use building_faces::Faced;
 use building_faces::enter_faces;
@@ -25,6 +26,7 @@ use building_whole::whole::whole_verdict;
 use built_meshes::Built;
 use built_meshes::Ground;
 use built_meshes::Verdict;
+use built_meshes::Version;
 use counted_rows::rows_for;
 use counted_rows::zero_rows;
 use tables::Counts;
@@ -98,8 +100,10 @@ const CHAIN: usize = MOST_POINTS + 2 * MOST_LISTED;
 
 // Builds in tables whose counted rows are zero, from lists that meet no ground up to 4.
 fn build_zeroed(
+    version: Version,
     coordinates: &[f64],
     sides: &[u32],
+    firsts: &[u32],
     listed: &[u32],
     beside: &[f64],
     positions: &mut [f64],
@@ -109,25 +113,27 @@ fn build_zeroed(
     faces: &mut [u32],
     chain: &mut [u32],
 ) -> Built
-    requires { ⌜ Zeroed (lists (now coordinates) (now sides) (now listed) (now beside)) (meshOf (now positions) (now points) (now edges) (now intervals) (now faces)) ⌝ }
+    requires { ⌜ Zeroed (listsIn version (now coordinates) (now sides) (now firsts) (now listed) (now beside)) (meshOf (now positions) (now points) (now edges) (now intervals) (now faces)) ⌝ }
     requires { ⌜ generalLimits .points + 2 * generalLimits .listed ≤ length (now chain) ⌝ }
     ensures { λ r. ⌜
-        ((m : Mesh) → Begun (lists (now (coordinates .entry)) (now (sides .entry)) (now (listed .entry)) (now (beside .entry))) m →
+        ((m : Mesh) → Begun (listsIn version (now (coordinates .entry)) (now (sides .entry)) (now (firsts .entry)) (now (listed .entry)) (now (beside .entry))) m →
         (meshOf (now (positions .entry)) (now (points .entry)) (now (edges .entry)) (now (intervals .entry)) (now (faces .entry)))
-        ≡ zeroedRows (rowsOf (lists (now (coordinates .entry)) (now (sides .entry)) (now (listed .entry)) (now (beside .entry)))) m →
+        ≡ zeroedRows (rowsOf (listsIn version (now (coordinates .entry)) (now (sides .entry)) (now (firsts .entry)) (now (listed .entry)) (now (beside .entry)))) m →
         _≡_ {A = BuildOutcome} (record {
           answer = r;
           tables = meshOf (now (positions .exit)) (now (points .exit))
               (now (edges .exit)) (now (intervals .exit)) (now (faces .exit));
         })
-        (answeredFrom (lists (now (coordinates .entry)) (now (sides .entry)) (now (listed .entry)) (now (beside .entry))) m)) ⌝ }
+        (answeredFrom (listsIn version (now (coordinates .entry)) (now (sides .entry)) (now (firsts .entry)) (now (listed .entry)) (now (beside .entry))) m)) ⌝ }
 {
     let np = coordinates.len() / POSITION_WIDTH;
     let nl = listed.len();
     let nf = sides.len() / 4;
     zero_words(chain, np);
     match enter_faces(
+        version,
         sides,
+        firsts,
         listed,
         beside,
         points,
@@ -168,8 +174,10 @@ fn build_zeroed(
 
 // Builds from lists that meet no ground up to 4.
 fn build_begun(
+    version: Version,
     coordinates: &[f64],
     sides: &[u32],
+    firsts: &[u32],
     listed: &[u32],
     beside: &[f64],
     positions: &mut [f64],
@@ -178,14 +186,14 @@ fn build_begun(
     intervals: &mut [f64],
     faces: &mut [u32],
 ) -> Built
-    requires { ⌜ Begun (lists (now coordinates) (now sides) (now listed) (now beside)) (meshOf (now positions) (now points) (now edges) (now intervals) (now faces)) ⌝ }
+    requires { ⌜ Begun (listsIn version (now coordinates) (now sides) (now firsts) (now listed) (now beside)) (meshOf (now positions) (now points) (now edges) (now intervals) (now faces)) ⌝ }
     ensures { λ r. ⌜
         _≡_ {A = BuildOutcome} (record {
           answer = r;
           tables = meshOf (now (positions .exit)) (now (points .exit))
               (now (edges .exit)) (now (intervals .exit)) (now (faces .exit));
         })
-        (answeredFrom (lists (now (coordinates .entry)) (now (sides .entry)) (now (listed .entry)) (now (beside .entry)))
+        (answeredFrom (listsIn version (now (coordinates .entry)) (now (sides .entry)) (now (firsts .entry)) (now (listed .entry)) (now (beside .entry)))
         (meshOf (now (positions .entry)) (now (points .entry)) (now (edges .entry)) (now (intervals .entry)) (now (faces .entry)))) ⌝ }
 {
     zero_rows(
@@ -202,8 +210,10 @@ fn build_begun(
     );
     let mut chain = [0u32; CHAIN];
     build_zeroed(
+        version,
         coordinates,
         sides,
+        firsts,
         listed,
         beside,
         positions,
@@ -215,10 +225,12 @@ fn build_begun(
     )
 }
 
-// Builds a mesh from lists of any content and lengths in the lent tables, within the bounds.
+// Builds a mesh from lists of any content and lengths in the lent tables, within the bounds. Version 1 does not look at the first points.
 pub fn build(
+    version: Version,
     coordinates: &[f64],
     sides: &[u32],
+    firsts: &[u32],
     listed: &[u32],
     beside: &[f64],
     positions: &mut [f64],
@@ -234,10 +246,15 @@ pub fn build(
           tables = meshOf (now (positions .exit)) (now (points .exit))
               (now (edges .exit)) (now (intervals .exit)) (now (faces .exit));
         }) (build (limitsOf bounds)
-        (lists (now (coordinates .entry)) (now (sides .entry)) (now (listed .entry)) (now (beside .entry)))
+        (listsIn version (now (coordinates .entry)) (now (sides .entry)) (now (firsts .entry)) (now (listed .entry)) (now (beside .entry)))
         (meshOf (now (positions .entry)) (now (points .entry)) (now (edges .entry)) (now (intervals .entry)) (now (faces .entry)))) ⌝ }
+    ensures { λ r. ⌜
+        builtNumbers r
+        ≡ builtNumbers (build (limitsOf bounds)
+        (listsIn version (now (coordinates .entry)) (now (sides .entry)) (now (firsts .entry)) (now (listed .entry)) (now (beside .entry)))
+        (meshOf (now (positions .entry)) (now (points .entry)) (now (edges .entry)) (now (intervals .entry)) (now (faces .entry))) .answer) ⌝ }
 {
-    if !counts_fit(coordinates, sides, listed, beside, bounds) {
+    if !counts_fit(version, coordinates, sides, firsts, listed, beside, bounds) {
         return Built::Refused(Ground::OverCounts);
     }
     if !numbers_fit(coordinates, beside) {
@@ -258,8 +275,10 @@ pub fn build(
         return Built::Refused(Ground::FewRows);
     }
     build_begun(
+        version,
         coordinates,
         sides,
+        firsts,
         listed,
         beside,
         positions,

@@ -10,8 +10,9 @@ use lib.ListN.{length}
 use Rattle.tables.specs.Mesh.{Mesh, meshOf}
 use Rattle.built_meshes.specs.Lists.{Lists}
 use Rattle.built_meshes.specs.Perimeters.{FaceState, Progress, on, stopped, turn, places}
+use Rattle.built_meshes.specs.declared.Version.{Version}
 use Rattle.built_meshes.specs.declared.Ground.{Ground}
-use Rattle.building_tests.specs.Lent.{lists}
+use Rattle.building_tests.specs.Lent.{listsIn}
 use Rattle.edge_search.specs.Chains.{Standing}
 use Rattle.building_faces.specs.Rings.{faceStateOf, faceStateAt, ListedRoom, Closing, TurnStands}
 use Rattle.building_faces.specs.declared.RingEdges.{RingEdges}
@@ -43,7 +44,7 @@ places-turn l f a n i r x h s = rw (add-one i, s, less n i h)
     less : (n i : ℕ) → i < n → n - i ≡ suc (n - suc i)
     less n i h = omega arith
 
-module _ (np : ℕ) (ls : List ℕ) (be : List Float) (f a n k : ℕ) (pts₀ es₀ : List ℕ) (is₀ : List Float) (ch₀ : List ℕ) where
+module _ (v : Version) (np : ℕ) (ls : List ℕ) (be : List Float) (f a n k : ℕ) (pts₀ es₀ : List ℕ) (is₀ : List Float) (ch₀ : List ℕ) where
   pub record Passing (pts es : List ℕ) (is : List Float) (ch : List ℕ) (ring : RingEdges) (i : ℕ) : Type 0 where
     pub within : i ≤ n
     pub points-length : length pts ≡ length pts₀
@@ -54,9 +55,9 @@ module _ (np : ℕ) (ls : List ℕ) (be : List Float) (f a n k : ℕ) (pts₀ es
     pub count : ring .edges ≤ a + i
     pub closing : 0 < i → Closing ring
     pub rest :
-        (cs : List Float) (ss : List ℕ) (ps : List Float) (fs : List ℕ)
-        → places (n - i) (lists cs ss ls be) f a n i (on (faceStateOf (meshOf ps pts es is fs) ring))
-        ≡ places n (lists cs ss ls be) f a n 0 (on (faceStateAt (meshOf ps pts₀ es₀ is₀ fs) k))
+        (cs : List Float) (ss qs : List ℕ) (ps : List Float) (fs : List ℕ)
+        → places (n - i) (listsIn v cs ss qs ls be) f a n i (on (faceStateOf (meshOf ps pts es is fs) ring))
+        ≡ places n (listsIn v cs ss qs ls be) f a n 0 (on (faceStateAt (meshOf ps pts₀ es₀ is₀ fs) k))
 
   pub passing-start : Standing np pts₀ es₀ ch₀ k → k ≤ a → Passing pts₀ es₀ is₀ ch₀ (record { edges = k; first = 0; before = 0 }) 0
   passing-start h l =
@@ -69,7 +70,7 @@ module _ (np : ℕ) (ls : List ℕ) (be : List Float) (f a n k : ℕ) (pts₀ es
         standing = h;
         count = omega arith;
         closing = λ z. absurd (omega arith);
-        rest = λ cs ss ps fs. ap (λ (j : ℕ). places j (lists cs ss ls be) f a n 0 (on (faceStateAt (meshOf ps pts₀ es₀ is₀ fs) k))) (none n);
+        rest = λ cs ss qs ps fs. ap (λ (j : ℕ). places j (listsIn v cs ss qs ls be) f a n 0 (on (faceStateAt (meshOf ps pts₀ es₀ is₀ fs) k))) (none n);
       }
     where
       none : (n : ℕ) → n - 0 ≡ n
@@ -78,8 +79,8 @@ module _ (np : ℕ) (ls : List ℕ) (be : List Float) (f a n k : ℕ) (pts₀ es
   module _ (pts es : List ℕ) (is : List Float) (ch : List ℕ) (ring : RingEdges) (i : ℕ) (h : Passing pts es is ch ring i) (l : i < n)
       (pts' es' : List ℕ) (is' : List Float) (ch' : List ℕ) where
     pub passing-more : (next : RingEdges)
-        → ((cs : List Float) (ss : List ℕ) (ps : List Float) (fs : List ℕ)
-        → on (faceStateOf (meshOf ps pts' es' is' fs) next) ≡ turn (lists cs ss ls be) f a n i (faceStateOf (meshOf ps pts es is fs) ring))
+        → ((cs : List Float) (ss qs : List ℕ) (ps : List Float) (fs : List ℕ)
+        → on (faceStateOf (meshOf ps pts' es' is' fs) next) ≡ turn (listsIn v cs ss qs ls be) f a n i (faceStateOf (meshOf ps pts es is fs) ring))
         → TurnStands np pts' es' ch' (a + i + 1) (Turns.On next)
         → length pts' ≡ length pts → length es' ≡ length es → length is' ≡ length is → length ch' ≡ length ch
         → Passing pts' es' is' ch' next (i + 1)
@@ -94,25 +95,25 @@ module _ (np : ℕ) (ls : List ℕ) (be : List Float) (f a n k : ℕ) (pts₀ es
           standing = s .0;
           count = omega arith;
           closing = λ z. s .2;
-          rest = λ cs ss ps fs.
-              places-turn (lists cs ss ls be) f a n i (faceStateOf (meshOf ps pts es is fs) ring) (on (faceStateOf (meshOf ps pts' es' is' fs) next)) l
-              (turns cs ss ps fs)
-              ∙ h .rest cs ss ps fs;
+          rest = λ cs ss qs ps fs.
+              places-turn (listsIn v cs ss qs ls be) f a n i (faceStateOf (meshOf ps pts es is fs) ring) (on (faceStateOf (meshOf ps pts' es' is' fs) next)) l
+              (turns cs ss qs ps fs)
+              ∙ h .rest cs ss qs ps fs;
         }
 
-    pub passing-stop : (g : Ground) (cs : List Float) (ss : List ℕ) (ps : List Float) (fs : List ℕ)
-        → stopped g (meshOf ps pts' es' is' fs) ≡ turn (lists cs ss ls be) f a n i (faceStateOf (meshOf ps pts es is fs) ring)
-        → stopped g (meshOf ps pts' es' is' fs) ≡ places n (lists cs ss ls be) f a n 0 (on (faceStateAt (meshOf ps pts₀ es₀ is₀ fs) k))
-    passing-stop g cs ss ps fs turns =
-        sym (places-stopped (n - (i + 1)) (lists cs ss ls be) f a n (i + 1) g (meshOf ps pts' es' is' fs))
-        ∙ places-turn (lists cs ss ls be) f a n i (faceStateOf (meshOf ps pts es is fs) ring) (stopped g (meshOf ps pts' es' is' fs)) l turns
-        ∙ h .rest cs ss ps fs
+    pub passing-stop : (g : Ground) (cs : List Float) (ss qs : List ℕ) (ps : List Float) (fs : List ℕ)
+        → stopped g (meshOf ps pts' es' is' fs) ≡ turn (listsIn v cs ss qs ls be) f a n i (faceStateOf (meshOf ps pts es is fs) ring)
+        → stopped g (meshOf ps pts' es' is' fs) ≡ places n (listsIn v cs ss qs ls be) f a n 0 (on (faceStateAt (meshOf ps pts₀ es₀ is₀ fs) k))
+    passing-stop g cs ss qs ps fs turns =
+        sym (places-stopped (n - (i + 1)) (listsIn v cs ss qs ls be) f a n (i + 1) g (meshOf ps pts' es' is' fs))
+        ∙ places-turn (listsIn v cs ss qs ls be) f a n i (faceStateOf (meshOf ps pts es is fs) ring) (stopped g (meshOf ps pts' es' is' fs)) l turns
+        ∙ h .rest cs ss qs ps fs
 
   pub passing-end : (pts es : List ℕ) (is : List Float) (ch : List ℕ) (ring : RingEdges) (i : ℕ) → Passing pts es is ch ring i → n ≤ i
-      → (cs : List Float) (ss : List ℕ) (ps : List Float) (fs : List ℕ)
-      → on (faceStateOf (meshOf ps pts es is fs) ring) ≡ places n (lists cs ss ls be) f a n 0 (on (faceStateAt (meshOf ps pts₀ es₀ is₀ fs) k))
+      → (cs : List Float) (ss qs : List ℕ) (ps : List Float) (fs : List ℕ)
+      → on (faceStateOf (meshOf ps pts es is fs) ring) ≡ places n (listsIn v cs ss qs ls be) f a n 0 (on (faceStateAt (meshOf ps pts₀ es₀ is₀ fs) k))
   unfolding places
-  passing-end pts es is ch ring i h l cs ss ps fs = rw (none (h .within) l) at (h .rest cs ss ps fs)
+  passing-end pts es is ch ring i h l cs ss qs ps fs = rw (none (h .within) l) at (h .rest cs ss qs ps fs)
     where
       none : i ≤ n → n ≤ i → n - i ≡ 0
       none a b = omega arith

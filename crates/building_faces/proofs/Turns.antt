@@ -17,12 +17,13 @@ use Rattle.t_nurcc_edge.proofs.Laws.{length-connectedRows}
 use Rattle.audited_meshes.proofs.Tests.{every-is, self-is}
 use Rattle.built_meshes.specs.Lists.{Lists}
 use Rattle.built_meshes.specs.Faces.{listedInRange}
-use Rattle.built_meshes.specs.Perimeters.{BuildState, FaceState, Progress, on, stopped, turned, turn, faceOf, closedUp}
+use Rattle.built_meshes.specs.Perimeters.{BuildState, FaceState, Progress, on, stopped, turned, intervalPlace, turn, faceOf, closedUp}
 use Rattle.built_meshes.specs.Edges.{Entered, at, refused, edgeBetween, enteredAt, enteredIf, entered, joined, withEdges}
+use Rattle.built_meshes.specs.declared.Version.{Version}
 use Rattle.built_meshes.specs.declared.Ground.{Ground}
 use Rattle.built_meshes.specs.declared.Found.{Found}
 use Rattle.built_meshes.specs.declared.Found.the-variants as Founds
-use Rattle.building_tests.specs.Lent.{lists}
+use Rattle.building_tests.specs.Lent.{listsIn}
 use Rattle.edge_search.specs.Chains.{Standing, EdgeRoom}
 use Rattle.edge_search.specs.Places.{EnteredPlace, entryPlace, entering, EnteredBy}
 use Rattle.edge_search.specs.declared.Entry.the-variants.{Made, Refused}
@@ -84,10 +85,10 @@ room-lent np ls be es is ch k h l =
 
 -- ---- one turn
 
-module _ (cs : List Float) (ss ls : List ℕ) (be : List Float) (f a n i next p q : ℕ) (v : Float) (ring : RingEdges) (m new : Mesh)
-    (en : next ≡ nextPlace n i) (ep : p ≡ getD ls (a + i) 0) (eq : q ≡ getD ls (a + next) 0) (ev : v ≡ getD be (a + i) nan) where
+module _ (w : Version) (cs : List Float) (ss qs ls : List ℕ) (be : List Float) (f a n i next p q : ℕ) (v : Float) (ring : RingEdges) (m new : Mesh)
+    (en : next ≡ nextPlace n i) (ep : p ≡ getD ls (a + i) 0) (eq : q ≡ getD ls (a + next) 0) (ev : v ≡ getD be (a + intervalPlace w n i) nan) where
   abbrev l : Lists
-  l = lists cs ss ls be
+  l = listsIn w cs ss qs ls be
 
   turn-is : turn l f a n i (faceStateOf m ring) ≡ turned (faceStateOf m ring) i (entered m (ring .edges) f p q v)
   unfolding turn

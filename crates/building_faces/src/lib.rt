@@ -1,5 +1,5 @@
 // Faces entered into the tables: one place of a perimeter after the other, each edge connected to the one before and the first to
-// the last, then the face's row (document 01, "Building"; grounds 10 to 15).
+// the last, then the face's row (document 01, "Building"; grounds 10 to 15 and 43).
 // Carries over the loop of `try_new` of t_nurcc/mod.rs.
 // Not here: the places stepped (`perimeters`), the grounds of the lists and of the whole (`building_lists`, `building_whole`).
 // Definitions: `Perimeters` and `Building` of `built_meshes`; `specs/Rings.antt`. Laws: `proofs/Turns.antt`.
@@ -9,9 +9,10 @@ ghost use Prim.Native.Nat.{ℕ, _+_, _*_, _/_, _≤_, _<_};
 ghost use lib.Ieee.{Float};
 ghost use lib.ListN.{length};
 ghost use Rattle.built_meshes.specs.Lists.{offset, generalLimits};
-ghost use Rattle.built_meshes.specs.Perimeters.{FaceState, BuildState, Progress, on, turn, places, closedUp};
+ghost use Rattle.perimeters.specs.Places.{nextPlace};
+ghost use Rattle.built_meshes.specs.Perimeters.{FaceState, BuildState, Progress, on, intervalPlace, turn, places, closedUp};
 ghost use Rattle.built_meshes.specs.Building.{facePassed, facesFrom};
-ghost use Rattle.building_tests.specs.Lent.{lists};
+ghost use Rattle.building_tests.specs.Lent.{lists, listsIn, FirstsGiven};
 ghost use Rattle.edge_search.specs.Chains.{Standing};
 ghost use Rattle.tables.specs.Layout.{positionWidth, faceWidth};
 ghost use Rattle.tables.specs.Mesh.{meshOf};
@@ -20,6 +21,7 @@ use building_tests::faces::face_size;
 use building_tests::faces::face_verdict;
 use built_meshes::Ground;
 use built_meshes::Verdict;
+use built_meshes::Version;
 use edge_search::Entry;
 use edge_search::enter;
 use perimeters::next_place;
@@ -48,8 +50,22 @@ pub enum Faced {
     Stopped(Ground),
 }
 
+// The place beside whose point the interval of place i is written; `next` is the place after it.
+fn interval_place(version: Version, n: usize, i: usize, next: usize) -> usize
+    requires { ⌜ i < n ⌝ }
+    requires { ⌜ next ≡ nextPlace n i ⌝ }
+    ensures { λ r. ⌜ r ≡ intervalPlace version n i ⌝ }
+    ensures { λ r. ⌜ r < n ⌝ }
+{
+    match version {
+        Version::One => i,
+        Version::Two => next,
+    }
+}
+
 // Enters place i of the perimeter of face f, and connects its edge to the one before.
 fn turn_place(
+    version: Version,
     listed: &[u32],
     beside: &[f64],
     points: &mut [u32],
@@ -70,15 +86,16 @@ fn turn_place(
     requires { ⌜ ring .edges ≤ a + i ⌝ }
     requires { ⌜ (0 < i → Closing ring) ⌝ }
     ensures { λ r. ⌜
-        ((cs : List Float) (ss : List ℕ) (ps : List Float) (fs : List ℕ) → _≡_ {A = Progress FaceState} (turnOf (meshOf ps
-        (now (points .exit)) (now (edges .exit)) (now (intervals .exit)) fs) r) (turn (lists cs ss (now (listed .entry))
+        ((cs : List Float) (ss qs : List ℕ) (ps : List Float) (fs : List ℕ) → _≡_ {A = Progress FaceState} (turnOf (meshOf ps
+        (now (points .exit)) (now (edges .exit)) (now (intervals .exit)) fs) r) (turn (listsIn version cs ss qs (now (listed .entry))
         (now (beside .entry))) f a n i (faceStateOf (meshOf ps (now (points .entry)) (now (edges .entry)) (now (intervals .entry))
         fs) ring))) ⌝ }
     ensures { λ r. ⌜ TurnStands np (now (points .exit)) (now (edges .exit)) (now (chain .exit)) (a + i + 1) r ⌝ }
 {
     let p = listed[a + i];
-    let q = listed[a + next_place(n, i)];
-    let v = beside[a + i];
+    let next = next_place(n, i);
+    let q = listed[a + next];
+    let v = beside[a + interval_place(version, n, i, next)];
     let k = ring.edges;
     match enter(points, edges, intervals, chain, np, k, f, p, q, v) {
         Entry::Made { edges: count, edge } => {
@@ -102,6 +119,7 @@ fn turn_place(
 
 // Enters all n places of the perimeter of face f, while k edges stand.
 fn enter_places(
+    version: Version,
     listed: &[u32],
     beside: &[f64],
     points: &mut [u32],
@@ -120,8 +138,8 @@ fn enter_places(
     requires { ⌜ 0 < n ⌝ }
     requires { ⌜ k ≤ a ⌝ }
     ensures { λ r. ⌜
-        ((cs : List Float) (ss : List ℕ) (ps : List Float) (fs : List ℕ) → _≡_ {A = Progress FaceState} (turnOf (meshOf ps
-        (now (points .exit)) (now (edges .exit)) (now (intervals .exit)) fs) r) (places n (lists cs ss (now (listed .entry))
+        ((cs : List Float) (ss qs : List ℕ) (ps : List Float) (fs : List ℕ) → _≡_ {A = Progress FaceState} (turnOf (meshOf ps
+        (now (points .exit)) (now (edges .exit)) (now (intervals .exit)) fs) r) (places n (listsIn version cs ss qs (now (listed .entry))
         (now (beside .entry))) f a n 0 (on (faceStateAt (meshOf ps (now (points .entry)) (now (edges .entry))
         (now (intervals .entry)) fs) k)))) ⌝ }
     ensures { λ r. ⌜ TurnStands np (now (points .exit)) (now (edges .exit)) (now (chain .exit)) (a + n) r ⌝ }
@@ -134,6 +152,7 @@ fn enter_places(
     let mut i = 0;
     while i < n {
         match turn_place(
+            version,
             listed,
             beside,
             points,
@@ -161,6 +180,7 @@ fn enter_places(
 
 // Enters the perimeter of face f, connects its first edge to its last, and stores the face's row.
 fn enter_perimeter(
+    version: Version,
     listed: &[u32],
     beside: &[f64],
     points: &mut [u32],
@@ -181,13 +201,14 @@ fn enter_perimeter(
     requires { ⌜ k ≤ a ⌝ }
     requires { ⌜ f * faceWidth + faceWidth ≤ length (now faces) ⌝ }
     ensures { λ r. ⌜
-        ((cs : List Float) (ss : List ℕ) (ps : List Float) → _≡_ {A = Progress BuildState} (stateOf (meshOf ps (now (points .exit))
-        (now (edges .exit)) (now (intervals .exit)) (now (faces .exit))) r) (closedUp f (places n (lists cs ss (now (listed .entry))
+        ((cs : List Float) (ss qs : List ℕ) (ps : List Float) → _≡_ {A = Progress BuildState} (stateOf (meshOf ps (now (points .exit))
+        (now (edges .exit)) (now (intervals .exit)) (now (faces .exit))) r) (closedUp f (places n (listsIn version cs ss qs (now (listed .entry))
         (now (beside .entry))) f a n 0 (on (faceStateAt (meshOf ps (now (points .entry)) (now (edges .entry))
         (now (intervals .entry)) (now (faces .entry))) k))))) ⌝ }
     ensures { λ r. ⌜ FaceStands np (now (points .exit)) (now (edges .exit)) (now (chain .exit)) (a + n) r ⌝ }
 {
     match enter_places(
+        version,
         listed,
         beside,
         points,
@@ -218,7 +239,9 @@ fn enter_perimeter(
 
 // Enters face f, whose n listed points stand from the place a on, if it passes its tests.
 fn enter_face(
+    version: Version,
     sides: &[u32],
+    firsts: &[u32],
     listed: &[u32],
     beside: &[f64],
     points: &mut [u32],
@@ -237,15 +260,17 @@ fn enter_face(
     requires { ⌜ Sided (now sides) (now listed) f a n ⌝ }
     requires { ⌜ k ≤ a ⌝ }
     requires { ⌜ f * faceWidth + faceWidth ≤ length (now faces) ⌝ }
+    requires { ⌜ FirstsGiven version (now sides) (now firsts) ⌝ }
     ensures { λ r. ⌜
         ((cs : List Float) (ps : List Float) → length cs / positionWidth ≡ np → _≡_ {A = Progress BuildState} (stateOf (meshOf ps
-        (now (points .exit)) (now (edges .exit)) (now (intervals .exit)) (now (faces .exit))) r) (facePassed (lists cs
-        (now (sides .entry)) (now (listed .entry)) (now (beside .entry))) f a (stateAt (meshOf ps (now (points .entry))
+        (now (points .exit)) (now (edges .exit)) (now (intervals .exit)) (now (faces .exit))) r) (facePassed (listsIn version cs
+        (now (sides .entry)) (now (firsts .entry)) (now (listed .entry)) (now (beside .entry))) f a (stateAt (meshOf ps (now (points .entry))
         (now (edges .entry)) (now (intervals .entry)) (now (faces .entry))) k))) ⌝ }
     ensures { λ r. ⌜ FaceStands np (now (points .exit)) (now (edges .exit)) (now (chain .exit)) (a + n) r ⌝ }
 {
-    match face_verdict(sides, listed, beside, np, index(f), a, n) {
+    match face_verdict(version, sides, firsts, listed, beside, np, index(f), a, n) {
         Verdict::Fit => enter_perimeter(
+            version,
             listed,
             beside,
             points,
@@ -265,7 +290,9 @@ fn enter_face(
 
 // Enters all faces into tables that hold none.
 pub fn enter_faces(
+    version: Version,
     sides: &[u32],
+    firsts: &[u32],
     listed: &[u32],
     beside: &[f64],
     points: &mut [u32],
@@ -280,10 +307,11 @@ pub fn enter_faces(
     requires { ⌜ length (now sides) / 4 ≤ generalLimits .faces ⌝ }
     requires { ⌜ length (now sides) / 4 * faceWidth ≤ length (now faces) ⌝ }
     requires { ⌜ offset (lists [] (now sides) [] []) (length (now sides) / 4) ≡ length (now listed) ⌝ }
+    requires { ⌜ FirstsGiven version (now sides) (now firsts) ⌝ }
     ensures { λ r. ⌜
         ((cs : List Float) (ps : List Float) → length cs / positionWidth ≡ np → _≡_ {A = Progress BuildState} (stateOf (meshOf ps
         (now (points .exit)) (now (edges .exit)) (now (intervals .exit)) (now (faces .exit))) r) (facesFrom
-        (length (now (sides .entry)) / 4) (lists cs (now (sides .entry)) (now (listed .entry)) (now (beside .entry))) 0 0 (on
+        (length (now (sides .entry)) / 4) (listsIn version cs (now (sides .entry)) (now (firsts .entry)) (now (listed .entry)) (now (beside .entry))) 0 0 (on
         (stateAt (meshOf ps (now (points .entry)) (now (edges .entry)) (now (intervals .entry)) (now (faces .entry))) 0)))) ⌝ }
     ensures { λ r. ⌜ FaceStands np (now (points .exit)) (now (edges .exit)) (now (chain .exit)) (length (now (listed .entry))) r ⌝ }
 {
@@ -294,7 +322,9 @@ pub fn enter_faces(
     while f < nf {
         let n = face_size(sides, f);
         match enter_face(
+            version,
             sides,
+            firsts,
             listed,
             beside,
             points,

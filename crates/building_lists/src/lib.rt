@@ -10,9 +10,10 @@ ghost use lib.ListN.{length, getD};
 ghost use Rattle.closed_meshes.specs.Renumbering.{sumTo};
 ghost use Rattle.audited_meshes.specs.Folds.{every};
 ghost use Rattle.audited_meshes.specs.Audit.{intervalFit};
-ghost use Rattle.built_meshes.specs.Lists.{countsFit, listedFit};
-ghost use Rattle.building_tests.specs.Lent.{lists, limitsOf};
+ghost use Rattle.built_meshes.specs.Lists.{firstsCounted, countsFit, listedFit};
+ghost use Rattle.building_tests.specs.Lent.{lists, listsIn, limitsOf};
 use building_tests::Bounds;
+use built_meshes::Version;
 use intervals::interval_fits;
 use positions::is_finite;
 use tables::POSITION_WIDTH;
@@ -32,15 +33,29 @@ fn sum_of(words: &[u32]) -> usize
     sum
 }
 
+// Whether there are as many first points as sides, where the version looks at them.
+fn firsts_counted(version: Version, sides: &[u32], firsts: &[u32]) -> bool
+    ensures { λ r. ⌜ r ≡ firstsCounted version (listsIn version [] (now (sides .entry)) (now (firsts .entry)) [] []) ⌝ }
+{
+    match version {
+        Version::One => true,
+        Version::Two => firsts.len() == sides.len(),
+    }
+}
+
 // Whether the lists are within the limits and their lengths agree.
 pub fn counts_fit(
+    version: Version,
     coordinates: &[f64],
     sides: &[u32],
+    firsts: &[u32],
     listed: &[u32],
     beside: &[f64],
     bounds: Bounds,
 ) -> bool
-    ensures { λ r. ⌜ r ≡ countsFit (limitsOf bounds) (lists (now (coordinates .entry)) (now (sides .entry)) (now (listed .entry)) (now (beside .entry))) ⌝ }
+    ensures { λ r. ⌜
+        r ≡ countsFit (limitsOf bounds)
+        (listsIn version (now (coordinates .entry)) (now (sides .entry)) (now (firsts .entry)) (now (listed .entry)) (now (beside .entry))) ⌝ }
 {
     let most = bounds.most();
     if most.points < coordinates.len() / POSITION_WIDTH {
@@ -61,7 +76,10 @@ pub fn counts_fit(
     if listed.len() != beside.len() {
         return false;
     }
-    sum_of(sides) == listed.len()
+    if sum_of(sides) != listed.len() {
+        return false;
+    }
+    firsts_counted(version, sides, firsts)
 }
 
 // Whether all coordinates are finite.

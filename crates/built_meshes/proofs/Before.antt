@@ -6,7 +6,7 @@
 --     nothing-met             where all passes, nothing is met
 --     first-once              two grounds that are met first are one
 use mathlib.Core.Path.{_≡_, refl, sym, _∙_, ap, subst}
-use mathlib.Core.Bool.{true, cond, true≢false}
+use mathlib.Core.Bool.{true, cond}
 use mathlib.Core.Logic.{_⊎_, inl, inr}
 use mathlib.Core.List.{List, [], _∷_}
 use Prim.Native.Nat.{ℕ, suc, _<_, _≤_}
@@ -14,34 +14,38 @@ use native.Mathlib.Omega.{arith}
 use native.Mathlib.Decide.{decLt}
 use lib.Dec.{eqb}
 use Rattle.tables.specs.declared.Sizes.{Sizes}
-use Rattle.positions.specs.Position.{small}
 use Rattle.tables.specs.Mesh.{Mesh}
 use Rattle.built_meshes.specs.Lists.{Lists, pointsOf, facesOf, size, offset}
-use Rattle.built_meshes.specs.Faces.{sumsApart}
+use Rattle.built_meshes.specs.Faces.{firstsFit, sumsFit}
 use Rattle.built_meshes.specs.Places.{pointOf, IsPlace, Runs, Between, Differ, Earlier}
-use Rattle.built_meshes.specs.Answers.{groundNumber}
 use Rattle.built_meshes.specs.Grounds.{Over-counts, Unfit-number, Few-rows, Missing-face, No-edge, Missed-edge}
 use Rattle.built_meshes.specs.Grounds.{Where, lists, face, edge, whole, Met, over-counts, unfit-number, few-rows}
-use Rattle.built_meshes.specs.Grounds.{face-size, out-of-range, point-twice, non-rectangular, triple-face}
-use Rattle.built_meshes.specs.Grounds.{same-way, missing-face, no-edge, missed-edge, Less, turnOf, First-met}
+use Rattle.built_meshes.specs.Grounds.{face-size, out-of-range, point-twice, first-point, non-rectangular, triple-face}
+use Rattle.built_meshes.specs.Grounds.{same-way, missing-face, no-edge, missed-edge, Less, rank, turnOf, First-met}
 use Rattle.built_meshes.specs.declared.Ground.{Ground}
 use Rattle.built_meshes.specs.declared.Ground.the-variants.{OverCounts, UnfitNumber, FewRows, FaceSize, OutOfRange}
-use Rattle.built_meshes.specs.declared.Ground.the-variants.{PointTwice, NonRectangularFace, EdgeTripleFace}
+use Rattle.built_meshes.specs.declared.Ground.the-variants.{PointTwice, FirstPoint, NonRectangularFace, EdgeTripleFace}
 use Rattle.built_meshes.specs.declared.Ground.the-variants.{SameWay, MissingFace, NoEdge, MissedEdge}
+use Rattle.built_meshes.proofs.Versions.{firsts-agree, sums-agree}
 use Rattle.built_meshes.proofs.Made.{earlier-differs}
 use Rattle.built_meshes.proofs.Invariant.{FaceSound, One-way}
 
 -- ---- the tests of a face
 
 pub record Tests (l : Lists) (f n : ℕ) : Type 0 where
-  pub sizes : 10 < n → (3 ≤ size l f) × (size l f ≤ 64)
-  pub ranges : 11 < n → (i : ℕ) → i < size l f → pointOf l f i < pointsOf l
-  pub once : 12 < n → (i j : ℕ) → i < size l f → j < size l f → pointOf l f i ≡ pointOf l f j → i ≡ j
-  pub sums : 13 < n → small (sumsApart l f (offset l f)) ≡ true
+  pub sizes : 9 < n → (3 ≤ size l f) × (size l f ≤ 64)
+  pub ranges : 10 < n → (i : ℕ) → i < size l f → pointOf l f i < pointsOf l
+  pub once : 11 < n → (i j : ℕ) → i < size l f → j < size l f → pointOf l f i ≡ pointOf l f j → i ≡ j
+  pub firsts : 12 < n → firstsFit (l .version) l f (offset l f) ≡ true
+  pub sums : 13 < n → sumsFit (l .version) l f (offset l f) ≡ true
 
-pub tests-of : (l : Lists) (f n : ℕ) → FaceSound l f → small (sumsApart l f (offset l f)) ≡ true → Tests l f n
+-- what the versions ask of a face
+abbrev pub Agrees : Lists → ℕ → Type 0
+Agrees l f = (firstsFit (l .version) l f (offset l f) ≡ true) × (sumsFit (l .version) l f (offset l f) ≡ true)
+
+pub tests-of : (l : Lists) (f n : ℕ) → FaceSound l f → Agrees l f → Tests l f n
 tests-of l f n s r =
-    record { sizes = λ h. (s .at-least-3, s .at-most-64); ranges = λ h. s .in-range; once = λ h. s .distinct; sums = λ h. r }
+    record { sizes = λ h. (s .at-least-3, s .at-most-64); ranges = λ h. s .in-range; once = λ h. s .distinct; firsts = λ h. r .0; sums = λ h. r .1 }
 
 tests-fewer : (l : Lists) (f k n : ℕ) → k ≤ n → Tests l f n → Tests l f k
 tests-fewer l f k n le t =
@@ -49,6 +53,7 @@ tests-fewer l f k n le t =
       sizes = λ h. t .sizes (omega arith);
       ranges = λ h. t .ranges (omega arith);
       once = λ h. t .once (omega arith);
+      firsts = λ h. t .firsts (omega arith);
       sums = λ h. t .sums (omega arith);
     }
 
@@ -115,15 +120,16 @@ module _ (c : Sizes) (l : Lists) (m : Mesh) where
   none-before K v w g b (face-size f is h) = go h
     where
       fits : (3 ≤ size l f) × (size l f ≤ 64)
-      fits = v .of-face f 10 is b .sizes (omega arith)
+      fits = v .of-face f 9 is b .sizes (omega arith)
 
       go : (size l f < 3) ⊎ (64 < size l f) → ⊥
       go (inl z) = omega (arith, fits .0)
       go (inr z) = omega (arith, fits .1)
-  none-before K v w g b (out-of-range f i is h) = let z = v .of-face f 11 (is .0) b .ranges (omega arith) i (is .1) in omega arith
+  none-before K v w g b (out-of-range f i is h) = let z = v .of-face f 10 (is .0) b .ranges (omega arith) i (is .1) in omega arith
   none-before K v w g b (point-twice f i j is less same) =
-      let z : i ≡ j = v .of-face f 12 (is .0) b .once (omega arith) i j (is .1) (let h = is .1 in omega arith) same in omega arith
-  none-before K v w g b (non-rectangular f is h) = true≢false (sym (v .of-face f 13 is b .sums (omega arith)) ∙ h)
+      let z : i ≡ j = v .of-face f 11 (is .0) b .once (omega arith) i j (is .1) (let h = is .1 in omega arith) same in omega arith
+  none-before K v w g b (first-point f k j two is kb last differs) = differs (firsts-agree l f (offset l f) k j two (v .of-face f 12 is b .firsts (omega arith)) kb last)
+  none-before K v w g b (non-rectangular f is h) = sums-agree l f (offset l f) (v .of-face f 13 is b .sums (omega arith)) h
   none-before K v w g b (triple-face f i g' j h k p q r a b' e e' d) = v .triples f i (r .is-place) b (g', j, h, k, p, q, r, a, b', e, e', d)
   none-before K v w g b (same-way f i g' j p q r t e) = v .sames f i (r .is-place) b (g', j, p, q, r, t, e)
   none-before K v w g b (missing-face h) = v .missing b h
@@ -170,7 +176,7 @@ module _ (c : Sizes) (l : Lists) (m : Mesh) where
           tested f k (inl h) = below f h (suc k)
           tested f k (inr h) = subst (λ f. Tests l f (suc k)) (sym (h .0)) (tests-fewer l F (suc k) n (h .1) tests)
 
-      pub first-face : (g : Ground) → groundNumber g ≡ n → Met c l m (face F) g → First-met c l m (face F) g
+      pub first-face : (g : Ground) → rank g ≡ n → Met c l m (face F) g → First-met c l m (face F) g
       first-face g is met =
           record {
             met = met;
@@ -219,7 +225,7 @@ module _ (c : Sizes) (l : Lists) (m : Mesh) where
           same f i is (inl h) = entered f i is h .1
           same f i is (inr h) = absurd (omega (arith, h .1))
 
-      pub first-edge : (g : Ground) → groundNumber g ≡ n → Met c l m (edge F I) g → First-met c l m (edge F I) g
+      pub first-edge : (g : Ground) → rank g ≡ n → Met c l m (edge F I) g → First-met c l m (edge F I) g
       first-edge g is met =
           record {
             met = met;
@@ -249,7 +255,7 @@ module _ (c : Sizes) (l : Lists) (m : Mesh) where
               missed = λ h. missed (sooner 22 h);
             }
 
-        pub first-whole : (g : Ground) → groundNumber g ≡ n → Met c l m whole g → First-met c l m whole g
+        pub first-whole : (g : Ground) → rank g ≡ n → Met c l m whole g → First-met c l m whole g
         first-whole g is met =
             record {
               met = met;
@@ -293,7 +299,7 @@ module _ (c : Sizes) (l : Lists) (m : Mesh) where
     list-not k ks (inl h) = absurd (omega arith)
     list-not k ks (inr (h, z)) = absurd (omega arith)
 
-    pub first-lists : (g : Ground) → groundNumber g ≡ n → Met c l m lists g → First-met c l m lists g
+    pub first-lists : (g : Ground) → rank g ≡ n → Met c l m lists g → First-met c l m lists g
     first-lists g is met =
         record {
           met = met;
@@ -321,16 +327,17 @@ groundOf n =
     cond (eqb n 2) OverCounts
     (cond (eqb n 3) UnfitNumber
     (cond (eqb n 4) FewRows
-    (cond (eqb n 10) FaceSize
-    (cond (eqb n 11) OutOfRange
-    (cond (eqb n 12) PointTwice
+    (cond (eqb n 9) FaceSize
+    (cond (eqb n 10) OutOfRange
+    (cond (eqb n 11) PointTwice
+    (cond (eqb n 12) FirstPoint
     (cond (eqb n 13) NonRectangularFace
     (cond (eqb n 14) EdgeTripleFace
     (cond (eqb n 15) SameWay
     (cond (eqb n 20) MissingFace
-    (cond (eqb n 21) NoEdge MissedEdge))))))))))
+    (cond (eqb n 21) NoEdge MissedEdge)))))))))))
 
-ground-of-number : (g : Ground) → groundOf (groundNumber g) ≡ g
+ground-of-number : (g : Ground) → groundOf (rank g) ≡ g
 unfolding groundOf
 ground-of-number OverCounts = refl
 ground-of-number UnfitNumber = refl
@@ -338,6 +345,7 @@ ground-of-number FewRows = refl
 ground-of-number FaceSize = refl
 ground-of-number OutOfRange = refl
 ground-of-number PointTwice = refl
+ground-of-number FirstPoint = refl
 ground-of-number NonRectangularFace = refl
 ground-of-number EdgeTripleFace = refl
 ground-of-number SameWay = refl
@@ -354,7 +362,7 @@ neither k n a b = go (decLt k n) (decLt n k)
     go (no h) (no d) = omega arith
 
 -- Checks of which none is before the other have one number.
-same-number : (w : Where) (g : Ground) (w' : Where) (h : Ground) → ¬ Less (turnOf w g) (turnOf w' h) → ¬ Less (turnOf w' h) (turnOf w g) → groundNumber g ≡ groundNumber h
+same-number : (w : Where) (g : Ground) (w' : Where) (h : Ground) → ¬ Less (turnOf w g) (turnOf w' h) → ¬ Less (turnOf w' h) (turnOf w g) → rank g ≡ rank h
 same-number lists g lists h a b = neither _ _ (λ z. a (inr (refl, inl z))) (λ z. b (inr (refl, inl z)))
 same-number lists g (face f) h a b = absurd (a (inl (omega arith)))
 same-number lists g (edge f i) h a b = absurd (a (inl (omega arith)))

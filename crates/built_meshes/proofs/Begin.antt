@@ -3,7 +3,7 @@
 --     ready                              the zeroed tables are ready
 --     faces-none                         no face is in
 use mathlib.Core.Path.{_≡_, refl, sym, _∙_, ap, subst}
-use mathlib.Core.Bool.{true, false, _&&_}
+use mathlib.Core.Bool.{true, false, _&&_, true≢false}
 use mathlib.Core.Logic.{_⊎_, inl, inr}
 use mathlib.Core.List.{List}
 use Prim.Native.Nat.{ℕ, zero, suc, _+_, _*_, _%_, _<_, _≤_}
@@ -20,19 +20,21 @@ use Rattle.closed_meshes.specs.Renumbering.{sumTo}
 use Rattle.audited_meshes.specs.Folds.{every}
 use Rattle.audited_meshes.specs.Audit.{intervalFit}
 use Rattle.audited_meshes.proofs.Tests.{and-is, eqb-is, leb-is, self-is, every-is}
-use Rattle.built_meshes.specs.Lists.{Lists, pointsOf, facesOf, rowsOf, offset, countsFit, listedFit}
+use Rattle.built_meshes.specs.Lists.{Lists, pointsOf, facesOf, rowsOf, offset, firstsCounted, countsFit, listedFit}
+use Rattle.built_meshes.specs.declared.Version.{Version}
+use Rattle.built_meshes.specs.declared.Version.the-variants.{One, Two}
 use Rattle.tables.specs.declared.Sizes.{Sizes}
 use Rattle.tables.specs.Counted.{rowsFor, zeroedRows}
 use Rattle.built_meshes.specs.Beyond.{Within}
 use Rattle.built_meshes.specs.Claims.{zeroEdge}
 use Rattle.built_meshes.specs.Grounds.{Over-counts, many-points, many-faces, many-listed, point-cut}
-use Rattle.built_meshes.specs.Grounds.{face-cut, unlike, sum-unlike, Unfit-number, coordinate-unfit}
+use Rattle.built_meshes.specs.Grounds.{face-cut, unlike, sum-unlike, firsts-unlike, Unfit-number, coordinate-unfit}
 use Rattle.built_meshes.specs.Grounds.{interval-unfit, Few-rows, few-points, few-faces, few-edges}
 use Rattle.built_meshes.proofs.Rows.{row, edgeAt-words, ofWords-cong}
 use Rattle.built_meshes.proofs.Beyond.{behind-zeroed}
 use Rattle.built_meshes.proofs.Entering.{counted}
 use Rattle.built_meshes.proofs.Perimeter.{Ready, Done, Chained, Faces}
-use Rattle.built_meshes.proofs.Faces.{every-false, and-false}
+use Rattle.built_meshes.proofs.Versions.{every-false, and-false}
 
 -- ---- ground 2
 
@@ -44,6 +46,7 @@ pub record Counted (c : Sizes) (l : Lists) : Type 0 where
   pub faces-whole : length (l .sides) % 4 ≡ 0
   pub alike : length (l .listed) ≡ length (l .intervals)
   pub sum-alike : sumTo (length (l .sides)) (λ k. getD (l .sides) k 0) ≡ length (l .listed)
+  pub firsts-alike : firstsCounted (l .version) l ≡ true
 
 pub counts-is : (c : Sizes) (l : Lists) → countsFit c l ≡ true → Counted c l
 unfolding countsFit
@@ -53,24 +56,27 @@ counts-is c l h =
     (and-is
     (and-is
     (and-is
+    (and-is
     (and-is (and-is (leb-is (pointsOf l) (c .points)) (leb-is (facesOf l) (c .faces))) (leb-is (length (l .listed)) (c .listed)))
     (eqb-is (length (l .coordinates) % 3) 0))
     (eqb-is (length (l .sides) % 4) 0))
     (eqb-is (length (l .listed)) (length (l .intervals))))
-    (eqb-is (sumTo (length (l .sides)) (λ k. getD (l .sides) k 0)) (length (l .listed))) .0 h in
+    (eqb-is (sumTo (length (l .sides)) (λ k. getD (l .sides) k 0)) (length (l .listed))))
+    (self-is (firstsCounted (l .version) l)) .0 h in
     record {
-      points-few = z .0 .0 .0 .0 .0 .0;
-      faces-few = z .0 .0 .0 .0 .0 .1;
-      listed-few = z .0 .0 .0 .0 .1;
-      points-whole = z .0 .0 .0 .1;
-      faces-whole = z .0 .0 .1;
-      alike = z .0 .1;
-      sum-alike = z .1;
+      points-few = z .0 .0 .0 .0 .0 .0 .0;
+      faces-few = z .0 .0 .0 .0 .0 .0 .1;
+      listed-few = z .0 .0 .0 .0 .0 .1;
+      points-whole = z .0 .0 .0 .0 .1;
+      faces-whole = z .0 .0 .0 .1;
+      alike = z .0 .0 .1;
+      sum-alike = z .0 .1;
+      firsts-alike = z .1;
     }
 
 pub counts-fail : (c : Sizes) (l : Lists) → countsFit c l ≡ false → Over-counts c l
 unfolding countsFit
-counts-fail c l h = go7 (and-false _ _ h)
+counts-fail c l h = go8 (and-false _ _ h)
   where
     go2 : (leb (pointsOf l) (c .points) ≡ false) ⊎ (leb (facesOf l) (c .faces) ≡ false) → Over-counts c l
     go2 (inl z) = many-points (leb-false _ _ z)
@@ -99,6 +105,16 @@ counts-fail c l h = go7 (and-false _ _ h)
     go7 (inl z) = go6 (and-false _ _ z)
     go7 (inr z) = sum-unlike (eqb-false _ _ z)
 
+    firsts : (v : Version) → l .version ≡ v → firstsCounted v l ≡ false → Over-counts c l
+    firsts One e z = absurd (true≢false z)
+    firsts Two e z = firsts-unlike e (eqb-false _ _ z)
+
+    go8 : (leb (pointsOf l) (c .points) && leb (facesOf l) (c .faces) && leb (length (l .listed)) (c .listed) && eqb (length (l .coordinates) % 3) 0 && eqb (length (l .sides) % 4) 0
+        && eqb (length (l .listed)) (length (l .intervals)) && eqb (sumTo (length (l .sides)) (λ k. getD (l .sides) k 0)) (length (l .listed)) ≡ false)
+        ⊎ (firstsCounted (l .version) l ≡ false) → Over-counts c l
+    go8 (inl z) = go7 (and-false _ _ z)
+    go8 (inr z) = firsts (l .version) refl z
+
 pub counted-fits : (c : Sizes) (l : Lists) → Counted c l → ¬ Over-counts c l
 counted-fits c l h (many-points z) = omega (arith, h .points-few)
 counted-fits c l h (many-faces z) = omega (arith, h .faces-few)
@@ -107,6 +123,7 @@ counted-fits c l h (point-cut z) = z (h .points-whole)
 counted-fits c l h (face-cut z) = z (h .faces-whole)
 counted-fits c l h (unlike z) = z (h .alike)
 counted-fits c l h (sum-unlike z) = z (h .sum-alike)
+counted-fits c l h (firsts-unlike two z) = z (eqb-is (length (l .firsts)) (length (l .sides)) .0 (subst (λ v. firstsCounted v l ≡ true) two (h .firsts-alike)))
 
 -- ---- ground 3
 

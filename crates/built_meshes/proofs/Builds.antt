@@ -15,15 +15,16 @@ use Rattle.t_spline.specs.Edge.{none}
 use Rattle.t_spline.specs.Ends.{faceFromSide}
 use Rattle.t_spline.specs.declared.TnurccFaceSide.{TnurccFaceSide}
 use Rattle.t_spline.specs.declared.TnurccFaceSide.the-variants.{Left, Right}
-use Rattle.tables.specs.Mesh.{Mesh, valence, mark, origin, dest, leftFace, rightFace}
+use Rattle.tables.specs.Mesh.{Mesh, valence, mark, origin, dest, leftFace, rightFace, interval}
 use Rattle.built_meshes.specs.Lists.{Lists, pointsOf, facesOf, size}
-use Rattle.built_meshes.specs.Perimeters.{BuildState}
-use Rattle.built_meshes.specs.Places.{pointOf, nextOf, IsPlace, Runs, Between, Earlier}
+use Rattle.built_meshes.specs.Perimeters.{BuildState, intervalPlace}
+use Rattle.built_meshes.specs.Places.{pointOf, nextOf, besideOf, IsPlace, Runs, Between, Earlier}
 use Rattle.built_meshes.specs.Whole.{finished}
 use Rattle.built_meshes.specs.Beyond.{Within}
 use Rattle.built_meshes.specs.Builds.{First, Edge-of, Beside, Builds}
 use Rattle.built_meshes.proofs.Connecting.{firstOf, secondOf, acwOf, cwOf}
 use Rattle.built_meshes.proofs.Rows.{row}
+use Rattle.built_meshes.specs.declared.Version.{Version}
 use Rattle.built_meshes.proofs.Made.{Maker, Meets}
 use Rattle.built_meshes.proofs.Invariant.{Sits, Invariant}
 use Rattle.built_meshes.proofs.Perimeter.{Done, Chained, Faces}
@@ -138,6 +139,10 @@ module _ (c : Sizes) (l : Lists) (m₀ : Mesh) (counted' : Counted c l) (roomy :
   mark-after : (p : ℕ) → p < pointsOf l → ((valence after p ≡ 4) × (mark after p ≡ 0)) ⊎ ((valence after p ≢ 4) × (mark after p ≡ 1))
   mark-after p b = mark-finished l (s .mesh) p b (rw (within .points .0) (omega (arith, roomy .points-enough)))
 
+  -- the interval of an edge is that of its place, by the version w
+  abbrev At-interval : ℕ → Version → Type 0
+  At-interval e w = interval after e ≡ besideOf l (leftFace after e) (intervalPlace w (size l (leftFace after e)) (v .made .place e))
+
   pub builds-finished : Builds l after (s .edges)
   unfolding finished
   builds-finished =
@@ -153,7 +158,8 @@ module _ (c : Sizes) (l : Lists) (m₀ : Mesh) (counted' : Counted c l) (roomy :
         all-first = all-first' l after (s .edges) v right';
         in-order = v .made .in-order;
         runs = runs' l after (s .edges) v right';
-        interval-is = λ e b. v .made .maker e b .interval-is;
+        interval-1 = λ h e b. subst (λ w. At-interval e w) h (v .made .maker e b .interval-is);
+        interval-2 = λ h e b. subst (λ w. At-interval e w) h (v .made .maker e b .interval-is);
         left-links = λ e b.
             let r = runs' l after (s .edges) v right' e b in links l after (s .edges) v right' Left e (v .made .place e) b (r .is-place) (r .begins);
         second = λ e b.

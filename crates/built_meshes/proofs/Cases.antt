@@ -14,6 +14,7 @@ use Rattle.tables.specs.declared.Sizes.{Sizes}
 use Rattle.built_meshes.specs.Answers.{builtNumbers}
 use Rattle.built_meshes.specs.Building.{build}
 use Rattle.built_meshes.specs.Pieces.{unit, two, nought, backToBack}
+use Rattle.built_meshes.specs.declared.Version.the-variants.{One}
 use Rattle.built_meshes.specs.declared.Ground.the-variants.{SameWay}
 use Rattle.built_meshes.specs.declared.Built.the-variants.{Accepted, Refused}
 
@@ -67,17 +68,21 @@ times (suc k) xs = xs ++ times k xs
 abbrev triangles : ℕ → ℕ → List ℕ → Lists
 triangles n k ps =
     record {
+      version = One;
       coordinates = replicate (n * 3) nought;
       sides = times k (1 ∷ 1 ∷ 1 ∷ 0 ∷ []);
+      firsts = [];
       listed = ps;
       intervals = times k (unit ∷ unit ∷ two ∷ []);
     }
 
 abbrev withIntervals : Lists → List Float → Lists
-withIntervals l ts = record { coordinates = l .coordinates; sides = l .sides; listed = l .listed; intervals = ts }
+withIntervals l ts =
+    record { version = l .version; coordinates = l .coordinates; sides = l .sides; firsts = l .firsts; listed = l .listed; intervals = ts }
 
 abbrev withCoordinates : Lists → List Float → Lists
-withCoordinates l xs = record { coordinates = xs; sides = l .sides; listed = l .listed; intervals = l .intervals }
+withCoordinates l xs =
+    record { version = l .version; coordinates = xs; sides = l .sides; firsts = l .firsts; listed = l .listed; intervals = l .intervals }
 
 -- n points and no face
 abbrev points : ℕ → Lists
@@ -107,7 +112,7 @@ orders =
     -- 4 before 10
     ∷ pieceIn generalLimits (backToBack 2 (1 ∷ 0 ∷ 1 ∷ 0 ∷ []) (unit ∷ unit ∷ [])) noTables (4 ∷ [])
     -- 10 before 11: two points, both out of range
-    ∷ piece (record { coordinates = []; sides = 1 ∷ 0 ∷ 1 ∷ 0 ∷ []; listed = 7 ∷ 7 ∷ []; intervals = unit ∷ unit ∷ [] }) (10 ∷ [])
+    ∷ piece (record { version = One; coordinates = []; sides = 1 ∷ 0 ∷ 1 ∷ 0 ∷ []; firsts = []; listed = 7 ∷ 7 ∷ []; intervals = unit ∷ unit ∷ [] }) (10 ∷ [])
     -- 11 before 12
     ∷ piece (triangles 3 1 (0 ∷ 3 ∷ 3 ∷ [])) (11 ∷ [])
     -- 12 before 13

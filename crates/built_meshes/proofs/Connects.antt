@@ -33,6 +33,7 @@ use Rattle.built_meshes.specs.Building.{facePassed}
 use Rattle.built_meshes.specs.Connects.{turnConnects, placesConnect, closeConnects, begun, faceConnects, facesConnect, Always-connects}
 use Rattle.built_meshes.specs.declared.Verdict.{Verdict}
 use Rattle.built_meshes.specs.declared.Verdict.the-variants.{Fit}
+use Rattle.built_meshes.proofs.Made.{intervalOf}
 use Rattle.built_meshes.proofs.Connecting.{firstOf, secondOf}
 use Rattle.built_meshes.proofs.Rows.{row}
 use Rattle.built_meshes.proofs.Invariant.{FaceSound, Sits}
@@ -113,9 +114,9 @@ joinable-sits l m ne f i e o a x y =
 module _ (l : Lists) (s : BuildState) (k : ℕ) (kf : k < facesOf l) (sound : FaceSound l k) (ready : Ready l (s .mesh)) where
   turn-connects :
       (i : ℕ) (r : FaceState) → Around l s k kf sound ready i r → i < size l k →
-      turnConnects r i (entered (r .mesh) (r .edges) k (pointOf l k i) (nextOf l k i) (getD (l .intervals) (offset l k + i) nan)) ≡ true
+      turnConnects r i (entered (r .mesh) (r .edges) k (pointOf l k i) (nextOf l k i) (intervalOf l k i)) ≡ true
   turn-connects i r a below =
-      go i a below (entered (r .mesh) (r .edges) k (pointOf l k i) (nextOf l k i) (getD (l .intervals) (offset l k + i) nan))
+      go i a below (entered (r .mesh) (r .edges) k (pointOf l k i) (nextOf l k i) (intervalOf l k i))
       (entering l s k kf sound ready i below r a)
     where
       go : (i : ℕ) → Around l s k kf sound ready i r → i < size l k → (x : Entered) →

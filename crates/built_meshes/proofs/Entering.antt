@@ -42,7 +42,7 @@ use Rattle.built_meshes.proofs.Rows.{row, withRight, row-newEdge, row-n
 use Rattle.built_meshes.proofs.Rows.{valence-newEdge-second, valence-newEdge-other, start-newEdge-first}
 use Rattle.built_meshes.proofs.Rows.{start-newEdge-second, start-newEdge-other, row-filled, row-filled-other}
 use Rattle.built_meshes.proofs.Beyond.{behind-trans, behind-set, behind-putRow, behind-touched}
-use Rattle.built_meshes.proofs.Made.{Maker, Made, Meets, Alike, made-on, made-new, earlier-not, earlier-differs}
+use Rattle.built_meshes.proofs.Made.{Maker, Made, Meets, intervalOf, Alike, made-on, made-new, earlier-not, earlier-differs}
 use Rattle.built_meshes.proofs.Invariant.{Sits, Good, Invariant, Adds, Or-this, sits-added, sits-new, invariant-added}
 
 -- ---- the search
@@ -125,7 +125,7 @@ module _ (l : Lists) (D C : ℕ → ℕ → Type 0) (m : Mesh) (ne : ℕ) (f₀ 
 
   module _ (v : Invariant l D C m ne) (g₀ : Good l f₀ i₀) (value : Float) (fit : intervalFit value ≡ true)
       (points-room : pointsOf l * 3 ≤ length (m .points)) (edges-room : suc ne * 8 ≤ length (m .edges)) (intervals-room : ne < length (m .intervals)) (listed-room : ne < length (l .listed))
-      (past : (f i : ℕ) → D f i → Earlier f i f₀ i₀) (value-is : value ≡ getD (l .intervals) (offset l f₀ + i₀) nan) where
+      (past : (f i : ℕ) → D f i → Earlier f i f₀ i₀) (value-is : value ≡ intervalOf l f₀ i₀) where
     abbrev p : ℕ
     p = pointOf l f₀ i₀
 

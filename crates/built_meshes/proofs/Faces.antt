@@ -1,5 +1,4 @@
 -- The invariant after all faces, or the ground that stopped them. Assumes nothing.
---     every-false             a test of each number below n that fails, fails of some number
 --     verdict-is              what the verdict of a face says
 --     faces-came              what comes of all faces
 use mathlib.Core.Path.{_≡_, refl, sym, _∙_, ap₂, subst}
@@ -12,7 +11,6 @@ use lib.Dec.{eqb, ltb, leb}
 use borrow.Author.Tests.{leb-false, ltb-false, eqb-true, not-false}
 use Rattle.perimeters.specs.Places.{nextPlace}
 use Rattle.perimeters.proofs.Laws.{next-below, next-differs}
-use Rattle.positions.specs.Position.{small}
 use Rattle.tables.specs.Mesh.{Mesh}
 use Rattle.closed_meshes.specs.Renumbering.{sumTo}
 use Rattle.audited_meshes.specs.Folds.{every}
@@ -20,48 +18,35 @@ use Rattle.audited_meshes.proofs.Folds.{below-suc}
 use Rattle.audited_meshes.proofs.Tests.{Is, and-is, not-is, eqb-is, ltb-is, leb-is, every-is}
 use Rattle.built_meshes.specs.Lists.{Lists, pointsOf, facesOf, size, offset}
 use Rattle.tables.specs.declared.Sizes.{Sizes}
-use Rattle.built_meshes.specs.Faces.{sizeFit, listedInRange, noPointTwice, sumsApart, sumsFit, faceVerdict}
+use Rattle.built_meshes.specs.Faces.{sizeFit, listedInRange, noPointTwice, firstsFit, sumsFit, faceVerdict}
 use Rattle.built_meshes.specs.Perimeters.{BuildState, Progress, on, stopped, perimeter}
 use Rattle.built_meshes.specs.Places.{pointOf, nextOf, Runs, IsPlace, Between, Earlier}
 use Rattle.built_meshes.specs.Answers.{groundNumber}
 use Rattle.built_meshes.specs.Building.{faceIf, facePassed, facesFrom}
 use Rattle.built_meshes.specs.Beyond.{Within}
-use Rattle.built_meshes.specs.Grounds.{Where, face, edge, Met, face-size, out-of-range, point-twice, non-rectangular, triple-face, same-way, First-met}
+use Rattle.built_meshes.specs.Grounds.{Where, face, edge, Met, face-size, out-of-range, point-twice, first-point, non-rectangular, triple-face, same-way, rank, First-met}
 use Rattle.built_meshes.specs.declared.Ground.{Ground}
-use Rattle.built_meshes.specs.declared.Ground.the-variants.{FaceSize, OutOfRange, PointTwice, NonRectangularFace, EdgeTripleFace, SameWay}
+use Rattle.built_meshes.specs.declared.Ground.the-variants.{FaceSize, OutOfRange, PointTwice, FirstPoint, NonRectangularFace, EdgeTripleFace, SameWay}
 use Rattle.built_meshes.specs.declared.Verdict.{Verdict}
 use Rattle.built_meshes.specs.declared.Verdict.the-variants.{Fit, Unfit}
 use Rattle.built_meshes.proofs.Rows.{row}
 use Rattle.built_meshes.proofs.Beyond.{within-refl, within-trans}
 use Rattle.built_meshes.proofs.Invariant.{FaceSound, One-way}
-use Rattle.built_meshes.proofs.Before.{Tests, tests-of, Triple, Same, no-same, no-triple, Clear-lists, first-face, first-edge}
+use Rattle.built_meshes.proofs.Versions.{every-false, and-false, sums-apart, firsts-apart}
+use Rattle.built_meshes.proofs.Before.{Agrees, Tests, tests-of, Triple, Same, no-same, no-triple, Clear-lists, first-face, first-edge}
 use Rattle.built_meshes.proofs.Entering.{Why, both-ways, this-way}
 use Rattle.built_meshes.proofs.Perimeter.{Ready, ready-same, Done, Faces, Perimeter-came, whole, halted, perimeter-came, offset-suc}
-
-pub every-false : (n : ℕ) (test : ℕ → Bool) → every n test ≡ false → (k : ℕ) × (k < n) × (test k ≡ false)
-unfolding every
-every-false zero test h = absurd (true≢false h)
-every-false (suc n) test h = go (every n test) refl (every-false n test) h
-  where
-    go : (b : Bool) → every n test ≡ b → (every n test ≡ false → (k : ℕ) × (k < n) × (test k ≡ false)) → b && test n ≡ false → (k : ℕ) × (k < suc n) × (test k ≡ false)
-    go true e ih h = (n, omega arith, h)
-    go false e ih h = let w = ih e in (w .0, omega (arith, w .1), w .2)
 
 why-number : {l : Lists} {D : ℕ → ℕ → Type 0} {p q : ℕ} {g : Ground} → Why l D p q g → 10 ≤ groundNumber g
 why-number (both-ways f i g j d a b d' a' b') = omega arith
 why-number (this-way f i d a b n) = omega arith
 
--- a conjunction that fails
-pub and-false : (a b : Bool) → a && b ≡ false → (a ≡ false) ⊎ (b ≡ false)
-and-false true b h = inr h
-and-false false b h = inl refl
-
 -- ---- one face
 
 module _ (c : Sizes) (l : Lists) (m₀ : Mesh) where
   pub data Face-verdict (f : ℕ) : Verdict → Type 0 where
-    fit : FaceSound l f → small (sumsApart l f (offset l f)) ≡ true → Face-verdict f Fit
-    unfit : {g : Ground} → Met c l m₀ (face f) g → Tests l f (groundNumber g) → 10 ≤ groundNumber g → Face-verdict f (Unfit g)
+    fit : FaceSound l f → Agrees l f → Face-verdict f Fit
+    unfit : {g : Ground} → Met c l m₀ (face f) g → Tests l f (rank g) → 10 ≤ groundNumber g → Face-verdict f (Unfit g)
 
   range-is : (f : ℕ) → Is (listedInRange l (pointsOf l) (offset l f) (size l f)) ((i : ℕ) → i < size l f → pointOf l f i < pointsOf l)
   unfolding listedInRange
@@ -99,73 +84,105 @@ module _ (c : Sizes) (l : Lists) (m₀ : Mesh) where
       point-twice f (w .0) (u .0) (b, w .1) (u .1)
       (eqb-true (pointOf l f (w .0)) (pointOf l f (u .0)) (not-false (eqb (pointOf l f (w .0)) (pointOf l f (u .0))) (u .2)))
 
+  -- what is left of the verdict after 12
+  abbrev versionVerdict : ℕ → Verdict
+  versionVerdict f =
+      cond (not (firstsFit (l .version) l f (offset l f))) (Unfit FirstPoint) (cond (not (sumsFit (l .version) l f (offset l f))) (Unfit NonRectangularFace) Fit)
+
   pub verdict-is : (f : ℕ) → f < facesOf l → Face-verdict f (faceVerdict l (pointsOf l) f (offset l f))
   unfolding faceVerdict
   verdict-is f b = sizes (sizeFit (size l f)) refl
     where
       -- what passed before a test that fails
-      tests-10 : Tests l f 10
-      tests-10 =
+      tests-9 : Tests l f 9
+      tests-9 =
           record {
             sizes = λ h. absurd (omega arith);
             ranges = λ h. absurd (omega arith);
             once = λ h. absurd (omega arith);
+            firsts = λ h. absurd (omega arith);
             sums = λ h. absurd (omega arith);
           }
 
-      tests-11 : sizeFit (size l f) ≡ true → Tests l f 11
-      tests-11 hs =
+      tests-10 : sizeFit (size l f) ≡ true → Tests l f 10
+      tests-10 hs =
           record {
             sizes = λ h. and-is (leb-is 3 (size l f)) (leb-is (size l f) 64) .0 hs;
             ranges = λ h. absurd (omega arith);
             once = λ h. absurd (omega arith);
+            firsts = λ h. absurd (omega arith);
             sums = λ h. absurd (omega arith);
           }
 
-      tests-12 : sizeFit (size l f) ≡ true → listedInRange l (pointsOf l) (offset l f) (size l f) ≡ true → Tests l f 12
-      tests-12 hs hr =
-          record { sizes = λ h. tests-11 hs .sizes (omega arith); ranges = λ h. range-is f .0 hr; once = λ h. absurd (omega arith); sums = λ h. absurd (omega arith) }
+      tests-11 : sizeFit (size l f) ≡ true → listedInRange l (pointsOf l) (offset l f) (size l f) ≡ true → Tests l f 11
+      tests-11 hs hr =
+          record {
+            sizes = λ h. tests-10 hs .sizes (omega arith);
+            ranges = λ h. range-is f .0 hr;
+            once = λ h. absurd (omega arith);
+            firsts = λ h. absurd (omega arith);
+            sums = λ h. absurd (omega arith);
+          }
 
-      tests : FaceSound l f → Tests l f 13
-      tests s =
+      tests-12 : FaceSound l f → Tests l f 12
+      tests-12 s =
           record {
             sizes = λ h. (s .at-least-3, s .at-most-64);
             ranges = λ h. s .in-range;
             once = λ h. s .distinct;
+            firsts = λ h. absurd (omega arith);
             sums = λ h. absurd (omega arith);
           }
 
-      sums : FaceSound l f → (t : Bool) → sumsFit l f (offset l f) ≡ t → Face-verdict f (cond (not t) (Unfit NonRectangularFace) Fit)
-      sums s true h = fit s h
-      sums s false h = unfit {g = NonRectangularFace} (non-rectangular f b h) (tests s) (omega arith)
+      tests-13 : FaceSound l f → firstsFit (l .version) l f (offset l f) ≡ true → Tests l f 13
+      tests-13 s hf =
+          record {
+            sizes = λ h. (s .at-least-3, s .at-most-64);
+            ranges = λ h. s .in-range;
+            once = λ h. s .distinct;
+            firsts = λ h. hf;
+            sums = λ h. absurd (omega arith);
+          }
+
+      sums : FaceSound l f → firstsFit (l .version) l f (offset l f) ≡ true → (t : Bool) → sumsFit (l .version) l f (offset l f) ≡ t →
+          Face-verdict f (cond (not t) (Unfit NonRectangularFace) Fit)
+      sums s hf true h = fit s (hf, h)
+      sums s hf false h = unfit {g = NonRectangularFace} (non-rectangular f b (sums-apart l f (offset l f) h)) (tests-13 s hf) (omega arith)
+
+      firsts : FaceSound l f → (t : Bool) → firstsFit (l .version) l f (offset l f) ≡ t →
+          Face-verdict f (cond (not t) (Unfit FirstPoint) (cond (not (sumsFit (l .version) l f (offset l f))) (Unfit NonRectangularFace) Fit))
+      firsts s true h = sums s h (sumsFit (l .version) l f (offset l f)) refl
+      firsts s false h =
+          let x = firsts-apart l f (offset l f) (omega (arith, s .at-least-3)) h in
+          unfit {g = FirstPoint} (first-point f (x .side) (x .place) (x .two) b (x .is-side) (x .last) (x .differs)) (tests-12 s) (omega arith)
 
       twice : sizeFit (size l f) ≡ true → listedInRange l (pointsOf l) (offset l f) (size l f) ≡ true → (t : Bool) → noPointTwice l (offset l f) (size l f) ≡ t →
-          Face-verdict f (cond (not t) (Unfit PointTwice) (cond (not (sumsFit l f (offset l f))) (Unfit NonRectangularFace) Fit))
+          Face-verdict f (cond (not t) (Unfit PointTwice) (versionVerdict f))
       twice hs hr true h =
           let both = and-is (leb-is 3 (size l f)) (leb-is (size l f) 64) .0 hs in
-          sums (record { at-least-3 = both .0; at-most-64 = both .1; in-range = range-is f .0 hr; distinct = distinct-of f (twice-is f .0 h) })
-          (sumsFit l f (offset l f)) refl
-      twice hs hr false h = unfit {g = PointTwice} (twice-met f b h) (tests-12 hs hr) (omega arith)
+          firsts (record { at-least-3 = both .0; at-most-64 = both .1; in-range = range-is f .0 hr; distinct = distinct-of f (twice-is f .0 h) })
+          (firstsFit (l .version) l f (offset l f)) refl
+      twice hs hr false h = unfit {g = PointTwice} (twice-met f b h) (tests-11 hs hr) (omega arith)
 
       ranges : sizeFit (size l f) ≡ true → (t : Bool) → listedInRange l (pointsOf l) (offset l f) (size l f) ≡ t →
           Face-verdict f (cond (not t) (Unfit OutOfRange)
-          (cond (not (noPointTwice l (offset l f) (size l f))) (Unfit PointTwice) (cond (not (sumsFit l f (offset l f))) (Unfit NonRectangularFace) Fit)))
+          (cond (not (noPointTwice l (offset l f) (size l f))) (Unfit PointTwice) (versionVerdict f)))
       ranges hs true h = twice hs h (noPointTwice l (offset l f) (size l f)) refl
-      ranges hs false h = unfit {g = OutOfRange} (range-met f b h) (tests-11 hs) (omega arith)
+      ranges hs false h = unfit {g = OutOfRange} (range-met f b h) (tests-10 hs) (omega arith)
 
       sizes : (t : Bool) → sizeFit (size l f) ≡ t →
           Face-verdict f (cond (not t) (Unfit FaceSize) (cond (not (listedInRange l (pointsOf l) (offset l f) (size l f))) (Unfit OutOfRange)
-          (cond (not (noPointTwice l (offset l f) (size l f))) (Unfit PointTwice) (cond (not (sumsFit l f (offset l f))) (Unfit NonRectangularFace) Fit))))
+          (cond (not (noPointTwice l (offset l f) (size l f))) (Unfit PointTwice) (versionVerdict f))))
       sizes true h = ranges h (listedInRange l (pointsOf l) (offset l f) (size l f)) refl
-      sizes false h = unfit {g = FaceSize} (size-met f b h) tests-10 (omega arith)
+      sizes false h = unfit {g = FaceSize} (size-met f b h) tests-9 (omega arith)
 
   -- nothing is held against the faces below k
   pub record Fit-faces (k : ℕ) : Type 0 where
     pub sound : (f : ℕ) → f < k → FaceSound l f
-    pub rectangular : (f : ℕ) → f < k → small (sumsApart l f (offset l f)) ≡ true
+    pub agrees : (f : ℕ) → f < k → Agrees l f
 
   pub fit-tests : (k : ℕ) → Fit-faces k → (f : ℕ) → f < k → (n : ℕ) → Tests l f n
-  fit-tests k a f b n = tests-of l f n (a .sound f b) (a .rectangular f b)
+  fit-tests k a f b n = tests-of l f n (a .sound f b) (a .agrees f b)
 
   -- ---- a place that was refused
 
@@ -251,17 +268,17 @@ module _ (c : Sizes) (l : Lists) (m₀ : Mesh) where
       along : {s : BuildState} → So-far f s → Along f (on s)
       stopped-at : {g : Ground} {m : Mesh} (w : Where) → First-met c l m₀ w g → 10 ≤ groundNumber g → Within l (s₀ .mesh) m → Along f (stopped g m)
 
-    fit-more : (f : ℕ) → Fit-faces f → FaceSound l f → small (sumsApart l f (offset l f)) ≡ true → Fit-faces (suc f)
+    fit-more : (f : ℕ) → Fit-faces f → FaceSound l f → Agrees l f → Fit-faces (suc f)
     fit-more f a s r =
         record {
           sound = λ x h. below-suc x f h (a .sound x) (λ same. subst (λ f. FaceSound l f) (sym same) s);
-          rectangular = λ x h. below-suc x f h (a .rectangular x) (λ same. subst (λ f. small (sumsApart l f (offset l f)) ≡ true) (sym same) r);
+          agrees = λ x h. below-suc x f h (a .agrees x) (λ same. subst (λ f. Agrees l f) (sym same) r);
         }
 
     -- a ground of face f is met first
-    face-first : (f : ℕ) (s : BuildState) → f < facesOf l → So-far f s → {g : Ground} → Met c l m₀ (face f) g → Tests l f (groundNumber g) → First-met c l m₀ (face f) g
+    face-first : (f : ℕ) (s : BuildState) → f < facesOf l → So-far f s → {g : Ground} → Met c l m₀ (face f) g → Tests l f (rank g) → First-met c l m₀ (face f) g
     face-first f s b a {g} met tests =
-        first-face c l m₀ clear f (groundNumber g) (fit-tests f (a .fit-faces)) tests
+        first-face c l m₀ clear f (rank g) (fit-tests f (a .fit-faces)) tests
         (λ x i is h.
         let one-way = a .faces .invariant .one-way in
         (no-triple l (Done l f 0) (done-down f 0) one-way x i (inl (h, is .1)), no-same l (Done l f 0) (done-down f 0) one-way x i (inl (h, is .1))))
@@ -271,7 +288,7 @@ module _ (c : Sizes) (l : Lists) (m₀ : Mesh) where
     unfolding facePassed faceIf
     face-came f s b a = go (faceVerdict l (pointsOf l) f (offset l f)) (verdict-is f b)
       where
-        entered : (sound : FaceSound l f) → small (sumsApart l f (offset l f)) ≡ true → (x : Progress BuildState) →
+        entered : (sound : FaceSound l f) → Agrees l f → (x : Progress BuildState) →
             Perimeter-came l s f b sound (ready-same l (a .within) ready) x → Along (suc f) x
         entered sound r x (whole faces within grows later) =
             along (record {
@@ -299,7 +316,7 @@ module _ (c : Sizes) (l : Lists) (m₀ : Mesh) where
     so-far-none all =
         record {
           faces = all;
-          fit-faces = record { sound = λ f h. absurd (omega arith); rectangular = λ f h. absurd (omega arith) };
+          fit-faces = record { sound = λ f h. absurd (omega arith); agrees = λ f h. absurd (omega arith) };
           within = within-refl l (s₀ .mesh);
           later = λ x h. refl;
         }

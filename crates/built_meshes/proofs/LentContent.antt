@@ -23,18 +23,20 @@ use Rattle.tables.specs.declared.Counts.{Counts}
 use Rattle.audited_meshes.specs.Folds.{oneIf}
 use Rattle.audited_meshes.specs.Walks.{touches, Touches}
 use Rattle.audited_meshes.proofs.Folds.{below-suc, sumTo-cong}
-use Rattle.built_meshes.specs.Lists.{Lists, pointsOf, facesOf, size, offset, rowsOf}
-use Rattle.built_meshes.specs.Places.{pointOf, nextOf, Runs, Between, Earlier}
+use Rattle.built_meshes.specs.Lists.{Lists, pointsOf, facesOf, size, rowsOf}
+use Rattle.built_meshes.specs.Places.{pointOf, nextOf, besideOf, Runs, Between, Earlier}
 use Rattle.built_meshes.specs.Building.{build}
 use Rattle.built_meshes.specs.Builds.{Edge-of, Builds}
 use Rattle.built_meshes.specs.Answers.{groundNumber}
 use Rattle.built_meshes.specs.Grounds.{Few-rows, few-points, few-faces, few-edges, Where, Met, over-counts}
-use Rattle.built_meshes.specs.Grounds.{unfit-number, few-rows, face-size, out-of-range, point-twice, non-rectangular}
+use Rattle.built_meshes.specs.Grounds.{unfit-number, few-rows, face-size, out-of-range, point-twice, first-point, non-rectangular}
 use Rattle.built_meshes.specs.Grounds.{triple-face, same-way, missing-face, no-edge, missed-edge, edge}
 use Rattle.built_meshes.specs.LentContent.{Same-numbers, Same-counted, Shows-nothing, Lent-content}
+use Rattle.built_meshes.specs.declared.Version.{Version}
+use Rattle.built_meshes.specs.declared.Version.the-variants.{One, Two}
 use Rattle.built_meshes.specs.declared.Ground.{Ground}
 use Rattle.built_meshes.specs.declared.Ground.the-variants.{OverCounts, UnfitNumber, FewRows, FaceSize, OutOfRange}
-use Rattle.built_meshes.specs.declared.Ground.the-variants.{PointTwice, NonRectangularFace, EdgeTripleFace}
+use Rattle.built_meshes.specs.declared.Ground.the-variants.{PointTwice, FirstPoint, NonRectangularFace, EdgeTripleFace}
 use Rattle.built_meshes.specs.declared.Ground.the-variants.{SameWay, MissingFace, NoEdge, MissedEdge}
 use Rattle.built_meshes.specs.declared.Built.{Built}
 use Rattle.built_meshes.specs.declared.Built.the-variants.{Accepted, Refused}
@@ -148,7 +150,12 @@ module _ (l : Lists) (t t' : Mesh) (ne : ℕ) (b : Builds l t ne) (b' : Builds l
 
     intervals : interval t' e ≡ interval t e
     intervals =
-        b' .interval-is e k ∙ ap₂ (λ (f i : ℕ). getD (l .intervals) (offset l f + i) nan) (sym (same .0)) (sym (same .1)) ∙ sym (b .interval-is e k)
+        go (l .version) refl
+      where
+        go : (v : Version) → l .version ≡ v → interval t' e ≡ interval t e
+        go One h = b' .interval-1 h e k ∙ ap₂ (λ (f i : ℕ). besideOf l f i) (sym (same .0)) (sym (same .1)) ∙ sym (b .interval-1 h e k)
+        go Two h =
+            b' .interval-2 h e k ∙ ap₂ (λ (f i : ℕ). besideOf l f (nextPlace (size l f) i)) (sym (same .0)) (sym (same .1)) ∙ sym (b .interval-2 h e k)
 
     seconds : (rightFace t' e ≡ rightFace t e) × (b' .second e k .0 ≡ b .second e k .0)
     seconds =
@@ -325,6 +332,7 @@ met-same c l m m' s w g (few-rows h) = few-rows (few-same l m m' s h)
 met-same c l m m' s w g (face-size f is h) = face-size f is h
 met-same c l m m' s w g (out-of-range f i is h) = out-of-range f i is h
 met-same c l m m' s w g (point-twice f i j is h k) = point-twice f i j is h k
+met-same c l m m' s w g (first-point f k j two is b h d) = first-point f k j two is b h d
 met-same c l m m' s w g (non-rectangular f is h) = non-rectangular f is h
 met-same c l m m' s w g (triple-face f i g' j h k p q r a b x y z) = triple-face f i g' j h k p q r a b x y z
 met-same c l m m' s w g (same-way f i g' j p q r t x) = same-way f i g' j p q r t x
@@ -343,6 +351,7 @@ late FewRows a b c = absurd (c refl)
 late FaceSize a b c = omega arith
 late OutOfRange a b c = omega arith
 late PointTwice a b c = omega arith
+late FirstPoint a b c = omega arith
 late NonRectangularFace a b c = omega arith
 late EdgeTripleFace a b c = omega arith
 late SameWay a b c = omega arith

@@ -6,6 +6,7 @@ pub mod Invariant
 pub mod Joining
 pub mod Entering
 pub mod Perimeter
+pub mod Versions
 pub mod Before
 pub mod Faces
 pub mod Whole

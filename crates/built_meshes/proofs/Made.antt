@@ -7,29 +7,33 @@
 use mathlib.Core.Path.{_≡_, sym, _∙_, subst}
 use mathlib.Core.Bool.{cond}
 use mathlib.Core.Logic.{_⊎_, inl, inr}
-use Prim.Native.Nat.{ℕ, suc, _+_, _<_, _≤_}
+use Prim.Native.Nat.{ℕ, suc, _<_, _≤_}
 use native.Mathlib.Omega.{arith}
 use lib.Dec.{eqb}
-use lib.Ieee.{nan}
-use lib.ListN.{getD}
+use lib.Ieee.{Float}
 use borrow.Author.Tests.{eq-eqb, ne-eqb}
 use Rattle.audited_meshes.specs.Walks.{Touches}
 use Rattle.t_spline.specs.declared.TnurccEdge.{TnurccEdge}
 use Rattle.tables.specs.Mesh.{Mesh, start}
 use Rattle.audited_meshes.proofs.Folds.{below-suc}
-use Rattle.built_meshes.specs.Lists.{Lists, pointsOf, offset}
-use Rattle.built_meshes.specs.Places.{pointOf, nextOf, Earlier}
+use Rattle.built_meshes.specs.Lists.{Lists, pointsOf, size}
+use Rattle.built_meshes.specs.Places.{pointOf, nextOf, besideOf, Earlier}
+use Rattle.built_meshes.specs.Perimeters.{intervalPlace}
 use Rattle.built_meshes.proofs.Rows.{row}
 
 -- place j of face g joins the points p and q
 abbrev pub Meets : Lists → ℕ → ℕ → ℕ → ℕ → Type 0
 Meets l g j p q = ((pointOf l g j ≡ p) × (nextOf l g j ≡ q)) ⊎ ((pointOf l g j ≡ q) × (nextOf l g j ≡ p))
 
+-- the interval of place i of face f
+abbrev pub intervalOf : Lists → ℕ → ℕ → Float
+intervalOf l f i = besideOf l f (intervalPlace (l .version) (size l f) i)
+
 pub record Maker (l : Lists) (D : ℕ → ℕ → Type 0) (r : TnurccEdge) (i : ℕ) : Type 0 where
   pub done : D (r .«face_left») i
   pub begins : pointOf l (r .«face_left») i ≡ r .origin
   pub ends : nextOf l (r .«face_left») i ≡ r .dest
-  pub interval-is : r .«knot_interval» ≡ getD (l .intervals) (offset l (r .«face_left») + i) nan
+  pub interval-is : r .«knot_interval» ≡ intervalOf l (r .«face_left») i
   pub none-earlier : (g j : ℕ) → D g j → Earlier g j (r .«face_left») i → ¬ Meets l g j (r .origin) (r .dest)
 
 pub record Made (l : Lists) (D : ℕ → ℕ → Type 0) (m : Mesh) (ne : ℕ) : Type 0 where

@@ -14,7 +14,7 @@ use native.Mathlib.Omega.{arith}
 use lib.Ieee.{nan}
 use lib.ListN.{length, getD}
 use Rattle.perimeters.specs.Places.{nextPlace}
-use Rattle.perimeters.proofs.Laws.{next-more, next-last}
+use Rattle.perimeters.proofs.Laws.{next-more, next-last, next-below}
 use Rattle.t_spline.specs.Edge.{none}
 use Rattle.tables.specs.Mesh.{Mesh, faceStart, corner}
 use Rattle.tables.specs.Records.{faceWords}
@@ -24,10 +24,13 @@ use Rattle.audited_meshes.specs.Folds.{oneIf}
 use Rattle.audited_meshes.proofs.Folds.{below-suc, sumTo-cong}
 use Rattle.built_meshes.specs.Lists.{Lists, pointsOf, facesOf, size, offset}
 use Rattle.built_meshes.specs.Edges.{Entered, at, entered, joined}
-use Rattle.built_meshes.specs.Perimeters.{BuildState, FaceState, Progress, on, stopped, chained, turned, turn, places, faceOf, withFace, closedUp, perimeter}
+use Rattle.built_meshes.specs.Perimeters.{BuildState, FaceState, Progress, on, stopped, chained, turned, intervalPlace, turn, places, faceOf, withFace, closedUp, perimeter}
 use Rattle.built_meshes.specs.Places.{pointOf, nextOf, Earlier}
 use Rattle.built_meshes.specs.Beyond.{Within}
+use Rattle.built_meshes.specs.declared.Version.{Version}
+use Rattle.built_meshes.specs.declared.Version.the-variants.{One, Two}
 use Rattle.built_meshes.specs.declared.Ground.{Ground}
+use Rattle.built_meshes.proofs.Made.{intervalOf}
 use Rattle.built_meshes.proofs.Connecting.{Keeps}
 use Rattle.built_meshes.proofs.Rows.{row, row-joined-rest, faceStart-withFace, faceStart-withFace-other, corner-withFace, corner-withFace-other}
 use Rattle.built_meshes.proofs.Beyond.{behind-putRow, behind-connected, within-refl, within-trans}
@@ -68,6 +71,11 @@ offset-up l f (suc n) h =
     below-suc f (suc n) (omega arith) (λ lt. omega (arith, offset-up l f n (omega arith), offset-suc l n)) (λ same. rw same (omega arith))
 
 -- places come before all listed points are used up
+-- the interval of a place is written beside a place
+interval-below : (v : Version) (n i : ℕ) → i < n → intervalPlace v n i < n
+interval-below One n i h = h
+interval-below Two n i h = let b = next-below n i h in omega arith
+
 place-listed : (l : Lists) (f i : ℕ) → f < facesOf l → i < size l f → offset l f + i < offset l (facesOf l)
 place-listed l f i h k = omega (arith, offset-up l (suc f) (facesOf l) h, offset-suc l f)
 
@@ -144,10 +152,11 @@ module _ (l : Lists) (s : BuildState) (k : ℕ) (kf : k < facesOf l) (sound : Fa
     ready' : Ready l (r .mesh)
     ready' = ready-same l (a .within) ready
 
-    pub entering : Came l (Done l k i) (Chained l k i) (r .mesh) (r .edges) k i (entered (r .mesh) (r .edges) k (pointOf l k i) (nextOf l k i) (getD (l .intervals) (offset l k + i) nan))
+    pub entering : Came l (Done l k i) (Chained l k i) (r .mesh) (r .edges) k i (entered (r .mesh) (r .edges) k (pointOf l k i) (nextOf l k i) (intervalOf l k i))
     entering =
-        came l (Done l k i) (Chained l k i) (r .mesh) (r .edges) k i (a .invariant) (good i below) (getD (l .intervals) (offset l k + i) nan)
-        (ready .intervals-fit (offset l k + i) (omega (arith, place-listed l k i kf below, ready .all-listed)))
+        came l (Done l k i) (Chained l k i) (r .mesh) (r .edges) k i (a .invariant) (good i below) (intervalOf l k i)
+        (ready .intervals-fit (offset l k + intervalPlace (l .version) (size l k) i)
+        (omega (arith, place-listed l k (intervalPlace (l .version) (size l k) i) kf (interval-below (l .version) (size l k) i below), ready .all-listed)))
         (ready' .points-room) (omega (arith, room, ready' .edges-room)) (omega (arith, room, ready' .intervals-room)) room earlier refl
       where
         earlier : (f j : ℕ) → Done l k i f j → Earlier f j k i
@@ -258,7 +267,7 @@ module _ (l : Lists) (s : BuildState) (k : ℕ) (kf : k < facesOf l) (sound : Fa
 
   pub turn-came : (i : ℕ) (r : FaceState) → Around i r → (below : i < size l k) → Round (suc i) (turn l k (offset l k) (size l k) i r)
   unfolding turn turned
-  turn-came i r a below = go i a below (entered (r .mesh) (r .edges) k (pointOf l k i) (nextOf l k i) (getD (l .intervals) (offset l k + i) nan)) (entering i below r a)
+  turn-came i r a below = go i a below (entered (r .mesh) (r .edges) k (pointOf l k i) (nextOf l k i) (intervalOf l k i)) (entering i below r a)
     where
       go : (i : ℕ) → Around i r → i < size l k → (x : Entered) → Came l (Done l k i) (Chained l k i) (r .mesh) (r .edges) k i x → Round (suc i) (turned r i x)
       go zero a below x (goes t) = round (turn-first r a below t)

@@ -12,6 +12,7 @@ use Rattle.built_meshes.specs.Lists.{Lists, generalLimits}
 use Rattle.built_meshes.specs.Building.{build}
 use Rattle.built_meshes.specs.Pieces.{unit, two, nought, backToBack}
 use Rattle.built_meshes.proofs.Cases.{justEnough, Piece, piece, asExpected, allOf}
+use Rattle.built_meshes.specs.declared.Version.the-variants.{One}
 use Rattle.built_meshes.specs.declared.Built.the-variants.{Accepted}
 
 -- n numbers, no two alike
@@ -23,8 +24,10 @@ numbers (suc n) = ofBits binary64 (0x3ff0000000000000 + n) ∷ numbers n
 abbrev pyramid : Lists
 pyramid =
     record {
+      version = One;
       coordinates = numbers 15;
       sides = 1 ∷ 1 ∷ 1 ∷ 0 ∷ 1 ∷ 1 ∷ 1 ∷ 0 ∷ 1 ∷ 1 ∷ 1 ∷ 0 ∷ 1 ∷ 1 ∷ 1 ∷ 0 ∷ 1 ∷ 1 ∷ 1 ∷ 1 ∷ [];
+      firsts = [];
       listed = 0 ∷ 1 ∷ 4 ∷ 1 ∷ 2 ∷ 4 ∷ 2 ∷ 3 ∷ 4 ∷ 3 ∷ 0 ∷ 4 ∷ 3 ∷ 2 ∷ 1 ∷ 0 ∷ [];
       intervals = unit ∷ unit ∷ two ∷ unit ∷ unit ∷ two ∷ unit ∷ unit ∷ two ∷ unit ∷ unit ∷ two ∷ two ∷ two ∷ two ∷ two ∷ [];
     }
@@ -55,8 +58,10 @@ pyramid-built = refl
 abbrev triangles : List ℕ → Lists
 triangles ps =
     record {
+      version = One;
       coordinates = numbers 12;
       sides = 1 ∷ 1 ∷ 1 ∷ 0 ∷ 1 ∷ 1 ∷ 1 ∷ 0 ∷ 1 ∷ 1 ∷ 1 ∷ 0 ∷ [];
+      firsts = [];
       listed = ps;
       intervals = unit ∷ unit ∷ two ∷ unit ∷ unit ∷ two ∷ unit ∷ unit ∷ two ∷ [];
     }

@@ -24,7 +24,7 @@ use Rattle.built_meshes.specs.Perimeters.{BuildState}
 use Rattle.built_meshes.specs.Places.{IsPlace, Runs}
 use Rattle.built_meshes.specs.Answers.{groundNumber}
 use Rattle.built_meshes.specs.Whole.{noMissingFace, everyEdged, noMissedEdge, wholeVerdict}
-use Rattle.built_meshes.specs.Grounds.{Missing-face, No-edge, Missed-edge, Where, whole, Met, missing-face, no-edge, missed-edge, First-met}
+use Rattle.built_meshes.specs.Grounds.{Missing-face, No-edge, Missed-edge, Where, whole, Met, missing-face, no-edge, missed-edge, rank, First-met}
 use Rattle.built_meshes.specs.declared.Ground.{Ground}
 use Rattle.built_meshes.specs.declared.Ground.the-variants.{MissingFace, NoEdge, MissedEdge}
 use Rattle.built_meshes.specs.declared.Verdict.{Verdict}
@@ -33,8 +33,9 @@ use Rattle.built_meshes.proofs.Connecting.{firstOf, secondOf}
 use Rattle.built_meshes.proofs.Rows.{row}
 use Rattle.built_meshes.proofs.Invariant.{Invariant}
 use Rattle.built_meshes.proofs.Perimeter.{Done, Chained, Faces}
+use Rattle.built_meshes.proofs.Versions.{every-false}
 use Rattle.built_meshes.proofs.Before.{Triple, Same, no-same, no-triple, Clear-lists, first-whole, nothing-met}
-use Rattle.built_meshes.proofs.Faces.{every-false, Fit-faces, fit-tests, done-down}
+use Rattle.built_meshes.proofs.Faces.{Fit-faces, fit-tests, done-down}
 use Rattle.built_meshes.proofs.Whole.{a-side}
 use Rattle.built_meshes.proofs.Turning.{no-missed, missed-met}
 
@@ -180,7 +181,7 @@ module _ (c : Sizes) (l : Lists) (m₀ : Mesh) (s : BuildState) (all : Faces l (
     )
 
     first : (n : ℕ) → (20 < n → ¬ Missing-face l) → (21 < n → ¬ No-edge l) → (22 < n → ¬ Missed-edge l) →
-        (g : Ground) → groundNumber g ≡ n → Met c l m₀ whole g → First-met c l m₀ whole g
+        (g : Ground) → rank g ≡ n → Met c l m₀ whole g → First-met c l m₀ whole g
     first = first-whole c l m₀ clear (fit-tests c l m₀ (facesOf l) fit) entered-fit
 
     pub whole-verdict-is : Whole-verdict (wholeVerdict m (pointsOf l) ne)

@@ -26,12 +26,12 @@ use Rattle.built_meshes.specs.Building.{BuildOutcome, buildRefusal, whol
 use Rattle.built_meshes.specs.Beyond.{Within}
 use Rattle.built_meshes.specs.Builds.{Builds, Accepted-builds}
 use Rattle.built_meshes.specs.Grounds.{Over-counts, Where, lists, whole, Met, over-counts, unfit-number, few-rows}
-use Rattle.built_meshes.specs.Grounds.{face-size, out-of-range, point-twice, non-rectangular, triple-face}
+use Rattle.built_meshes.specs.Grounds.{face-size, out-of-range, point-twice, first-point, non-rectangular, triple-face}
 use Rattle.built_meshes.specs.Grounds.{same-way, missing-face, no-edge, missed-edge, First-met, Holds}
 use Rattle.built_meshes.specs.Claims.{First-ground, Refused-by, Refusals-hold, Accepts-exactly, Audited-counts, Accepted-audited, Untouched-beyond}
 use Rattle.built_meshes.specs.declared.Ground.{Ground}
 use Rattle.built_meshes.specs.declared.Ground.the-variants.{OverCounts, UnfitNumber, FewRows, FaceSize, OutOfRange}
-use Rattle.built_meshes.specs.declared.Ground.the-variants.{PointTwice, NonRectangularFace, EdgeTripleFace}
+use Rattle.built_meshes.specs.declared.Ground.the-variants.{PointTwice, FirstPoint, NonRectangularFace, EdgeTripleFace}
 use Rattle.built_meshes.specs.declared.Ground.the-variants.{SameWay, MissingFace, NoEdge, MissedEdge}
 use Rattle.built_meshes.specs.declared.Verdict.{Verdict}
 use Rattle.built_meshes.specs.declared.Built.the-variants.{Accepted, Refused}
@@ -192,6 +192,7 @@ over-of c l m (w, h) = go w OverCounts h refl
     go w g (face-size f is h) e = differs FaceSize e (omega arith)
     go w g (out-of-range f i is h) e = differs OutOfRange e (omega arith)
     go w g (point-twice f i j is h k) e = differs PointTwice e (omega arith)
+    go w g (first-point f k j two is b h d) e = differs FirstPoint e (omega arith)
     go w g (non-rectangular f is h) e = differs NonRectangularFace e (omega arith)
     go w g (triple-face f i g' j h k p q r a b x y z) e = differs EdgeTripleFace e (omega arith)
     go w g (same-way f i g' j p q r t x) e = differs SameWay e (omega arith)

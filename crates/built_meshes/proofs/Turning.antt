@@ -37,7 +37,7 @@ use Rattle.built_meshes.proofs.Connecting.{firstOf, secondOf, acwOf, cw
 use Rattle.built_meshes.proofs.Rows.{row}
 use Rattle.built_meshes.proofs.Invariant.{Sits, Invariant, sits-unique}
 use Rattle.built_meshes.proofs.Perimeter.{Done, Chained}
-use Rattle.built_meshes.proofs.Faces.{every-false}
+use Rattle.built_meshes.proofs.Versions.{every-false}
 use Rattle.built_meshes.proofs.Whole.{place-of, prev-side, sits-side, point-walk}
 
 -- a sum that is less has a number that is less

@@ -1,11 +1,11 @@
--- The answers of building in document 01's numbers.
+-- The answers of building in the documents' numbers.
 --     groundNumber g          the number of a ground
 --     builtNumbers a          the numbers of an answer: points, edges and faces, or that of the ground
 use mathlib.Core.List.{List, [], _∷_}
 use Prim.Native.Nat.{ℕ}
 use Rattle.built_meshes.specs.declared.Ground.{Ground}
 use Rattle.built_meshes.specs.declared.Ground.the-variants.{OverCounts, UnfitNumber, FewRows, FaceSize, OutOfRange, PointTwice}
-use Rattle.built_meshes.specs.declared.Ground.the-variants.{NonRectangularFace, EdgeTripleFace, SameWay, MissingFace, NoEdge, MissedEdge}
+use Rattle.built_meshes.specs.declared.Ground.the-variants.{FirstPoint, NonRectangularFace, EdgeTripleFace, SameWay, MissingFace, NoEdge, MissedEdge}
 use Rattle.built_meshes.specs.declared.Built.{Built}
 use Rattle.built_meshes.specs.declared.Built.the-variants.{Accepted, Refused}
 
@@ -16,6 +16,7 @@ groundNumber FewRows = 4
 groundNumber FaceSize = 10
 groundNumber OutOfRange = 11
 groundNumber PointTwice = 12
+groundNumber FirstPoint = 43
 groundNumber NonRectangularFace = 13
 groundNumber EdgeTripleFace = 14
 groundNumber SameWay = 15

@@ -17,9 +17,10 @@ use Rattle.tables.specs.declared.Counts.{Counts}
 use Rattle.closed_meshes.specs.Renumbering.{sumTo}
 use Rattle.audited_meshes.specs.Folds.{oneIf}
 use Rattle.audited_meshes.specs.Walks.{touches, Touches}
-use Rattle.built_meshes.specs.Lists.{Lists, pointsOf, facesOf, size, offset}
-use Rattle.built_meshes.specs.Places.{pointOf, nextOf, IsPlace, Runs, Between, Earlier}
+use Rattle.built_meshes.specs.Lists.{Lists, pointsOf, facesOf, size}
+use Rattle.built_meshes.specs.Places.{pointOf, nextOf, besideOf, IsPlace, Runs, Between, Earlier}
 use Rattle.built_meshes.specs.Building.{build}
+use Rattle.built_meshes.specs.declared.Version.the-variants.{One, Two}
 use Rattle.built_meshes.specs.declared.Built.the-variants.{Accepted}
 
 pub record First (l : Lists) (f i : ℕ) : Type 0 where
@@ -50,7 +51,9 @@ pub record Builds (l : Lists) (t : Mesh) (ne : ℕ) : Type 0 where
   pub in-order : (e o : ℕ) → e < o → o < ne → Earlier (leftFace t e) (place e) (leftFace t o) (place o)
   -- It gives origin, destination and interval, and the links on the left.
   pub runs : (e : ℕ) → e < ne → Runs l (leftFace t e) (place e) (origin t e) (dest t e)
-  pub interval-is : (e : ℕ) → e < ne → interval t e ≡ getD (l .intervals) (offset l (leftFace t e) + place e) nan
+  -- Its interval is written beside the point that it leaves, in version 2 beside the point at which it arrives.
+  pub interval-1 : l .version ≡ One → (e : ℕ) → e < ne → interval t e ≡ besideOf l (leftFace t e) (place e)
+  pub interval-2 : l .version ≡ Two → (e : ℕ) → e < ne → interval t e ≡ besideOf l (leftFace t e) (nextPlace (size l (leftFace t e)) (place e))
   pub left-links : (e : ℕ) → e < ne → Beside l t ne (leftFace t e) (place e) (leftAcw t e) (leftCw t e)
   -- The other place of the two points, which runs back, gives the right face and the links on the right.
   pub second :

@@ -16,7 +16,7 @@ use Rattle.t_nurcc_edge.specs.Joinable.{joinableRows}
 use Rattle.built_meshes.specs.Lists.{Lists, pointsOf, facesOf, size, countsFit, listedFit, rowsOf}
 use Rattle.built_meshes.specs.Faces.{listedAt, faceVerdict}
 use Rattle.built_meshes.specs.Edges.{Entered, at, refused, entered}
-use Rattle.built_meshes.specs.Perimeters.{BuildState, FaceState, Progress, on, stopped, turn, places}
+use Rattle.built_meshes.specs.Perimeters.{BuildState, FaceState, Progress, on, stopped, intervalPlace, turn, places}
 use Rattle.built_meshes.specs.Building.{facePassed}
 use Rattle.built_meshes.specs.declared.Verdict.{Verdict}
 use Rattle.built_meshes.specs.declared.Verdict.the-variants.{Fit, Unfit}
@@ -31,7 +31,8 @@ unfoldable pub placesConnect : ℕ → Lists → ℕ → ℕ → ℕ → ℕ →
 unfolding turn entered joinableRows
 placesConnect zero l f a n i r = true
 placesConnect (suc k) l f a n i (on r) =
-    turnConnects r i (entered (r .mesh) (r .edges) f (listedAt l a i) (listedAt l a (nextPlace n i)) (getD (l .intervals) (a + i) nan))
+    turnConnects r i (entered (r .mesh) (r .edges) f (listedAt l a i) (listedAt l a (nextPlace n i))
+    (getD (l .intervals) (a + intervalPlace (l .version) n i) nan))
     && placesConnect k l f a n (suc i) (turn l f a n i r)
 placesConnect (suc k) l f a n i (stopped g m) = true
 

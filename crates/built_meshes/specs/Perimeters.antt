@@ -1,5 +1,6 @@
 -- One face entered into the tables, place by place: place i of a perimeter of n points is the edge from its point i to its point
--- i + 1, round to the start, and takes the interval written beside point i.
+-- i + 1, round to the start, and takes the interval written beside point i, or in version 2 beside point i + 1.
+--     intervalPlace v n i     the place beside whose point the interval of place i is written
 --     BuildState              the tables, and how many edges they hold
 --     FaceState               the state within a face, with the face's edges at place 0 and at the place before
 --     Progress                going on, or stopped by a ground with the tables as they stand then
@@ -18,6 +19,8 @@ use Rattle.tables.specs.Records.{faceWords}
 use Rattle.built_meshes.specs.Lists.{Lists, size}
 use Rattle.built_meshes.specs.Faces.{listedAt}
 use Rattle.built_meshes.specs.Edges.{Entered, at, refused, entered, joined}
+use Rattle.built_meshes.specs.declared.Version.{Version}
+use Rattle.built_meshes.specs.declared.Version.the-variants.{One, Two}
 use Rattle.built_meshes.specs.declared.Ground.{Ground}
 
 pub record BuildState : Type 0 where
@@ -49,11 +52,16 @@ unfolding joined
 turned r i (at m k e) = on (record { mesh = chained i m e (r .before); edges = k; first = firstEdge i e (r .first); before = e })
 turned r i (refused g) = stopped g (r .mesh)
 
+abbrev pub intervalPlace : Version → ℕ → ℕ → ℕ
+intervalPlace One n i = i
+intervalPlace Two n i = nextPlace n i
+
 -- place i of face f, whose n listed points stand from a on
 unfoldable pub turn : Lists → ℕ → ℕ → ℕ → ℕ → FaceState → Progress FaceState
 unfolding turned entered
 turn l f a n i r =
-    turned r i (entered (r .mesh) (r .edges) f (listedAt l a i) (listedAt l a (nextPlace n i)) (getD (l .intervals) (a + i) nan))
+    turned r i
+    (entered (r .mesh) (r .edges) f (listedAt l a i) (listedAt l a (nextPlace n i)) (getD (l .intervals) (a + intervalPlace (l .version) n i) nan))
 
 -- k places from place i on
 unfoldable pub places : ℕ → Lists → ℕ → ℕ → ℕ → ℕ → Progress FaceState → Progress FaceState

@@ -2,6 +2,7 @@
 --     cube                   document 01's cube
 --     backToBack n ks ts     two faces back to back
 --     even n                 the same, with n points on the first and on the third side
+--     withFirsts fs l        the lists l in version 2, with the first points fs
 use mathlib.Core.Bool.{cond}
 use mathlib.Core.List.{List, [], _∷_, _++_}
 use Prim.Native.Nat.{ℕ, zero, suc, _+_, _*_, _/_, _%_}
@@ -10,6 +11,7 @@ use lib.Dec.{eqb}
 use lib.Ieee.{Float, ofBits, binary64}
 use Rattle.tables.specs.Layout.{positionWidth, pointWidth, edgeWidth, faceWidth}
 use Rattle.built_meshes.specs.Lists.{Lists}
+use Rattle.built_meshes.specs.declared.Version.the-variants.{One, Two}
 
 abbrev pub unit : Float
 unit = ofBits binary64 0x3ff0000000000000
@@ -39,8 +41,10 @@ cubePoints (suc k) = cubePoints k ++ (oddSign k ∷ oddSign (k / 2) ∷ oddSign 
 abbrev pub cube : Lists
 cube =
     record {
+      version = One;
       coordinates = cubePoints 8;
       sides = replicate 24 1;
+      firsts = [];
       listed = 2 ∷ 3 ∷ 1 ∷ 0 ∷ 5 ∷ 7 ∷ 6 ∷ 4 ∷ 1 ∷ 5 ∷ 4 ∷ 0 ∷ 6 ∷ 7 ∷ 3 ∷ 2 ∷ 4 ∷ 6 ∷ 2 ∷ 0 ∷ 3 ∷ 7 ∷ 5 ∷ 1 ∷ [];
       intervals = replicate 24 unit;
     }
@@ -58,8 +62,10 @@ downTo k (suc n) = (k + n) ∷ downTo k n
 abbrev pub backToBack : ℕ → List ℕ → List Float → Lists
 backToBack n ks ts =
     record {
+      version = One;
       coordinates = replicate (n * positionWidth) unit;
       sides = ks ++ ks;
+      firsts = [];
       listed = upFrom 0 n ++ downTo 0 n;
       intervals = ts ++ ts;
     }
@@ -67,3 +73,7 @@ backToBack n ks ts =
 -- a face with n points on its first and on its third side each
 abbrev pub even : ℕ → Lists
 even n = backToBack (n + n) (n ∷ 0 ∷ n ∷ 0 ∷ []) (replicate (n + n) unit)
+
+abbrev pub withFirsts : List ℕ → Lists → Lists
+withFirsts fs l =
+    record { version = Two; coordinates = l .coordinates; sides = l .sides; firsts = fs; listed = l .listed; intervals = l .intervals }

@@ -15,6 +15,7 @@ use Rattle.built_meshes.specs.Lists.{Lists, generalLimits, rowsOf}
 use Rattle.built_meshes.specs.Answers.{builtNumbers}
 use Rattle.built_meshes.specs.Building.{BuildOutcome, build}
 use Rattle.built_meshes.specs.Pieces.{unit, two, nought, tiny, aboveTiny, cube, backToBack, even}
+use Rattle.built_meshes.specs.declared.Version.the-variants.{One}
 use Rattle.built_meshes.specs.declared.Built.{Built}
 use Rattle.built_meshes.specs.declared.Built.the-variants.{Accepted, Refused}
 use Rattle.steps.specs.Step.{stepNumbers, refinedCounts, step}
@@ -64,12 +65,19 @@ triangles = backToBack 3 (1 ∷ 1 ∷ 1 ∷ 0 ∷ []) (unit ∷ unit ∷ two ∷
 
 abbrev pub cubeOfNoughts : Lists
 cubeOfNoughts =
-    record { coordinates = cube .coordinates; sides = cube .sides; listed = cube .listed; intervals = replicate 24 nought }
+    record {
+      version = cube .version;
+      coordinates = cube .coordinates;
+      sides = cube .sides;
+      firsts = cube .firsts;
+      listed = cube .listed;
+      intervals = replicate 24 nought;
+    }
 
 unfoldable pub pieces : List Piece
 pieces =
     -- no points, no faces: accepted
-    buildPiece (record { coordinates = []; sides = []; listed = []; intervals = [] }) (0 ∷ 0 ∷ 0 ∷ [])
+    buildPiece (record { version = One; coordinates = []; sides = []; firsts = []; listed = []; intervals = [] }) (0 ∷ 0 ∷ 0 ∷ [])
     -- n = 2: 10
     ∷ buildPiece (backToBack 2 (1 ∷ 0 ∷ 1 ∷ 0 ∷ []) (unit ∷ unit ∷ [])) (10 ∷ [])
     -- n = 3 and 64: pass

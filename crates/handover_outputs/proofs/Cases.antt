@@ -8,7 +8,7 @@ use Rattle.tables.specs.Rows.{over, zeroed}
 use Rattle.text_numbers.specs.Form.{bytes, literal, many, stands, times}
 use Rattle.text_numbers.specs.Numbers.{bits, decimal, decimalFrom, digit, digitValue, digitsFrom, value}
 use Rattle.mesh_lines.specs.Grammar.{coordinateForm, faceForm, listedForm, pointForm, sideForm, flat}
-use Rattle.mesh_text.specs.Text.{ends, mesh, text}
+use Rattle.mesh_text.specs.Text.{headForm, ends, mesh, text}
 use Rattle.mesh_answers.specs.Lines.{decimalDigits, hexByte, hexBytes}
 use Rattle.listings.specs.Handing.{upTo}
 use Rattle.audited_meshes.specs.Walks.{faceWalk}
@@ -34,7 +34,7 @@ texts : map (λ t. handoverOutput (bytes t) (replicate 256 0)) (
     "[mesh 1]\n[point 7ff0000000000000 0000000000000000 0000000000000000]\n[end]\n" ∷ [])
     ≡ bytes "[mesh 3]\n[end]\n" ∷ bytes "[refused 1]\n" ∷ bytes "[refused 3]\n" ∷ []
 unfolding handoverOutput digitValue value stands literal digit bits digitsFrom decimalFrom decimal many coordinateForm pointForm
-    listedForm sideForm faceForm ends mesh text times flat ofBits decimalDigits upTo over zeroed
+    listedForm sideForm faceForm headForm ends mesh text times flat ofBits decimalDigits upTo over zeroed
 texts = refl
 
 two-triangles : handoverOutput (
@@ -75,7 +75,7 @@ two-triangles : handoverOutput (
     bytes "[face 4 7 6 0 5]\n" ++
     bytes "[end]\n"
 unfolding handoverOutput digitValue value stands literal digit bits digitsFrom decimalFrom decimal many coordinateForm pointForm listedForm sideForm
-    faceForm ends mesh text times flat toBits decimalDigits hexByte hexBytes build step numbered linksOf lt over zeroed
+    faceForm headForm ends mesh text times flat toBits decimalDigits hexByte hexBytes build step numbered linksOf lt over zeroed
     refinedRows copied visits visit faceWalk turns filled visitAlong splitAll splitWhole splitEdge ringOf putRing putJoin
     putFirst putSecond putNewFace putFacePoint putEdge putPoint putStart putFace facePointIn facePointAbout facePointOver
     windowSum windowWeight sixTerms threeTerms acwAbout cwAbout again edgePoint edgeMiddle shares oldPoint radialSum
@@ -93,7 +93,7 @@ too-few-bytes : handoverOutput (
     bytes "[end]\n") (replicate 256 0)
     ≡ bytes "[refused 4]\n"
 unfolding handoverOutput digitValue value stands literal digit bits digitsFrom decimalFrom decimal many coordinateForm pointForm listedForm sideForm
-    faceForm ends mesh text times flat toBits decimalDigits hexByte hexBytes build step numbered linksOf lt over zeroed
+    faceForm headForm ends mesh text times flat toBits decimalDigits hexByte hexBytes build step numbered linksOf lt over zeroed
     refinedRows copied visits visit faceWalk turns filled visitAlong splitAll splitWhole splitEdge ringOf putRing putJoin
     putFirst putSecond putNewFace putFacePoint putEdge putPoint putStart putFace facePointIn facePointAbout facePointOver
     windowSum windowWeight sixTerms threeTerms acwAbout cwAbout again edgePoint edgeMiddle shares oldPoint radialSum
@@ -111,7 +111,7 @@ zero-intervals : handoverOutput (
     bytes "[end]\n") (replicate 2048 0)
     ≡ bytes "[refused 33]\n"
 unfolding handoverOutput digitValue value stands literal digit bits digitsFrom decimalFrom decimal many coordinateForm pointForm listedForm sideForm
-    faceForm ends mesh text times flat toBits decimalDigits hexByte hexBytes build step numbered linksOf lt over zeroed
+    faceForm headForm ends mesh text times flat toBits decimalDigits hexByte hexBytes build step numbered linksOf lt over zeroed
     refinedRows copied visits visit faceWalk turns filled visitAlong splitAll splitWhole splitEdge ringOf putRing putJoin
     putFirst putSecond putNewFace putFacePoint putEdge putPoint putStart putFace facePointIn facePointAbout facePointOver
     windowSum windowWeight sixTerms threeTerms acwAbout cwAbout again edgePoint edgeMiddle shares oldPoint radialSum

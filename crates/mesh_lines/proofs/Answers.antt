@@ -8,12 +8,13 @@ use lib.ListN.{length}
 use lib.Seq.{sets}
 use Rattle.text_numbers.proofs.Stores.{sets-append}
 use Rattle.text_numbers.specs.Form.{Parsed, parsed, unparsed, onward, pure, ifParsed}
-use Rattle.mesh_lines.specs.Grammar.{Listed, flat, sidePoints}
-use Rattle.mesh_lines.specs.Parts.{placeAnswer, runAnswer, listedAnswer, linesAnswer, stored}
+use Rattle.mesh_lines.specs.Grammar.{Listed, Side, flat, sideCount, sidePoints}
+use Rattle.mesh_lines.specs.Parts.{placeAnswer, runAnswer, listedAnswer, sideAnswer, linesAnswer, stored}
 use Rattle.text_numbers.specs.declared.Number.the-variants as Number
 use Rattle.mesh_lines.specs.declared.Place.the-variants as Place
 use Rattle.mesh_lines.specs.declared.Run.{Run}
 use Rattle.mesh_lines.specs.declared.Run.the-variants as Run
+use Rattle.mesh_lines.specs.declared.SideRead.the-variants as SideRead
 use Rattle.mesh_lines.specs.declared.Lines.the-variants as Lines
 use Rattle.mesh_lines.specs.declared.ListedPoint.the-variants as ListedPoint
 
@@ -29,12 +30,20 @@ pub listing-none : (x : Parsed Listed) → listedAnswer x ≡ ListedPoint.None �
 listing-none (parsed l n) e = cc
 listing-none unparsed e = refl
 
-pub lines-are : (x : Parsed (List (List (List Listed)))) {f c n : ℕ} → linesAnswer x ≡ Lines.Are f c n
-    → (fs : List (List (List Listed))) × (x ≡ parsed fs n) × (length fs ≡ f) × (length (flat (flat sidePoints) fs) ≡ c)
+pub side-is : (x : Parsed Side) {p c n : ℕ} → sideAnswer x ≡ SideRead.Of p c n → (a : Side) × (x ≡ parsed a n) × (sideCount a ≡ c) × (a .first ≡ p)
+side-is (parsed a m) e = (a, cc, cc, cc)
+side-is unparsed e = let z : _≡_ {A = ℕ} 0 1 = cc in absurd (omega arith)
+
+pub side-none : (x : Parsed Side) → sideAnswer x ≡ SideRead.None → x ≡ unparsed
+side-none (parsed a n) e = cc
+side-none unparsed e = refl
+
+pub lines-are : (x : Parsed (List (List Side))) {f c n : ℕ} → linesAnswer x ≡ Lines.Are f c n
+    → (fs : List (List Side)) × (x ≡ parsed fs n) × (length fs ≡ f) × (length (flat (flat sidePoints) fs) ≡ c)
 lines-are (parsed fs m) e = (fs, cc, cc, cc)
 lines-are unparsed e = let z : _≡_ {A = ℕ} 0 1 = cc in absurd (omega arith)
 
-pub lines-none : (x : Parsed (List (List (List Listed)))) → linesAnswer x ≡ Lines.None → x ≡ unparsed
+pub lines-none : (x : Parsed (List (List Side))) → linesAnswer x ≡ Lines.None → x ≡ unparsed
 lines-none (parsed fs n) e = cc
 lines-none unparsed e = refl
 

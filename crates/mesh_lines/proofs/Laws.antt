@@ -7,26 +7,26 @@ use lib.ListN.{length, length-append, length-map}
 use Rattle.text_numbers.specs.Form.{bytes, parsed, pure, times, literal, many}
 use Rattle.text_numbers.specs.Numbers.{bits, decimal}
 use Rattle.text_numbers.proofs.Laws.{onward-found, length-times, Takes, total, length-total, takes-pure, takes-bind, takes-times, takes-literal, takes-many, takes-bits, takes-decimal}
-use Rattle.mesh_lines.specs.Grammar.{Listed, coordinateForm, pointForm, listedForm, sideForm, faceForm, flat, sidePoints, sideIntervals}
+use Rattle.mesh_lines.specs.Grammar.{Side, coordinateForm, pointForm, listedForm, sideForm, faceForm, flat, sideCount, sidePoints, sideIntervals}
 use Rattle.mesh_lines.specs.Parts.{listedIn}
 
-listed-total : (sides : List (List Listed)) → listedIn sides ≡ total (λ (ps : List Listed). length ps) sides
+listed-total : (sides : List Side) → listedIn sides ≡ total (λ (p : Side). sideCount p) sides
 unfolding total flat
 listed-total [] = refl
-listed-total (ps ∷ sides) =
-    length-append (sidePoints ps) (flat sidePoints sides)
-    ∙ ap (λ (v : ℕ). v + listedIn sides) (length-map ps _)
-    ∙ ap (λ (v : ℕ). length ps + v) (listed-total sides)
+listed-total (p ∷ sides) =
+    length-append (sidePoints p) (flat sidePoints sides)
+    ∙ ap (λ (v : ℕ). v + listedIn sides) (length-map (p .listed) _)
+    ∙ ap (λ (v : ℕ). sideCount p + v) (listed-total sides)
 
 -- a face lists as many intervals as points
-pub same-count : (sides : List (List Listed)) → length (flat sidePoints sides) ≡ length (flat sideIntervals sides)
+pub same-count : (sides : List Side) → length (flat sidePoints sides) ≡ length (flat sideIntervals sides)
 unfolding flat
 same-count [] = refl
-same-count (ps ∷ sides) =
-    length-append (sidePoints ps) (flat sidePoints sides)
-    ∙ ap (λ (v : ℕ). v + length (flat sidePoints sides)) (length-map ps _ ∙ sym (length-map ps _))
-    ∙ ap (λ (v : ℕ). length (sideIntervals ps) + v) (same-count sides)
-    ∙ sym (length-append (sideIntervals ps) (flat sideIntervals sides))
+same-count (p ∷ sides) =
+    length-append (sidePoints p) (flat sidePoints sides)
+    ∙ ap (λ (v : ℕ). v + length (flat sidePoints sides)) (length-map (p .listed) _ ∙ sym (length-map (p .listed) _))
+    ∙ ap (λ (v : ℕ). length (sideIntervals p) + v) (same-count sides)
+    ∙ sym (length-append (sideIntervals p) (flat sideIntervals sides))
 
 -- three coordinates, four sides
 pub length-point : (s : List ℕ) (at : ℕ) (a : List ℕ) (n : ℕ) → pointForm s at ≡ parsed a n → length a ≡ 3
@@ -37,7 +37,7 @@ length-point s at a n e =
     let la : l ≡ a = cc in
     rw la at (length-times (coordinateForm s) 3 at l m et)
 
-pub length-face : (s : List ℕ) (at : ℕ) (a : List (List Listed)) (n : ℕ) → faceForm s at ≡ parsed a n → length a ≡ 4
+pub length-face : (s : List ℕ) (at : ℕ) (a : List Side) (n : ℕ) → faceForm s at ≡ parsed a n → length a ≡ 4
 unfolding faceForm
 length-face s at a n e =
     let (l, m, et, el) = onward-found _ (times 4 (sideForm s) at) e in
@@ -68,18 +68,18 @@ module _ (s : List ℕ) where
       takes-bind s _ (λ z. 1) _ (literal s (bytes "]")) _ (takes-literal s (bytes "]") refl) λ y.
       takes-pure s _ _ _ (omega arith)
 
-  pub takes-side : Takes s 0 (λ ps. length ps) (sideForm s)
+  pub takes-side : Takes s 0 (λ p. sideCount p) (sideForm s)
   unfolding sideForm
   takes-side =
       takes-bind s 0 (λ z. 2) _ (literal s (bytes " [")) _ (takes-literal s (bytes " [") refl) λ z.
       takes-bind s _ (λ v. 1) _ (decimal s) _ (takes-decimal s) λ v.
       takes-bind s _ _ _ (many s (bytes " [") (listedForm s) (length s)) _ (takes-many s (bytes " [") (λ p. 0) (listedForm s) (length s) refl takes-listed) λ ps.
       takes-bind s _ (λ z. 1) _ (literal s (bytes "]")) _ (takes-literal s (bytes "]") refl) λ y.
-      takes-pure s _ _ ps (let h = length-total (λ p. 2 + 0) ps (λ p. omega arith) in omega arith)
+      takes-pure s _ _ (record { first = v; listed = ps }) (let h = length-total (λ p. 2 + 0) ps (λ p. omega arith) in omega arith)
 
   pub takes-sides : Takes s 0 (λ sides. listedIn sides) (times 4 (sideForm s))
   takes-sides at h a n e =
-      let t = takes-times s (λ (ps : List Listed). length ps) (sideForm s) 4 takes-side at h a n e in
+      let t = takes-times s (λ (p : Side). sideCount p) (sideForm s) 4 takes-side at h a n e in
       let l = listed-total a in
       omega arith
 

@@ -1,7 +1,8 @@
--- The lines of mesh text 1 (document 01, "Mesh text"), as forms on the bytes s of a text.
+-- The lines of mesh texts 1 and 2 (document 01, "Mesh text"; document 02, §4), as forms on the bytes s of a text.
 --     pointForm listedForm sideForm faceForm s  the parts of the lines
 --     flat f l                       the lists of l's elements joined
---     sidePoints sideIntervals ps    the numbers that a side lists
+--     pointsIn intervalsIn ps        the numbers of listed points
+--     sideFirst sideCount sidePoints sideIntervals p    the first point of a side, how many points it lists, and the numbers that it lists
 use mathlib.Core.List.{List, [], _∷_, _++_, map}
 use Prim.Native.Nat.{ℕ}
 use lib.ListN.{length}
@@ -13,6 +14,11 @@ use Rattle.text_numbers.specs.Numbers.{bits, decimal, float}
 pub record Listed : Type 0 where
   pub point : ℕ
   pub interval : ℕ
+
+-- its first point, and its listed points
+pub record Side : Type 0 where
+  pub first : ℕ
+  pub listed : List Listed
 
 module _ (s : List ℕ) where
   unfoldable pub coordinateForm : Form ℕ
@@ -34,17 +40,16 @@ module _ (s : List ℕ) where
     literal s (bytes "]")
     pure (record { point = p; interval = d })
 
-  -- its first point, which is not looked at, and its listed points
-  unfoldable pub sideForm : Form (List Listed)
+  unfoldable pub sideForm : Form Side
   sideForm = do
     literal s (bytes " [")
-    decimal s
+    p ← decimal s
     ps ← many s (bytes " [") listedForm (length s)
     literal s (bytes "]")
-    pure ps
+    pure (record { first = p; listed = ps })
 
   -- after `[face`
-  unfoldable pub faceForm : Form (List (List Listed))
+  unfoldable pub faceForm : Form (List Side)
   faceForm = do
     sides ← times 4 sideForm
     literal s (bytes "]\n")
@@ -54,8 +59,20 @@ unfoldable pub flat : {A B : Type 0} → (A → List B) → List A → List B
 flat f [] = []
 flat f (a ∷ l) = f a ++ flat f l
 
-abbrev pub sidePoints : List Listed → List ℕ
-sidePoints ps = map (λ (p : Listed). p .point) ps
+abbrev pub pointsIn : List Listed → List ℕ
+pointsIn ps = map (λ (p : Listed). p .point) ps
 
-abbrev pub sideIntervals : List Listed → List Float
-sideIntervals ps = map (λ (p : Listed). float (p .interval)) ps
+abbrev pub intervalsIn : List Listed → List Float
+intervalsIn ps = map (λ (p : Listed). float (p .interval)) ps
+
+abbrev pub sideFirst : Side → ℕ
+sideFirst p = p .first
+
+abbrev pub sideCount : Side → ℕ
+sideCount p = length (p .listed)
+
+abbrev pub sidePoints : Side → List ℕ
+sidePoints p = pointsIn (p .listed)
+
+abbrev pub sideIntervals : Side → List Float
+sideIntervals p = intervalsIn (p .listed)

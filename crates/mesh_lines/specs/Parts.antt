@@ -1,29 +1,31 @@
 -- How the parts of the reader answer, and what they leave in the lent lists. The contract of the whole reader names none of this.
---     lengthWord ps                how many points a side lists, as a word of 32 bits
+--     lengthWord p                 how many points a side lists, as a word of 32 bits
 --     listedIn sides               how many points the sides of a face list
---     placeAnswer runAnswer listedAnswer linesAnswer x  the answers to what was found
+--     placeAnswer runAnswer listedAnswer sideAnswer linesAnswer x  the answers to what was found
 --     stored f l i x               the list that is left where something was found
---     AtPlace AtRun AtLines        what is promised where something was found
+--     AtPlace AtRun AtSide AtLines      what is promised where something was found
 use mathlib.Core.List.{List, []}
 use Prim.Native.Nat.{ℕ, _%_}
 use lib.ListN.{length}
 use lib.Seq.{sets}
 use Rattle.text_numbers.specs.Form.{Parsed, ifParsed}
-use Rattle.mesh_lines.specs.Grammar.{Listed, flat, sidePoints}
+use Rattle.mesh_lines.specs.Grammar.{Listed, Side, flat, sideCount, sidePoints}
 use Rattle.mesh_lines.specs.declared.Place.{Place}
 use Rattle.mesh_lines.specs.declared.Place.the-variants as Place
 use Rattle.mesh_lines.specs.declared.Run.{Run}
 use Rattle.mesh_lines.specs.declared.Run.the-variants as Run
 use Rattle.mesh_lines.specs.declared.ListedPoint.{ListedPoint}
 use Rattle.mesh_lines.specs.declared.ListedPoint.the-variants as ListedPoint
+use Rattle.mesh_lines.specs.declared.SideRead.{SideRead}
+use Rattle.mesh_lines.specs.declared.SideRead.the-variants as SideRead
 use Rattle.mesh_lines.specs.declared.Lines.{Lines}
 use Rattle.mesh_lines.specs.declared.Lines.the-variants as Lines
 
 -- a side of a text within the limits lists fewer points than a word can count
-abbrev pub lengthWord : List Listed → ℕ
-lengthWord ps = length ps % 4294967296
+abbrev pub lengthWord : Side → ℕ
+lengthWord p = sideCount p % 4294967296
 
-abbrev pub listedIn : List (List Listed) → ℕ
+abbrev pub listedIn : List Side → ℕ
 listedIn sides = length (flat sidePoints sides)
 
 abbrev pub placeAnswer : {A : Type 0} → Parsed A → Place
@@ -35,7 +37,10 @@ runAnswer f x = ifParsed (λ a n. Run.Of (f a) n) Run.None x
 abbrev pub listedAnswer : Parsed Listed → ListedPoint
 listedAnswer x = ifParsed (λ p n. ListedPoint.Is (p .point) (p .interval) n) ListedPoint.None x
 
-abbrev pub linesAnswer : Parsed (List (List (List Listed))) → Lines
+abbrev pub sideAnswer : Parsed Side → SideRead
+sideAnswer x = ifParsed (λ p n. SideRead.Of (p .first) (sideCount p) n) SideRead.None x
+
+abbrev pub linesAnswer : Parsed (List (List Side)) → Lines
 linesAnswer x = ifParsed (λ fs n. Lines.Are (length fs) (length (flat (flat sidePoints) fs)) n) Lines.None x
 
 -- the list l with the numbers f of what was found stored in it from i on
@@ -49,6 +54,10 @@ AtPlace Place.None P = Unit {0}
 abbrev pub AtRun : Run → Type 0 → Type 0
 AtRun (Run.Of c n) P = P
 AtRun Run.None P = Unit {0}
+
+abbrev pub AtSide : SideRead → Type 0 → Type 0
+AtSide (SideRead.Of p c n) P = P
+AtSide SideRead.None P = Unit {0}
 
 abbrev pub AtLines : Lines → Type 0 → Type 0
 AtLines (Lines.Are f c n) P = P

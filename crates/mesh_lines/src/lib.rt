@@ -1,4 +1,4 @@
-// The lines of mesh text 1 (document 01, "Mesh text"): point lines and face lines, read into lists.
+// The lines of mesh texts 1 and 2 (document 01, "Mesh text"; document 02, §4): point lines and face lines, read into lists.
 // Not here: the whole text and its limits (`mesh_text`).
 // Contracts: `coordinates`, `points`, `faces`. Definitions: `specs/Grammar.antt` (the lines), `specs/Parts.antt` (the answers and the lists).
 // Laws for callers: `proofs/Laws.antt`, `proofs/Answers.antt`.
@@ -9,8 +9,10 @@ ghost use lib.ListN.{length, set};
 ghost use Rattle.text_numbers.specs.Form.{bytes, times, many};
 ghost use Rattle.text_numbers.specs.Numbers.{float};
 ghost use Rattle.text_numbers.specs.Answers.{number};
-ghost use Rattle.mesh_lines.specs.Grammar.{coordinateForm, pointForm, listedForm, sideForm, faceForm, flat, sidePoints, sideIntervals};
-ghost use Rattle.mesh_lines.specs.Parts.{lengthWord, listedIn, placeAnswer, runAnswer, listedAnswer, linesAnswer, stored, AtPlace, AtRun, AtLines};
+ghost use Rattle.mesh_lines.specs.Grammar.{coordinateForm, pointForm, listedForm, sideForm, faceForm, flat};
+ghost use Rattle.mesh_lines.specs.Grammar.{pointsIn, intervalsIn, sideFirst, sidePoints, sideIntervals};
+ghost use Rattle.mesh_lines.specs.Parts.{lengthWord, listedIn, placeAnswer, runAnswer, listedAnswer, sideAnswer, linesAnswer};
+ghost use Rattle.mesh_lines.specs.Parts.{stored, AtPlace, AtRun, AtSide, AtLines};
 use text_numbers::Number;
 use text_numbers::bits;
 use text_numbers::decimal;
@@ -32,6 +34,12 @@ pub enum Run {
 // A listed point, the bits of its interval, and the place after it.
 enum ListedPoint {
     Is(u32, u64, usize),
+    None,
+}
+
+// The first point of a side, how many points it lists, and the place after it.
+enum SideRead {
+    Of(u32, usize, usize),
     None,
 }
 
@@ -149,8 +157,8 @@ fn listed(s: &[u8], at: usize) -> ListedPoint
 fn listed_points(s: &[u8], at: usize, ps: &mut [u32], ds: &mut [f64], n: usize) -> Run
     requires { ⌜ (at ≤ length (now s)) × (n ≤ at) ⌝ }
     ensures run { λ r. ⌜ r ≡ runAnswer length (many (now (s .entry)) (bytes " [") (listedForm (now (s .entry))) (length (now (s .entry))) at) ⌝ }
-    ensures points { λ r. ⌜ AtRun r (now (ps .exit) ≡ stored sidePoints (now (ps .entry)) n (many (now (s .entry)) (bytes " [") (listedForm (now (s .entry))) (length (now (s .entry))) at)) ⌝ }
-    ensures intervals { λ r. ⌜ AtRun r (now (ds .exit) ≡ stored sideIntervals (now (ds .entry)) n (many (now (s .entry)) (bytes " [") (listedForm (now (s .entry))) (length (now (s .entry))) at)) ⌝ }
+    ensures points { λ r. ⌜ AtRun r (now (ps .exit) ≡ stored pointsIn (now (ps .entry)) n (many (now (s .entry)) (bytes " [") (listedForm (now (s .entry))) (length (now (s .entry))) at)) ⌝ }
+    ensures intervals { λ r. ⌜ AtRun r (now (ds .exit) ≡ stored intervalsIn (now (ds .entry)) n (many (now (s .entry)) (bytes " [") (listedForm (now (s .entry))) (length (now (s .entry))) at)) ⌝ }
 {
     let mut i = at;
     let mut k: usize = 0;
@@ -166,33 +174,34 @@ fn listed_points(s: &[u8], at: usize, ps: &mut [u32], ds: &mut [f64], n: usize) 
     Run::Of(k, i)
 }
 
-// A side: a space, its first point, which is not looked at, and its listed points, stored from n on.
-fn side(s: &[u8], at: usize, ps: &mut [u32], ds: &mut [f64], n: usize) -> Run
+// A side: a space, its first point, and its listed points, stored from n on.
+fn side(s: &[u8], at: usize, ps: &mut [u32], ds: &mut [f64], n: usize) -> SideRead
     requires { ⌜ (at ≤ length (now s)) × (n ≤ at) ⌝ }
-    ensures run { λ r. ⌜ r ≡ runAnswer length (sideForm (now (s .entry)) at) ⌝ }
-    ensures points { λ r. ⌜ AtRun r (now (ps .exit) ≡ stored sidePoints (now (ps .entry)) n (sideForm (now (s .entry)) at)) ⌝ }
-    ensures intervals { λ r. ⌜ AtRun r (now (ds .exit) ≡ stored sideIntervals (now (ds .entry)) n (sideForm (now (s .entry)) at)) ⌝ }
+    ensures side { λ r. ⌜ r ≡ sideAnswer (sideForm (now (s .entry)) at) ⌝ }
+    ensures points { λ r. ⌜ AtSide r (now (ps .exit) ≡ stored sidePoints (now (ps .entry)) n (sideForm (now (s .entry)) at)) ⌝ }
+    ensures intervals { λ r. ⌜ AtSide r (now (ds .exit) ≡ stored sideIntervals (now (ds .entry)) n (sideForm (now (s .entry)) at)) ⌝ }
 {
     if !stands(s, at, b" [") {
-        return Run::None;
+        return SideRead::None;
     }
-    let Number::Is(_, i) = decimal(s, at + 2) else {
-        return Run::None;
+    let Number::Is(p, i) = decimal(s, at + 2) else {
+        return SideRead::None;
     };
     let Run::Of(k, j) = listed_points(s, i, ps, ds, n) else {
-        return Run::None;
+        return SideRead::None;
     };
     if !stands(s, j, b"]") {
-        return Run::None;
+        return SideRead::None;
     }
-    Run::Of(k, j + 1)
+    SideRead::Of(p as u32, k, j + 1)
 }
 
-// The four sides of a face: their lengths stored from f on, their points and intervals from n on, and how many points they list.
+// The four sides of a face: their lengths and their first points stored from f on, their points and intervals from n on, and how many points they list.
 fn sides(
     s: &[u8],
     at: usize,
     ls: &mut [u32],
+    qs: &mut [u32],
     f: usize,
     ps: &mut [u32],
     ds: &mut [f64],
@@ -201,6 +210,7 @@ fn sides(
     requires { ⌜ (at ≤ length (now s)) × ((f ≤ at) × (n ≤ at)) ⌝ }
     ensures run { λ r. ⌜ r ≡ runAnswer listedIn (times 4 (sideForm (now (s .entry))) at) ⌝ }
     ensures lengths { λ r. ⌜ AtRun r (now (ls .exit) ≡ stored (map lengthWord) (now (ls .entry)) f (times 4 (sideForm (now (s .entry))) at)) ⌝ }
+    ensures firsts { λ r. ⌜ AtRun r (now (qs .exit) ≡ stored (map sideFirst) (now (qs .entry)) f (times 4 (sideForm (now (s .entry))) at)) ⌝ }
     ensures points { λ r. ⌜ AtRun r (now (ps .exit) ≡ stored (flat sidePoints) (now (ps .entry)) n (times 4 (sideForm (now (s .entry))) at)) ⌝ }
     ensures intervals { λ r. ⌜ AtRun r (now (ds .exit) ≡ stored (flat sideIntervals) (now (ds .entry)) n (times 4 (sideForm (now (s .entry))) at)) ⌝ }
 {
@@ -208,10 +218,11 @@ fn sides(
     let mut c: usize = 0;
     let mut k: usize = 0;
     while k < 4 {
-        let Run::Of(m, j) = side(s, i, ps, ds, n + c) else {
+        let SideRead::Of(q, m, j) = side(s, i, ps, ds, n + c) else {
             return Run::None;
         };
         put_word(ls, f + k, (m % 4294967296) as u32);
+        put_word(qs, f + k, q);
         i = j;
         c += m;
         k += 1;
@@ -224,6 +235,7 @@ fn face(
     s: &[u8],
     at: usize,
     ls: &mut [u32],
+    qs: &mut [u32],
     f: usize,
     ps: &mut [u32],
     ds: &mut [f64],
@@ -232,10 +244,11 @@ fn face(
     requires { ⌜ (at ≤ length (now s)) × ((f ≤ at) × (n ≤ at)) ⌝ }
     ensures run { λ r. ⌜ r ≡ runAnswer listedIn (faceForm (now (s .entry)) at) ⌝ }
     ensures lengths { λ r. ⌜ AtRun r (now (ls .exit) ≡ stored (map lengthWord) (now (ls .entry)) f (faceForm (now (s .entry)) at)) ⌝ }
+    ensures firsts { λ r. ⌜ AtRun r (now (qs .exit) ≡ stored (map sideFirst) (now (qs .entry)) f (faceForm (now (s .entry)) at)) ⌝ }
     ensures points { λ r. ⌜ AtRun r (now (ps .exit) ≡ stored (flat sidePoints) (now (ps .entry)) n (faceForm (now (s .entry)) at)) ⌝ }
     ensures intervals { λ r. ⌜ AtRun r (now (ds .exit) ≡ stored (flat sideIntervals) (now (ds .entry)) n (faceForm (now (s .entry)) at)) ⌝ }
 {
-    let Run::Of(c, i) = sides(s, at, ls, f, ps, ds, n) else {
+    let Run::Of(c, i) = sides(s, at, ls, qs, f, ps, ds, n) else {
         return Run::None;
     };
     if !stands(s, i, b"]\n") {
@@ -245,11 +258,21 @@ fn face(
 }
 
 // The face lines, how many they are, and how many points they list. Where one is not of the form, the lists are left free.
-pub fn faces(s: &[u8], at: usize, ls: &mut [u32], ps: &mut [u32], ds: &mut [f64]) -> Lines
+pub fn faces(
+    s: &[u8],
+    at: usize,
+    ls: &mut [u32],
+    qs: &mut [u32],
+    ps: &mut [u32],
+    ds: &mut [f64],
+) -> Lines
     requires { ⌜ at ≤ length (now s) ⌝ }
     ensures faces { λ r. ⌜ r ≡ linesAnswer (many (now (s .entry)) (bytes "[face") (faceForm (now (s .entry))) (length (now (s .entry))) at) ⌝ }
     ensures lengths { λ r. ⌜
         AtLines r (now (ls .exit) ≡ stored (flat (map lengthWord)) (now (ls .entry)) 0 (many (now (s .entry)) (bytes "[face")
+        (faceForm (now (s .entry))) (length (now (s .entry))) at)) ⌝ }
+    ensures firsts { λ r. ⌜
+        AtLines r (now (qs .exit) ≡ stored (flat (map sideFirst)) (now (qs .entry)) 0 (many (now (s .entry)) (bytes "[face")
         (faceForm (now (s .entry))) (length (now (s .entry))) at)) ⌝ }
     ensures points { λ r. ⌜
         AtLines r (now (ps .exit) ≡ stored (flat (flat sidePoints)) (now (ps .entry)) 0 (many (now (s .entry)) (bytes "[face")
@@ -262,7 +285,7 @@ pub fn faces(s: &[u8], at: usize, ls: &mut [u32], ps: &mut [u32], ds: &mut [f64]
     let mut k: usize = 0;
     let mut c: usize = 0;
     while stands(s, i, b"[face") {
-        let Run::Of(m, j) = face(s, i + 5, ls, 4 * k, ps, ds, c) else {
+        let Run::Of(m, j) = face(s, i + 5, ls, qs, 4 * k, ps, ds, c) else {
             return Lines::None;
         };
         i = j;

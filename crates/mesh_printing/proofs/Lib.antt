@@ -1,4 +1,3 @@
-pub mod Kept
 pub mod Parts
 pub mod Theorem
 pub mod Cases

@@ -1,4 +1,4 @@
--- The parts of a text are found exactly where they are printed, the first points kept. Assumes nothing.
+-- The parts of a text are found exactly where they are printed. Assumes nothing.
 --     pointFields faceFields         a line after its head
 --     exact-point exact-face
 use mathlib.Core.Path.{_≡_, refl, sym, ap, _∙_}
@@ -11,7 +11,7 @@ use Rattle.text_numbers.specs.Form.{bytes, Parsed, parsed, Form, onward, pure, 
 use Rattle.text_numbers.specs.Numbers.{digitValue, bits, decimal}
 use Rattle.text_numbers.proofs.Laws.{inside, onward-found, decimal-below}
 use Rattle.text_numbers.proofs.Turns.{literal-found}
-use Rattle.mesh_lines.specs.Grammar.{Listed, coordinateForm, pointForm, listedForm, flat}
+use Rattle.mesh_lines.specs.Grammar.{Listed, Side, coordinateForm, pointForm, listedForm, sideForm, faceForm, flat}
 use Rattle.mesh_answers.specs.Lines.{decimalBytes, decimalDigits, hexBytes, bitsField}
 use Rattle.mesh_answers.proofs.Laws.{length-hex}
 use Rattle.mesh_answers.proofs.RoundTrip.{decimal-of-decimalBytes, bits-of-hexBytes}
@@ -20,8 +20,7 @@ use Rattle.listings.specs.Printing.{All}
 use Rattle.listings.proofs.Exact.{Exact, Prints, Leads, NoDigit, prints-same, stands-both, stands-parts, stands-at, first-stands, literal-stands}
 use Rattle.listings.proofs.Exact.{leads-flat, leads-coordinate, exact-coordinate, exact-times, sound-many, complete-many}
 use Rattle.listings.proofs.Whole.{flat-longer}
-use Rattle.mesh_printing.specs.Printing.{Side, listedPart, sidePart, FitListed, FitSide, FitPoint, FitFace}
-use Rattle.mesh_printing.proofs.Kept.{sideKept, faceKept}
+use Rattle.mesh_printing.specs.Printing.{listedPart, sidePart, FitListed, FitSide, FitPoint, FitFace}
 
 -- after ` [`
 abbrev listedFields : Listed → List ℕ
@@ -100,11 +99,11 @@ module _ (s : List ℕ) where
           let se1 = stands-at s (bytes "]") place se in
           rw (ed, literal-found s (bytes " ") m st, eb, literal-found s (bytes "]") (m + 1 + 16) se1) (ap (parsed a) en)
 
-  exact-side : Exact s (sideKept s) sidePart FitSide
-  unfolding sideKept
+  exact-side : Exact s (sideForm s) sidePart FitSide
+  unfolding sideForm
   exact-side = record { sound = sound; complete = complete }
     where
-      sound : (at : ℕ) (d : Side) (n : ℕ) → sideKept s at ≡ parsed d n → Prints s sidePart FitSide at n d
+      sound : (at : ℕ) (d : Side) (n : ℕ) → sideForm s at ≡ parsed d n → Prints s sidePart FitSide at n d
       sound at d n e =
           let (z, m0, ez, e1) = onward-found _ (literal s (bytes " [") at) e in
           let (a, m1, ea, e2) = onward-found _ (decimal s m0) e1 in
@@ -127,7 +126,7 @@ module _ (s : List ℕ) where
           prints-same s sidePart FitSide at n (record { first = a; listed = ps }) d dd ((decimal-below s m0 a m1 ea, ok), r3, end)
 
       complete : (at : ℕ) (d : Side) → FitSide d → stands s at (sidePart d) ≡ true → NoDigit s (at + length (sidePart d))
-          → sideKept s at ≡ parsed d (at + length (sidePart d))
+          → sideForm s at ≡ parsed d (at + length (sidePart d))
       complete at d (hf, ok) e g =
           let a = d .first in
           let ps = d .listed in
@@ -185,6 +184,6 @@ module _ (s : List ℕ) where
   unfolding pointForm
   exact-point = exact-line (coordinateForm s) bitsField (λ v. v < 18446744073709551616) (exact-coordinate s) (leads-coordinate s) 3
 
-  pub exact-face : Exact s (faceKept s) faceFields FitFace
-  unfolding faceKept
-  exact-face = exact-line (sideKept s) sidePart FitSide exact-side leads-side 4
+  pub exact-face : Exact s (faceForm s) faceFields FitFace
+  unfolding faceForm
+  exact-face = exact-line (sideForm s) sidePart FitSide exact-side leads-side 4

@@ -1,30 +1,22 @@
--- Lists printed as a text (document 01, "Mesh text").
---     Side                   the first point of a side, and its listed points
---     Printable              the bits of three coordinates for each point, four sides for each face
+-- What a text says, printed (document 01, "Mesh text"; document 02, §4).
 --     listedPart p           a listed point with its interval, `[point-number H]`
 --     sidePart d             a side
+--     headLine v             the head of the version v
 --     pointLine faceLine     the bytes of a line
 --     printed t              the bytes of the text
 --     FitListed FitSide FitPoint FitFace FitText      what a text can say: numbers below 2^32, patterns of 64 bits, three coordinates
 --                            and four sides
---     withoutFirsts t        what is read of it: the first points are not looked at
 use mathlib.Core.Path.{_≡_}
-use mathlib.Core.List.{List, _++_, map}
+use mathlib.Core.List.{List, _++_}
 use Prim.Native.Nat.{ℕ, _<_}
 use lib.ListN.{length}
 use Rattle.text_numbers.specs.Form.{bytes}
-use Rattle.mesh_lines.specs.Grammar.{Listed, flat}
+use Rattle.mesh_lines.specs.Grammar.{Listed, Side, flat}
 use Rattle.mesh_text.specs.Text.{TextMesh}
+use Rattle.built_meshes.specs.declared.Version.{Version}
+use Rattle.built_meshes.specs.declared.Version.the-variants.{One, Two}
 use Rattle.mesh_answers.specs.Lines.{decimalBytes, bitsField}
 use Rattle.listings.specs.Printing.{All}
-
-pub record Side : Type 0 where
-  pub first : ℕ
-  pub listed : List Listed
-
-pub record Printable : Type 0 where
-  pub points : List (List ℕ)
-  pub faces : List (List Side)
 
 abbrev pub listedPart : Listed → List ℕ
 listedPart p = bytes " [" ++ (decimalBytes (p .point) ++ (bitsField (p .interval) ++ bytes "]"))
@@ -38,8 +30,12 @@ pointLine xyz = bytes "[point" ++ (flat bitsField xyz ++ bytes "]\n")
 abbrev pub faceLine : List Side → List ℕ
 faceLine ds = bytes "[face" ++ (flat sidePart ds ++ bytes "]\n")
 
-abbrev pub printed : Printable → List ℕ
-printed t = bytes "[mesh 1]\n" ++ (flat pointLine (t .points) ++ (flat faceLine (t .faces) ++ bytes "[end]\n"))
+abbrev pub headLine : Version → List ℕ
+headLine One = bytes "[mesh 1]\n"
+headLine Two = bytes "[mesh 2]\n"
+
+abbrev pub printed : TextMesh → List ℕ
+printed t = headLine (t .version) ++ (flat pointLine (t .points) ++ (flat faceLine (t .faces) ++ bytes "[end]\n"))
 
 abbrev pub FitListed : Listed → Type 0
 FitListed p = (p .point < 4294967296) × (p .interval < 18446744073709551616)
@@ -53,12 +49,6 @@ FitPoint xyz = (length xyz ≡ 3) × All (λ v. v < 18446744073709551616) xyz
 abbrev pub FitFace : List Side → Type 0
 FitFace ds = (length ds ≡ 4) × All FitSide ds
 
-pub record FitText (t : Printable) : Type 0 where
+pub record FitText (t : TextMesh) : Type 0 where
   pub points-fit : All FitPoint (t .points)
   pub faces-fit : All FitFace (t .faces)
-
-abbrev pub listedOf : Side → List Listed
-listedOf d = d .listed
-
-abbrev pub withoutFirsts : Printable → TextMesh
-withoutFirsts t = record { points = t .points; faces = map (map listedOf) (t .faces) }

@@ -1,5 +1,5 @@
-// The printing of lists as mesh text 1 (document 01, "Mesh text"), and the theorem that a text is read as lists exactly if it is a
-// printing of them, with any first points: so the grammar of `mesh_text` finds what this printer writes and nothing else.
+// The printing of mesh texts 1 and 2 (document 01, "Mesh text"; document 02, §4), and the theorem that a text is read as lists exactly
+// if it is the printing of them: so the grammar of `mesh_text` finds what this printer writes and nothing else.
 // Not here: the grammar (`mesh_lines`, `mesh_text`), the printing of numbers (`mesh_answers`).
-// Definitions: `specs/Printing.antt`. Claims: `specs/Claims.antt`, proved in `proofs/Theorem.antt` over `proofs/Kept.antt` (the grammar
-// that keeps the first points) and `proofs/Parts.antt` (its lines are found exactly where they are printed). A printed text: `proofs/Cases.antt`.
+// Definitions: `specs/Printing.antt`. Claims: `specs/Claims.antt`, proved in `proofs/Theorem.antt` over `proofs/Parts.antt` (the lines are
+// found exactly where they are printed). Printed texts: `proofs/Cases.antt`.

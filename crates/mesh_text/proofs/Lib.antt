@@ -1,2 +1,3 @@
 mod Cases
 pub mod Read
+mod Heads

@@ -2,6 +2,7 @@
 --     read-means             a text that is read is of the form, within the limits, and fills the lists
 --     length-coordinates     three coordinates a point
 --     length-lengths         four lengths a face
+--     length-firsts          four first points a face
 --     length-intervals       as many intervals as listed points
 --     total-lengths          the lengths add up to the listed points
 use mathlib.Core.List.{List, [], _∷_, _++_, map}
@@ -13,41 +14,44 @@ use lib.ListN.{length, length-append, length-map}
 use Rattle.text_numbers.specs.Form.{Parsed, parsed, unparsed, Form, _>>=_, pure, choose, stands, literal, many, bytes}
 use Rattle.text_numbers.specs.Numbers.{float}
 use Rattle.text_numbers.proofs.Laws.{total, onward-found}
-use Rattle.mesh_lines.specs.Grammar.{Listed, pointForm, faceForm, flat, sidePoints, sideIntervals}
-use Rattle.mesh_text.specs.Text.{TextMesh, ends, mesh, text}
+use Rattle.mesh_lines.specs.Grammar.{Side, pointForm, faceForm, flat, sideFirst, sideCount, sidePoints, sideIntervals}
+use Rattle.mesh_text.specs.Text.{TextMesh, headForm, ends, mesh, text}
 use Rattle.mesh_text.specs.Reading.{counts, TextLists, withText, within, readInto}
-use Rattle.mesh_text.specs.Lists.{coordinates, lengths, listedPoints, intervals}
+use Rattle.mesh_text.specs.Lists.{coordinates, lengths, firsts, listedPoints, intervals}
 use Rattle.tables.specs.declared.Sizes.{Sizes}
+use Rattle.built_meshes.specs.declared.Version.{Version}
 use Rattle.mesh_text.specs.declared.Reading.{Reading}
 use Rattle.mesh_text.specs.declared.Reading.the-variants as Reading
 use Rattle.mesh_lines.proofs.Laws.{same-count, length-point, length-face}
 
-pub record ReadText (s : List ℕ) (limits : Sizes) (l : TextLists) (c : Sizes) : Type 0 where
+pub record ReadText (s : List ℕ) (limits : Sizes) (l : TextLists) (v : Version) (c : Sizes) : Type 0 where
   pub what : TextMesh
   pub place : ℕ
   pub form : text s ≡ parsed what place
+  pub versioned : what .version ≡ v
   pub counted : counts what ≡ c
-  pub fits : within c limits (length (l .coordinates)) (length (l .lengths)) (length (l .listed)) (length (l .intervals)) ≡ true
+  pub fits : within c limits (length (l .coordinates)) (length (l .lengths)) (length (l .listed)) (length (l .intervals)) (length (l .firsts)) ≡ true
   pub lists : readInto s limits l .lists ≡ withText what l
 
-pub read-means : (s : List ℕ) (limits : Sizes) (l : TextLists) (c : Sizes) → readInto s limits l .reading ≡ Reading.Read c → ReadText s limits l c
+pub read-means : (s : List ℕ) (limits : Sizes) (l : TextLists) (v : Version) (c : Sizes) → readInto s limits l .reading ≡ Reading.Read v c → ReadText s limits l v c
 unfolding readInto
-read-means s limits l c e = go (text s) refl
+read-means s limits l v c e = go (text s) refl
   where
     room : TextMesh → Bool
-    room m = within (counts m) limits (length (l .coordinates)) (length (l .lengths)) (length (l .listed)) (length (l .intervals))
+    room m = within (counts m) limits (length (l .coordinates)) (length (l .lengths)) (length (l .listed)) (length (l .intervals)) (length (l .firsts))
 
-    test : (m : TextMesh) (n : ℕ) → text s ≡ parsed m n → (b : Bool) → room m ≡ b → ReadText s limits l c
+    test : (m : TextMesh) (n : ℕ) → text s ≡ parsed m n → (b : Bool) → room m ≡ b → ReadText s limits l v c
     test m n et true eb =
         let e′ = rw (et, eb) at e in
+        let ev : m .version ≡ v = cc in
         let ec : counts m ≡ c = cc in
-        record { what = m; place = n; form = et; counted = ec; fits = rw ec at eb; lists = rw (et, eb) }
+        record { what = m; place = n; form = et; versioned = ev; counted = ec; fits = rw ec at eb; lists = rw (et, eb) }
     test m n et false eb =
         let e′ = rw (et, eb) at e in
         let z : _≡_ {A = ℕ} 0 1 = cc in
         absurd (omega arith)
 
-    go : (x : Parsed TextMesh) → text s ≡ x → ReadText s limits l c
+    go : (x : Parsed TextMesh) → text s ≡ x → ReadText s limits l v c
     go (parsed m n) et = test m n et (room m) refl
     go unparsed et =
         let e′ = rw et at e in
@@ -89,18 +93,18 @@ lines : (s : List ℕ) (m : TextMesh) (n : ℕ) → text s ≡ parsed m n
     → (a i j : ℕ) × (many s (bytes "[point") (pointForm s) (length s) a ≡ parsed (m .points) i) × (many s (bytes "[face") (faceForm s) (length s) i ≡ parsed (m .faces) j)
 unfolding mesh text
 lines s m n e =
-    let (z, a, ez, e1) = onward-found _ (literal s (bytes "[mesh 1]\n") 0) e in
+    let (v, a, ez, e1) = onward-found _ (headForm s 0) e in
     let (ps, i, ep, e2) = onward-found _ (many s (bytes "[point") (pointForm s) (length s) a) e1 in
     let (fs, j, ef, e3) = onward-found _ (many s (bytes "[face") (faceForm s) (length s) i) e2 in
-    go a i j ps fs ep ef (ends s j) e3
+    go v a i j ps fs ep ef (ends s j) e3
   where
-    go : (a i j : ℕ) (ps : List (List ℕ)) (fs : List (List (List Listed))) → many s (bytes "[point") (pointForm s) (length s) a ≡ parsed ps i
-        → many s (bytes "[face") (faceForm s) (length s) i ≡ parsed fs j → (b : Bool) → choose b (pure (record { points = ps; faces = fs })) (λ k. unparsed) j ≡ parsed m n
+    go : (v : Version) (a i j : ℕ) (ps : List (List ℕ)) (fs : List (List Side)) → many s (bytes "[point") (pointForm s) (length s) a ≡ parsed ps i
+        → many s (bytes "[face") (faceForm s) (length s) i ≡ parsed fs j → (b : Bool) → choose b (pure (record { version = v; points = ps; faces = fs })) (λ k. unparsed) j ≡ parsed m n
         → (a i j : ℕ) × (many s (bytes "[point") (pointForm s) (length s) a ≡ parsed (m .points) i) × (many s (bytes "[face") (faceForm s) (length s) i ≡ parsed (m .faces) j)
-    go a i j ps fs ep ef true e′ =
-        let em : _≡_ {A = TextMesh} (record { points = ps; faces = fs }) m = cc in
+    go v a i j ps fs ep ef true e′ =
+        let em : _≡_ {A = TextMesh} (record { version = v; points = ps; faces = fs }) m = cc in
         (a, i, j, ep ∙ ap (λ (x : TextMesh). parsed (x .points) i) em, ef ∙ ap (λ (x : TextMesh). parsed (x .faces) j) em)
-    go a i j ps fs ep ef false e′ = let z : _≡_ {A = ℕ} 0 1 = cc in absurd (omega arith)
+    go v a i j ps fs ep ef false e′ = let z : _≡_ {A = ℕ} 0 1 = cc in absurd (omega arith)
 
 module _ (s : List ℕ) (m : TextMesh) (n : ℕ) (e : text s ≡ parsed m n) where
   pub length-coordinates : length (coordinates m) ≡ 3 * length (m .points)
@@ -112,15 +116,22 @@ module _ (s : List ℕ) (m : TextMesh) (n : ℕ) (e : text s ≡ parsed m n) whe
   pub length-lengths : length (lengths m) ≡ 4 * length (m .faces)
   length-lengths =
       let (a, i, j, ep, ef) = lines s m n e in
-      length-flat (map length) 4 (m .faces)
-      (many-each s (bytes "[face") (faceForm s) (λ (sides : List (List Listed)). length (map length sides) ≡ 4)
-      (λ at sides k h. length-map sides length ∙ length-face s at sides k h) (length s) i (m .faces) j ef)
+      length-flat (map sideCount) 4 (m .faces)
+      (many-each s (bytes "[face") (faceForm s) (λ (sides : List Side). length (map sideCount sides) ≡ 4)
+      (λ at sides k h. length-map sides sideCount ∙ length-face s at sides k h) (length s) i (m .faces) j ef)
+
+  pub length-firsts : length (firsts m) ≡ 4 * length (m .faces)
+  length-firsts =
+      let (a, i, j, ep, ef) = lines s m n e in
+      length-flat (map sideFirst) 4 (m .faces)
+      (many-each s (bytes "[face") (faceForm s) (λ (sides : List Side). length (map sideFirst sides) ≡ 4)
+      (λ at sides k h. length-map sides sideFirst ∙ length-face s at sides k h) (length s) i (m .faces) j ef)
 
 pub length-intervals : (m : TextMesh) → length (intervals m) ≡ length (listedPoints m)
 unfolding flat
 length-intervals m = go (m .faces)
   where
-    go : (fs : List (List (List Listed))) → length (flat (flat sideIntervals) fs) ≡ length (flat (flat sidePoints) fs)
+    go : (fs : List (List Side)) → length (flat (flat sideIntervals) fs) ≡ length (flat (flat sidePoints) fs)
     go [] = refl
     go (f ∷ fs) =
         let a = length-append (flat sideIntervals f) (flat (flat sideIntervals) fs) in
@@ -134,12 +145,12 @@ unfolding total
 total-append [] ys = omega arith
 total-append (x ∷ xs) ys = let r = total-append xs ys in omega arith
 
-total-sides : (sides : List (List Listed)) → total (λ (k : ℕ). k) (map length sides) ≡ length (flat sidePoints sides)
+total-sides : (sides : List Side) → total (λ (k : ℕ). k) (map sideCount sides) ≡ length (flat sidePoints sides)
 unfolding total flat
 total-sides [] = refl
-total-sides (ps ∷ sides) =
-    let a = length-append (sidePoints ps) (flat sidePoints sides) in
-    let b : length (sidePoints ps) ≡ length ps = length-map ps _ in
+total-sides (p ∷ sides) =
+    let a = length-append (sidePoints p) (flat sidePoints sides) in
+    let b : length (sidePoints p) ≡ sideCount p = length-map (p .listed) _ in
     let r = total-sides sides in
     omega arith
 
@@ -147,10 +158,10 @@ pub total-lengths : (m : TextMesh) → total (λ (k : ℕ). k) (lengths m) ≡ l
 unfolding flat total
 total-lengths m = go (m .faces)
   where
-    go : (fs : List (List (List Listed))) → total (λ (k : ℕ). k) (flat (map length) fs) ≡ length (flat (flat sidePoints) fs)
+    go : (fs : List (List Side)) → total (λ (k : ℕ). k) (flat (map sideCount) fs) ≡ length (flat (flat sidePoints) fs)
     go [] = refl
     go (f ∷ fs) =
-        let a = total-append (map length f) (flat (map length) fs) in
+        let a = total-append (map sideCount f) (flat (map sideCount) fs) in
         let b = length-append (flat sidePoints f) (flat (flat sidePoints) fs) in
         let k = total-sides f in
         let r = go fs in

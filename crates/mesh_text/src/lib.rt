@@ -1,4 +1,4 @@
-// Mesh text 1 (document 01, "Mesh text"): its grammar, and a reader of it.
+// Mesh texts 1 and 2 (document 01, "Mesh text"; document 02, §4): their grammar, and a reader of them.
 // Not here: its lines (`mesh_lines`), grounds 3 and later (building), the answers' lines (`mesh_answers`).
 // Contracts: `read_text`, `ends`. Definitions: `specs/Text.antt` (the grammar), `specs/Lists.antt` (the lists that
 // a text stands for), `specs/Reading.antt` (the answer and the lent lists).
@@ -7,10 +7,11 @@ ghost use mathlib.Core.Path.{_≡_};
 ghost use Prim.Native.Nat.{_≤_};
 ghost use lib.ListN.{length};
 ghost use Rattle.mesh_lines.specs.Parts.{stored};
-ghost use Rattle.mesh_text.specs.Text.{ends, text};
+ghost use Rattle.mesh_text.specs.Text.{headForm, ends, text};
 ghost use Rattle.mesh_text.specs.Reading.{within, ReadOutcome, readInto};
-ghost use Rattle.mesh_text.specs.Lists.{coordinates, listedPoints, intervals};
-ghost use Rattle.mesh_text.specs.Parts.{lengthWords, totalOf, AtTotal};
+ghost use Rattle.mesh_text.specs.Lists.{coordinates, firsts, listedPoints, intervals};
+ghost use Rattle.mesh_text.specs.Parts.{lengthWords, headOf, totalOf, AtTotal};
+use built_meshes::Version;
 use mesh_lines::Lines;
 use mesh_lines::Run;
 use mesh_lines::faces;
@@ -18,40 +19,67 @@ use mesh_lines::points;
 use tables::Sizes;
 use text_numbers::stands;
 
-// What reading a text answers. Not of the form is ground 1, over the limits ground 2.
+// What reading a text answers: its version and its sizes. Not of the form is ground 1, over the limits ground 2.
 pub enum Reading {
-    Read(Sizes),
+    Read(Version, Sizes),
     NotText,
     OverLimits,
 }
 
-// How many points, faces and listed points a whole text has.
-enum Total {
-    Of(usize, usize, usize),
+// The version that the head of a text names.
+enum Head {
+    Is(Version),
     None,
 }
 
+// The version of a whole text, and how many points, faces and listed points it has.
+enum Total {
+    Of(Version, usize, usize, usize),
+    None,
+}
+
+// The head of a text.
+fn read_head(s: &[u8]) -> Head
+    ensures { λ r. ⌜ r ≡ headOf (headForm (now (s .entry)) 0) ⌝ }
+{
+    if stands(s, 0, b"[mesh 1]\n") {
+        return Head::Is(Version::One);
+    }
+    if stands(s, 0, b"[mesh 2]\n") {
+        return Head::Is(Version::Two);
+    }
+    Head::None
+}
+
 // The whole text, its numbers stored in the lists as far as these have rows.
-fn scan(s: &[u8], xs: &mut [f64], ls: &mut [u32], ps: &mut [u32], ds: &mut [f64]) -> Total
+fn scan(
+    s: &[u8],
+    xs: &mut [f64],
+    ls: &mut [u32],
+    qs: &mut [u32],
+    ps: &mut [u32],
+    ds: &mut [f64],
+) -> Total
     ensures sizes { λ r. ⌜ r ≡ totalOf (text (now (s .entry))) ⌝ }
     ensures coordinates { λ r. ⌜ AtTotal r (now (xs .exit) ≡ stored coordinates (now (xs .entry)) 0 (text (now (s .entry)))) ⌝ }
     ensures lengths { λ r. ⌜ AtTotal r (now (ls .exit) ≡ stored lengthWords (now (ls .entry)) 0 (text (now (s .entry)))) ⌝ }
+    ensures firsts { λ r. ⌜ AtTotal r (now (qs .exit) ≡ stored firsts (now (qs .entry)) 0 (text (now (s .entry)))) ⌝ }
     ensures points { λ r. ⌜ AtTotal r (now (ps .exit) ≡ stored listedPoints (now (ps .entry)) 0 (text (now (s .entry)))) ⌝ }
     ensures intervals { λ r. ⌜ AtTotal r (now (ds .exit) ≡ stored intervals (now (ds .entry)) 0 (text (now (s .entry)))) ⌝ }
 {
-    if !stands(s, 0, b"[mesh 1]\n") {
+    let Head::Is(v) = read_head(s) else {
         return Total::None;
-    }
+    };
     let Run::Of(p, i) = points(s, 9, xs) else {
         return Total::None;
     };
-    let Lines::Are(f, c, j) = faces(s, i, ls, ps, ds) else {
+    let Lines::Are(f, c, j) = faces(s, i, ls, qs, ps, ds) else {
         return Total::None;
     };
     if !ends(s, j) {
         return Total::None;
     }
-    Total::Of(p, f, c)
+    Total::Of(v, p, f, c)
 }
 
 // Whether the end line stands at a place and is the last of the text.
@@ -65,20 +93,21 @@ pub fn ends(s: &[u8], at: usize) -> bool
     at + 6 == s.len()
 }
 
-// How many points, faces and listed points a text has. Its numbers are stored nowhere.
+// The version of a text, and how many points, faces and listed points it has. Its numbers are stored nowhere.
 fn sizes(s: &[u8]) -> Total
     ensures { λ r. ⌜ r ≡ totalOf (text (now (s .entry))) ⌝ }
 {
     let mut xs = [0.0; 1];
     let mut ls = [0u32; 1];
+    let mut qs = [0u32; 1];
     let mut ps = [0u32; 1];
     let mut ds = [0.0; 1];
-    scan(s, &mut xs, &mut ls, &mut ps, &mut ds)
+    scan(s, &mut xs, &mut ls, &mut qs, &mut ps, &mut ds)
 }
 
-// Whether the counts are within the limits and within the rooms of the four lists.
-fn within(c: Sizes, limits: Sizes, xs: usize, ls: usize, ps: usize, ds: usize) -> bool
-    ensures { λ r. ⌜ r ≡ within c limits xs ls ps ds ⌝ }
+// Whether the counts are within the limits and within the rooms of the five lists.
+fn within(c: Sizes, limits: Sizes, xs: usize, ls: usize, ps: usize, ds: usize, qs: usize) -> bool
+    ensures { λ r. ⌜ r ≡ within c limits xs ls ps ds qs ⌝ }
 {
     if limits.points < c.points {
         return false;
@@ -104,25 +133,29 @@ fn within(c: Sizes, limits: Sizes, xs: usize, ls: usize, ps: usize, ds: usize) -
     if ds < c.listed {
         return false;
     }
+    if qs / 4 < c.faces {
+        return false;
+    }
     true
 }
 
-// Reads a text: the coordinates of its points, the lengths of its sides, the listed points and their intervals, each at the front of its list.
+// Reads a text: the coordinates of its points, the lengths and first points of its sides, the listed points and their intervals, each at the front of its list.
 // A text that is not of the form, or is over the limits or the room of the lists, leaves the lists as they are.
 pub fn read_text(
     s: &[u8],
     limits: Sizes,
     xs: &mut [f64],
     ls: &mut [u32],
+    qs: &mut [u32],
     ps: &mut [u32],
     ds: &mut [f64],
 ) -> Reading
     ensures { λ r. ⌜ _≡_ {A = ReadOutcome}
-        (record { reading = r; lists = record { coordinates = now (xs .exit); lengths = now (ls .exit); listed = now (ps .exit); intervals = now (ds .exit) } })
+        (record { reading = r; lists = record { coordinates = now (xs .exit); lengths = now (ls .exit); firsts = now (qs .exit); listed = now (ps .exit); intervals = now (ds .exit) } })
         (readInto (now (s .entry)) limits
-        (record { coordinates = now (xs .entry); lengths = now (ls .entry); listed = now (ps .entry); intervals = now (ds .entry) })) ⌝ }
+        (record { coordinates = now (xs .entry); lengths = now (ls .entry); firsts = now (qs .entry); listed = now (ps .entry); intervals = now (ds .entry) })) ⌝ }
 {
-    let Total::Of(points, faces, listed) = sizes(s) else {
+    let Total::Of(version, points, faces, listed) = sizes(s) else {
         return Reading::NotText;
     };
     let c = Sizes {
@@ -130,9 +163,9 @@ pub fn read_text(
         faces,
         listed,
     };
-    if !within(c, limits, xs.len(), ls.len(), ps.len(), ds.len()) {
+    if !within(c, limits, xs.len(), ls.len(), ps.len(), ds.len(), qs.len()) {
         return Reading::OverLimits;
     }
-    scan(s, xs, ls, ps, ds);
-    Reading::Read(c)
+    scan(s, xs, ls, qs, ps, ds);
+    Reading::Read(version, c)
 }

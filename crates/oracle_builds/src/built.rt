@@ -6,6 +6,7 @@ use answer_numbers::ground_number;
 use building::build;
 use building_tests::Bounds;
 use built_meshes::Built;
+use built_meshes::Version;
 use mesh_text::read_text;
 use oracle_tables::fields::least;
 use oracle_tables::held::Lent;
@@ -125,9 +126,12 @@ pub fn build_lists(
     let b = least(lengths.sides, sides.len());
     let c = least(lengths.listed, listed.len());
     let d = least(lengths.beside, beside.len());
+    let firsts = [0u32; 0];
     match build(
+        Version::One,
         &coordinates[..a],
         &sides[..b],
+        &firsts,
         &listed[..c],
         &beside[..d],
         positions,
@@ -198,9 +202,10 @@ pub fn build_changed(text: &[u8], bounds: Bounds, change: Change) -> Start {
     };
     let mut xs = [0.0f64; 300];
     let mut ls = [0u32; 400];
+    let mut qs = [0u32; 400];
     let mut ps = [0u32; 400];
     let mut ds = [0.0f64; 400];
-    read_text(text, limits, &mut xs, &mut ls, &mut ps, &mut ds);
+    read_text(text, limits, &mut xs, &mut ls, &mut qs, &mut ps, &mut ds);
     put_word(&mut ls, change.place, change.word);
     build_in_filled(&xs, &ls, &ps, &ds, change.lengths, bounds)
 }

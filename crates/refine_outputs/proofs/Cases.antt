@@ -7,7 +7,7 @@ use lib.Ieee.{add, div, le, lt, mul, neg, ofBits, ofInt, sub, toBits}
 use Rattle.text_numbers.specs.Form.{bytes, literal, many, stands, times}
 use Rattle.text_numbers.specs.Numbers.{bits, decimal, decimalFrom, digit, digitValue, digitsFrom, value}
 use Rattle.mesh_lines.specs.Grammar.{coordinateForm, faceForm, listedForm, pointForm, sideForm, flat}
-use Rattle.mesh_text.specs.Text.{ends, mesh, text}
+use Rattle.mesh_text.specs.Text.{headForm, ends, mesh, text}
 use Rattle.mesh_answers.specs.Lines.{decimalDigits, hexByte, hexBytes}
 use Rattle.refine_outputs.specs.Output.{output}
 use Rattle.tables.specs.Rows.{over, zeroed}
@@ -45,7 +45,7 @@ pub cube : output (bytes "[mesh 1]\n" ++
     bytes "[end]\n")
     ≡ bytes "[mesh 8 12 6]\n[step 26 48 24]\n[at 0 bfdc71c71c71c71c bfdc71c71c71c71c bfdc71c71c71c71c]\n"
 unfolding output digitValue value stands literal digit bits digitsFrom decimalFrom decimal many coordinateForm pointForm listedForm sideForm
-    faceForm ends mesh text times flat toBits decimalDigits hexByte hexBytes build step numbered linksOf lt over zeroed
+    faceForm headForm ends mesh text times flat toBits decimalDigits hexByte hexBytes build step numbered linksOf lt over zeroed
     refinedRows copied visits visit faceWalk turns filled visitAlong splitAll splitWhole splitEdge ringOf putRing putJoin
     putFirst putSecond putNewFace putFacePoint putEdge putPoint putStart putFace facePointIn facePointAbout facePointOver
     windowSum windowWeight sixTerms threeTerms acwAbout cwAbout again edgePoint edgeMiddle shares oldPoint radialSum
@@ -71,7 +71,7 @@ zero-cube : output (bytes "[mesh 1]\n" ++
     bytes "[end]\n")
     ≡ bytes "[mesh 8 12 6]\n[refused 33]\n"
 unfolding output digitValue value stands literal digit bits digitsFrom decimalFrom decimal many coordinateForm pointForm listedForm sideForm
-    faceForm ends mesh text times flat toBits decimalDigits hexByte hexBytes build step numbered linksOf lt over zeroed
+    faceForm headForm ends mesh text times flat toBits decimalDigits hexByte hexBytes build step numbered linksOf lt over zeroed
     refinedRows copied visits visit faceWalk turns filled visitAlong splitAll splitWhole splitEdge ringOf putRing putJoin
     putFirst putSecond putNewFace putFacePoint putEdge putPoint putStart putFace facePointIn facePointAbout facePointOver
     windowSum windowWeight sixTerms threeTerms acwAbout cwAbout again edgePoint edgeMiddle shares oldPoint radialSum
@@ -84,5 +84,5 @@ texts : map (λ t. output (bytes t)) (
     "[mesh 1]\n[point 7ff0000000000000 0000000000000000 0000000000000000]\n[end]\n" ∷ [])
     ≡ bytes "[mesh 0 0 0]\n[step 0 0 0]\n" ∷ bytes "[refused 1]\n" ∷ bytes "[refused 3]\n" ∷ []
 unfolding output digitValue value stands literal digit bits digitsFrom decimalFrom decimal many coordinateForm pointForm
-    listedForm sideForm faceForm ends mesh text times flat ofBits toBits decimalDigits
+    listedForm sideForm faceForm headForm ends mesh text times flat ofBits toBits decimalDigits
 texts = refl

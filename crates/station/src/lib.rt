@@ -3,12 +3,13 @@
 // that of the ground. Counts stand in an array of three that the caller lends: points, edges, faces.
 // Not here: what the functions do (`building`, `text_building`, `audit`, `refining`, `depth_finder`, `listing_writing`,
 // `listing_reading`), how an answer is told (`station_answers`, `station_listings`).
-// Contracts: `lavyngo_build`, `lavyngo_build_text`, `lavyngo_audit`, `lavyngo_step`, `lavyngo_find_depth`,
+// Contracts: `lavyngo_build`, `lavyngo_build_2`, `lavyngo_build_text`, `lavyngo_audit`, `lavyngo_step`, `lavyngo_find_depth`,
 // `lavyngo_write_listing`, `lavyngo_read_listing`, `lavyngo_version`. Definitions: `specs/Station.antt`. Laws: `proofs/Laws.antt`.
 ghost use mathlib.Core.Path.{_≡_};
 ghost use Rattle.built_meshes.specs.Building.{build};
 ghost use Rattle.built_meshes.specs.Lists.{generalLimits};
-ghost use Rattle.building_tests.specs.Lent.{lists};
+ghost use Rattle.building_tests.specs.Lent.{lists, listsIn};
+ghost use Rattle.built_meshes.specs.declared.Version.the-variants.{Two};
 ghost use Rattle.building_tests.specs.declared.Bounds.the-variants.{General};
 ghost use Rattle.text_meshes.specs.TextBuilding.{buildText};
 ghost use Rattle.tables.specs.Mesh.{meshOf};
@@ -22,6 +23,7 @@ ghost use Rattle.station_listings.specs.Told.{WritingTold, toldWriting, Reading
 use audit::audit;
 use building::build;
 use building_tests::Bounds;
+use built_meshes::Version;
 use depth_finder::find_depth;
 use refining::step;
 use station_answers::load_counts;
@@ -35,9 +37,9 @@ use text_building::build_text;
 
 // The version of the library: 1 for document 01, and one more for each request of document 02 that is in it. LAVYNGO_VERSION in the
 // header is the same number.
-pub const LIBRARY_VERSION: u32 = 5;
+pub const LIBRARY_VERSION: u32 = 6;
 
-// Builds a mesh from lists in the lent tables. The counts are written if it is accepted.
+// Builds a mesh from lists of version 1 in the lent tables. The counts are written if it is accepted.
 #[no_mangle]
 pub extern "C" fn lavyngo_build(
     coordinates: &[f64],
@@ -58,9 +60,52 @@ pub extern "C" fn lavyngo_build(
         (build generalLimits (lists (now (coordinates .entry)) (now (sides .entry)) (now (listed .entry)) (now (beside .entry)))
         (meshOf (now (positions .entry)) (now (points .entry)) (now (edges .entry)) (now (intervals .entry)) (now (faces .entry))))) ⌝ }
 {
+    let firsts = [0u32; 0];
     let answer = build(
+        Version::One,
         coordinates,
         sides,
+        &firsts,
+        listed,
+        beside,
+        positions,
+        points,
+        edges,
+        intervals,
+        faces,
+        Bounds::General,
+    );
+    tell_built(counts, answer)
+}
+
+// Builds a mesh from lists of version 2 in the lent tables. The counts are written if it is accepted.
+#[no_mangle]
+pub extern "C" fn lavyngo_build_2(
+    coordinates: &[f64],
+    sides: &[u32],
+    firsts: &[u32],
+    listed: &[u32],
+    beside: &[f64],
+    positions: &mut [f64],
+    points: &mut [u32],
+    edges: &mut [u32],
+    intervals: &mut [f64],
+    faces: &mut [u32],
+    counts: &mut [usize; 3],
+) -> u32
+    ensures { λ r. ⌜
+        _≡_ {A = BuildingTold}
+        (record { answer = r; counts = now (counts .exit); tables = meshOf (now (positions .exit)) (now (points .exit)) (now (edges .exit)) (now (intervals .exit)) (now (faces .exit)) })
+        (built (now (counts .entry))
+        (build generalLimits
+        (listsIn Two (now (coordinates .entry)) (now (sides .entry)) (now (firsts .entry)) (now (listed .entry)) (now (beside .entry)))
+        (meshOf (now (positions .entry)) (now (points .entry)) (now (edges .entry)) (now (intervals .entry)) (now (faces .entry))))) ⌝ }
+{
+    let answer = build(
+        Version::Two,
+        coordinates,
+        sides,
+        firsts,
         listed,
         beside,
         positions,

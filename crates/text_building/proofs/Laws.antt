@@ -17,17 +17,18 @@ use Rattle.text_numbers.specs.Form.{Parsed, parsed, unparsed}
 use Rattle.text_numbers.proofs.Laws.{and-both}
 use Rattle.mesh_text.specs.Text.{text, TextMesh}
 use Rattle.mesh_text.specs.Reading.{counts, TextLists, withText, within, ReadOutcome, readInto}
-use Rattle.mesh_text.specs.Lists.{coordinates, lengths, listedPoints, intervals}
+use Rattle.mesh_text.specs.Lists.{coordinates, lengths, firsts, listedPoints, intervals}
 use Rattle.tables.specs.declared.Sizes.{Sizes}
 use Rattle.mesh_text.specs.declared.Reading.{Reading}
 use Rattle.mesh_text.specs.declared.Reading.the-variants as Reading
-use Rattle.mesh_text.proofs.Read.{ReadText, read-means, length-coordinates, length-lengths, length-intervals}
+use Rattle.mesh_text.proofs.Read.{ReadText, read-means, length-coordinates, length-lengths, length-firsts, length-intervals}
 use Rattle.built_meshes.specs.Lists.{countsFit}
 use Rattle.built_meshes.specs.Building.{build, BuildOutcome as ListsOutcome}
+use Rattle.built_meshes.specs.declared.Version.{Version}
 use Rattle.built_meshes.specs.declared.Ground.the-variants.{OverCounts}
 use Rattle.built_meshes.specs.declared.Built.{Built}
 use Rattle.built_meshes.proofs.Begin.{counts-is}
-use Rattle.building_tests.specs.Lent.{lists, limitsOf}
+use Rattle.building_tests.specs.Lent.{listsIn, limitsOf}
 use Rattle.building_tests.specs.declared.Bounds.{Bounds}
 use Rattle.building_tests.specs.declared.Bounds.the-variants.{General, Refine}
 use Rattle.text_meshes.specs.TextBuilding.{tooLong, listsOf, told, TextOutcome, toldOutcome, ofForm, buildTextIf, buildText}
@@ -40,10 +41,10 @@ few General = omega arith
 few Refine = omega arith
 
 -- counts within the limits are within lists that have room for the general ones
-within-room : (b : Bounds) (c : Sizes) (xs ls ps ds : ℕ) → c .points ≤ limitsOf b .points → c .faces ≤ limitsOf b .faces → c .listed ≤ limitsOf b .listed
-    → 12288 ≤ xs → 16384 ≤ ls → 16384 ≤ ps → 16384 ≤ ds → within c (limitsOf b) xs ls ps ds ≡ true
+within-room : (b : Bounds) (c : Sizes) (xs ls ps ds qs : ℕ) → c .points ≤ limitsOf b .points → c .faces ≤ limitsOf b .faces → c .listed ≤ limitsOf b .listed
+    → 12288 ≤ xs → 16384 ≤ ls → 16384 ≤ ps → 16384 ≤ ds → 16384 ≤ qs → within c (limitsOf b) xs ls ps ds qs ≡ true
 unfolding within
-within-room b c xs ls ps ds hp hf hl rx rl rp rd =
+within-room b c xs ls ps ds qs hp hf hl rx rl rp rd rq =
     let (kp, kf, kl) = few b in
     rw (
       le-leb (c .points) (limitsOf b .points) hp,
@@ -54,19 +55,20 @@ within-room b c xs ls ps ds hp hf hl rx rl rp rd =
       le-leb (4 * c .faces) ls (omega arith),
       le-leb (c .listed) ps (omega arith),
       le-leb (c .listed) ds (omega arith),
+      le-leb (4 * c .faces) qs (omega arith),
     )
 
 -- a text over the limits has lists that are over them
-over-counts : (b : Bounds) (s : List ℕ) (t : TextMesh) (n : ℕ) → text s ≡ parsed t n → (xs ls ps ds : ℕ) → 12288 ≤ xs → 16384 ≤ ls → 16384 ≤ ps → 16384 ≤ ds
-    → within (counts t) (limitsOf b) xs ls ps ds ≡ false → countsFit (limitsOf b) (listsOf t) ≡ false
-over-counts b s t n e xs ls ps ds rx rl rp rd w = go (countsFit (limitsOf b) (listsOf t)) refl
+over-counts : (b : Bounds) (s : List ℕ) (t : TextMesh) (n : ℕ) → text s ≡ parsed t n → (xs ls ps ds qs : ℕ) → 12288 ≤ xs → 16384 ≤ ls → 16384 ≤ ps → 16384 ≤ ds → 16384 ≤ qs
+    → within (counts t) (limitsOf b) xs ls ps ds qs ≡ false → countsFit (limitsOf b) (listsOf t) ≡ false
+over-counts b s t n e xs ls ps ds qs rx rl rp rd rq w = go (countsFit (limitsOf b) (listsOf t)) refl
   where
     go : (f : Bool) → countsFit (limitsOf b) (listsOf t) ≡ f → f ≡ false
     go true h =
         let k = counts-is (limitsOf b) (listsOf t) h in
         let lc = length-coordinates s t n e in
         let ll = length-lengths s t n e in
-        sym (within-room b (counts t) xs ls ps ds (omega (arith, k .points-few)) (omega (arith, k .faces-few)) (k .listed-few) rx rl rp rd) ∙ w
+        sym (within-room b (counts t) xs ls ps ds qs (omega (arith, k .points-few)) (omega (arith, k .faces-few)) (k .listed-few) rx rl rp rd rq) ∙ w
     go false h = refl
 
 -- the lists hold as much as the counts say
@@ -75,8 +77,9 @@ pub record Held (c : Sizes) (l : TextLists) : Type 0 where
   pub lengths : 4 * c .faces ≤ length (l .lengths)
   pub listed : c .listed ≤ length (l .listed)
   pub intervals : c .listed ≤ length (l .intervals)
+  pub firsts : 4 * c .faces ≤ length (l .firsts)
 
-held : (c limits : Sizes) (l : TextLists) → within c limits (length (l .coordinates)) (length (l .lengths)) (length (l .listed)) (length (l .intervals)) ≡ true → Held c l
+held : (c limits : Sizes) (l : TextLists) → within c limits (length (l .coordinates)) (length (l .lengths)) (length (l .listed)) (length (l .intervals)) (length (l .firsts)) ≡ true → Held c l
 unfolding within
 held c limits l e =
     let e1 = and-both (leb (c .points) (limits .points)) _ e .1 in
@@ -85,8 +88,9 @@ held c limits l e =
     let e4 = and-both (leb (c .listed) 4294967295) _ e3 .1 in
     let (ec, e5) = and-both (leb (3 * c .points) (length (l .coordinates))) _ e4 in
     let (el, e6) = and-both (leb (4 * c .faces) (length (l .lengths))) _ e5 in
-    let (ep, ed) = and-both (leb (c .listed) (length (l .listed))) _ e6 in
-    record { coordinates = leb-true _ _ ec; lengths = leb-true _ _ el; listed = leb-true _ _ ep; intervals = leb-true _ _ ed }
+    let (ep, e7) = and-both (leb (c .listed) (length (l .listed))) _ e6 in
+    let (ed, eq) = and-both (leb (c .listed) (length (l .intervals))) _ e7 in
+    record { coordinates = leb-true _ _ ec; lengths = leb-true _ _ el; listed = leb-true _ _ ep; intervals = leb-true _ _ ed; firsts = leb-true _ _ eq }
 
 take-sets : {A : Type 0} (xs cs : List A) (n : ℕ) → length cs ≡ n → n ≤ length xs → take n (sets xs 0 cs) ≡ cs
 take-sets xs cs n e h =
@@ -108,7 +112,7 @@ module _ (b : Bounds) (s : List ℕ) (l : TextLists) (m : Mesh) {r : Reading} {l
   no-form h = go (text s) refl
     where
       test : (t : TextMesh) (n : ℕ) → text s ≡ parsed t n → (w : Bool)
-          → within (counts t) (limitsOf b) (length (l .coordinates)) (length (l .lengths)) (length (l .listed)) (length (l .intervals)) ≡ w → parsed t n ≡ unparsed
+          → within (counts t) (limitsOf b) (length (l .coordinates)) (length (l .lengths)) (length (l .listed)) (length (l .intervals)) (length (l .firsts)) ≡ w → parsed t n ≡ unparsed
       test t n et true ew =
           let e′ = rw (et, ew) at answered in
           cc
@@ -124,19 +128,20 @@ module _ (b : Bounds) (s : List ℕ) (l : TextLists) (m : Mesh) {r : Reading} {l
   unfolding buildTextIf
   not-text h = rw (no-form h)
 
-  module _ (rx : 12288 ≤ length (l .coordinates)) (rl : 16384 ≤ length (l .lengths)) (rp : 16384 ≤ length (l .listed)) (rd : 16384 ≤ length (l .intervals)) where
+  module _ (rx : 12288 ≤ length (l .coordinates)) (rl : 16384 ≤ length (l .lengths)) (rp : 16384 ≤ length (l .listed)) (rd : 16384 ≤ length (l .intervals))
+      (rq : 16384 ≤ length (l .firsts)) where
     pub over-limits : r ≡ Reading.OverLimits → record { answer = Refused OverCounts; tables = m } ≡ buildTextIf false b s m
     unfolding readInto buildTextIf
     over-limits h = go (text s) refl
       where
         test : (t : TextMesh) (n : ℕ) → text s ≡ parsed t n → (w : Bool)
-            → within (counts t) (limitsOf b) (length (l .coordinates)) (length (l .lengths)) (length (l .listed)) (length (l .intervals)) ≡ w
+            → within (counts t) (limitsOf b) (length (l .coordinates)) (length (l .lengths)) (length (l .listed)) (length (l .intervals)) (length (l .firsts)) ≡ w
             → record { answer = Refused OverCounts; tables = m } ≡ ofForm b m (text s)
         test t n et true ew =
             let e′ = rw (et, ew) at answered in
             let z : _≡_ {A = ℕ} 0 1 = cc in
             absurd (omega arith)
-        test t n et false ew = rw (et, over-counts b s t n et _ _ _ _ rx rl rp rd ew)
+        test t n et false ew = rw (et, over-counts b s t n et _ _ _ _ _ rx rl rp rd rq ew)
 
         go : (x : Parsed TextMesh) → text s ≡ x → record { answer = Refused OverCounts; tables = m } ≡ ofForm b m (text s)
         go (parsed t n) et = test t n et _ refl
@@ -145,9 +150,9 @@ module _ (b : Bounds) (s : List ℕ) (l : TextLists) (m : Mesh) {r : Reading} {l
             let z : _≡_ {A = ℕ} 0 1 = cc in
             absurd (omega arith)
 
-  module _ {c : Sizes} (ec : r ≡ Reading.Read c) where
-    means : ReadText s (limitsOf b) l c
-    means = read-means s (limitsOf b) l c (sym answered ∙ ec)
+  module _ {v : Version} {c : Sizes} (ec : r ≡ Reading.Read v c) where
+    means : ReadText s (limitsOf b) l v c
+    means = read-means s (limitsOf b) l v c (sym answered ∙ ec)
 
     read-lists : l′ ≡ withText (means .what) l
     read-lists = ap (λ (v : ReadOutcome). v .lists) e ∙ ap (λ (v : Sizes). readInto s v l .lists) eb ∙ means .lists
@@ -163,10 +168,18 @@ module _ (b : Bounds) (s : List ℕ) (l : TextLists) (m : Mesh) {r : Reading} {l
         let ll = length-sets (l .lengths) 0 (lengths t) in
         let lp = length-sets (l .listed) 0 (listedPoints t) in
         let ld = length-sets (l .intervals) 0 (intervals t) in
-        rw read-lists (record { coordinates = omega (arith, h .coordinates); lengths = omega (arith, h .lengths); listed = omega (arith, h .listed); intervals = omega (arith, h .intervals) })
+        let lq = length-sets (l .firsts) 0 (firsts t) in
+        rw read-lists (record {
+          coordinates = omega (arith, h .coordinates);
+          lengths = omega (arith, h .lengths);
+          listed = omega (arith, h .listed);
+          intervals = omega (arith, h .intervals);
+          firsts = omega (arith, h .firsts);
+        })
 
     pub first-entries : (o : TextOutcome) → o ≡ toldOutcome (build (limitsOf b)
-        (lists (take (3 * c .points) (l′ .coordinates)) (take (4 * c .faces) (l′ .lengths)) (take (c .listed) (l′ .listed)) (take (c .listed) (l′ .intervals))) m)
+        (listsIn v (take (3 * c .points) (l′ .coordinates)) (take (4 * c .faces) (l′ .lengths)) (take (4 * c .faces) (l′ .firsts))
+        (take (c .listed) (l′ .listed)) (take (c .listed) (l′ .intervals))) m)
         → o ≡ buildTextIf false b s m
     unfolding buildTextIf
     first-entries o eo =
@@ -178,13 +191,16 @@ module _ (b : Bounds) (s : List ℕ) (l : TextLists) (m : Mesh) {r : Reading} {l
         let en : length (listedPoints t) ≡ c .listed = ap (λ (v : Sizes). v .listed) (x .counted) in
         let lc = length-coordinates s t (x .place) (x .form) in
         let ll = length-lengths s t (x .place) (x .form) in
+        let lq = length-firsts s t (x .place) (x .form) in
         let li = length-intervals t in
         let el : l′ ≡ withText t l = read-lists in
         let tc = ap (λ (v : TextLists). take (3 * c .points) (v .coordinates)) el ∙ take-sets (l .coordinates) (coordinates t) (3 * c .points) (omega arith) (h .coordinates) in
         let tl = ap (λ (v : TextLists). take (4 * c .faces) (v .lengths)) el ∙ take-sets (l .lengths) (lengths t) (4 * c .faces) (omega arith) (h .lengths) in
+        let tq = ap (λ (v : TextLists). take (4 * c .faces) (v .firsts)) el ∙ take-sets (l .firsts) (firsts t) (4 * c .faces) (omega arith) (h .firsts) in
+        let tv = sym (x .versioned) in
         let tp = ap (λ (v : TextLists). take (c .listed) (v .listed)) el ∙ take-sets (l .listed) (listedPoints t) (c .listed) (omega arith) (h .listed) in
         let td = ap (λ (v : TextLists). take (c .listed) (v .intervals)) el ∙ take-sets (l .intervals) (intervals t) (c .listed) (omega arith) (h .intervals) in
-        rw (x .form) (eo ∙ λ i. toldOutcome (build (limitsOf b) (lists (tc i) (tl i) (tp i) (td i)) m))
+        rw (x .form) (eo ∙ λ i. toldOutcome (build (limitsOf b) (listsIn (tv i) (tc i) (tl i) (tq i) (tp i) (td i)) m))
 
 module _ (b : Bounds) (s : List ℕ) (m : Mesh) {t : Bool} (e : t ≡ tooLong b (length s)) where
   pub too-long : t ≡ true → record { answer = Refused OverCounts; tables = m } ≡ buildText b s m

@@ -1,15 +1,16 @@
-// A mesh built from a text of any bytes in the lent tables, in one call (document 01, "Mesh text" and grounds 1 to 22).
+// A mesh built from a text of any bytes, of either version, in the lent tables, in one call (document 01, "Mesh text" and grounds 1 to 22;
+// document 02, §4).
 // Not here: the grammar and the reader (`mesh_text`), the building from lists (`building`), the definition and its claims
 // (`text_meshes`).
 // Contract: `build_text`. Definitions: `TextBuilding` of `text_meshes`. Laws: `proofs/Laws.antt`.
-// The four lists of a text are local arrays of the sizes that the general limits allow, below 400 KiB of stack.
+// The five lists of a text are local arrays of the sizes that the general limits allow, below 450 KiB of stack.
 ghost use mathlib.Core.Path.{_≡_};
 ghost use mathlib.Core.Bool.{false};
 ghost use Prim.Native.Nat.{_*_, _≤_};
 ghost use lib.ListN.{length, take};
 ghost use Rattle.tables.specs.Layout.{positionWidth};
 ghost use Rattle.tables.specs.Mesh.{meshOf};
-ghost use Rattle.building_tests.specs.Lent.{lists, limitsOf};
+ghost use Rattle.building_tests.specs.Lent.{listsIn, limitsOf};
 ghost use Rattle.built_meshes.specs.Lists.{generalLimits};
 ghost use Rattle.built_meshes.specs.Building.{build};
 ghost use Rattle.text_meshes.specs.TextBuilding.{TextOutcome, toldOutcome, buildTextIf, buildText};
@@ -19,6 +20,7 @@ use building_tests::MOST_FACES;
 use building_tests::MOST_LISTED;
 use building_tests::MOST_POINTS;
 use built_meshes::Ground;
+use built_meshes::Version;
 use mesh_text::Reading;
 use mesh_text::read_text;
 use tables::POSITION_WIDTH;
@@ -26,10 +28,13 @@ use text_answers::is_too_long;
 use text_answers::told;
 use text_meshes::TextBuilt;
 
-// Builds from the first entries of the lists: 3 for each of p points, 4 for each of f faces, n listed points and intervals.
+// Builds from the first entries of the lists: 3 for each of p points, 4 side lengths and first points for each of f faces, n listed
+// points and intervals.
 fn build_first(
+    version: Version,
     coordinates: &[f64],
     sides: &[u32],
+    firsts: &[u32],
     listed: &[u32],
     beside: &[f64],
     p: usize,
@@ -46,19 +51,23 @@ fn build_first(
     requires { ⌜ 4 * f ≤ length (now sides) ⌝ }
     requires { ⌜ n ≤ length (now listed) ⌝ }
     requires { ⌜ n ≤ length (now beside) ⌝ }
+    requires { ⌜ 4 * f ≤ length (now firsts) ⌝ }
     ensures { λ r. ⌜
         _≡_ {A = TextOutcome}
         (record { answer = r; tables = meshOf (now (positions .exit)) (now (points .exit)) (now (edges .exit)) (now (intervals .exit)) (now (faces .exit)) })
         (toldOutcome
         (build (limitsOf bounds)
-        (lists (take (positionWidth * p) (now (coordinates .entry))) (take (4 * f) (now (sides .entry))) (take n (now (listed .entry))) (take n (now (beside .entry))))
+        (listsIn version (take (positionWidth * p) (now (coordinates .entry))) (take (4 * f) (now (sides .entry))) (take (4 * f) (now (firsts .entry)))
+        (take n (now (listed .entry))) (take n (now (beside .entry))))
         (meshOf (now (positions .entry)) (now (points .entry)) (now (edges .entry)) (now (intervals .entry)) (now (faces .entry))))) ⌝ }
 {
     let a = POSITION_WIDTH * p;
     let b = 4 * f;
     let built = build(
+        version,
         &coordinates[..a],
         &sides[..b],
+        &firsts[..b],
         &listed[..n],
         &beside[..n],
         positions,
@@ -77,6 +86,7 @@ fn read_and_build(
     bounds: Bounds,
     coordinates: &mut [f64],
     sides: &mut [u32],
+    firsts: &mut [u32],
     listed: &mut [u32],
     beside: &mut [f64],
     positions: &mut [f64],
@@ -89,16 +99,27 @@ fn read_and_build(
     requires { ⌜ 4 * generalLimits .faces ≤ length (now sides) ⌝ }
     requires { ⌜ generalLimits .listed ≤ length (now listed) ⌝ }
     requires { ⌜ generalLimits .listed ≤ length (now beside) ⌝ }
+    requires { ⌜ 4 * generalLimits .faces ≤ length (now firsts) ⌝ }
     ensures { λ r. ⌜
         _≡_ {A = TextOutcome}
         (record { answer = r; tables = meshOf (now (positions .exit)) (now (points .exit)) (now (edges .exit)) (now (intervals .exit)) (now (faces .exit)) })
         (buildTextIf false bounds (now (text .entry))
         (meshOf (now (positions .entry)) (now (points .entry)) (now (edges .entry)) (now (intervals .entry)) (now (faces .entry)))) ⌝ }
 {
-    match read_text(text, bounds.most(), coordinates, sides, listed, beside) {
-        Reading::Read(c) => build_first(
+    match read_text(
+        text,
+        bounds.most(),
+        coordinates,
+        sides,
+        firsts,
+        listed,
+        beside,
+    ) {
+        Reading::Read(version, c) => build_first(
+            version,
             coordinates,
             sides,
+            firsts,
             listed,
             beside,
             c.points,
@@ -137,6 +158,7 @@ pub fn build_text(
     }
     let mut coordinates = [0.0; POSITION_WIDTH * MOST_POINTS];
     let mut sides = [0u32; 4 * MOST_FACES];
+    let mut firsts = [0u32; 4 * MOST_FACES];
     let mut listed = [0u32; MOST_LISTED];
     let mut beside = [0.0; MOST_LISTED];
     read_and_build(
@@ -144,6 +166,7 @@ pub fn build_text(
         bounds,
         &mut coordinates,
         &mut sides,
+        &mut firsts,
         &mut listed,
         &mut beside,
         positions,

@@ -1,8 +1,9 @@
 -- Building from a text computed: document 01's cube, the empty mesh, no text at all, a byte too many, tables that have no rows for a
--- face, a number that is not finite, and the limit of bytes.
+-- face, a number that is not finite, first points in both versions, and the limit of bytes.
 use mathlib.Core.Path.{_≡_, refl}
 use mathlib.Core.List.{List, [], _∷_, _++_, map}
 use Prim.Native.Nat.{ℕ, _*_}
+use Prim.Native.String.{String}
 use lib.Ieee.{ofBits, neg, add, sub, le, lt, binary64}
 use lib.ListN.{replicate}
 use Rattle.edge_links.specs.Connect.{linksOf}
@@ -10,7 +11,7 @@ use Rattle.tables.specs.Mesh.{Mesh}
 use Rattle.text_numbers.specs.Form.{bytes, times, stands, literal, many}
 use Rattle.text_numbers.specs.Numbers.{digitValue, value, digit, bits, digitsFrom, decimalFrom, decimal}
 use Rattle.mesh_lines.specs.Grammar.{coordinateForm, pointForm, listedForm, sideForm, faceForm, flat}
-use Rattle.mesh_text.specs.Text.{ends, mesh, text}
+use Rattle.mesh_text.specs.Text.{headForm, ends, mesh, text}
 use Rattle.building_tests.specs.declared.Bounds.{Bounds}
 use Rattle.building_tests.specs.declared.Bounds.the-variants.{General, Refine}
 use Rattle.text_meshes.specs.TextBuilding.{textNumbers, buildText}
@@ -49,7 +50,7 @@ cube : textNumbers (buildText Refine (bytes "[mesh 1]\n" ++
     bytes "[face [1 [3 3ff0000000000000]] [3 [7 3ff0000000000000]] [7 [5 3ff0000000000000]] [5 [1 3ff0000000000000]]]\n" ++
     bytes "[end]\n") (rowsOf 8 24 6) .answer) ≡ 8 ∷ 12 ∷ 6 ∷ []
 unfolding buildText digitValue value stands literal digit bits digitsFrom decimalFrom decimal many coordinateForm
-    pointForm listedForm sideForm faceForm ends mesh text times flat ofBits neg add sub le lt linksOf
+    pointForm listedForm sideForm faceForm headForm ends mesh text times flat ofBits neg add sub le lt linksOf
 cube = refl
 
 texts : map (λ t. numbers General (bytes t)) (
@@ -61,14 +62,35 @@ texts : map (λ t. numbers General (bytes t)) (
     "[mesh 1]\n[point 3ff0000000000000 0000000000000000 0000000000000000]\n[end]\n" ∷ [])
     ≡ (0 ∷ 0 ∷ 0 ∷ []) ∷ (1 ∷ []) ∷ (1 ∷ []) ∷ (4 ∷ []) ∷ (3 ∷ []) ∷ (4 ∷ []) ∷ []
 unfolding numbers digitValue value stands literal digit bits digitsFrom decimalFrom decimal many coordinateForm
-    pointForm listedForm sideForm faceForm ends mesh text times flat ofBits neg add sub le lt linksOf
+    pointForm listedForm sideForm faceForm headForm ends mesh text times flat ofBits neg add sub le lt linksOf
 texts = refl
+
+-- two triangles back to back with side sums 2, 0, 2, 0 in version 2; the same with a first point that disagrees, of an empty side, of
+-- a side with points, and out of the points' range; and those last three in version 1, where first points are not looked at
+abbrev pair : String → String → List ℕ
+pair v p =
+    bytes v ++ bytes "[point 0000000000000000 0000000000000000 0000000000000000]\n[point 3ff0000000000000 0000000000000000 0000000000000000]\n"
+    ++ bytes "[point 0000000000000000 3ff0000000000000 0000000000000000]\n[face [2 [0 3ff0000000000000] [1 3ff0000000000000]] " ++ bytes p
+    ++ bytes " [2]]\n[face [0 [2 3ff0000000000000] [1 3ff0000000000000]] [1] [1 [0 4000000000000000]] [0]]\n[end]\n"
+
+pairs : map (λ s. textNumbers (buildText Refine s (rowsOf 3 6 2) .answer)) (
+    pair "[mesh 2]\n" "[1] [1 [2 4000000000000000]]" ∷
+    pair "[mesh 2]\n" "[0] [1 [2 4000000000000000]]" ∷
+    pair "[mesh 2]\n" "[1] [0 [2 4000000000000000]]" ∷
+    pair "[mesh 2]\n" "[1] [9 [2 4000000000000000]]" ∷
+    pair "[mesh 1]\n" "[0] [1 [2 4000000000000000]]" ∷
+    pair "[mesh 1]\n" "[1] [0 [2 4000000000000000]]" ∷
+    pair "[mesh 1]\n" "[1] [9 [2 4000000000000000]]" ∷ [])
+    ≡ (3 ∷ 3 ∷ 2 ∷ []) ∷ (43 ∷ []) ∷ (43 ∷ []) ∷ (43 ∷ []) ∷ (3 ∷ 3 ∷ 2 ∷ []) ∷ (3 ∷ 3 ∷ 2 ∷ []) ∷ (3 ∷ 3 ∷ 2 ∷ []) ∷ []
+unfolding buildText digitValue value stands literal digit bits digitsFrom decimalFrom decimal many coordinateForm
+    pointForm listedForm sideForm faceForm headForm ends mesh text times flat ofBits neg add sub le lt linksOf
+pairs = refl
 
 -- 16,384 bytes are looked at by `refine`, one more is too many; generally there is no limit
 long : map (λ n. numbers Refine (replicate n 0)) (16384 ∷ 16385 ∷ []) ≡ (1 ∷ []) ∷ (2 ∷ []) ∷ []
-unfolding numbers digitValue value stands literal digit bits digitsFrom decimalFrom decimal many coordinateForm pointForm listedForm sideForm faceForm ends mesh text times flat
+unfolding numbers digitValue value stands literal digit bits digitsFrom decimalFrom decimal many coordinateForm pointForm listedForm sideForm faceForm headForm ends mesh text times flat
 long = refl
 
 longer : numbers General (replicate 16385 0) ≡ 1 ∷ []
-unfolding numbers digitValue value stands literal digit bits digitsFrom decimalFrom decimal many coordinateForm pointForm listedForm sideForm faceForm ends mesh text times flat
+unfolding numbers digitValue value stands literal digit bits digitsFrom decimalFrom decimal many coordinateForm pointForm listedForm sideForm faceForm headForm ends mesh text times flat
 longer = refl

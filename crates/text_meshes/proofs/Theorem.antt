@@ -15,11 +15,11 @@ use Rattle.text_numbers.specs.Form.{Parsed, parsed, unparsed}
 use Rattle.text_numbers.proofs.Laws.{total}
 use Rattle.mesh_text.specs.Text.{text, TextMesh}
 use Rattle.mesh_text.specs.Lists.{lengths, listedPoints}
-use Rattle.mesh_text.proofs.Read.{length-coordinates, length-lengths, length-intervals, total-lengths}
+use Rattle.mesh_text.proofs.Read.{length-coordinates, length-lengths, length-firsts, length-intervals, total-lengths}
 use Rattle.built_meshes.specs.Lists.{countsFit}
 use Rattle.tables.specs.declared.Sizes.{Sizes}
 use Rattle.built_meshes.specs.Building.{build}
-use Rattle.built_meshes.specs.Grounds.{Holds, lists, over-counts, Over-counts, many-points, many-faces, many-listed, point-cut, face-cut, unlike, sum-unlike}
+use Rattle.built_meshes.specs.Grounds.{Holds, lists, over-counts, Over-counts, many-points, many-faces, many-listed, point-cut, face-cut, unlike, sum-unlike, firsts-unlike}
 use Rattle.built_meshes.specs.declared.Ground.{Ground}
 use Rattle.built_meshes.specs.declared.Ground.the-variants.{OverCounts}
 use Rattle.built_meshes.specs.declared.Built.{Built}
@@ -61,6 +61,7 @@ module _ (c : Sizes) (s : List ℕ) (t : TextMesh) (n : ℕ) (e : text s ≡ par
   over-means (face-cut h) = let ll = length-lengths s t n e in absurd (h (omega arith))
   over-means (unlike h) = absurd (h (sym (length-intervals t)))
   over-means (sum-unlike h) = absurd (h (sumTo-total (lengths t) ∙ total-lengths t))
+  over-means (firsts-unlike two h) = absurd (h (length-firsts s t n e ∙ sym (length-lengths s t n e)))
 
   means-over : (c .points < length (t .points)) ⊎ ((c .faces < length (t .faces)) ⊎ (c .listed < length (listedPoints t)))
       → Over-counts c (listsOf t)

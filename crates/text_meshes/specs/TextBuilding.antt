@@ -2,7 +2,7 @@
 -- the lists that the text stands for, whose first ground is that of the counts.
 --     refineBytes             the most bytes of a text that `refine` takes
 --     tooLong b n             n bytes are over the limit of bytes, which `refine` alone has
---     listsOf t               the lists that a text stands for
+--     listsOf t               the lists that a text stands for, of the version that its head names
 --     told a                  an answer of building from lists, as one of building from a text
 --     textNumbers a           the numbers of an answer: points, edges and faces, or that of the ground
 --     TextOutcome             the answer, and the tables afterwards
@@ -16,14 +16,14 @@ use lib.ListN.{length}
 use Rattle.tables.specs.Mesh.{Mesh}
 use Rattle.text_numbers.specs.Form.{Parsed, parsed, unparsed}
 use Rattle.mesh_text.specs.Text.{text, TextMesh}
-use Rattle.mesh_text.specs.Lists.{coordinates, lengths, listedPoints, intervals}
+use Rattle.mesh_text.specs.Lists.{coordinates, lengths, firsts, listedPoints, intervals}
 use Rattle.built_meshes.specs.Lists.{Lists}
 use Rattle.built_meshes.specs.Answers.{groundNumber}
 use Rattle.built_meshes.specs.Building.{build, BuildOutcome as ListsOutcome}
 use Rattle.built_meshes.specs.declared.Ground.the-variants.{OverCounts}
 use Rattle.built_meshes.specs.declared.Built.{Built}
 use Rattle.built_meshes.specs.declared.Built.the-variants as Built
-use Rattle.building_tests.specs.Lent.{lists, limitsOf}
+use Rattle.building_tests.specs.Lent.{listsIn, limitsOf}
 use Rattle.building_tests.specs.declared.Bounds.{Bounds}
 use Rattle.building_tests.specs.declared.Bounds.the-variants.{General, Refine}
 use Rattle.text_meshes.specs.declared.TextBuilt.{TextBuilt}
@@ -37,7 +37,7 @@ tooLong General n = false
 tooLong Refine n = ltb refineBytes n
 
 abbrev pub listsOf : TextMesh → Lists
-listsOf t = lists (coordinates t) (lengths t) (listedPoints t) (intervals t)
+listsOf t = listsIn (t .version) (coordinates t) (lengths t) (firsts t) (listedPoints t) (intervals t)
 
 abbrev pub told : Built → TextBuilt
 told (Built.Accepted k) = Accepted k

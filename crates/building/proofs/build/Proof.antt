@@ -2,52 +2,56 @@
 use borrow.Author.Tests.{not-true, not-false}
 use mathlib.Core.Path.{_∙_, sym}
 use Rattle.tables.specs.Mesh.{meshOf}
-use Rattle.building_tests.specs.Lent.{lists}
-use Rattle.building.proofs.Outcomes.{numbers-same, refused-counts, refused-numbers, refused-rows, begun-build}
+use Rattle.building_tests.specs.Lent.{listsIn}
+use Rattle.building.proofs.Outcomes.{numbers-same, refused-counts, refused-numbers, refused-rows, begun-build, promised}
 use borrow.Author.Needs.{needs}
 use Rattle.building.proofs.build.Statement.{statement}
 use Rattle.building.proofs.build.Tie as tie
 
 returns : tie.Need-returns
 returns c =
-    let args = c .before .before .before .before .before .before .before .before .before .before .before .args in
-    refused-counts (args .bounds)
-    (lists (args .coordinates .now) (args .sides .now) (args .listed .now) (args .beside .now))
+    let c8 = c .before .before .before .before .before .before .before .before in
+    let args = c8 .before .before .before .before .args in
+    promised (refused-counts (args .bounds)
+    (listsIn (args .version) (args .coordinates .now) (args .sides .now) (args .firsts .now) (args .listed .now)
+    (args .beside .now))
     (meshOf (args .positions .now) (args .points .now) (args .edges .now) (args .intervals .now) (args .faces .now))
-    (sym (c .before .counts-fit .ensures) ∙ not-true _ (c .if1 .taken))
+    (sym (c .before .counts-fit .ensures) ∙ not-true _ (c .if1 .taken)))
 
 returns-2 : tie.Need-returns-2
 returns-2 c =
     let c8 = c .before .before .before .before .before .before .before .before in
-    let args = c8 .before .before .before .before .before .args in
-    refused-numbers (args .bounds)
-    (lists (args .coordinates .now) (args .sides .now) (args .listed .now) (args .beside .now))
+    let args = c8 .before .before .before .before .before .before .args in
+    promised (refused-numbers (args .bounds)
+    (listsIn (args .version) (args .coordinates .now) (args .sides .now) (args .firsts .now) (args .listed .now)
+    (args .beside .now))
     (meshOf (args .positions .now) (args .points .now) (args .edges .now) (args .intervals .now) (args .faces .now))
     (sym (c .before .before .before .counts-fit .ensures) ∙ not-false _ (c .before .before .if1 .left))
-    (sym (numbers-same (args .coordinates .now) (args .sides .now) (args .listed .now) (args .beside .now))
-    ∙ sym (c .before .numbers-fit .ensures) ∙ not-true _ (c .if2 .taken))
+    (sym (numbers-same (args .version) (args .coordinates .now) (args .sides .now) (args .firsts .now)
+    (args .listed .now) (args .beside .now)) ∙ sym (c .before .numbers-fit .ensures) ∙ not-true _ (c .if2 .taken)))
 
 returns-3 : tie.Need-returns-3
 returns-3 c =
     let c8 = c .before .before .before .before .before .before .before .before in
     let c16 = c8 .before .before .before .before .before .before .before .before in
-    let args = c16 .before .before .before .before .args in
-    let l = lists (args .coordinates .now) (args .sides .now) (args .listed .now) (args .beside .now) in
+    let args = c16 .before .before .before .before .before .args in
+    let l = listsIn (args .version) (args .coordinates .now) (args .sides .now) (args .firsts .now) (args .listed .now)
+    (args .beside .now) in
     let m = meshOf (args .positions .now) (args .points .now) (args .edges .now) (args .intervals .now)
     (args .faces .now) in
-    refused-rows (args .bounds) l m
+    promised (refused-rows (args .bounds) l m
     (sym (c8 .before .before .counts-fit .ensures) ∙ not-false _ (c8 .before .if1 .left))
-    (sym (numbers-same (args .coordinates .now) (args .sides .now) (args .listed .now) (args .beside .now))
-    ∙ sym (c8 .numbers-fit .ensures)
+    (sym (numbers-same (args .version) (args .coordinates .now) (args .sides .now) (args .firsts .now)
+    (args .listed .now) (args .beside .now)) ∙ sym (c8 .numbers-fit .ensures)
     ∙ not-false _ (c .before .before .before .before .before .before .before .if2 .left))
-    (sym (c .before .rows-for .ensures) ∙ not-true _ (c .if3 .taken))
+    (sym (c .before .rows-for .ensures) ∙ not-true _ (c .if3 .taken)))
 
 build-begun-requires : tie.Need-build-begun-requires
 build-begun-requires c κs =
     let c8 = c .before .before .before .before .before .before .before .before in
     let c16 = c8 .before .before .before .before .before .before .before .before in
     let c24 = c16 .before .before .before .before .before .before .before .before in
-    let args = c24 .before .args in
+    let args = c24 .before .before .args in
     let counts-fit = c8 .before .before .before .before .before .before .before .counts-fit in
     let if1 = c8 .before .before .before .before .before .before .if1 in
     let numbers-fit = c8 .before .before .before .before .before .numbers-fit in
@@ -55,8 +59,8 @@ build-begun-requires c κs =
     record {
       bounds = args .bounds;
       counts = (sym (counts-fit .ensures) ∙ not-false _ (if1 .left));
-      numbers = (sym (numbers-same (args .coordinates .now) (args .sides .now) (args .listed .now) (args .beside .now))
-          ∙ sym (numbers-fit .ensures) ∙ not-false _ (if2 .left));
+      numbers = (sym (numbers-same (args .version) (args .coordinates .now) (args .sides .now) (args .firsts .now)
+          (args .listed .now) (args .beside .now)) ∙ sym (numbers-fit .ensures) ∙ not-false _ (if2 .left));
       rows = (sym (c .before .before .before .before .before .before .rows-for .ensures)
           ∙ not-false _ (c .before .before .before .before .before .if3 .left));
     }
@@ -67,16 +71,18 @@ returns-4 c =
     let c16 = c8 .before .before .before .before .before .before .before .before in
     let c24 = c16 .before .before .before .before .before .before .before .before in
     let c32 = c24 .before .before .before .before .before .before .before .before in
-    let args = c32 .before .before .before .before .args in
+    let args = c32 .before .before .before .before .before .args in
     let if2 = c16 .before .before .before .before .before .before .before .if2 in
-    let l = lists (args .coordinates .now) (args .sides .now) (args .listed .now) (args .beside .now) in
+    let l = listsIn (args .version) (args .coordinates .now) (args .sides .now) (args .firsts .now) (args .listed .now)
+    (args .beside .now) in
     let m = meshOf (args .positions .now) (args .points .now) (args .edges .now) (args .intervals .now)
     (args .faces .now) in
-    begun-build (args .bounds) l m _
+    promised (begun-build (args .bounds) l m _
     (sym (c24 .before .before .counts-fit .ensures) ∙ not-false _ (c24 .before .if1 .left))
-    (sym (numbers-same (args .coordinates .now) (args .sides .now) (args .listed .now) (args .beside .now))
-    ∙ sym (c24 .numbers-fit .ensures) ∙ not-false _ (if2 .left))
-    (sym (c16 .before .rows-for .ensures) ∙ not-false _ (c16 .if3 .left)) (c8 .before .before .build-begun .ensures)
+    (sym (numbers-same (args .version) (args .coordinates .now) (args .sides .now) (args .firsts .now)
+    (args .listed .now) (args .beside .now)) ∙ sym (c24 .numbers-fit .ensures) ∙ not-false _ (if2 .left))
+    (sym (c16 .before .rows-for .ensures) ∙ not-false _ (c16 .if3 .left))
+    (c8 .before .before .build-begun .ensures))
 
 pub build-spec : {M : Type 1} → statement M
 build-spec =

@@ -1,6 +1,6 @@
 -- build_begun meets its contract: the counted rows are zeroed first.
 use Rattle.tables.specs.Mesh.{meshOf}
-use Rattle.building_tests.specs.Lent.{lists}
+use Rattle.building_tests.specs.Lent.{listsIn}
 use Rattle.building.proofs.Outcomes.{rooms, links-room}
 use borrow.Author.Needs.{needs}
 use Rattle.building.proofs.build_begun.Statement.{statement}
@@ -9,9 +9,10 @@ use Rattle.building.proofs.build_begun.Tie as tie
 zero-rows-requires : tie.Need-zero-rows-requires
 zero-rows-requires c κs =
     let c8 = c .before .before .before .before .before .before .before .before in
-    let args = c8 .before .before .before .before .before .before .args in
-    let pre = c8 .before .before .before .before .before .before .pre in
-    let r = rooms (lists (args .coordinates .now) (args .sides .now) (args .listed .now) (args .beside .now))
+    let args = c8 .before .before .before .before .before .before .before .args in
+    let pre = c8 .before .before .before .before .before .before .before .pre in
+    let r = rooms (listsIn (args .version) (args .coordinates .now) (args .sides .now) (args .firsts .now)
+    (args .listed .now) (args .beside .now))
     (meshOf (args .positions .now) (args .points .now) (args .edges .now) (args .intervals .now) (args .faces .now))
     (pre) in
     (r .positions-fit, (r .points-fit, (r .edges-fit, (r .intervals-fit, r .faces-fit))))
@@ -21,8 +22,8 @@ build-zeroed-requires c κs =
     let c8 = c .before .before .before .before .before .before .before .before in
     let c16 = c8 .before .before .before .before .before .before .before .before in
     let c24 = c16 .before .before .before .before .before .before .before .before in
-    let args = c24 .before .before .before .before .before .before .before .args in
-    let pre = c24 .before .before .before .before .before .before .before .pre in
+    let args = c24 .before .before .before .before .before .before .before .before .args in
+    let pre = c24 .before .before .before .before .before .before .before .before .pre in
     let m = meshOf (args .positions .now) (args .points .now) (args .edges .now) (args .intervals .now)
     (args .faces .now) in
     (record { lent = m; begun = pre; zero = c16 .zero-rows .ensures }, links-room)
@@ -34,8 +35,8 @@ returns c =
     let c24 = c16 .before .before .before .before .before .before .before .before in
     let c32 = c24 .before .before .before .before .before .before .before .before in
     let c40 = c32 .before .before .before .before .before .before .before .before in
-    let args = c40 .before .before .before .args in
-    let pre = c40 .before .before .before .pre in
+    let args = c40 .before .before .before .before .args in
+    let pre = c40 .before .before .before .before .pre in
     let zero-rows = c24 .before .before .before .before .zero-rows in
     let build-zeroed = c8 .before .before .before .build-zeroed in
     let m = meshOf (args .positions .now) (args .points .now) (args .edges .now) (args .intervals .now)

@@ -3,7 +3,7 @@ use native.Mathlib.Omega.{arith}
 use mathlib.Core.Path.{refl}
 use Rattle.built_meshes.specs.Lists.{offset}
 use Rattle.tables.specs.Mesh.{meshOf}
-use Rattle.building_tests.specs.Lent.{lists}
+use Rattle.building_tests.specs.Lent.{listsIn}
 use Rattle.building.proofs.Outcomes.{rooms-of, standing-none, lent-rooms, stopped-outcome, on-outcome}
 use borrow.Author.Needs.{needs}
 use Rattle.building.proofs.build_zeroed.Statement.{statement}
@@ -12,9 +12,10 @@ use Rattle.building.proofs.build_zeroed.Tie as tie
 zero-words-requires : tie.Need-zero-words-requires
 zero-words-requires c κs =
     let c8 = c .before .before .before .before .before .before .before .before in
-    let args = c8 .before .before .before .args in
-    let pre = c8 .before .before .before .pre in
-    let few = rooms-of (lists (args .coordinates .now) (args .sides .now) (args .listed .now) (args .beside .now))
+    let args = c8 .before .before .before .before .args in
+    let pre = c8 .before .before .before .before .pre in
+    let few = rooms-of (listsIn (args .version) (args .coordinates .now) (args .sides .now) (args .firsts .now)
+    (args .listed .now) (args .beside .now))
     (meshOf (args .positions .now) (args .points .now) (args .edges .now) (args .intervals .now) (args .faces .now))
     (pre .0) .points-few in
     omega (arith, pre .1)
@@ -24,10 +25,11 @@ unfolding offset
 enter-faces-requires c κs =
     let c8 = c .before .before .before .before .before .before .before .before in
     let c16 = c8 .before .before .before .before .before .before .before .before in
-    let args = c16 .before .before .before .args in
-    let pre = c16 .before .before .before .pre in
+    let args = c16 .before .before .before .before .args in
+    let pre = c16 .before .before .before .before .pre in
     let zero-words = c .before .before .before .before .before .before .before .zero-words in
-    let l = lists (args .coordinates .now) (args .sides .now) (args .listed .now) (args .beside .now) in
+    let l = listsIn (args .version) (args .coordinates .now) (args .sides .now) (args .firsts .now) (args .listed .now)
+    (args .beside .now) in
     let m = meshOf (args .positions .now) (args .points .now) (args .edges .now) (args .intervals .now)
     (args .faces .now) in
     let r = rooms-of l m (pre .0) in
@@ -35,7 +37,7 @@ enter-faces-requires c κs =
       standing-none l m (args .chain .now) (zero-words .last .0) (pre .0) (omega (arith, pre .1)) (zero-words .ensures),
       (
         lent-rooms l m (zero-words .last .0) r (rw (zero-words .kept .0) (pre .1)),
-        (r .faces-few, (r .faces-fit, r .all-listed)),
+        (r .faces-few, (r .faces-fit, (r .all-listed, r .firsts-given))),
       ),
     )
 
@@ -45,21 +47,22 @@ conclude-requires c κs =
     let c16 = c8 .before .before .before .before .before .before .before .before in
     let c24 = c16 .before .before .before .before .before .before .before .before in
     let c32 = c24 .before .before .before .before .before .before .before .before in
-    let args = c32 .before .before .before .before .before .before .args in
-    let pre = c32 .before .before .before .before .before .before .pre in
+    let args = c32 .before .before .before .before .before .before .before .args in
+    let pre = c32 .before .before .before .before .before .before .before .pre in
     let enter-faces = c16 .before .before .enter-faces in
-    let r = rooms-of (lists (args .coordinates .now) (args .sides .now) (args .listed .now) (args .beside .now))
+    let r = rooms-of (listsIn (args .version) (args .coordinates .now) (args .sides .now) (args .firsts .now)
+    (args .listed .now) (args .beside .now))
     (meshOf (args .positions .now) (args .points .now) (args .edges .now) (args .intervals .now) (args .faces .now))
     (pre .0) in (
       r .positions-fit,
       (
-        rw (enter-faces .kept .1 .1 .1 .0) (r .points-fit),
+        rw (enter-faces .kept .1 .1 .1 .1 .1 .0) (r .points-fit),
         (
-          rw (enter-faces .kept .1 .1 .1 .1 .0) (r .edges-fit),
+          rw (enter-faces .kept .1 .1 .1 .1 .1 .1 .0) (r .edges-fit),
           (
-            rw (enter-faces .kept .1 .1 .1 .1 .1 .0) (r .intervals-fit),
+            rw (enter-faces .kept .1 .1 .1 .1 .1 .1 .1 .0) (r .intervals-fit),
             (
-              rw (enter-faces .kept .1 .1 .1 .1 .1 .1 .0) (r .faces-fit),
+              rw (enter-faces .kept .1 .1 .1 .1 .1 .1 .1 .1 .0) (r .faces-fit),
               (rw (c .before .before .before .before .before .before .k .given .1) at (enter-faces .ensures .1)) .1,
             ),
           ),
@@ -73,20 +76,21 @@ zero-rows-requires c κs =
     let c16 = c8 .before .before .before .before .before .before .before .before in
     let c24 = c16 .before .before .before .before .before .before .before .before in
     let c32 = c24 .before .before .before .before .before .before .before .before in
-    let args = c32 .before .before .before .before .before .before .args in
-    let pre = c32 .before .before .before .before .before .before .pre in
+    let args = c32 .before .before .before .before .before .before .before .args in
+    let pre = c32 .before .before .before .before .before .before .before .pre in
     let enter-faces = c16 .before .before .enter-faces in
-    let r = rooms-of (lists (args .coordinates .now) (args .sides .now) (args .listed .now) (args .beside .now))
+    let r = rooms-of (listsIn (args .version) (args .coordinates .now) (args .sides .now) (args .firsts .now)
+    (args .listed .now) (args .beside .now))
     (meshOf (args .positions .now) (args .points .now) (args .edges .now) (args .intervals .now) (args .faces .now))
     (pre .0) in (
       r .positions-fit,
       (
-        rw (enter-faces .kept .1 .1 .1 .0) (r .points-fit),
+        rw (enter-faces .kept .1 .1 .1 .1 .1 .0) (r .points-fit),
         (
-          rw (enter-faces .kept .1 .1 .1 .1 .0) (r .edges-fit),
+          rw (enter-faces .kept .1 .1 .1 .1 .1 .1 .0) (r .edges-fit),
           (
-            rw (enter-faces .kept .1 .1 .1 .1 .1 .0) (r .intervals-fit),
-            rw (enter-faces .kept .1 .1 .1 .1 .1 .1 .0) (r .faces-fit),
+            rw (enter-faces .kept .1 .1 .1 .1 .1 .1 .1 .0) (r .intervals-fit),
+            rw (enter-faces .kept .1 .1 .1 .1 .1 .1 .1 .1 .0) (r .faces-fit),
           ),
         ),
       ),
@@ -100,13 +104,15 @@ returns c =
     let c32 = c24 .before .before .before .before .before .before .before .before in
     let c40 = c32 .before .before .before .before .before .before .before .before in
     let c48 = c40 .before .before .before .before .before .before .before .before in
-    let args = c48 .before .args in
+    let args = c48 .before .before .args in
     let enter-faces = c24 .before .before .before .before .before .enter-faces in
     let k = c16 .before .k in
-    λ m begun z. on-outcome (lists (args .coordinates .now) (args .sides .now) (args .listed .now) (args .beside .now))
-    m (meshOf (args .positions .now) (args .points .now) (args .edges .now) (args .intervals .now) (args .faces .now))
-    begun z (k .given .0 .0) (meshOf (args .positions .now) (enter-faces .last .1 .1 .1 .0)
-    (enter-faces .last .1 .1 .1 .1 .0) (enter-faces .last .1 .1 .1 .1 .1 .0) (enter-faces .last .1 .1 .1 .1 .1 .1 .0)) _
+    λ m begun z. on-outcome (listsIn (args .version) (args .coordinates .now) (args .sides .now) (args .firsts .now)
+    (args .listed .now) (args .beside .now)) m
+    (meshOf (args .positions .now) (args .points .now) (args .edges .now) (args .intervals .now) (args .faces .now))
+    begun z (k .given .0 .0) (meshOf (args .positions .now) (enter-faces .last .1 .1 .1 .1 .1 .0)
+    (enter-faces .last .1 .1 .1 .1 .1 .1 .0) (enter-faces .last .1 .1 .1 .1 .1 .1 .1 .0)
+    (enter-faces .last .1 .1 .1 .1 .1 .1 .1 .1 .0)) _
     (rw (k .given .1) at (enter-faces .ensures .0 (args .coordinates .now) (args .positions .now) refl))
     (c8 .before .before .conclude .ensures)
 
@@ -118,14 +124,15 @@ returns-2 c =
     let c32 = c24 .before .before .before .before .before .before .before .before in
     let c40 = c32 .before .before .before .before .before .before .before .before in
     let c48 = c40 .before .before .before .before .before .before .before .before in
-    let args = c48 .before .args in
+    let args = c48 .before .before .args in
     let enter-faces = c24 .before .before .before .before .before .enter-faces in
     let g = c16 .before .g in
-    λ m begun z. stopped-outcome
-    (lists (args .coordinates .now) (args .sides .now) (args .listed .now) (args .beside .now)) m
+    λ m begun z. stopped-outcome (listsIn (args .version) (args .coordinates .now) (args .sides .now)
+    (args .firsts .now) (args .listed .now) (args .beside .now)) m
     (meshOf (args .positions .now) (args .points .now) (args .edges .now) (args .intervals .now) (args .faces .now))
-    begun z (g .given .0 .0) (meshOf (args .positions .now) (enter-faces .last .1 .1 .1 .0)
-    (enter-faces .last .1 .1 .1 .1 .0) (enter-faces .last .1 .1 .1 .1 .1 .0) (enter-faces .last .1 .1 .1 .1 .1 .1 .0)) _
+    begun z (g .given .0 .0) (meshOf (args .positions .now) (enter-faces .last .1 .1 .1 .1 .1 .0)
+    (enter-faces .last .1 .1 .1 .1 .1 .1 .0) (enter-faces .last .1 .1 .1 .1 .1 .1 .1 .0)
+    (enter-faces .last .1 .1 .1 .1 .1 .1 .1 .1 .0)) _
     (rw (g .given .1) at (enter-faces .ensures .0 (args .coordinates .now) (args .positions .now) refl))
     (c8 .before .before .zero-rows .ensures)
 

@@ -3,7 +3,7 @@ use native.Mathlib.Omega.{arith}
 use Prim.Native.Nat.{_+_}
 use Rattle.built_meshes.specs.Perimeters.{on, places}
 use Rattle.tables.specs.Mesh.{meshOf}
-use Rattle.building_tests.specs.Lent.{lists}
+use Rattle.building_tests.specs.Lent.{listsIn}
 use Rattle.building_faces.specs.Rings.{faceStateAt}
 use Rattle.building_faces.proofs.Turns.{connect-fits, closed-on, closed-stopped, face-stands}
 use borrow.Author.Needs.{needs}
@@ -27,10 +27,10 @@ connect-requires c κs =
     let few = h .1 in
     let w = pre .1 .1 .0 .within in
     let room = pre .1 .0 .interval-rows in
-    connect-fits (c24 .before .args .np) (enter-places .last .1 .1 .0) (enter-places .last .1 .1 .1 .0)
-    (enter-places .last .1 .1 .1 .1 .1 .0) (ring .given .0 .0 .edges) (ring .given .0 .0 .first)
-    (ring .given .0 .0 .before) (h .0) (h .2 .first-edge) (h .2 .before-edge) (enter-places .last .1 .1 .1 .1 .0)
-    (rw (enter-places .kept .1 .1 .1 .1 .0) (omega arith))
+    connect-fits (c24 .before .args .np) (enter-places .last .1 .1 .1 .0) (enter-places .last .1 .1 .1 .1 .0)
+    (enter-places .last .1 .1 .1 .1 .1 .1 .0) (ring .given .0 .0 .edges) (ring .given .0 .0 .first)
+    (ring .given .0 .0 .before) (h .0) (h .2 .first-edge) (h .2 .before-edge) (enter-places .last .1 .1 .1 .1 .1 .0)
+    (rw (enter-places .kept .1 .1 .1 .1 .1 .0) (omega arith))
 
 store-face-requires : tie.Need-store-face-requires
 store-face-requires c κs =
@@ -50,17 +50,18 @@ returns c =
     let enter-places = c16 .before .before .before .before .before .enter-places in
     let ring = c8 .before .before .before .ring in
     let connect = c .before .before .before .before .before .before .before .connect in (
-      (λ cs ss ps. closed-on (args .f) (c .before .before .before .index .result)
-          (places (args .n) (lists cs ss (args .listed .now) (args .beside .now)) (args .f) (args .a) (args .n) 0
-          (on
+      (λ cs ss qs ps. closed-on (args .f) (c .before .before .before .index .result)
+          (places (args .n) (listsIn (args .version) cs ss qs (args .listed .now) (args .beside .now)) (args .f) (args .a)
+          (args .n) 0 (on
           (faceStateAt (meshOf ps (args .points .now) (args .edges .now) (args .intervals .now) (args .faces .now)) (args .k))))
-          (ring .given .0 .0) (meshOf ps (enter-places .last .1 .1 .0) (enter-places .last .1 .1 .1 .0)
-          (enter-places .last .1 .1 .1 .1 .0) (args .faces .now)) (connect .last .0) (c .before .before .store-face .last .0)
-          (rw (ring .given .1) at (enter-places .ensures .0 cs ss ps (args .faces .now))) (connect .ensures .1)
+          (ring .given .0 .0) (meshOf ps (enter-places .last .1 .1 .1 .0) (enter-places .last .1 .1 .1 .1 .0)
+          (enter-places .last .1 .1 .1 .1 .1 .0) (args .faces .now)) (connect .last .0)
+          (c .before .before .store-face .last .0)
+          (rw (ring .given .1) at (enter-places .ensures .0 cs ss qs ps (args .faces .now))) (connect .ensures .1)
           (c .before .before .before .index .ensures) (c .before .before .store-face .ensures)),
-      face-stands (args .np) (enter-places .last .1 .1 .0) (enter-places .last .1 .1 .1 .0)
-          (enter-places .last .1 .1 .1 .1 .1 .0) (enter-places .last .1 .1 .1 .1 .0) (connect .last .0) (args .a + args .n)
-          (ring .given .0 .0) (rw (ring .given .1) at (enter-places .ensures .1)) (connect .ensures .1),
+      face-stands (args .np) (enter-places .last .1 .1 .1 .0) (enter-places .last .1 .1 .1 .1 .0)
+          (enter-places .last .1 .1 .1 .1 .1 .1 .0) (enter-places .last .1 .1 .1 .1 .1 .0) (connect .last .0)
+          (args .a + args .n) (ring .given .0 .0) (rw (ring .given .1) at (enter-places .ensures .1)) (connect .ensures .1),
     )
 
 returns-2 : tie.Need-returns-2
@@ -70,13 +71,13 @@ returns-2 c =
     let args = c16 .before .before .before .before .before .before .before .args in
     let enter-places = c8 .before .before .before .enter-places in
     let s = rw (c .before .g .given .1) at (enter-places .ensures .1) in (
-      (λ cs ss ps. closed-stopped (args .f)
-          (places (args .n) (lists cs ss (args .listed .now) (args .beside .now)) (args .f) (args .a) (args .n) 0
-          (on
+      (λ cs ss qs ps. closed-stopped (args .f)
+          (places (args .n) (listsIn (args .version) cs ss qs (args .listed .now) (args .beside .now)) (args .f) (args .a)
+          (args .n) 0 (on
           (faceStateAt (meshOf ps (args .points .now) (args .edges .now) (args .intervals .now) (args .faces .now)) (args .k))))
-          (c .before .g .given .0 .0) (meshOf ps (enter-places .last .1 .1 .0) (enter-places .last .1 .1 .1 .0)
-          (enter-places .last .1 .1 .1 .1 .0) (args .faces .now))
-          (rw (c .before .g .given .1) at (enter-places .ensures .0 cs ss ps (args .faces .now)))),
+          (c .before .g .given .0 .0) (meshOf ps (enter-places .last .1 .1 .1 .0) (enter-places .last .1 .1 .1 .1 .0)
+          (enter-places .last .1 .1 .1 .1 .1 .0) (args .faces .now))
+          (rw (c .before .g .given .1) at (enter-places .ensures .0 cs ss qs ps (args .faces .now)))),
       s,
     )
 

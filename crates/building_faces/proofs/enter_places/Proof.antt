@@ -9,18 +9,19 @@ use Rattle.building_faces.proofs.enter_places.Statement.{statement}
 use Rattle.building_faces.proofs.enter_places.Tie as tie
 
 abbrev Inv-loop : tie.InvT-loop
-Inv-loop listed beside points₀ edges₀ intervals₀ chain₀ np k f a n ring₀ i₀ points edges intervals chain ring i =
-    Passing np listed beside f a n k points₀ edges₀ intervals₀ chain₀ points edges intervals chain ring i
+Inv-loop version listed beside points₀ edges₀ intervals₀ chain₀ np k f a n ring₀ i₀ points edges intervals chain ring i =
+    Passing version np listed beside f a n k points₀ edges₀ intervals₀ chain₀ points edges intervals chain ring i
 
 abbrev μ-loop : tie.MeasureT-loop
-μ-loop listed beside points₀ edges₀ intervals₀ chain₀ np k f a n ring₀ i₀ points edges intervals chain ring i = n - i
+μ-loop version listed beside points₀ edges₀ intervals₀ chain₀ np k f a n ring₀ i₀ points edges intervals chain ring i = n - i
 
 loop-holds : tie.Need-loop-holds Inv-loop μ-loop
 loop-holds c =
     let args = c .before .before .before .before .before .before .args in
     let pre = c .before .before .before .before .before .before .pre in
-    passing-start (args .np) (args .listed .now) (args .beside .now) (args .f) (args .a) (args .n) (args .k)
-    (args .points .now) (args .edges .now) (args .intervals .now) (args .chain .now) (pre .0) (pre .1 .1 .1 .1)
+    passing-start (args .version) (args .np) (args .listed .now) (args .beside .now) (args .f) (args .a) (args .n)
+    (args .k) (args .points .now) (args .edges .now) (args .intervals .now) (args .chain .now) (pre .0)
+    (pre .1 .1 .1 .1)
 
 turn-place-requires : tie.Need-turn-place-requires Inv-loop μ-loop
 turn-place-requires c κs =
@@ -49,13 +50,13 @@ returns c =
     let i = loop .i in
     let l = loop-test .taken in
     let s = rw (c .before .g .given .1) at (t .ensures .1) in (
-      (λ cs ss ps fs. passing-stop (a .np) (a .listed .now) (a .beside .now) (a .f) (a .a) (a .n) (a .k) (a .points .now)
-          (a .edges .now) (a .intervals .now) (a .chain .now) (loop .points) (loop .edges) (loop .intervals) (loop .chain)
-          (loop .ring) (loop .i) (loop .inv) (loop-test .taken) (t .last .1 .1 .0) (t .last .1 .1 .1 .0)
-          (t .last .1 .1 .1 .1 .0) (t .last .1 .1 .1 .1 .1 .0) (c .before .g .given .0 .0) cs ss ps fs
-          (rw (c .before .g .given .1) at (t .ensures .0 cs ss ps fs))),
-      some-more (a .np) (t .last .1 .1 .0) (t .last .1 .1 .1 .0) (t .last .1 .1 .1 .1 .1 .0) (a .a + i + 1) (a .a + a .n)
-          (omega (arith, l)) s,
+      (λ cs ss qs ps fs. passing-stop (a .version) (a .np) (a .listed .now) (a .beside .now) (a .f) (a .a) (a .n) (a .k)
+          (a .points .now) (a .edges .now) (a .intervals .now) (a .chain .now) (loop .points) (loop .edges) (loop .intervals)
+          (loop .chain) (loop .ring) (loop .i) (loop .inv) (loop-test .taken) (t .last .1 .1 .1 .0) (t .last .1 .1 .1 .1 .0)
+          (t .last .1 .1 .1 .1 .1 .0) (t .last .1 .1 .1 .1 .1 .1 .0) (c .before .g .given .0 .0) cs ss qs ps fs
+          (rw (c .before .g .given .1) at (t .ensures .0 cs ss qs ps fs))),
+      some-more (a .np) (t .last .1 .1 .1 .0) (t .last .1 .1 .1 .1 .0) (t .last .1 .1 .1 .1 .1 .1 .0) (a .a + i + 1)
+          (a .a + a .n) (omega (arith, l)) s,
     )
 
 loop-again : tie.Need-loop-again Inv-loop μ-loop
@@ -65,26 +66,27 @@ loop-again c =
     let args = c16 .before .before .before .before .before .before .before .before .args in
     let loop = c16 .before .loop in
     let turn-place = c8 .before .before .before .turn-place in
-    passing-more (args .np) (args .listed .now) (args .beside .now) (args .f) (args .a) (args .n) (args .k)
-    (args .points .now) (args .edges .now) (args .intervals .now) (args .chain .now) (loop .points) (loop .edges)
-    (loop .intervals) (loop .chain) (loop .ring) (loop .i) (loop .inv) (c16 .loop-test .taken)
-    (turn-place .last .1 .1 .0) (turn-place .last .1 .1 .1 .0) (turn-place .last .1 .1 .1 .1 .0)
-    (turn-place .last .1 .1 .1 .1 .1 .0) (c .before .next .given .0 .0)
-    (λ cs ss ps fs. rw (c .before .next .given .1) at (turn-place .ensures .0 cs ss ps fs))
-    (rw (c .before .next .given .1) at (turn-place .ensures .1)) (turn-place .kept .1 .1 .0)
-    (turn-place .kept .1 .1 .1 .0) (turn-place .kept .1 .1 .1 .1 .0) (turn-place .kept .1 .1 .1 .1 .1 .0)
+    passing-more (args .version) (args .np) (args .listed .now) (args .beside .now) (args .f) (args .a) (args .n)
+    (args .k) (args .points .now) (args .edges .now) (args .intervals .now) (args .chain .now) (loop .points)
+    (loop .edges) (loop .intervals) (loop .chain) (loop .ring) (loop .i) (loop .inv) (c16 .loop-test .taken)
+    (turn-place .last .1 .1 .1 .0) (turn-place .last .1 .1 .1 .1 .0) (turn-place .last .1 .1 .1 .1 .1 .0)
+    (turn-place .last .1 .1 .1 .1 .1 .1 .0) (c .before .next .given .0 .0)
+    (λ cs ss qs ps fs. rw (c .before .next .given .1) at (turn-place .ensures .0 cs ss qs ps fs))
+    (rw (c .before .next .given .1) at (turn-place .ensures .1)) (turn-place .kept .1 .1 .1 .0)
+    (turn-place .kept .1 .1 .1 .1 .0) (turn-place .kept .1 .1 .1 .1 .1 .0) (turn-place .kept .1 .1 .1 .1 .1 .1 .0)
 
 returns-2 : tie.Need-returns-2 Inv-loop μ-loop
 returns-2 c =
     let args = c .before .before .before .before .before .before .before .before .args in
     let pre = c .before .before .before .before .before .before .before .before .pre in
     let loop = c .before .loop in (
-      passing-end (args .np) (args .listed .now) (args .beside .now) (args .f) (args .a) (args .n) (args .k)
-          (args .points .now) (args .edges .now) (args .intervals .now) (args .chain .now) (loop .points) (loop .edges)
-          (loop .intervals) (loop .chain) (loop .ring) (loop .i) (loop .inv) (c .loop-test .left),
-      passing-stands (args .np) (args .listed .now) (args .beside .now) (args .f) (args .a) (args .n) (args .k)
-          (args .points .now) (args .edges .now) (args .intervals .now) (args .chain .now) (loop .points) (loop .edges)
-          (loop .intervals) (loop .chain) (loop .ring) (loop .i) (loop .inv) (c .loop-test .left) (pre .1 .1 .1 .0),
+      passing-end (args .version) (args .np) (args .listed .now) (args .beside .now) (args .f) (args .a) (args .n)
+          (args .k) (args .points .now) (args .edges .now) (args .intervals .now) (args .chain .now) (loop .points)
+          (loop .edges) (loop .intervals) (loop .chain) (loop .ring) (loop .i) (loop .inv) (c .loop-test .left),
+      passing-stands (args .version) (args .np) (args .listed .now) (args .beside .now) (args .f) (args .a) (args .n)
+          (args .k) (args .points .now) (args .edges .now) (args .intervals .now) (args .chain .now) (loop .points)
+          (loop .edges) (loop .intervals) (loop .chain) (loop .ring) (loop .i) (loop .inv) (c .loop-test .left)
+          (pre .1 .1 .1 .0),
     )
 
 pub enter-places-spec : {M : Type 1} → statement M

@@ -2,7 +2,7 @@
 use borrow.Author.Tests.{le-leb, lt-leb, eq-eqb, ne-eqb}
 use native.Mathlib.Omega.{arith}
 use Rattle.built_meshes.specs.Lists.{countsFit}
-use Rattle.building_tests.proofs.Laws.{faces-few}
+use Rattle.building_tests.proofs.Laws.{faces-few, firsts-same}
 use borrow.Author.Needs.{needs}
 use Rattle.building_lists.proofs.counts_fit.Statement.{statement}
 use Rattle.building_lists.proofs.counts_fit.Tie as tie
@@ -71,7 +71,7 @@ returns-6 c =
 sum-of-requires : tie.Need-sum-of-requires
 sum-of-requires c κs =
     let c8 = c .before .before .before .before .before .before .before .before in
-    let args = c8 .before .before .before .before .before .before .args in
+    let args = c8 .before .before .before .before .before .before .before .args in
     let most = c8 .before .most in
     let h = faces-few (args .bounds) (most .result) (most .ensures) in
     omega arith
@@ -79,18 +79,38 @@ sum-of-requires c κs =
 returns-7 : tie.Need-returns-7
 unfolding countsFit
 returns-7 c =
-    let most = c .before .before .before .before .before .before .before .before .before .before .most in
-    let if1 = c .before .before .before .before .before .before .before .before .if1 in
+    let c8 = c .before .before .before .before .before .before .before .before in
+    let most = c8 .before .before .before .most in
     rw (
       ← most .ensures,
-      le-leb _ _ (if1 .left),
-      le-leb _ _ (c .before .before .before .before .before .before .if2 .left),
-      le-leb _ _ (c .before .before .before .before .if3 .left),
-      eq-eqb _ _ (c .before .before .before .if4 .left),
-      eq-eqb _ _ (c .before .before .if5 .left),
-      eq-eqb _ _ (c .before .if6 .left),
-      c .sum-of .ensures,
+      le-leb _ _ (c8 .before .if1 .left),
+      le-leb _ _ (c .before .before .before .before .before .before .before .if2 .left),
+      le-leb _ _ (c .before .before .before .before .before .if3 .left),
+      eq-eqb _ _ (c .before .before .before .before .if4 .left),
+      eq-eqb _ _ (c .before .before .before .if5 .left),
+      eq-eqb _ _ (c .before .before .if6 .left),
+      ne-eqb _ _ (rw (c .before .sum-of .ensures) at (c .if7 .taken)),
     )
+
+returns-8 : tie.Need-returns-8
+unfolding countsFit
+returns-8 c =
+    let c8 = c .before .before .before .before .before .before .before .before in
+    let c16 = c8 .before .before .before .before .before .before .before .before in
+    let args = c16 .before .before .args in
+    let most = c8 .before .before .before .before .most in
+    rw (
+      ← most .ensures,
+      le-leb _ _ (c8 .before .before .if1 .left),
+      le-leb _ _ (c8 .if2 .left),
+      le-leb _ _ (c .before .before .before .before .before .before .if3 .left),
+      eq-eqb _ _ (c .before .before .before .before .before .if4 .left),
+      eq-eqb _ _ (c .before .before .before .before .if5 .left),
+      eq-eqb _ _ (c .before .before .before .if6 .left),
+      eq-eqb _ _ (rw (c .before .before .sum-of .ensures) at (c .before .if7 .left)),
+      c .firsts-counted .ensures,
+    ) (firsts-same (args .version) (args .coordinates .now) (args .sides .now)
+    (args .firsts .now) (args .listed .now) (args .beside .now))
 
 pub counts-fit-spec : {M : Type 1} → statement M
 counts-fit-spec =
@@ -104,4 +124,6 @@ counts-fit-spec =
     returns-5
     returns-6
     sum-of-requires
-    returns-7)
+    returns-7
+    (λ c κs. search needs)
+    returns-8)

@@ -4,7 +4,7 @@ use mathlib.Core.Path.{sym, _∙_, refl}
 use native.Mathlib.Omega.{arith}
 use borrow.Author.Tests.{not-true, not-false}
 use Rattle.text_numbers.specs.Form.{bytes}
-use Rattle.text_numbers.proofs.Laws.{stands-inside}
+use Rattle.text_numbers.proofs.Laws.{decimal-below, stands-inside}
 use Rattle.text_numbers.proofs.Turns.{number-is, number-none}
 use Rattle.mesh_lines.proofs.side.Proof.Parts.{no-start, no-first, no-points, no-end, whole, first-inside, points-inside}
 use borrow.Author.Needs.{needs}
@@ -36,7 +36,7 @@ listed-points-requires c κs =
     let h = first-inside _ _ (pre .0) (sym (c .before .before .before .before .before .before .before .stands .ensures)
     ∙ not-false _ (c .before .before .before .before .before .before .if1 .left))
     (number-is _
-    (sym (c .before .before .before .before .before .decimal .ensures) ∙ c .before .before .before .i .given .1)) in
+    (sym (c .before .before .before .before .before .decimal .ensures) ∙ c .before .before .before .p .given .1)) in
     let n = pre .1 in
     omega arith
 
@@ -47,7 +47,7 @@ returns-3 c =
     let if1 = c8 .before .before .before .before .before .if1 in
     let decimal = c8 .before .before .before .before .decimal in (
       no-points _ _ (sym (stands .ensures) ∙ not-false _ (if1 .left))
-          (number-is _ (sym (decimal .ensures) ∙ c8 .before .before .i .given .1))
+          (number-is _ (sym (decimal .ensures) ∙ c8 .before .before .p .given .1))
           (c .before .before .before .before .before .before .listed-points .ensures .0) (c .enum-told2 .given .1),
       (tt, tt),
     )
@@ -59,31 +59,38 @@ stands-requires-2 c κs =
     let pre = c16 .before .before .before .before .before .pre in
     let if1 = c8 .before .before .before .before .before .before .before .if1 in
     let decimal = c8 .before .before .before .before .before .before .decimal in
-    let i = c8 .before .before .before .before .i in
+    let p = c8 .before .before .before .before .p in
     points-inside _ _ (pre .0) (sym (c16 .stands .ensures) ∙ not-false _ (if1 .left))
-    (number-is _ (sym (decimal .ensures) ∙ i .given .1)) (c8 .listed-points .ensures .0)
+    (number-is _ (sym (decimal .ensures) ∙ p .given .1)) (c8 .listed-points .ensures .0)
     (c .before .before .k .given .1)
 
 returns-4 : tie.Need-returns-4
 returns-4 c =
     let c8 = c .before .before .before .before .before .before .before .before in
     let c16 = c8 .before .before .before .before .before .before .before .before in
-    let i = c8 .before .before .before .before .before .before .i in (
+    let p = c8 .before .before .before .before .before .before .p in (
       no-end _ _ (sym (c16 .before .before .stands .ensures) ∙ not-false _ (c16 .before .if1 .left))
-          (number-is _ (sym (c16 .decimal .ensures) ∙ i .given .1)) (c8 .before .before .listed-points .ensures .0)
+          (number-is _ (sym (c16 .decimal .ensures) ∙ p .given .1)) (c8 .before .before .listed-points .ensures .0)
           (c .before .before .before .before .k .given .1) (sym (c .before .stands2 .ensures) ∙ not-true _ (c .if2 .taken)),
       (tt, tt),
     )
 
-add-t16 : tie.Need-add-t16
-add-t16 c =
+cast-t25 : tie.Need-cast-t25
+cast-t25 c =
+    let c8 = c .before .before .before .before .before .before .before .before in
+    let decimal = c8 .before .before .before .before .before .before .before .before .decimal in
+    let p = c8 .before .before .before .before .before .before .p in
+    record { fits = decimal-below _ _ _ _ (number-is _ (sym (decimal .ensures) ∙ p .given .1)) }
+
+add-t17 : tie.Need-add-t17
+add-t17 c =
     let c8 = c .before .before .before .before .before .before .before .before in
     let c16 = c8 .before .before .before .before .before .before .before .before in
     let pre = c16 .before .before .before .before .before .before .before .pre in
-    let i = c8 .before .before .before .before .before .before .i in
+    let p = c8 .before .before .before .before .before .before .p in
     let h = points-inside _ _ (pre .0)
     (sym (c16 .before .before .stands .ensures) ∙ not-false _ (c16 .before .if1 .left))
-    (number-is _ (sym (c16 .decimal .ensures) ∙ i .given .1)) (c8 .before .before .listed-points .ensures .0)
+    (number-is _ (sym (c16 .decimal .ensures) ∙ p .given .1)) (c8 .before .before .listed-points .ensures .0)
     (c .before .before .before .before .k .given .1) in
     omega arith
 
@@ -91,10 +98,10 @@ returns-5 : tie.Need-returns-5
 returns-5 c =
     let c8 = c .before .before .before .before .before .before .before .before in
     let c16 = c8 .before .before .before .before .before .before .before .before in
-    let i = c8 .before .before .before .before .before .before .i in
+    let p = c8 .before .before .before .before .before .before .p in
     let listed-points = c8 .before .before .listed-points in
     whole _ _ _ _ _ (sym (c16 .before .before .stands .ensures) ∙ not-false _ (c16 .before .if1 .left))
-    (number-is _ (sym (c16 .decimal .ensures) ∙ i .given .1)) (listed-points .ensures .0)
+    (number-is _ (sym (c16 .decimal .ensures) ∙ p .given .1)) (listed-points .ensures .0)
     (c .before .before .before .before .k .given .1) (listed-points .ensures .1 .0) (listed-points .ensures .1 .1)
     (sym (c .before .stands2 .ensures) ∙ not-false _ (c .if2 .left))
 
@@ -121,7 +128,8 @@ side-spec =
     (λ c. search needs)
     (λ c. search needs)
     returns-4
-    add-t16
+    cast-t25
+    add-t17
     (λ c. search needs)
     (λ c. search needs)
     returns-5)

@@ -13,18 +13,18 @@ returns c = not-text _ _ _ (c .before .before .sizes .ensures) (c .enum-told .gi
 returns-2 : tie.Need-returns-2
 returns-2 c =
     over-limits _ _ _ (c .before .before .before .before .before .sizes .ensures)
-    (c .before .before .before .points .given .1) (sym (c .before .within .ensures) ∙ not-true _ (c .if1 .taken))
+    (c .before .before .before .version .given .1) (sym (c .before .within .ensures) ∙ not-true _ (c .if1 .taken))
 
 returns-3 : tie.Need-returns-3
 returns-3 c =
     let c8 = c .before .before .before .before .before .before .before .before in
     let c16 = c8 .before .before .before .before .before .before .before .before in
-    let within = c8 .before .before .before .before .before .before .within in
-    let if1 = c8 .before .before .before .before .before .if1 in
-    let scan = c8 .scan in
-    whole _ _ _ (c16 .before .before .sizes .ensures) (c16 .points .given .1)
-    (sym (within .ensures) ∙ not-false _ (if1 .left)) (scan .ensures .0) (scan .ensures .1 .0) (scan .ensures .1 .1 .0)
-    (scan .ensures .1 .1 .1 .0) (scan .ensures .1 .1 .1 .1)
+    let sizes = c16 .before .before .before .before .before .sizes in
+    let version = c16 .before .before .before .version in
+    let scan = c8 .before .before .scan in
+    whole _ _ _ (sizes .ensures) (version .given .1) (sym (c16 .before .within .ensures) ∙ not-false _ (c16 .if1 .left))
+    (scan .ensures .0) (scan .ensures .1 .0) (scan .ensures .1 .1 .0) (scan .ensures .1 .1 .1 .0)
+    (scan .ensures .1 .1 .1 .1 .0) (scan .ensures .1 .1 .1 .1 .1)
 
 pub read-text-spec : {M : Type 1} → statement M
 read-text-spec =
@@ -37,6 +37,7 @@ read-text-spec =
     (λ c κs. search needs)
     returns-2
     (λ c κs. search needs)
+    (λ c. search needs)
     (λ c. search needs)
     (λ c. search needs)
     (λ c. search needs)

@@ -97,17 +97,38 @@ returns-9 : tie.Need-returns-9
 unfolding within
 returns-9 c =
     let c8 = c .before .before .before .before .before .before .before .before in
-    let if1 = c8 .before .before .before .before .before .before .before .before .if1 in
-    let if2 = c8 .before .before .before .before .before .if2 in
+    let c16 = c8 .before .before .before .before .before .before .before .before in
+    let if2 = c8 .before .before .before .before .before .before .before .if2 in
+    let if3 = c8 .before .before .before .before .if3 in
     simp (
-      le-leb _ _ (if1 .left),
+      le-leb _ _ (c16 .before .before .if1 .left),
       le-leb _ _ (if2 .left),
-      le-leb _ _ (c8 .before .before .if3 .left),
-      le-leb _ _ (c8 .if4 .left),
-      le-leb _ _ (room-three _ _ (c .before .before .before .before .before .before .if5 .left)),
-      le-leb _ _ (room-four _ _ (c .before .before .before .before .if6 .left)),
-      le-leb _ _ (c .before .before .if7 .left),
-      le-leb _ _ (c .if8 .left),
+      le-leb _ _ (if3 .left),
+      le-leb _ _ (c8 .before .before .if4 .left),
+      le-leb _ _ (room-three _ _ (c8 .if5 .left)),
+      le-leb _ _ (room-four _ _ (c .before .before .before .before .before .before .if6 .left)),
+      le-leb _ _ (c .before .before .before .before .if7 .left),
+      le-leb _ _ (c .before .before .if8 .left),
+      lt-leb _ _ (over-four _ _ (c .if9 .taken)),
+    )
+
+returns-10 : tie.Need-returns-10
+unfolding within
+returns-10 c =
+    let c8 = c .before .before .before .before .before .before .before .before in
+    let c16 = c8 .before .before .before .before .before .before .before .before in
+    let if2 = c8 .before .before .before .before .before .before .before .if2 in
+    let if3 = c8 .before .before .before .before .if3 in
+    simp (
+      le-leb _ _ (c16 .before .before .if1 .left),
+      le-leb _ _ (if2 .left),
+      le-leb _ _ (if3 .left),
+      le-leb _ _ (c8 .before .before .if4 .left),
+      le-leb _ _ (room-three _ _ (c8 .if5 .left)),
+      le-leb _ _ (room-four _ _ (c .before .before .before .before .before .before .if6 .left)),
+      le-leb _ _ (c .before .before .before .before .if7 .left),
+      le-leb _ _ (c .before .before .if8 .left),
+      le-leb _ _ (room-four _ _ (c .if9 .left)),
     )
 
 pub within-spec : {M : Type 1} → statement M
@@ -122,4 +143,5 @@ within-spec =
     returns-6
     returns-7
     returns-8
-    returns-9)
+    returns-9
+    returns-10)

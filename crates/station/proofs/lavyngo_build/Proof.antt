@@ -4,6 +4,9 @@ use Rattle.station.proofs.Laws.{built-told}
 use Rattle.station.proofs.lavyngo_build.Statement.{statement}
 use Rattle.station.proofs.lavyngo_build.Tie as tie
 
+slice-aggregate-build : tie.Need-slice-aggregate-build
+slice-aggregate-build c = search needs
+
 build-requires : tie.Need-build-requires
 build-requires c κs = search needs
 
@@ -30,14 +33,15 @@ returns c =
     let c8 = c .before .before .before .before .before .before .before .before in
     let c16 = c8 .before .before .before .before .before .before .before .before in
     let c24 = c16 .before .before .before .before .before .before .before .before in
-    let args = c24 .before .before .before .args in
+    let args = c24 .before .before .before .before .args in
     let build = c8 .before .before .before .before .build in
-    built-told (args .counts .now) (build .ensures) (c .tell-built .ensures .0) (c .tell-built .ensures .1)
+    built-told (args .counts .now) (build .ensures .0) (c .tell-built .ensures .0) (c .tell-built .ensures .1)
 
 pub lavyngo-build-spec : {M : Type 1} → statement M
 lavyngo-build-spec =
     tie.close
     (tie.spec
+    slice-aggregate-build
     build-requires
     tell-built-requires
     same-length

@@ -1,4 +1,4 @@
--- build_first meets its contract: building takes the first entries of the four lists.
+-- build_first meets its contract: building takes the first entries of the five lists.
 use mathlib.Core.Path.{sym}
 use Prim.Native.Nat.{_*_}
 use lib.Seq.{length-take-le}
@@ -10,34 +10,42 @@ use Rattle.text_building.proofs.build_first.Tie as tie
 slice-aggregate-build : tie.Need-slice-aggregate-build
 slice-aggregate-build c =
     let c8 = c .before .before .before .before .before .before .before .before in
-    let args = c8 .before .before .args in
-    sym (length-take-le (3 * args .p) (args .coordinates .now) (c8 .before .before .pre .0))
+    let args = c8 .before .before .before .args in
+    let pre = c8 .before .before .before .pre in
+    sym (length-take-le (3 * args .p) (args .coordinates .now) (pre .0))
 
 slice-aggregate-build-2 : tie.Need-slice-aggregate-build-2
 slice-aggregate-build-2 c =
     let c8 = c .before .before .before .before .before .before .before .before in
-    let args = c8 .before .before .before .args in
-    let pre = c8 .before .before .before .pre in
+    let args = c8 .before .before .before .before .args in
+    let pre = c8 .before .before .before .before .pre in
     sym (length-take-le (4 * args .f) (args .sides .now) (pre .1 .0))
 
 slice-aggregate-build-3 : tie.Need-slice-aggregate-build-3
 slice-aggregate-build-3 c =
     let c8 = c .before .before .before .before .before .before .before .before in
-    let args = c8 .before .before .before .before .args in
-    let pre = c8 .before .before .before .before .pre in
-    sym (length-take-le (args .n) (args .listed .now) (pre .1 .1 .0))
+    let args = c8 .before .before .before .before .before .args in
+    let pre = c8 .before .before .before .before .before .pre in
+    sym (length-take-le (4 * args .f) (args .firsts .now) (pre .1 .1 .1 .1))
 
 slice-aggregate-build-4 : tie.Need-slice-aggregate-build-4
 slice-aggregate-build-4 c =
     let c8 = c .before .before .before .before .before .before .before .before in
-    let args = c8 .before .before .before .before .before .args in
-    let pre = c8 .before .before .before .before .before .pre in
-    sym (length-take-le (args .n) (args .beside .now) (pre .1 .1 .1))
+    let args = c8 .before .before .before .before .before .before .args in
+    let pre = c8 .before .before .before .before .before .before .pre in
+    sym (length-take-le (args .n) (args .listed .now) (pre .1 .1 .0))
+
+slice-aggregate-build-5 : tie.Need-slice-aggregate-build-5
+slice-aggregate-build-5 c =
+    let c8 = c .before .before .before .before .before .before .before .before in
+    let args = c8 .before .before .before .before .before .before .before .args in
+    let pre = c8 .before .before .before .before .before .before .before .pre in
+    sym (length-take-le (args .n) (args .beside .now) (pre .1 .1 .1 .0))
 
 returns : tie.Need-returns
 returns c =
     let build = c .before .before .before .before .before .before .before .before .before .before .before .build in
-    same-told (c .told .ensures) (build .ensures)
+    same-told (c .told .ensures) (build .ensures .0)
 
 pub build-first-spec : {M : Type 1} → statement M
 build-first-spec =
@@ -49,6 +57,7 @@ build-first-spec =
     slice-aggregate-build-2
     slice-aggregate-build-3
     slice-aggregate-build-4
+    slice-aggregate-build-5
     (λ c κs. search needs)
     (λ c κs. search needs)
     (λ c. search needs)

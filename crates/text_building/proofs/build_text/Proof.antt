@@ -17,11 +17,13 @@ returns-2 c =
     let c8 = c .before .before .before .before .before .before .before .before in
     let c16 = c8 .before .before .before .before .before .before .before .before in
     let c24 = c16 .before .before .before .before .before .before .before .before in
-    let args = c24 .before .before .before .before .before .before .before .before .args in
-    let read-and-build = c8 .before .before .before .before .before .before .read-and-build in
+    let c32 = c24 .before .before .before .before .before .before .before .before in
+    let args = c32 .before .before .args in
+    let is-too-long = c24 .before .before .before .is-too-long in
+    let read-and-build = c8 .before .before .before .before .before .before .before .read-and-build in
     not-too-long (args .bounds) (args .text .now)
     (meshOf (args .positions .now) (args .points .now) (args .edges .now) (args .intervals .now) (args .faces .now))
-    (c24 .before .is-too-long .ensures) (c24 .if1 .left) (read-and-build .ensures)
+    (is-too-long .ensures) (c24 .before .before .if1 .left) (read-and-build .ensures)
 
 pub build-text-spec : {M : Type 1} → statement M
 build-text-spec =
@@ -29,6 +31,7 @@ build-text-spec =
     (tie.spec
     (λ c κs. search needs)
     returns
+    (λ c. search needs)
     (λ c. search needs)
     (λ c. search needs)
     (λ c. search needs)

@@ -1,7 +1,6 @@
 -- sums_fit meets its contract: the sums are the definition's.
 use native.Mathlib.Omega.{arith}
-use mathlib.Core.Path.{_∙_, ap}
-use Rattle.positions.specs.Position.{small}
+use mathlib.Core.Path.{_∙_}
 use Rattle.building_tests.proofs.Laws.{size-read, sums-read}
 use borrow.Author.Needs.{needs}
 use Rattle.building_tests.proofs.faces.sums_fit.Statement.{statement}
@@ -121,12 +120,12 @@ returns c =
     let c8 = c .before .before .before .before .before .before .before .before in
     let args = c8 .before .before .before .before .before .before .before .args in
     let index = c8 .before .before .before .index in
-    c .is-small .ensures
-    ∙ ap small (sums-read (args .sides .now) (args .f) (index .ensures) (c8 .before .index2 .ensures)
+    c .sums-agree .ensures
+    ∙ sums-read (args .sides .now) (args .f) (index .ensures) (c8 .before .index2 .ensures)
     (c .before .before .before .before .before .before .before .index3 .ensures)
-    (c .before .before .before .before .before .index4 .ensures) (args .beside .now) (args .a)
+    (c .before .before .before .before .before .index4 .ensures) (args .version) (args .beside .now) (args .a)
     (c .before .before .before .before .side-sum .ensures) (c .before .before .before .side-sum2 .ensures)
-    (c .before .before .side-sum3 .ensures) (c .before .side-sum4 .ensures))
+    (c .before .before .side-sum3 .ensures) (c .before .side-sum4 .ensures)
 
 pub sums-fit-spec : {M : Type 1} → statement M
 sums-fit-spec =

@@ -8,7 +8,7 @@ use native.Mathlib.Omega.{arith}
 use lib.ListN.{length, set, length-set}
 use lib.Ieee.{Float}
 use Rattle.text_numbers.specs.Form.{bytes, parsed, unparsed, Form, many, stands}
-use Rattle.mesh_lines.specs.Grammar.{Listed, listedForm, sidePoints, sideIntervals}
+use Rattle.mesh_lines.specs.Grammar.{Listed, listedForm, pointsIn, intervalsIn}
 use Rattle.text_numbers.specs.Numbers.{float}
 use Rattle.mesh_lines.specs.Parts.{runAnswer, stored}
 use Rattle.mesh_lines.specs.declared.Run.the-variants as Run
@@ -27,8 +27,8 @@ pub record ListedSoFar (s : List ℕ) (at : ℕ) (ps₀ : List ℕ) (ds₀ : Lis
   pub same-points : length ps ≡ length ps₀
   pub same-intervals : length ds ≡ length ds₀
   pub run : runFrom length k (listedFrom s (length s - k) i) ≡ runAnswer length (listedFrom s (length s) at)
-  pub points : stored sidePoints ps (n + k) (listedFrom s (length s - k) i) ≡ stored sidePoints ps₀ n (listedFrom s (length s) at)
-  pub intervals : stored sideIntervals ds (n + k) (listedFrom s (length s - k) i) ≡ stored sideIntervals ds₀ n (listedFrom s (length s) at)
+  pub points : stored pointsIn ps (n + k) (listedFrom s (length s - k) i) ≡ stored pointsIn ps₀ n (listedFrom s (length s) at)
+  pub intervals : stored intervalsIn ds (n + k) (listedFrom s (length s - k) i) ≡ stored intervalsIn ds₀ n (listedFrom s (length s) at)
 
 pub start : (s : List ℕ) (at : ℕ) (ps₀ : List ℕ) (ds₀ : List Float) (n : ℕ) → at ≤ length s → n ≤ at → ListedSoFar s at ps₀ ds₀ n ps₀ ds₀ at 0
 start s at ps₀ ds₀ n h hn =
@@ -47,7 +47,7 @@ module _ (s : List ℕ) (at : ℕ) (ps₀ : List ℕ) (ds₀ : List Float) (n : 
     (inv : ListedSoFar s at ps₀ ds₀ n ps ds i k) where
   pub end : stands s i (bytes " [") ≡ false
       → (Run.Of k i ≡ runAnswer length (listedFrom s (length s) at))
-      × ((ps ≡ stored sidePoints ps₀ n (listedFrom s (length s) at)) × (ds ≡ stored sideIntervals ds₀ n (listedFrom s (length s) at)))
+      × ((ps ≡ stored pointsIn ps₀ n (listedFrom s (length s) at)) × (ds ≡ stored intervalsIn ds₀ n (listedFrom s (length s) at)))
   end e =
       let m = many-stop s (bytes " [") (listedForm s) i (length s - k) e in
       (ap (λ c. Run.Of c i) (sym (add-zero k)) ∙ (rw m at (inv .run)), (rw m at (inv .points), rw m at (inv .intervals)))
@@ -82,13 +82,13 @@ module _ (s : List ℕ) (at : ℕ) (ps₀ : List ℕ) (ds₀ : List Float) (n : 
             same-intervals = ap length ed ∙ length-set ds (n + k) x ∙ inv .same-intervals;
             run = sym (run-next length k 1 a rest (λ l. omega arith)) ∙ (rw (fuel, t) at (inv .run));
             points =
-                ap (λ (v : List ℕ). stored sidePoints v (n + (k + 1)) rest) ep
-                ∙ ap (λ (m : ℕ). stored sidePoints (set ps (n + k) p) m rest) en
-                ∙ sym (stored-next sidePoints (λ (b : Listed). b .point ∷ []) ps (n + k) a rest (λ l. refl))
+                ap (λ (v : List ℕ). stored pointsIn v (n + (k + 1)) rest) ep
+                ∙ ap (λ (m : ℕ). stored pointsIn (set ps (n + k) p) m rest) en
+                ∙ sym (stored-next pointsIn (λ (b : Listed). b .point ∷ []) ps (n + k) a rest (λ l. refl))
                 ∙ (rw (fuel, t) at (inv .points));
             intervals =
-                ap (λ (v : List Float). stored sideIntervals v (n + (k + 1)) rest) (ed ∙ ap (set ds (n + k)) ex)
-                ∙ ap (λ (m : ℕ). stored sideIntervals (set ds (n + k) (float d)) m rest) en
-                ∙ sym (stored-next sideIntervals (λ (b : Listed). float (b .interval) ∷ []) ds (n + k) a rest (λ l. refl))
+                ap (λ (v : List Float). stored intervalsIn v (n + (k + 1)) rest) (ed ∙ ap (set ds (n + k)) ex)
+                ∙ ap (λ (m : ℕ). stored intervalsIn (set ds (n + k) (float d)) m rest) en
+                ∙ sym (stored-next intervalsIn (λ (b : Listed). float (b .interval) ∷ []) ds (n + k) a rest (λ l. refl))
                 ∙ (rw (fuel, t) at (inv .intervals));
           }

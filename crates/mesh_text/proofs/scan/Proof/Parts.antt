@@ -1,48 +1,53 @@
--- The whole text: r is the answer for the point lines, p of them, which end at i; q that for the face lines, f of them with c listed points, which
--- end at j; xs′, ls′, ps′ and ds′ are the lists that they leave.
+-- The whole text: h is the answer for the head, which names version v; r is the answer for the point lines, p of them, which end at i; q that for the face lines, f of them with c listed points, which
+-- end at j; xs′, ls′, qs′, ps′ and ds′ are the lists that they leave.
 use mathlib.Core.List.{List, map}
 use mathlib.Core.Path.{_≡_, refl, sym, _∙_}
 use mathlib.Core.Bool.{true, false}
 use Prim.Native.Nat.{ℕ, _≤_}
-use native.Mathlib.Omega.{arith}
 use lib.ListN.{length}
 use lib.Ieee.{Float}
-use Rattle.text_numbers.specs.Form.{bytes, parsed, Form, many, stands}
-use Rattle.mesh_lines.specs.Grammar.{Listed, pointForm, faceForm, flat, sidePoints, sideIntervals}
-use Rattle.mesh_text.specs.Text.{ends, mesh, text}
+use Rattle.text_numbers.specs.Form.{bytes, parsed, Form, many}
+use Rattle.mesh_lines.specs.Grammar.{Side, pointForm, faceForm, flat, sideFirst, sidePoints, sideIntervals}
+use Rattle.mesh_text.specs.Text.{headForm, ends, mesh, text}
 use Rattle.text_numbers.specs.Numbers.{float}
-use Rattle.mesh_text.specs.Lists.{coordinates, listedPoints, intervals}
+use Rattle.mesh_text.specs.Lists.{coordinates, firsts, listedPoints, intervals}
 use Rattle.mesh_lines.specs.Parts.{lengthWord, runAnswer, linesAnswer, stored, AtRun, AtLines}
-use Rattle.mesh_text.specs.Parts.{lengthWords, totalOf}
+use Rattle.mesh_text.specs.Parts.{lengthWords, headOf, totalOf}
 use Rattle.mesh_lines.specs.declared.Run.{Run}
 use Rattle.mesh_lines.specs.declared.Run.the-variants as Run
 use Rattle.mesh_lines.specs.declared.Lines.{Lines}
 use Rattle.mesh_lines.specs.declared.Lines.the-variants as Lines
+use Rattle.built_meshes.specs.declared.Version.{Version}
+use Rattle.mesh_text.specs.declared.Head.{Head}
+use Rattle.mesh_text.specs.declared.Head.the-variants as Head
 use Rattle.mesh_text.specs.declared.Total.the-variants as Total
-use Rattle.text_numbers.proofs.Laws.{takes-many, stands-inside}
+use Rattle.text_numbers.proofs.Laws.{takes-many}
 use Rattle.mesh_lines.proofs.Laws.{takes-point, takes-face}
-use Rattle.text_numbers.proofs.Turns.{literal-found, literal-none}
+use Rattle.mesh_text.proofs.Heads.{head-read, head-none}
 use Rattle.mesh_lines.proofs.Answers.{run-of, run-none, lines-are, lines-none}
 
 abbrev pointLines : List ℕ → Form (List (List ℕ))
 pointLines s = many s (bytes "[point") (pointForm s) (length s)
 
-abbrev faceLines : List ℕ → Form (List (List (List Listed)))
+abbrev faceLines : List ℕ → Form (List (List Side))
 faceLines s = many s (bytes "[face") (faceForm s) (length s)
 
-module _ (s : List ℕ) where
-  pub no-head : stands s 0 (bytes "[mesh 1]\n") ≡ false → Total.None ≡ totalOf (text s)
+module _ (s : List ℕ) {h : Head} (eh : h ≡ headOf (headForm s 0)) where
+  pub no-head : h ≡ Head.None → Total.None ≡ totalOf (text s)
   unfolding mesh text
-  no-head e = rw (literal-none s (bytes "[mesh 1]\n") 0 e)
+  no-head en = rw (head-none (headForm s 0) (sym eh ∙ en))
 
-  module _ (e : stands s 0 (bytes "[mesh 1]\n") ≡ true) where
+  module _ {v : Version} (ev : h ≡ Head.Is v) where
+    is-head : headForm s 0 ≡ parsed v 9
+    is-head = head-read s v (sym eh ∙ ev) .0
+
     pub head-inside : 9 ≤ length s
-    head-inside = stands-inside s (bytes "[mesh 1]\n") 0 refl (omega arith) e
+    head-inside = head-read s v (sym eh ∙ ev) .1
 
     module _ {r : Run} (er : r ≡ runAnswer length (pointLines s 9)) where
       pub no-points : r ≡ Run.None → Total.None ≡ totalOf (text s)
       unfolding mesh text
-      no-points en = rw (literal-found s (bytes "[mesh 1]\n") 0 e, run-none length (pointLines s 9) (sym er ∙ en))
+      no-points en = rw (is-head, run-none length (pointLines s 9) (sym er ∙ en))
 
       module _ {p i : ℕ} (ep : r ≡ Run.Of p i) where
         points-read : (a : List (List ℕ)) × (pointLines s 9 ≡ parsed a i) × (length a ≡ p)
@@ -55,10 +60,10 @@ module _ (s : List ℕ) where
         module _ {q : Lines} (eq : q ≡ linesAnswer (faceLines s i)) where
           pub no-faces : q ≡ Lines.None → Total.None ≡ totalOf (text s)
           unfolding mesh text
-          no-faces en = rw (literal-found s (bytes "[mesh 1]\n") 0 e, points-read .1, lines-none (faceLines s i) (sym eq ∙ en))
+          no-faces en = rw (is-head, points-read .1, lines-none (faceLines s i) (sym eq ∙ en))
 
           module _ {f c j : ℕ} (ef : q ≡ Lines.Are f c j) where
-            faces-read : (a : List (List (List Listed))) × (faceLines s i ≡ parsed a j) × (length a ≡ f) × (length (flat (flat sidePoints) a) ≡ c)
+            faces-read : (a : List (List Side)) × (faceLines s i ≡ parsed a j) × (length a ≡ f) × (length (flat (flat sidePoints) a) ≡ c)
             faces-read = lines-are (faceLines s i) (sym eq ∙ ef)
 
             pub faces-inside : j ≤ length s
@@ -66,28 +71,30 @@ module _ (s : List ℕ) where
 
             pub no-end : ends s j ≡ false → Total.None ≡ totalOf (text s)
             unfolding mesh text
-            no-end en = rw (literal-found s (bytes "[mesh 1]\n") 0 e, points-read .1, faces-read .1, en)
+            no-end en = rw (is-head, points-read .1, faces-read .1, en)
 
-            read : ends s j ≡ true → text s ≡ parsed (record { points = points-read .0; faces = faces-read .0 }) j
+            read : ends s j ≡ true → text s ≡ parsed (record { version = v; points = points-read .0; faces = faces-read .0 }) j
             unfolding mesh text
-            read ee = rw (literal-found s (bytes "[mesh 1]\n") 0 e, points-read .1, faces-read .1, ee)
+            read ee = rw (is-head, points-read .1, faces-read .1, ee)
 
-            pub whole : ends s j ≡ true → (xs : List Float) (ls ps : List ℕ) (ds : List Float) {xs′ : List Float} {ls′ ps′ : List ℕ} {ds′ : List Float}
+            pub whole : ends s j ≡ true → (xs : List Float) (ls qs ps : List ℕ) (ds : List Float) {xs′ : List Float} {ls′ qs′ ps′ : List ℕ} {ds′ : List Float}
                 → AtRun r (xs′ ≡ stored (flat (map float)) xs 0 (pointLines s 9))
                 → AtLines q (ls′ ≡ stored (flat (map lengthWord)) ls 0 (faceLines s i))
+                → AtLines q (qs′ ≡ stored (flat (map sideFirst)) qs 0 (faceLines s i))
                 → AtLines q (ps′ ≡ stored (flat (flat sidePoints)) ps 0 (faceLines s i))
                 → AtLines q (ds′ ≡ stored (flat (flat sideIntervals)) ds 0 (faceLines s i))
-                → (Total.Of p f c ≡ totalOf (text s))
+                → (Total.Of v p f c ≡ totalOf (text s))
                 × ((xs′ ≡ stored coordinates xs 0 (text s))
-                × ((ls′ ≡ stored lengthWords ls 0 (text s)) × ((ps′ ≡ stored listedPoints ps 0 (text s)) × (ds′ ≡ stored intervals ds 0 (text s)))))
-            whole ee xs ls ps ds ex el epp ed =
+                × ((ls′ ≡ stored lengthWords ls 0 (text s))
+                × ((qs′ ≡ stored firsts qs 0 (text s)) × ((ps′ ≡ stored listedPoints ps 0 (text s)) × (ds′ ≡ stored intervals ds 0 (text s))))))
+            whole ee xs ls qs ps ds ex el eqq epp ed =
                 let t = read ee in (
                   rw (t, points-read .2, faces-read .2, faces-read .3),
                   (
                     rw t (rw (ep, points-read .1) at ex),
                     (
                       rw t (rw (ef, faces-read .1) at el),
-                      (rw t (rw (ef, faces-read .1) at epp), rw t (rw (ef, faces-read .1) at ed)),
+                      (rw t (rw (ef, faces-read .1) at eqq), (rw t (rw (ef, faces-read .1) at epp), rw t (rw (ef, faces-read .1) at ed))),
                     ),
                   ),
                 )

@@ -18,16 +18,19 @@ slice-aggregate-build-2 c =
     sym (length-take-le _ (args .sides .now) (c .before .before .before .before .least2 .ensures .1))
 
 slice-aggregate-build-3 : tie.Need-slice-aggregate-build-3
-slice-aggregate-build-3 c =
-    let c8 = c .before .before .before .before .before .before .before .before in
-    let args = c8 .before .before .before .before .before .before .before .before .args in
-    sym (length-take-le _ (args .listed .now) (c .before .before .before .before .least3 .ensures .1))
+slice-aggregate-build-3 c = search needs
 
 slice-aggregate-build-4 : tie.Need-slice-aggregate-build-4
 slice-aggregate-build-4 c =
     let c8 = c .before .before .before .before .before .before .before .before in
     let c16 = c8 .before .before .before .before .before .before .before .before in
-    sym (length-take-le _ (c16 .before .args .beside .now) (c .before .before .before .before .least4 .ensures .1))
+    sym (length-take-le _ (c16 .before .args .listed .now) (c .before .before .before .before .before .least3 .ensures .1))
+
+slice-aggregate-build-5 : tie.Need-slice-aggregate-build-5
+slice-aggregate-build-5 c =
+    let c8 = c .before .before .before .before .before .before .before .before in
+    let c16 = c8 .before .before .before .before .before .before .before .before in
+    sym (length-take-le _ (c16 .before .before .args .beside .now) (c .before .before .before .before .before .least4 .ensures .1))
 
 pub build-lists-spec : {M : Type 1} → statement M
 build-lists-spec =
@@ -41,6 +44,7 @@ build-lists-spec =
     slice-aggregate-build-2
     slice-aggregate-build-3
     slice-aggregate-build-4
+    slice-aggregate-build-5
     (λ c κs. search needs)
     (λ c. search needs)
     (λ c. search needs)
