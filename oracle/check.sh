@@ -50,7 +50,9 @@ expect() {
 "$here/build.sh"
 one=3ff0000000000000
 two=4000000000000000
+half=3fe0000000000000
 corner=bfdc71c71c71c71c
+ninths=bfe1c71c71c71c72
 
 expect "no points, no faces" "0 0 0" "$(answers empty 1 | stage 1 | counts)"
 expect "cube, counts" "8 12 6" "$(answers cube 1 | stage 0 | counts)"
@@ -94,6 +96,13 @@ expect "text 2, an interval belongs to the edge that arrives" "$(answers text-2-
 expect "text 2, sums 2, 0, 2, 0 pass" "8 12 6" "$(answers text-2-triangles 1 | stage 1 | counts)"
 expect "text 2, its own side test is passed over" "8 12 6" "$(answers beyond-13-sums-1-2-2-1 1 | stage 0 | counts)"
 expect "text 2, a third face" "[error 14]" "$(answers error-14-text-2 1 | stage 0)"
+published=$(cat "$here/samples/cube.mesh" "$here/samples/published-cube.orders" | oracle 0)
+expect "second edition, cube, point 0" "[point $ninths $ninths $ninths" \
+    "$(echo "$published" | stage 1 | awk 'NR == 2 {print $1, $2, $3, $4}')"
+expect "second edition, cube, joining intervals" "$half $half $half $half $half $half $half $half $half $half $half $half " \
+    "$(for face in 0 2 5; do echo "$published" | stage 1 | joining "$face"; done)"
+expect "second edition, cube, all intervals" "     48 $half]" \
+    "$(echo "$published" | stage 1 | awk '$1 == "[edge" {print $10}' | sort | uniq -c)"
 expect "several texts in one input" "$(answers cube 1; answers error-13 1; answers two-triangles 1)" \
     "$( (mesh cube; mesh error-13; mesh two-triangles) | oracle 1)"
 

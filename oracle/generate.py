@@ -1,6 +1,6 @@
 #!/usr/bin/env python3
 """Writes the sample meshes into a folder: NAME.mesh (mesh text 1 or 2), NAME.orders for those that are visited in listed
-orders, and INDEX with a line for each sample: its name, its number of steps, what it is.
+orders, perhaps in the second edition, and INDEX with a line for each sample: its name, its number of steps, what it is.
 
     generate.py FOLDER
 
@@ -423,6 +423,45 @@ def samples():
     yield "beyond-13-before-43", 0, "document 02: 13. Sums that disagree, before a first point of the next face", \
         edited(cube_2([1.0, 2.0, 2.0, 1.0], [1.0] * 4), last, last.replace("[3 [", "[1 ["))
 
+    def second(order):
+        """A step of the second edition."""
+        return "published", order
+
+    def seconds(seed, shape, steps):
+        return [second(order) for order in orders(seed, shape, steps)]
+
+    def numbered(faces):
+        return list(range(faces))
+
+    triangles = unevenly(TWO_TRIANGLES, 22)
+    random = Random(23)
+    subnormal = [[[(p, d or (1 + random.below(3)) * 2.0**-1074)] for (p, d), in face] for face in by_direction(0.0, 1.0, 1.0)[1]]
+    yield "published-cube", 1, "second edition: document 01's cube", evenly(cube), [second(numbered(6))]
+    yield "published-cube-uneven", 1, "second edition: the cube, random intervals, from last to first", unevenly(cube, 1), \
+        [second(numbered(6)[::-1])]
+    yield "published-subnormal", 1, "second edition: the cube, intervals of 1 to 3 times 2^-1074 along x", \
+        (points, subnormal), seconds(24, cube, 1)
+    yield "published-not-finite", 1, "second edition: the cube, all intervals 0: not finite", evenly(cube, 0.0), \
+        [second(numbered(6))]
+    yield "published-unfit-order", 1, "second edition: a visiting order that names a face twice", evenly(cube), \
+        [second([0, 1, 2, 3, 4, 4])]
+    yield "published-small", 1, "second edition: the cube, intervals t/16 and t/8: some denominators small", \
+        by_direction(SMALL / 16, SMALL / 8, SMALL / 16), seconds(25, cube, 1)
+    yield "published-valence-2", 1, "second edition: the cube with points on three of its edges, random intervals", \
+        unevenly((cube_points() + middles, valence_2), 26), seconds(27, (points, valence_2), 1)
+    yield "published-triangles", 2, "second edition: two triangles, random intervals, two steps in random orders", triangles, \
+        seconds(28, TWO_TRIANGLES, 2)
+    yield "published-then-first", 2, "two triangles, a step of the second edition, then one of the first", triangles, \
+        [second([1, 0]), numbered(6)]
+    yield "published-after-first", 2, "two triangles, a step of the first edition, then one of the second", triangles, \
+        [[1, 0], second(orders(29, TWO_TRIANGLES, 2)[1])]
+    yield "published-prism-5", 1, "second edition: the prism of prism-5-uneven in a random order", unevenly(prism(5), 4), \
+        seconds(30, prism(5), 1)
+    yield "published-random", 1, "second edition: the mesh of random-3 in a random order", unevenly(dented(3, 8), 3), \
+        seconds(31, dented(3, 8), 1)
+    yield "published-text-2", 1, "second edition: the text text-2-triangles-uneven", text_2(unevenly_2(TWO_TRIANGLES, 17)), \
+        [second([1, 0])]
+
 
 def main(folder):
     folder = pathlib.Path(folder)
@@ -430,7 +469,8 @@ def main(folder):
     for name, steps, what, mesh, *orders_listed in samples():
         (folder / (name + ".mesh")).write_text(mesh if isinstance(mesh, str) else text(mesh))
         if orders_listed:
-            lines = ["[order %s]\n" % " ".join(map(str, order)) for order in orders_listed[0]]
+            steps_listed = [step if isinstance(step, tuple) else ("order", step) for step in orders_listed[0]]
+            lines = ["[%s %s]\n" % (word, " ".join(map(str, order))) for word, order in steps_listed]
             (folder / (name + ".orders")).write_text("".join(lines))
         index.append("%s %d %s\n" % (name, steps, what))
     (folder / "INDEX").write_text("".join(index))

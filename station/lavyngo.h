@@ -75,7 +75,7 @@ enum lavyngo_answer {
 };
 
 /* The version of this header: 1 for document 01, and one more for each request of document 02 that is in it. */
-#define LAVYNGO_VERSION 6
+#define LAVYNGO_VERSION 7
 
 /* The version of the library that is linked. A station asks once whether it is that of the header. */
 uint32_t lavyngo_version(void);
@@ -152,6 +152,17 @@ uint32_t lavyngo_audit(
      newpositions, newpoints, newedges, newintervals, newfaces    scratch: tables of positions, points, edges, intervals and faces
    Answers 0, 30 to 33. Scratch is zeroed after an accepted step and after 33. */
 uint32_t lavyngo_step(
+    double *positions, size_t positions_length, uint32_t *points, size_t points_length,
+    uint32_t *edges, size_t edges_length, double *intervals, size_t intervals_length,
+    uint32_t *faces, size_t faces_length, size_t counts[3], const uint32_t *order, size_t order_length,
+    double *newpositions, size_t newpositions_length, uint32_t *newpoints, size_t newpoints_length,
+    uint32_t *newedges, size_t newedges_length, double *newintervals, size_t newintervals_length,
+    uint32_t *newfaces, size_t newfaces_length);
+
+/* The same step by the published position rule of 1998 (document 02, section 5): m of equation 15 weighs at old points where
+   lavyngo_step weighs edge points, and a joining edge gets a quarter of the sum of the two whole intervals as they stood before the
+   step. Parameters, answers and what is left are those of lavyngo_step; steps of the two kinds may follow each other. */
+uint32_t lavyngo_step_published(
     double *positions, size_t positions_length, uint32_t *points, size_t points_length,
     uint32_t *edges, size_t edges_length, double *intervals, size_t intervals_length,
     uint32_t *faces, size_t faces_length, size_t counts[3], const uint32_t *order, size_t order_length,
@@ -254,6 +265,12 @@ static inline uint32_t lavyngo_tables_step(
     const struct lavyngo_tables *t, size_t counts[3], const uint32_t *order, size_t order_length,
     const struct lavyngo_tables *scratch) {
     return lavyngo_step(LAVYNGO_LENT(t), counts, order, order_length, LAVYNGO_LENT(scratch));
+}
+
+static inline uint32_t lavyngo_tables_step_published(
+    const struct lavyngo_tables *t, size_t counts[3], const uint32_t *order, size_t order_length,
+    const struct lavyngo_tables *scratch) {
+    return lavyngo_step_published(LAVYNGO_LENT(t), counts, order, order_length, LAVYNGO_LENT(scratch));
 }
 
 static inline uint32_t lavyngo_tables_find_depth(

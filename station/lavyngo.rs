@@ -12,7 +12,7 @@ pub const EDGE: usize = 8;
 pub const FACE: usize = 5;
 
 /// The version of this module, and of the header.
-pub const VERSION: u32 = 6;
+pub const VERSION: u32 = 7;
 
 /// The version of the library that is linked.
 pub fn version() -> u32 {
@@ -202,6 +202,23 @@ impl Tables {
         };
         accepted(answer, after)
     }
+
+    /// The same by the published position rule (document 02, section 5).
+    pub fn step_published(&mut self, counts: Counts, order: &[u32], scratch: &mut Tables) -> Result<Counts, Ground> {
+        let mut after = counts.array();
+        // SAFETY: every pointer goes with its length, and no two tables overlap.
+        let answer = unsafe {
+            lavyngo_step_published(
+                self.positions.as_mut_ptr(), self.positions.len(), self.points.as_mut_ptr(), self.points.len(),
+                self.edges.as_mut_ptr(), self.edges.len(), self.intervals.as_mut_ptr(), self.intervals.len(),
+                self.faces.as_mut_ptr(), self.faces.len(), &mut after, order.as_ptr(), order.len(),
+                scratch.positions.as_mut_ptr(), scratch.positions.len(), scratch.points.as_mut_ptr(), scratch.points.len(),
+                scratch.edges.as_mut_ptr(), scratch.edges.len(), scratch.intervals.as_mut_ptr(), scratch.intervals.len(),
+                scratch.faces.as_mut_ptr(), scratch.faces.len(),
+            )
+        };
+        accepted(answer, after)
+    }
 }
 
 fn accepted(answer: u32, counts: [usize; 3]) -> Result<Counts, Ground> {
@@ -239,6 +256,14 @@ pub mod raw {
             faces: *const u32, faces_length: usize, counts: *const [usize; 3],
         ) -> u32;
         pub fn lavyngo_step(
+            positions: *mut f64, positions_length: usize, points: *mut u32, points_length: usize,
+            edges: *mut u32, edges_length: usize, intervals: *mut f64, intervals_length: usize,
+            faces: *mut u32, faces_length: usize, counts: *mut [usize; 3], order: *const u32, order_length: usize,
+            newpositions: *mut f64, newpositions_length: usize, newpoints: *mut u32, newpoints_length: usize,
+            newedges: *mut u32, newedges_length: usize, newintervals: *mut f64, newintervals_length: usize,
+            newfaces: *mut u32, newfaces_length: usize,
+        ) -> u32;
+        pub fn lavyngo_step_published(
             positions: *mut f64, positions_length: usize, points: *mut u32, points_length: usize,
             edges: *mut u32, edges_length: usize, intervals: *mut f64, intervals_length: usize,
             faces: *mut u32, faces_length: usize, counts: *mut [usize; 3], order: *const u32, order_length: usize,

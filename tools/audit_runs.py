@@ -77,10 +77,10 @@ def listings(name):
 
 
 def recorded():
-    """Label and mesh of each recorded stage that document 01 accepts, up to 100 edges, and all stages of the cube; of text 1."""
+    """Label and mesh of each recorded stage that document 01 accepts, up to 100 edges, and all stages of the cube; of text 1 in the first edition."""
     for line in open(os.path.join(SAMPLES, "INDEX")):
         name = line.split()[0]
-        if name.startswith(("beyond-", "error-", "text-2-")):
+        if name.startswith(("beyond-", "error-", "text-2-", "published-")):
             continue
         for stage, m in enumerate(listings(name)):
             numbers = sum(m.positions, []) + m.intervals

@@ -15,11 +15,12 @@ ROOT = Path(__file__).resolve().parent.parent
 # The files that state the claims, and those that the contracts of `build`, `build_text`, `audit`, `step`, `refine`, `find_depth`, `write_listing`, `read_listing`,
 # `handover` and of the functions for C cite.
 STATED = """
-    audited_meshes/Audit audited_meshes/Claims built_meshes/Building built_meshes/Builds built_meshes/Claims built_meshes/Connects
-    built_meshes/LentContent building_tests/Lent
-    closed_meshes/Refinement closed_meshes/Renumbering crossings/Claims filed_pieces/Pieces filed_pieces/TextTwo handover_outputs/Claims handover_outputs/Output listings/Claims listings/Handing mesh_printing/Claims outcomes/Outcomes refine_outputs/Bytes
-    refine_outputs/Claims refine_outputs/Output step_runs/Claims
-    refined_meshes/Refines runs/Runs station/Station steps/FirstGround steps/LentScratch steps/OneStep steps/Step text_meshes/Claims text_meshes/TextBuilding
+    audited_meshes/Audit audited_meshes/Claims building_tests/Lent built_meshes/Building built_meshes/Builds built_meshes/Claims
+    built_meshes/Connects built_meshes/LentContent closed_meshes/Refinement closed_meshes/Renumbering crossings/Claims
+    filed_pieces/Pieces filed_pieces/TextTwo handover_outputs/Claims handover_outputs/Output listings/Claims listings/Handing
+    mesh_printing/Claims outcomes/Outcomes refine_outputs/Bytes refine_outputs/Claims refine_outputs/Output refined_meshes/Refines
+    runs/Runs station/Station station_steps/Told step_runs/Claims
+    steps/FirstGround steps/LentScratch steps/OneStep steps/Step text_meshes/Claims text_meshes/TextBuilding
 """.split()
 
 # What each crate's definitions are about, in the order of the table.
@@ -38,7 +39,7 @@ ABOUT = {
     "built_meshes": "building",
     "building_tests": "the lists that building is handed",
     "text_meshes": "building from a text",
-    "refined_meshes": "the visits of a refinement",
+    "refined_meshes": "the visits of a refinement, and what the second edition settles after them",
     "position_rules": "the position rules",
     "steps": "the step",
     "runs": "demand 3",
@@ -51,6 +52,7 @@ ABOUT = {
     "handover_outputs": "what the program `handover` writes",
     "crossings": "depths that edges cross, the depth finder",
     "station_answers": "how an answer is told to a C caller",
+    "station_steps": "what the C functions of the step answer and leave",
     "station": "what the C functions answer and leave",
     "filed_pieces": "document 01's starred pieces, and pieces of mesh text 2",
 }

@@ -29,8 +29,8 @@ TEXT, LISTS, CUTS, CHANGES, ZEROS, ORDERS, SPOILT = range(7)
 GENERAL, REFINE = range(2)
 FULL = 18000
 IN_FULL = {"cube"}
-NOT_FINITE = {"cube-zero", "cube-overflow", "cube-underflow", "cube-far"}
-NOUGHT, ONE, TWO = "0000000000000000", "3ff0000000000000", "4000000000000000"
+NOT_FINITE = {"cube-zero", "cube-overflow", "cube-underflow", "cube-far", "published-not-finite"}
+NOUGHT, HALF, ONE, TWO = "0000000000000000", "3fe0000000000000", "3ff0000000000000", "4000000000000000"
 
 
 # What the program must write
@@ -156,13 +156,19 @@ def samples():
 
 
 def orders(name):
-    """The listed visiting orders of a sample, if it has any."""
+    """The steps of a sample that lists them: for each its edition, 0 the first and 1 the second, and its visiting order."""
     if os.path.exists(os.path.join(SAMPLES, name + ".orders")):
-        return [[int(f) for f in line.split()[1:]] for line in read(name, ".orders").decode().replace("]", "").splitlines()]
+        lines = [line.split() for line in read(name, ".orders").decode().replace("]", "").splitlines()]
+        return [(("[order", "[published").index(words[0]), [int(f) for f in words[1:]]) for words in lines]
 
 
 def in_further(listed):
-    return [number for order in listed for number in [len(order)] + order]
+    return [number for edition, order in listed for number in [edition, len(order)] + order]
+
+
+def first(orders):
+    """Steps of the first edition in these orders."""
+    return [(0, order) for order in orders]
 
 
 def is_finite(listing):
@@ -188,7 +194,7 @@ def add_samples(records):
         run = Run(answers[0], counted(text)[1], 100000 if name in IN_FULL else FULL)
         for answer in answers[1:]:
             if error(answer):
-                assert error(answer) == 31 and name == "cube-unfit-order"
+                assert error(answer) == 31 and name in ("cube-unfit-order", "published-unfit-order")
                 run.refused(31)
             elif is_finite(answer):
                 run.accepted(answer)
@@ -507,14 +513,14 @@ def add_steps(records):
     for label, order in unfit.items():
         run = cube_run()
         run.refused(31)
-        records.run("order: " + label, run, text, ORDERS, further=in_further([order]))
+        records.run("order: " + label, run, text, ORDERS, further=in_further(first([order])))
     run = cube_run()
     tried = list(unfit.values()) + [numbered, numbered]
     for order in tried[:-2]:
         run.refused(31)
     run.accepted(answers[1])
     run.refused(31)
-    records.run("unfit orders, then a fit one", run, text, ORDERS, further=in_further(tried))
+    records.run("unfit orders, then a fit one", run, text, ORDERS, further=in_further(first(tried)))
     enough = words(26, 48, 24)
     for place, name in enumerate(("positions", "points", "edges", "intervals", "faces")):
         run = cube_run()
@@ -530,7 +536,7 @@ def add_steps(records):
     run = cube_run()
     run.refused(31)
     run.refused(32)
-    records.run("31 before 32", run, text, ORDERS, further=in_further([[0], numbered]), scratch=shorter(enough, 0))
+    records.run("31 before 32", run, text, ORDERS, further=in_further(first([[0], numbered])), scratch=shorter(enough, 0))
     run = cube_run("cube-zero")
     run.refused(32)
     records.run("32 before 33", run, read("cube-zero", ".mesh"), scratch=shorter(enough, 4))
@@ -581,13 +587,16 @@ def joining(listing, face):
 
 
 def check_figures():
-    """Document 01's figures that are no starred pieces stand in the recorded listings."""
+    """Document 01's figures that are no starred pieces, and document 02's of the second edition, stand in the recorded listings."""
     stage = stages("cube")[1]
     assert joining(stage, 0) == [TWO] * 4
     assert joining(stage, 2) in ([TWO, ONE] * 2, [ONE, TWO] * 2)
     assert joining(stage, 5) == [ONE] * 4
     assert stage.split("\n")[1].startswith("[point bfdc71c71c71c71c bfdc71c71c71c71c bfdc71c71c71c71c ")
     assert rows(stages("cube")[0]) == (8, 12, 6) and rows(stage) == (26, 48, 24)
+    stage = stages("published-cube")[1]
+    assert all(joining(stage, face) == [HALF] * 4 for face in range(6))
+    assert stage.split("\n")[1].startswith("[point bfe1c71c71c71c72 bfe1c71c71c71c72 bfe1c71c71c71c72 ")
 
 
 def main():

@@ -15,6 +15,13 @@ pub enum Visit {
     Listed(Vec<usize>),
 }
 
+/// Whose step is made: that of the Rust as it is, or document 02's second edition, by the Rust with places altered.
+#[derive(Clone, Copy, PartialEq, Eq, Debug)]
+pub enum Edition {
+    First,
+    Second,
+}
+
 /// For each stage the line `[stage K]` and the listing of the mesh. A stage that is not reached has one line instead of
 /// a listing, and is the last:
 ///
@@ -23,16 +30,16 @@ pub enum Visit {
 ///     [error malformed-face]        a face or a point with no edge was to be refined
 ///     [panic]                       the Rust panicked
 ///     [endless]                     a walk did not come back to its start
-pub fn answers(text: &[u8], visits: &[Visit]) -> String {
+pub fn answers(text: &[u8], steps: &[(Edition, Visit)]) -> String {
     let mut out = String::from("[stage 0]\n");
     let mut tnurcc = match build(text) {
         Ok(tnurcc) => tnurcc,
         Err(line) => return out + &line,
     };
     out += &tnurcc.listing().to_string();
-    for (done, visit) in visits.iter().enumerate() {
+    for (done, (edition, visit)) in steps.iter().enumerate() {
         out += &format!("[stage {}]\n", done + 1);
-        if let Err(line) = refine(&mut tnurcc, visit) {
+        if let Err(line) = refine(&mut tnurcc, *edition, visit) {
             return out + &line;
         }
         out += &tnurcc.listing().to_string();
@@ -56,11 +63,7 @@ pub fn build_of(mesh: MeshText) -> std::result::Result<Tnurcc<Position>, String>
     match version {
         Version::One => watched(listed, || Tnurcc::try_new(points, faces)),
         Version::Two => watched(listed, || altered::Tnurcc::try_new(points, faces.into_iter().map(turned).collect()))
-            .map(|altered| {
-                let tnurcc = Tnurcc::of_listing(&altered.listing());
-                altered.release();
-                tnurcc
-            }),
+            .map(carried_over),
     }
 }
 
@@ -76,14 +79,39 @@ fn turned(mut sides: [Side; 4]) -> [Side; 4] {
     sides
 }
 
-/// One step of the Rust.
-pub fn refine(tnurcc: &mut Tnurcc<Position>, visit: &Visit) -> std::result::Result<(), String> {
+/// One step of the Rust, in either edition.
+pub fn refine(tnurcc: &mut Tnurcc<Position>, edition: Edition, visit: &Visit) -> std::result::Result<(), String> {
     let edges = tnurcc.edge_count();
-    match visit {
-        Visit::Numbered => watched(edges, || tnurcc.global_subdivide()),
-        Visit::Listed(order) if tnurcc.is_order(order) => watched(edges, || tnurcc.subdivide_in_order(order)),
-        Visit::Listed(_) => Err(String::from("[error 31]\n")),
+    if let Visit::Listed(order) = visit
+        && !tnurcc.is_order(order)
+    {
+        return Err(String::from("[error 31]\n"));
     }
+    match edition {
+        Edition::First => watched(edges, || match visit {
+            Visit::Numbered => tnurcc.global_subdivide(),
+            Visit::Listed(order) => tnurcc.subdivide_in_order(order),
+        }),
+        Edition::Second => {
+            let refined = watched(edges, || {
+                let mut altered = altered::Tnurcc::of_listing(&tnurcc.listing());
+                match visit {
+                    Visit::Numbered => altered.global_subdivide(),
+                    Visit::Listed(order) => altered.subdivide_in_order(order),
+                }?;
+                Ok(carried_over(altered))
+            })?;
+            std::mem::replace(tnurcc, refined).release();
+            Ok(())
+        }
+    }
+}
+
+/// The mesh of the Rust that has the records of an altered one.
+fn carried_over(altered: altered::Tnurcc<Position>) -> Tnurcc<Position> {
+    let tnurcc = Tnurcc::of_listing(&altered.listing());
+    altered.release();
+    tnurcc
 }
 
 /// Runs a piece of the Rust on a mesh of so many edges; an error or a panic becomes its line.

@@ -36,10 +36,10 @@ pub fn read(text: &[u8]) -> Option<MeshText> {
     reader.rest.is_empty().then_some(MeshText { version, points, faces })
 }
 
-/// The face numbers of a line `[order N N ..]`, or `None` if it is no such line.
-pub fn read_order(line: &[u8]) -> Option<Vec<usize>> {
+/// The face numbers of a line `[order N N ..]`, or of another first word, or `None` if it is no such line.
+pub fn read_order(word: &str, line: &[u8]) -> Option<Vec<usize>> {
     let mut reader = Reader { rest: line };
-    reader.word("[order")?;
+    reader.word(word)?;
     let mut order = Vec::new();
     while reader.word(" ").is_some() {
         order.push(reader.number()?);

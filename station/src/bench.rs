@@ -1,6 +1,6 @@
 //! Times: building and refining by the library and by the original Rust, in one run.
 
-use crate::library::{self, Counts, Tables};
+use crate::library::{self, Counts, Edition, Tables};
 use crate::lists::Lists;
 use crate::listings;
 use crate::memory;
@@ -133,26 +133,30 @@ fn step(name: &str, mesh: &Tables, counts: Counts, rust_most: usize) {
     let order: Vec<u32> = (0..counts.faces as u32).collect();
     let runs = (20_000_000 / after.faces).clamp(20, 2000);
     let lent = || (Tables::patterned(after, 0).over(mesh), Tables::patterned(after, 0));
-    let ours = least(runs, lent, |(tables, scratch)| {
-        assert_eq!(library::step(tables, &mut counts.array(), &order, scratch), 0, "the sample is refined");
-    });
+    let time = |edition: Edition| {
+        least(runs, lent, |(tables, scratch)| {
+            assert_eq!(library::step(edition, tables, &mut counts.array(), &order, scratch), 0, "the sample is refined");
+        })
+    };
+    let (ours, second) = (time(Edition::First), time(Edition::Second));
     let audit = least(runs, || (), |()| assert_eq!(library::audit(mesh, counts.array()), 0, "the sample is closed"));
     let plain = least(runs, lent, |(tables, scratch)| write_and_copy(tables, scratch, after));
     let per = |time: f64| time / after.faces as f64;
     let bytes = 2 * Tables::with_rows(after).bytes();
     print!(
-        "| {name} | {} | {:.0} | {:.1} | {:.0} % | {:.1} | {:.2} | {:.2} |",
-        after.faces, ours / 1e3, per(ours), 100.0 * audit / ours, per(plain), ours / plain, bytes as f64 / 1e6
+        "| {name} | {} | {:.0} | {:.1} | {:.0} | {:.2} | {:.0} % | {:.1} | {:.2} | {:.2} |",
+        after.faces, ours / 1e3, per(ours), second / 1e3, second / ours, 100.0 * audit / ours, per(plain), ours / plain,
+        bytes as f64 / 1e6
     );
     if counts.faces > rust_most {
         return println!(" not run | | | |");
     }
     let runs = (200_000 / after.faces).clamp(3, 50);
-    let rust = least(runs, || Mesh::of_tables(mesh, counts), |rust| rust.step(None).expect("the Rust refines"));
+    let rust = least(runs, || Mesh::of_tables(mesh, counts), |rust| rust.step(Edition::First, None).expect("the Rust refines"));
     let before = memory::in_use();
     let mut rust_mesh = Mesh::of_tables(mesh, counts);
     memory::reset_most();
-    rust_mesh.step(None).expect("the Rust refines");
+    rust_mesh.step(Edition::First, None).expect("the Rust refines");
     let most = memory::most() - before;
     println!(" {:.0} | {:.0} | {:.0} | {:.2} |", rust / 1e3, per(rust), rust / ours, most as f64 / 1e6);
 }
@@ -164,10 +168,10 @@ pub fn run(rust_most: usize) {
     building(&samples, rust_most);
     println!("## One step\n");
     println!(
-        "| Mesh | Faces after | Library, µs | ns a face | Audit's share | Write and copy, ns a face | Times that | \
+        "| Mesh | Faces after | Library, µs | ns a face | Second edition, µs | Times the first | Audit's share | Write and copy, ns a face | Times that | \
          Tables and scratch, MB | Rust, µs | ns a face | Times as fast | Rust's memory, MB |"
     );
-    println!("|---|---|---|---|---|---|---|---|---|---|---|---|");
+    println!("|---|---|---|---|---|---|---|---|---|---|---|---|---|---|");
     for sample in &samples {
         let (mesh, counts) = built(&sample.lists);
         step(&sample.name, &mesh, counts, rust_most);
@@ -177,7 +181,7 @@ pub fn run(rust_most: usize) {
     let after = counts.refined();
     let mut tables = Tables::with_rows(after).over(&mesh);
     let order: Vec<u32> = (0..counts.faces as u32).collect();
-    assert_eq!(library::step(&mut tables, &mut counts.array(), &order, &mut Tables::with_rows(after)), 0);
+    assert_eq!(library::step(Edition::First, &mut tables, &mut counts.array(), &order, &mut Tables::with_rows(after)), 0);
     step("torus 128 x 128", &tables, after, rust_most);
 }
 
@@ -189,7 +193,7 @@ pub fn listing() {
         let after = counts.refined();
         let order: Vec<u32> = (0..counts.faces as u32).collect();
         let mut tables = Tables::with_rows(after).over(&mesh);
-        assert_eq!(library::step(&mut tables, &mut counts.array(), &order, &mut Tables::with_rows(after)), 0);
+        assert_eq!(library::step(Edition::First, &mut tables, &mut counts.array(), &order, &mut Tables::with_rows(after)), 0);
         (mesh, counts) = (tables, after);
     }
     let text = listings::text(&mesh, counts).into_bytes();
@@ -218,7 +222,7 @@ pub fn profile(steps: usize) {
     let mut scratch = Tables::with_rows(counts.refined());
     for _ in 0..steps {
         let mut tables = Tables::with_rows(counts.refined()).over(&mesh);
-        assert_eq!(library::step(&mut tables, &mut counts.array(), &order, &mut scratch), 0);
+        assert_eq!(library::step(Edition::First, &mut tables, &mut counts.array(), &order, &mut scratch), 0);
     }
 }
 

@@ -2,7 +2,7 @@
 //! what every lent row is afterwards.
 
 use crate::grounds::{self, CEILINGS};
-use crate::library::{self, Counts, Tables};
+use crate::library::{self, Counts, Edition, Tables};
 use crate::lists::Lists;
 use crate::names::{self, Names, Register};
 use crate::random::Random;
@@ -10,6 +10,13 @@ use crate::rust::Mesh;
 use crate::{depths, listings, numbers, shapes, spoil};
 use oracle::text::Version;
 use std::collections::BTreeMap;
+
+/// How a step is made: in which edition, and whether the faces are visited in numbered order.
+#[derive(Clone, Copy)]
+pub struct How {
+    pub edition: Edition,
+    pub numbered: bool,
+}
 
 /// What is handed in, and what is done with it.
 #[derive(Clone)]
@@ -23,9 +30,8 @@ pub struct Case {
     pub short: Option<(usize, usize)>,
     /// Whether start edges, directions, corners and marks are changed before the first step.
     pub scrambled: bool,
-    /// For each step whether the faces are visited in numbered order.
-    pub numbered: Vec<bool>,
-    /// Whether a second run in other orders is held against the first, under the names.
+    pub steps: Vec<How>,
+    /// Whether a second run in other orders and editions is held against the first, under the names.
     pub two_runs: bool,
 }
 
@@ -43,6 +49,7 @@ pub struct Tally {
     pub refused_by_both: BTreeMap<u32, u64>,
     pub steps: u64,
     pub steps_in_other_orders: u64,
+    pub steps_published: u64,
     pub refused_steps: BTreeMap<u32, u64>,
     pub records: u64,
     pub runs_under_names: u64,
@@ -71,13 +78,16 @@ impl Case {
             }
         }
         let short = random.once_in(40).then(|| (random.below(5), random.between(1, 9)));
+        let edition = |random: &mut Random| random.of(&[Edition::First, Edition::Second]);
+        let how = |random: &mut Random| How { edition: edition(random), numbered: !random.once_in(4) };
+        let steps = vec![how(&mut random), how(&mut random)];
         Case {
             lists,
             seed: random.word(),
             spare: random.of(&[0, 0, 1, 2, 7, 40]),
             short,
             scrambled: random.once_in(3),
-            numbered: vec![!random.once_in(4), !random.once_in(4)],
+            steps,
             two_runs: random.once_in(4),
         }
     }
@@ -206,10 +216,11 @@ fn hand_over(case: &Case, mesh: &Tables, counts: Counts, tally: &mut Tally) -> R
     listings::check(&mut Random::new(case.seed ^ 0x115), mesh, counts.array(), &mut tally.listings)
 }
 
-/// One step by the library and by the Rust. True if it was accepted; the mesh is then the refined one.
+/// One step by the library and by the Rust, altered for the second edition. True if it was accepted; the mesh is then the
+/// refined one.
 fn step(
-    case: &Case, mesh: &mut Tables, counts: &mut Counts, order: Option<&[u32]>, rust: &mut Mesh, tally: &mut Tally,
-    tamper: Option<Tamper>,
+    case: &Case, mesh: &mut Tables, counts: &mut Counts, edition: Edition, order: Option<&[u32]>, rust: &mut Mesh,
+    tally: &mut Tally, tamper: Option<Tamper>,
 ) -> Result<bool, String> {
     let after = counts.refined();
     let mut tables = Tables::patterned(after, case.spare).over(mesh);
@@ -217,11 +228,11 @@ fn step(
     let (before, before_scratch) = (tables.clone(), scratch.clone());
     let mut words = counts.array();
     let numbered: Vec<u32> = (0..counts.faces as u32).collect();
-    let answer = library::step(&mut tables, &mut words, order.unwrap_or(&numbered), &mut scratch);
+    let answer = library::step(edition, &mut tables, &mut words, order.unwrap_or(&numbered), &mut scratch);
     if let (Some(tamper), 0) = (tamper, answer) {
         tamper(&mut tables);
     }
-    rust.step(order).map_err(|line| format!("the library answers {answer}, the Rust does not refine: {line}"))?;
+    rust.step(edition, order).map_err(|line| format!("the library answers {answer}, the Rust does not refine: {line}"))?;
     let (theirs, rust_counts) = rust.tables().ok_or("the Rust leaves a reference to no row")?;
     demand(rust_counts == after, || format!("the Rust has {rust_counts:?}, document 01 {after:?}"))?;
     let finite = theirs.positions.iter().chain(&theirs.intervals).all(|x| x.is_finite());
@@ -231,6 +242,7 @@ fn step(
     demand(zeroed, || format!("the step answers {answer} and does not leave scratch zeroed"))?;
     tally.steps += 1;
     tally.steps_in_other_orders += u64::from(order.is_some());
+    tally.steps_published += u64::from(edition == Edition::Second);
     if !finite {
         *tally.refused_steps.entry(33).or_default() += 1;
         demand(tables.same(&before) && words == counts.array(), || String::from("33 and the mesh is touched"))?;
@@ -256,36 +268,39 @@ fn steps(
 ) -> Result<Option<Vec<Tables>>, String> {
     let (mut mesh, mut counts) = (first.clone(), first_counts);
     let mut stages = vec![mesh.clone()];
-    for (done, &numbered) in case.numbered.iter().enumerate() {
+    for (done, &How { edition, numbered }) in case.steps.iter().enumerate() {
         let order = random.order(counts.faces);
         let order = (!numbered).then_some(&order[..]);
-        let stage = |what: String| format!("step {}: {what}", done + 1);
-        if !step(case, &mut mesh, &mut counts, order, &mut rust, tally, tamper).map_err(stage)? {
+        let stage = |what: String| format!("step {}, {edition:?} edition: {what}", done + 1);
+        if !step(case, &mut mesh, &mut counts, edition, order, &mut rust, tally, tamper).map_err(stage)? {
             break;
         }
         stages.push(mesh.clone());
     }
-    Ok(case.numbered.iter().all(|&numbered| numbered).then_some(stages))
+    Ok(case.steps.iter().all(|how| how.numbered).then_some(stages))
 }
 
-/// A second run, by the library in other orders, held under the names against the stages of the first, by the Rust in
-/// numbered order.
+/// A second run, by the library in other orders and editions, held under the names against the stages of the first, by the
+/// Rust in numbered order.
 fn second_run(
     case: &Case, stages: &[Tables], first: Counts, random: &mut Random, tally: &mut Tally,
 ) -> Result<(), String> {
     let mut register = Register::default();
     let mut names = (Names::first(&mut register, first), Names::first(&mut register, first));
     let (mut mesh, mut counts) = (stages[0].clone(), first);
-    for k in 1..=case.numbered.len() {
+    for k in 1..=case.steps.len() {
+        let edition = random.of(&[Edition::First, Edition::Second]);
         let after = counts.refined();
         let mut tables = Tables::patterned(after, case.spare).over(&mesh);
         let mut scratch = Tables::patterned(after, case.spare);
         let mut words = counts.array();
-        let answer = library::step(&mut tables, &mut words, &random.order(counts.faces), &mut scratch);
-        let stage = |what: String| format!("second run, step {k}: {what}");
+        let answer = library::step(edition, &mut tables, &mut words, &random.order(counts.faces), &mut scratch);
+        let stage = |what: String| format!("second run, step {k}, {edition:?} edition: {what}");
         let other = stages.get(k);
-        // Whether a number is finite does not depend on the order of that step; after the first, numbers may differ.
-        if k == 1 && (answer == 0) != other.is_some() {
+        // Whether a number is finite does not depend on the order of that step; after the first, numbers may differ, and
+        // between editions in any.
+        let same_numbers = k == 1 && edition == case.steps[0].edition;
+        if same_numbers && (answer == 0) != other.is_some() {
             return Err(stage(format!("it answers {answer}, in numbered order it was another answer")));
         }
         let (0, Some(other)) = (answer, other) else {
@@ -295,7 +310,7 @@ fn second_run(
         let none = || stage(String::from("a row has no name"));
         let one = names.0.after(&mut register, k as u32, &stages[k - 1], counts, other).ok_or_else(none)?;
         let two = names.1.after(&mut register, k as u32, &mesh, counts, &tables).ok_or_else(none)?;
-        names::shared(after, (other, &one), (&tables, &two), k == 1).map_err(stage)?;
+        names::shared(after, (other, &one), (&tables, &two), same_numbers).map_err(stage)?;
         tally.records_under_names += after.records();
         names = (one, two);
         mesh = tables.first(after);
@@ -312,9 +327,8 @@ pub fn largest(tally: &mut Tally) -> Result<(), String> {
     let mut shape = shapes::torus(64, 64);
     shape.scramble(&mut random);
     let lists = numbers::ordinary(&mut random, &shape);
-    let case = Case {
-        lists, seed: 1, spare: 1, short: None, scrambled: false, numbered: vec![true, false], two_runs: false,
-    };
+    let steps = vec![How { edition: Edition::First, numbered: true }, How { edition: Edition::Second, numbered: false }];
+    let case = Case { lists, seed: 1, spare: 1, short: None, scrambled: false, steps, two_runs: false };
     let Some((tables, counts)) = build(&case, tally)? else {
         return Err(String::from("the largest mesh is not built"));
     };
@@ -325,22 +339,25 @@ pub fn largest(tally: &mut Tally) -> Result<(), String> {
     }
     tally.records += counts.records();
     let (mut mesh, mut counts, mut rust) = (theirs, counts, rust);
-    for numbered in &case.numbered {
+    for &How { edition, numbered } in &case.steps {
         let order = random.order(counts.faces);
         let order = (!numbered).then_some(&order[..]);
-        let refined = step(&case, &mut mesh, &mut counts, order, &mut rust, tally, None)?;
+        let refined = step(&case, &mut mesh, &mut counts, edition, order, &mut rust, tally, None)?;
         demand(refined, || String::from("the largest mesh is not refined"))?;
     }
     demand(counts == CEILINGS, || format!("the largest mesh has {counts:?}"))?;
     let after = counts.refined();
-    let (mut tables, mut scratch) = (Tables::patterned(after, 0).over(&mesh), Tables::patterned(after, 0));
-    let (before, before_scratch, mut words) = (tables.clone(), scratch.clone(), counts.array());
-    let answer = library::step(&mut tables, &mut words, &random.order(counts.faces), &mut scratch);
-    demand(answer == 32, || format!("the step beyond the ceilings answers {answer}"))?;
-    *tally.refused_steps.entry(32).or_default() += 1;
-    tally.steps += 1;
-    let same = tables.same(&before) && scratch.same(&before_scratch) && words == counts.array();
-    demand(same, || String::from("32 and something is touched"))
+    for edition in [Edition::First, Edition::Second] {
+        let (mut tables, mut scratch) = (Tables::patterned(after, 0).over(&mesh), Tables::patterned(after, 0));
+        let (before, before_scratch, mut words) = (tables.clone(), scratch.clone(), counts.array());
+        let answer = library::step(edition, &mut tables, &mut words, &random.order(counts.faces), &mut scratch);
+        demand(answer == 32, || format!("the step beyond the ceilings answers {answer}"))?;
+        *tally.refused_steps.entry(32).or_default() += 1;
+        tally.steps += 1;
+        let same = tables.same(&before) && scratch.same(&before_scratch) && words == counts.array();
+        demand(same, || String::from("32 and something is touched"))?;
+    }
+    Ok(())
 }
 
 /// All that is asked of a case. The error says what differs.

@@ -3,7 +3,7 @@
 
 use crate::compare::{self, Case, Tally};
 use crate::grounds::{self, CEILINGS};
-use crate::library::{self, Counts, Tables};
+use crate::library::{self, Counts, Edition, Tables};
 use crate::lists::Lists;
 use crate::random::Random;
 use crate::rust::Mesh;
@@ -115,7 +115,8 @@ fn closed_mesh(random: &mut Random) -> (Tables, Counts) {
         let after = counts.refined();
         let mut refined = Tables::with_rows(after).over(&mesh);
         let order = random.order(counts.faces);
-        if random.once_in(4) && library::step(&mut refined, &mut words, &order, &mut Tables::with_rows(after)) == 0 {
+        let edition = random.of(&[Edition::First, Edition::Second]);
+        if random.once_in(4) && library::step(edition, &mut refined, &mut words, &order, &mut Tables::with_rows(after)) == 0 {
             return (refined, after);
         }
         return (mesh, counts);
@@ -142,7 +143,8 @@ fn through(
     let expected = grounds::step(&tables, counts, order, &scratch);
     let (before, before_scratch) = (tables.clone(), scratch.clone());
     let (mut tables, mut scratch, mut after_words) = (tables, scratch, words);
-    let answer = library::step(&mut tables, &mut after_words, order, &mut scratch);
+    let edition = random.of(&[Edition::First, Edition::Second]);
+    let answer = library::step(edition, &mut tables, &mut after_words, order, &mut scratch);
     fuzzed.steps += 1;
     *fuzzed.answers.entry(answer).or_default() += 1;
     if expected != 0 {
@@ -154,7 +156,7 @@ fn through(
     let zeroed = scratch.is_zero(after) && scratch.same_beyond(after, &before_scratch);
     demand(zeroed, || format!("the step answers {answer} and does not leave scratch zeroed"))?;
     let mut rust = Mesh::of_tables(&before, counts);
-    rust.step(Some(order)).map_err(|line| format!("the library answers {answer}, the Rust {line}"))?;
+    rust.step(edition, Some(order)).map_err(|line| format!("the library answers {answer}, the Rust {line}"))?;
     let (theirs, _) = rust.tables().ok_or("the Rust leaves a reference to no row")?;
     let finite = theirs.positions.iter().chain(&theirs.intervals).all(|x| x.is_finite());
     if !finite {
@@ -245,7 +247,7 @@ fn case(random: &mut Random, fuzzed: &mut Fuzzed) -> Result<(), String> {
     let lists = any_lists(random);
     let short = random.once_in(8).then(|| (random.below(5), random.between(1, 9)));
     let case = Case {
-        lists, seed: 0, spare: random.below(9), short, scrambled: false, numbered: Vec::new(), two_runs: false,
+        lists, seed: 0, spare: random.below(9), short, scrambled: false, steps: Vec::new(), two_runs: false,
     };
     let mut tally = Tally::default();
     compare::build(&case, &mut tally)?;

@@ -4,6 +4,7 @@ use crate::lavyngo::raw::*;
 use crate::lists::Lists;
 
 pub use crate::lavyngo::{Counts, NONE, Tables};
+pub use oracle::answers::Edition;
 
 impl Counts {
     pub fn records(self) -> u64 {
@@ -159,12 +160,16 @@ pub fn audit(tables: &Tables, counts: [usize; 3]) -> u32 {
     }
 }
 
-/// One step. The answer is document 01's number, 0 for accepted.
-pub fn step(tables: &mut Tables, counts: &mut [usize; 3], order: &[u32], scratch: &mut Tables) -> u32 {
+/// One step of either edition. The answer is document 01's number, 0 for accepted.
+pub fn step(edition: Edition, tables: &mut Tables, counts: &mut [usize; 3], order: &[u32], scratch: &mut Tables) -> u32 {
     let (t, s) = (tables, scratch);
+    let step = match edition {
+        Edition::First => lavyngo_step,
+        Edition::Second => lavyngo_step_published,
+    };
     // SAFETY: as above.
     unsafe {
-        lavyngo_step(
+        step(
             t.positions.as_mut_ptr(), t.positions.len(), t.points.as_mut_ptr(), t.points.len(),
             t.edges.as_mut_ptr(), t.edges.len(), t.intervals.as_mut_ptr(), t.intervals.len(),
             t.faces.as_mut_ptr(), t.faces.len(), counts, order.as_ptr(), order.len(),

@@ -29,7 +29,7 @@ mod shrink;
 mod spoil;
 mod stack;
 
-use compare::{Case, Tally, Tamper};
+use compare::{Case, How, Tally, Tamper};
 use std::process::ExitCode;
 use std::sync::Mutex;
 
@@ -52,8 +52,8 @@ fn run(meshes: u64, seed: u64, tamper: Option<Tamper>) -> Result<Tally, (u64, Ca
 
 fn show(number: u64, seed: u64, case: &Case, what: &str) {
     println!("DIFFERENCE in mesh {number} of seed {seed}: {what}");
-    let order = |&numbered: &bool| if numbered { "numbered order" } else { "another order" };
-    let steps: Vec<&str> = case.numbered.iter().map(order).collect();
+    let order = |how: &How| if how.numbered { "numbered order" } else { "another order" };
+    let steps: Vec<String> = case.steps.iter().map(|how| format!("{:?} edition in {}", how.edition, order(how))).collect();
     println!("steps: {}; scrambled: {}; two runs: {}", steps.join(", "), case.scrambled, case.two_runs);
     println!("elements to spare in each table: {}; too few in a table: {:?}", case.spare, case.short);
     match case.lists.text() {
@@ -81,12 +81,12 @@ fn compare(meshes: u64, seed: u64) -> ExitCode {
             println!("building refused, by ground: {}", listed(&t.refused));
             println!("of these also refused by the Rust, with its own error: {}", listed(&t.refused_by_both));
             println!(
-                "{} steps, {} of them in other orders than the numbered one; refused, by ground: {}",
-                t.steps, t.steps_in_other_orders, listed(&t.refused_steps)
+                "{} steps, {} of them of the second edition, {} in other orders than the numbered one; refused, by ground: {}",
+                t.steps, t.steps_published, t.steps_in_other_orders, listed(&t.refused_steps)
             );
             println!("{} records compared with the Rust's, every word and bit", t.records);
             println!(
-                "{} second runs in other orders, {} records compared under the names",
+                "{} second runs in other orders and editions, {} records compared under the names",
                 t.runs_under_names, t.records_under_names
             );
             println!("the depth finder answered: {}", listed(&t.depths));

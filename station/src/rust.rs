@@ -2,7 +2,7 @@
 
 use crate::library::{Counts, NONE, Tables};
 use crate::lists::Lists;
-use oracle::answers::{self, Visit};
+use oracle::answers::{self, Edition, Visit};
 use oracle::monstertruck_core::Position;
 use oracle::records::{EdgeRow, FaceRow, Listing, PointRow, Row};
 use oracle::t_spline::Tnurcc;
@@ -30,13 +30,13 @@ impl Mesh {
         Mesh(Some(Tnurcc::of_listing(&listing(tables, counts))))
     }
 
-    /// One step, in numbered order or in the order given.
-    pub fn step(&mut self, order: Option<&[u32]>) -> Result<(), String> {
+    /// One step of either edition, in numbered order or in the order given. The second edition's is made by the Rust altered.
+    pub fn step(&mut self, edition: Edition, order: Option<&[u32]>) -> Result<(), String> {
         let visit = match order {
             None => Visit::Numbered,
             Some(order) => Visit::Listed(order.iter().map(|&f| f as usize).collect()),
         };
-        answers::refine(self.0.as_mut().expect("a mesh"), &visit)
+        answers::refine(self.0.as_mut().expect("a mesh"), edition, &visit)
     }
 
     /// The records as tables, or nothing if one refers to something that is in no table.

@@ -1,6 +1,7 @@
 //! The smallest case that still shows a difference, as far as taking things away one by one finds it.
 
-use crate::compare::Case;
+use crate::compare::{Case, How};
+use crate::library::Edition;
 use crate::lists::Lists;
 use crate::spoil::take_face;
 
@@ -60,11 +61,16 @@ fn plain(lists: &Lists) -> Lists {
 fn smaller(case: &Case) -> Vec<Case> {
     let mut tries = Vec::new();
     let with = |lists: Lists| Case { lists: lists.fitted(), ..case.clone() };
-    if case.numbered.len() > 1 {
-        tries.push(Case { numbered: case.numbered[..1].to_vec(), ..case.clone() });
+    if case.steps.len() > 1 {
+        tries.push(Case { steps: case.steps[..1].to_vec(), ..case.clone() });
+        tries.push(Case { steps: case.steps[1..].to_vec(), ..case.clone() });
     }
-    if case.numbered.iter().any(|numbered| !numbered) && !case.two_runs {
-        tries.push(Case { numbered: vec![true; case.numbered.len()], ..case.clone() });
+    for (k, &how) in case.steps.iter().enumerate() {
+        for plainer in [How { numbered: true, ..how }, How { edition: Edition::First, ..how }] {
+            let mut steps = case.steps.clone();
+            steps[k] = plainer;
+            tries.push(Case { steps, ..case.clone() });
+        }
     }
     if case.scrambled {
         tries.push(Case { scrambled: false, ..case.clone() });
@@ -119,8 +125,8 @@ fn size(case: &Case) -> usize {
     let noughts = lists.coordinates.iter().filter(|x| x.to_bits() == 0).count();
     let ones = lists.intervals.iter().filter(|&&d| d == 1.0).count();
     1000 * (lists.listed.len() + lists.faces() + lists.points()) - noughts - ones + lists.intervals.len()
-        + 100 * usize::from(lists.firsts.is_some()) + 10 * case.numbered.len() + case.spare + usize::from(case.scrambled) + usize::from(case.two_runs)
-        + case.numbered.iter().filter(|numbered| !**numbered).count()
+        + 100 * usize::from(lists.firsts.is_some()) + 10 * case.steps.len() + case.spare + usize::from(case.scrambled) + usize::from(case.two_runs)
+        + case.steps.iter().map(|how| usize::from(!how.numbered) + usize::from(how.edition == Edition::Second)).sum::<usize>()
 }
 
 /// Goes on as long as something smaller still fails, and gives back what that says.

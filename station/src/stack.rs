@@ -1,12 +1,12 @@
 //! How much stack a call takes: the least stack, in steps of 4 KiB, of a thread in which it comes back. The system gives no
 //! thread less than 16 KiB, so that a lesser figure says no more than that.
 
-use crate::library::{self, Counts, Tables};
+use crate::library::{self, Counts, Edition, Tables};
 use crate::lists::Lists;
 use crate::{listings, shapes};
 use std::process::{Command, Stdio};
 
-const CALLS: [&str; 8] = ["build", "build_2", "build_text", "audit", "step", "find_depth", "write_listing", "read_listing"];
+const CALLS: [&str; 9] = ["build", "build_2", "build_text", "audit", "step", "step_published", "find_depth", "write_listing", "read_listing"];
 
 /// The cube, so that the stack does not depend on what is worked on.
 fn cube() -> Lists {
@@ -39,7 +39,8 @@ pub fn call(name: &str, bytes: usize) {
         "build_2" => library::build(&version_2, &mut tables, &mut counts),
         "build_text" => library::build_text(text.as_bytes(), &mut tables, &mut counts),
         "audit" => library::audit(&refined, counts),
-        "step" => library::step(&mut refined, &mut counts, &[0, 1, 2, 3, 4, 5], &mut scratch),
+        "step" => library::step(Edition::First, &mut refined, &mut counts, &[0, 1, 2, 3, 4, 5], &mut scratch),
+        "step_published" => library::step(Edition::Second, &mut refined, &mut counts, &[0, 1, 2, 3, 4, 5], &mut scratch),
         "find_depth" => library::find_depth(&refined, counts, 2.0, &mut 0),
         "write_listing" => library::write_listing(&refined, counts, &mut output, &mut 0),
         "read_listing" => library::read_listing(&listing, &mut scratch, &mut counts),

@@ -1,16 +1,17 @@
-// The edge point (document 01, "One refinement"): equations 13 to 15.
+// The edge point (document 01, "One refinement"): equations 13 to 15; and what weighs for an edge at old points, the edge point or
+// equation 15's m, by the edition (document 02, §5).
 // Carries over the second loop of `global_subdivide` in t_nurcc/mod.rs, one edge at a time, each operation rounded in the Rust's order.
 // Not here: face points (`face_points`), old points (`old_points`), the rows of the new points (`placing`).
-// Contract: `edge_point`. Definitions: `position_rules`, specs/EdgePoint.antt.
+// Contract: `weighted_point`. Definitions: `position_rules`, specs/EdgePoint.antt.
 ghost use mathlib.Core.Path.{_≡_};
 ghost use Prim.Native.Nat.{_+_, _*_, _≤_, _<_};
 ghost use lib.ListN.{length};
 ghost use Rattle.positions.specs.Position.{placedAt};
 ghost use Rattle.t_spline.specs.Edge.{connectionOf};
 ghost use Rattle.tables.specs.Layout.{positionWidth};
-ghost use Rattle.position_rules.specs.EdgePoint.{share, shares, neighbour, middle, edgeMiddle, blend, edgePoint};
+ghost use Rattle.position_rules.specs.EdgePoint.{share, shares, neighbour, middle, edgeMiddle, edgeMiddleOf, blend, edgePoint, weightedPoint};
 ghost use Rattle.position_rules.specs.Places.{facePointAt};
-ghost use Rattle.position_rules.specs.Fits.{EdgeFits, EdgePointFits, NeighboursFit};
+ghost use Rattle.position_rules.specs.Fits.{EdgeFits, MiddleFits, EdgePointFits, NeighboursFit};
 use position_rules::Shares;
 use position_rules::intervals::three_terms;
 use position_rules::places::load_face_point;
@@ -19,6 +20,7 @@ use positions::Position;
 use positions::is_small;
 use records::load_edge;
 use records::load_position;
+use refined_meshes::Edition;
 use t_spline::TnurccConnection;
 use t_spline::TnurccEdge;
 use tables::index;
@@ -100,7 +102,7 @@ fn blend(m: Position, a: Shares, left: Position, right: Position) -> Position
 }
 
 // The edge point of edge e, from the face points that stand in the new table of positions.
-pub fn edge_point(
+fn edge_point(
     positions: &[f64],
     edges: &[u32],
     intervals: &[f64],
@@ -123,4 +125,41 @@ pub fn edge_point(
     let left = load_face_point(newpositions, newfaces, index(edge.face_left));
     let right = load_face_point(newpositions, newfaces, index(edge.face_right));
     blend(m, shares(intervals, edge), left, right).placed()
+}
+
+// m of edge e.
+fn middle_point(positions: &[f64], edges: &[u32], intervals: &[f64], e: usize) -> Placed
+    requires { ⌜ MiddleFits (now positions) (now edges) (now intervals) e ⌝ }
+    ensures { λ r. ⌜ r ≡ placedAt (edgeMiddleOf (now (positions .entry)) (now (edges .entry)) (now (intervals .entry)) e) ⌝ }
+{
+    let edge = load_edge(edges, intervals, e);
+    edge_middle(
+        positions,
+        edges,
+        intervals,
+        index(edge.origin),
+        index(edge.dest),
+        e,
+    ).placed()
+}
+
+// What weighs for edge e at old points: the edge point in the first edition, m in the second.
+pub fn weighted_point(
+    positions: &[f64],
+    edges: &[u32],
+    intervals: &[f64],
+    newpositions: &[f64],
+    newfaces: &[u32],
+    e: usize,
+    edition: Edition,
+) -> Placed
+    requires { ⌜ EdgePointFits (now positions) (now edges) (now intervals) (now newpositions) (now newfaces) e ⌝ }
+    ensures { λ r. ⌜
+        r ≡ placedAt (weightedPoint edition (now (positions .entry)) (now (edges .entry)) (now (intervals .entry))
+        (facePointAt (now (newpositions .entry)) (now (newfaces .entry))) e) ⌝ }
+{
+    match edition {
+        Edition::First => edge_point(positions, edges, intervals, newpositions, newfaces, e),
+        Edition::Second => middle_point(positions, edges, intervals, e),
+    }
 }

@@ -9,6 +9,7 @@ use Rattle.refined_meshes.specs.State.{putEdge, putPoint, putStart, putFace, co
 use Rattle.refined_meshes.specs.Split.{splitEdge, splitWhole}
 use Rattle.refined_meshes.specs.Ring.{putJoin, putFirst, putSecond, putNewFace, putFacePoint}
 use Rattle.refined_meshes.specs.Visits.{splitAll, ringOf, putRing, visitAlong, visit, visits, refinedRows}
+use Rattle.refined_meshes.specs.Settled.{settled, settledRows}
 use Rattle.position_rules.specs.Intervals.{acwAbout, cwAbout, threeTerms}
 use Rattle.position_rules.specs.FacePoint.{sixTerms, windowWeight, windowSum, facePointOver, facePointAbout, facePointIn}
 use Rattle.position_rules.specs.EdgePoint.{shares, edgeMiddle, edgePoint}
@@ -20,7 +21,7 @@ use Rattle.runs.specs.Runs.{numbered}
 use Rattle.filed_pieces.specs.Pieces.{answersTo, pieces, AsFiled}
 
 pub theorem : AsFiled
-unfolding pieces answersTo build step numbered linksOf lt over zeroed refinedRows copied visits visit faceWalk turns
+unfolding pieces answersTo build step numbered linksOf lt over zeroed settledRows settled refinedRows copied visits visit faceWalk turns
     filled visitAlong splitAll splitWhole splitEdge ringOf putRing putJoin putFirst putSecond putNewFace putFacePoint
     putEdge putPoint putStart putFace facePointIn facePointAbout facePointOver windowSum windowWeight sixTerms threeTerms
     acwAbout cwAbout again edgePoint edgeMiddle shares oldPoint radialSum radialTerms radialEdge edgeWeight faceWeight

@@ -18,6 +18,7 @@ use Rattle.built_meshes.specs.Pieces.{unit, two, nought, tiny, aboveTiny, cube,
 use Rattle.built_meshes.specs.declared.Version.the-variants.{One}
 use Rattle.built_meshes.specs.declared.Built.{Built}
 use Rattle.built_meshes.specs.declared.Built.the-variants.{Accepted, Refused}
+use Rattle.refined_meshes.specs.declared.Edition.the-variants.{First}
 use Rattle.steps.specs.Step.{stepNumbers, refinedCounts, step}
 use Rattle.runs.specs.Runs.{numbered}
 
@@ -42,7 +43,7 @@ abbrev pub stepAnswers : BuildOutcome → Mesh → List (List ℕ)
 stepAnswers o t = steppedIf (o .answer) (o .tables) t
   where
     steppedIf : Built → Mesh → Mesh → List (List ℕ)
-    steppedIf (Accepted c) m t = builtNumbers (Accepted c) ∷ stepNumbers (step m c (numbered (c .faces)) t .answer) ∷ []
+    steppedIf (Accepted c) m t = builtNumbers (Accepted c) ∷ stepNumbers (step First m c (numbered (c .faces)) t .answer) ∷ []
     steppedIf (Refused g) m t = builtNumbers (Refused g) ∷ []
 
 -- The rows that ground 4 counts are twice the edges of an accepted mesh, so that a step from as many has room too.

@@ -6,12 +6,13 @@ ghost use Rattle.tables.specs.Mesh.{meshOf};
 ghost use Rattle.steps.specs.Step.{step, StepOutcome};
 ghost use Rattle.step_parts.specs.Passed.{Passed};
 use counted_rows::zero_rows;
+use refined_meshes::Edition;
 use step_parts::commit;
 use step_parts::make_from_rows;
 use steps::Stepped;
 use tables::Counts;
 
-// Makes the step to the counts c: the refined mesh is made in scratch and, if all is finite, copied to the tables; scratch is
+// Makes the step of an edition to the counts c: the refined mesh is made in scratch and, if all is finite, copied to the tables; scratch is
 // zeroed either way.
 pub fn finish(
     positions: &mut [f64],
@@ -27,9 +28,10 @@ pub fn finish(
     newedges: &mut [u32],
     newintervals: &mut [f64],
     newfaces: &mut [u32],
+    edition: Edition,
 ) -> Stepped
     requires { ⌜
-        Passed (meshOf (now positions) (now points) (now edges) (now intervals) (now faces)) counts (now order)
+        Passed edition (meshOf (now positions) (now points) (now edges) (now intervals) (now faces)) counts (now order)
         (meshOf (now newpositions) (now newpoints) (now newedges) (now newintervals) (now newfaces)) c ⌝ }
     ensures { λ r. ⌜
         _≡_ {A = StepOutcome}
@@ -38,7 +40,7 @@ pub fn finish(
           tables = meshOf (now (positions .exit)) (now (points .exit)) (now (edges .exit)) (now (intervals .exit)) (now (faces .exit));
           scratch = meshOf (now (newpositions .exit)) (now (newpoints .exit)) (now (newedges .exit)) (now (newintervals .exit)) (now (newfaces .exit));
         })
-        (step (meshOf (now (positions .entry)) (now (points .entry)) (now (edges .entry)) (now (intervals .entry)) (now (faces .entry)))
+        (step edition (meshOf (now (positions .entry)) (now (points .entry)) (now (edges .entry)) (now (intervals .entry)) (now (faces .entry)))
         counts (now (order .entry))
         (meshOf (now (newpositions .entry)) (now (newpoints .entry)) (now (newedges .entry)) (now (newintervals .entry)) (now (newfaces .entry)))) ⌝ }
 {
@@ -56,6 +58,7 @@ pub fn finish(
         newedges,
         newintervals,
         newfaces,
+        edition,
     ) {
         commit(
             c,

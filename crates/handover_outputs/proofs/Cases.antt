@@ -18,6 +18,7 @@ use Rattle.refined_meshes.specs.State.{copied, putEdge, putFace, putPoint, putS
 use Rattle.refined_meshes.specs.Split.{splitEdge, splitWhole}
 use Rattle.refined_meshes.specs.Ring.{putFacePoint, putFirst, putJoin, putNewFace, putSecond}
 use Rattle.refined_meshes.specs.Visits.{putRing, refinedRows, ringOf, splitAll, visit, visitAlong, visits}
+use Rattle.refined_meshes.specs.Settled.{settled, settledRows}
 use Rattle.position_rules.specs.Intervals.{acwAbout, cwAbout, threeTerms}
 use Rattle.position_rules.specs.FacePoint.{facePointOver, facePointAbout, facePointIn, sixTerms, windowSum, windowWeight}
 use Rattle.position_rules.specs.EdgePoint.{edgeMiddle, edgePoint, shares}
@@ -76,7 +77,7 @@ two-triangles : handoverOutput (
     bytes "[end]\n"
 unfolding handoverOutput digitValue value stands literal digit bits digitsFrom decimalFrom decimal many coordinateForm pointForm listedForm sideForm
     faceForm headForm ends mesh text times flat toBits decimalDigits hexByte hexBytes build step numbered linksOf lt over zeroed
-    refinedRows copied visits visit faceWalk turns filled visitAlong splitAll splitWhole splitEdge ringOf putRing putJoin
+    settledRows settled refinedRows copied visits visit faceWalk turns filled visitAlong splitAll splitWhole splitEdge ringOf putRing putJoin
     putFirst putSecond putNewFace putFacePoint putEdge putPoint putStart putFace facePointIn facePointAbout facePointOver
     windowSum windowWeight sixTerms threeTerms acwAbout cwAbout again edgePoint edgeMiddle shares oldPoint radialSum
     radialTerms radialEdge edgeWeight faceWeight add sub mul div neg le ofBits ofInt upTo
@@ -94,7 +95,7 @@ too-few-bytes : handoverOutput (
     ≡ bytes "[refused 4]\n"
 unfolding handoverOutput digitValue value stands literal digit bits digitsFrom decimalFrom decimal many coordinateForm pointForm listedForm sideForm
     faceForm headForm ends mesh text times flat toBits decimalDigits hexByte hexBytes build step numbered linksOf lt over zeroed
-    refinedRows copied visits visit faceWalk turns filled visitAlong splitAll splitWhole splitEdge ringOf putRing putJoin
+    settledRows settled refinedRows copied visits visit faceWalk turns filled visitAlong splitAll splitWhole splitEdge ringOf putRing putJoin
     putFirst putSecond putNewFace putFacePoint putEdge putPoint putStart putFace facePointIn facePointAbout facePointOver
     windowSum windowWeight sixTerms threeTerms acwAbout cwAbout again edgePoint edgeMiddle shares oldPoint radialSum
     radialTerms radialEdge edgeWeight faceWeight add sub mul div neg le ofBits ofInt upTo
@@ -112,7 +113,7 @@ zero-intervals : handoverOutput (
     ≡ bytes "[refused 33]\n"
 unfolding handoverOutput digitValue value stands literal digit bits digitsFrom decimalFrom decimal many coordinateForm pointForm listedForm sideForm
     faceForm headForm ends mesh text times flat toBits decimalDigits hexByte hexBytes build step numbered linksOf lt over zeroed
-    refinedRows copied visits visit faceWalk turns filled visitAlong splitAll splitWhole splitEdge ringOf putRing putJoin
+    settledRows settled refinedRows copied visits visit faceWalk turns filled visitAlong splitAll splitWhole splitEdge ringOf putRing putJoin
     putFirst putSecond putNewFace putFacePoint putEdge putPoint putStart putFace facePointIn facePointAbout facePointOver
     windowSum windowWeight sixTerms threeTerms acwAbout cwAbout again edgePoint edgeMiddle shares oldPoint radialSum
     radialTerms radialEdge edgeWeight faceWeight add sub mul div neg le ofBits ofInt upTo

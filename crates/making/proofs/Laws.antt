@@ -1,4 +1,4 @@
--- What the position rules ask of the tables holds of the rows that the visits make, and the two parts of making put together.
+-- What the position rules ask of the tables holds of the rows that the visits make, and the parts of making put together.
 -- Assumes nothing.
 use mathlib.Core.Path.{_≡_, refl, sym, _∙_, ap}
 use mathlib.Core.Bool.{Bool, true, false}
@@ -14,15 +14,24 @@ use Rattle.audited_meshes.specs.Rows.{HoldsClosed}
 use Rattle.audited_meshes.proofs.Audited.{audit-is-audited}
 use Rattle.audited_meshes.proofs.Holds.{audit-is-closed}
 use Rattle.closed_meshes.specs.Refinement.{mid, facePoint}
-use Rattle.tables.specs.Parts.{faceTables}
+use Rattle.closed_meshes.specs.Renumbering.{Row}
+use Rattle.tables.specs.Layout.{leftAcwWord, rightCwWord}
+use Rattle.tables.specs.Parts.{edgeTables, faceTables}
 use Rattle.visiting.specs.Visiting.{RowsThere, EachVisitFits}
 use Rattle.visiting.proofs.Fitting.{holds-of-closed, holds-of-rows, fits-of-closed}
+use Rattle.refined_meshes.specs.declared.Edition.{Edition}
+use Rattle.refined_meshes.specs.declared.Edition.the-variants.{First, Second}
 use Rattle.refined_meshes.specs.State.{State, withPositions, copied}
+use Rattle.refined_meshes.specs.Fits.{RoomFor}
 use Rattle.refined_meshes.specs.Refines.{Refines}
 use Rattle.refined_meshes.specs.Visits.{refinedRows}
-use Rattle.refined_meshes.proofs.Refines.{visits-refine}
-use Rattle.position_rules.specs.Fits.{NewPointsFit}
-use Rattle.position_rules.proofs.Audited.{face-point-fits, edge-point-fits, old-point-fits}
+use Rattle.refined_meshes.specs.Settled.{neighbourAt, intervalsIn, settled, settledRows}
+use Rattle.refined_meshes.proofs.Refines.{first-refines}
+use Rattle.refined_meshes.proofs.Fits.{all-taken}
+use Rattle.refined_meshes.proofs.Settled.{joins-below}
+use Rattle.settling.specs.Settling.{SideFits, SidesFit, edgeRowsOf}
+use Rattle.position_rules.specs.Fits.{EdgesFit, NewPointsFit}
+use Rattle.position_rules.proofs.Audited.{edges-fit as rows-fit, face-point-fits, edge-point-fits, old-point-fits}
 use Rattle.placing.specs.Placing.{came, FacePointsFit, EdgePointsFit, OldPointsFit, refinedTables}
 use Rattle.steps.specs.Positions.{placedAll}
 use Rattle.steps.specs.Step.{madeOf, placedRows, made}
@@ -38,9 +47,9 @@ module _ (m : Mesh) (c : Counts) (order : List ℕ) (t : Mesh) (ready : Ready m 
   audited : Audited m (c .points) (c .edges) (c .faces)
   audited = audit-is-audited m (c .points) (c .edges) (c .faces) .0 (ready .closed)
 
-  refines : (ps : List Float) → Refines m (holds .mesh) (holds .closed) order (withPositions ps rowsMade)
+  refines : (ps : List Float) → Refines First m (holds .mesh) (holds .closed) order (withPositions ps rowsMade)
   refines ps =
-      visits-refine m (c .points) (c .edges) (c .faces) holds order (ready .once) t (ready .points-room) (ready .edges-room) (ready .faces-room) ps
+      first-refines m (c .points) (c .edges) (c .faces) holds order (ready .once) t (ready .points-room) (ready .edges-room) (ready .faces-room) ps
 
   few-faces : c .faces ≤ none
   few-faces = omega (arith, ready .ceilings .points)
@@ -64,6 +73,46 @@ module _ (m : Mesh) (c : Counts) (order : List ℕ) (t : Mesh) (ready : Ready m 
   visits-fit =
       fits-of-closed m (c .points) (c .edges) (c .faces) holds order (ready .once) t (ready .points-room) (ready .edges-room) (ready .faces-room)
       (ready .ceilings)
+
+  -- What settling asks: the neighbours in the mesh, and the joining edges beside the rows of old edges.
+  pub sides-fit : (s : State) → s ≡ rowsMade → SidesFit (m .edges) (m .intervals) (c .edges) (s .edges) (s .intervals)
+  sides-fit s same = rw same sides
+    where
+      fit : EdgesFit (m .edges) (m .intervals) (c .edges)
+      fit = rows-fit m (c .points) (c .edges) (c .faces) audited
+
+      room : RoomFor (c .points) (c .edges) (c .faces) rowsMade
+      room = all-taken m (c .points) (c .edges) (c .faces) holds order (ready .once) t (ready .points-room) (ready .edges-room) (ready .faces-room) .room
+
+      joins : (e : Row (c .edges)) → (neighbourAt (rowsMade .edges) leftAcwWord (e .0) < 4 * c .edges) × (neighbourAt (rowsMade .edges) rightCwWord (e .0) < 4 * c .edges)
+      joins = joins-below m (holds .stands) (holds .closed) order rowsMade [] (refines []) (room .intervals-room)
+
+      sides : SidesFit (m .edges) (m .intervals) (c .edges) (rowsMade .edges) (rowsMade .intervals)
+      sides =
+          record {
+            left =
+                record {
+                  join-word = omega arith;
+                  next-word = omega arith;
+                  prev-word = omega arith;
+                  rows = fit .words;
+                  new-rows = omega (arith, room .edges-room);
+                  next-there = λ e l. omega (arith, fit .leftAcw-below e l, fit .numbers);
+                  prev-there = λ e l. omega (arith, fit .leftCw-below e l, fit .numbers);
+                  join-there = λ e l. omega (arith, joins (e, l) .0, room .intervals-room);
+                };
+            right =
+                record {
+                  join-word = omega arith;
+                  next-word = omega arith;
+                  prev-word = omega arith;
+                  rows = fit .words;
+                  new-rows = omega (arith, room .edges-room);
+                  next-there = λ e l. omega (arith, fit .rightAcw-below e l, fit .numbers);
+                  prev-there = λ e l. omega (arith, fit .rightCw-below e l, fit .numbers);
+                  join-there = λ e l. omega (arith, joins (e, l) .1, room .intervals-room);
+                };
+          }
 
   -- The rows s that the visits made, their lengths, and the table of new positions.
   module _ (s : State) (same : s ≡ rowsMade) (edges-there : c .edges * 8 ≤ length (s .edges)) (faces-there : c .faces * 5 ≤ length (s .faces))
@@ -116,13 +165,46 @@ module _ (m : Mesh) (c : Counts) (order : List ℕ) (t : Mesh) (ready : Ready m 
           place-there = λ p l. omega arith;
         }
 
--- The visits made the rows s, and the loops over the points came so far.
-pub made-of-parts : (m : Mesh) (c : Counts) (order : List ℕ) (t : Mesh) (s : State) (r : Bool) (ps : List Float)
+-- The visits made the rows s, the intervals js were settled, and the loops over the points came so far.
+pub made-of-parts : (ed : Edition) (m : Mesh) (c : Counts) (order : List ℕ) (t : Mesh) (s : State) (js : List Float) (r : Bool) (ps : List Float)
     → s ≡ refinedRows m (c .points) (c .edges) (c .faces) order t
-    → placedAll m c (refinedTables (s .edges) (s .faces)) (t .positions) ≡ came r ps → made m c order t ≡ madeAs r (withPositions ps s)
-unfolding made placedRows placedAll
-made-of-parts m c order t s r ps e p = ap (λ (q : State). madeOf q (placedAll m c q (t .positions))) (sym e) ∙ ap (madeOf s) p ∙ last r
+    → js ≡ intervalsIn ed (edgeTables (m .edges) (m .intervals)) (c .edges) (edgeRowsOf (s .edges) (s .intervals))
+    → placedAll ed m c (refinedTables (s .edges) (s .faces)) (t .positions) ≡ came r ps
+    → made ed m c order t ≡ madeAs r (meshOf ps (s .points) (s .edges) js (s .faces))
+unfolding made placedRows placedAll settledRows settled
+made-of-parts ed m c order t s js r ps e i p =
+    ap (λ (q : State). madeOf (settled ed m (c .edges) q) (placedAll ed m c (settled ed m (c .edges) q) (t .positions))) (sym e)
+    ∙ ap (madeOf (settled ed m (c .edges) s)) (placed-same ed ∙ p)
+    ∙ ap (λ (x : List Float). madeOf (record {
+      points = s .points;
+      edges = s .edges;
+      intervals = x;
+      faces = s .faces;
+      pointsTaken = s .pointsTaken;
+      edgesTaken = s .edgesTaken;
+      facesTaken = s .facesTaken;
+    }) (came r ps)) (settled-same ed ∙ sym i)
+    ∙ last r
   where
-    last : (r : Bool) → madeOf s (came r ps) ≡ madeAs r (withPositions ps s)
+    -- The rules look at the tables of edges and faces alone,
+    placed-same : (k : Edition) → placedAll k m c (settled k m (c .edges) s) (t .positions) ≡ placedAll k m c (refinedTables (s .edges) (s .faces)) (t .positions)
+    placed-same First = refl
+    placed-same Second = refl
+
+    -- and settling at those of edges and intervals.
+    settled-same : (k : Edition)
+        → intervalsIn k m (c .edges) s ≡ intervalsIn k (edgeTables (m .edges) (m .intervals)) (c .edges) (edgeRowsOf (s .edges) (s .intervals))
+    settled-same First = refl
+    settled-same Second = refl
+
+    last : (r : Bool) → madeOf (record {
+      points = s .points;
+      edges = s .edges;
+      intervals = js;
+      faces = s .faces;
+      pointsTaken = s .pointsTaken;
+      edgesTaken = s .edgesTaken;
+      facesTaken = s .facesTaken;
+    }) (came r ps) ≡ madeAs r (meshOf ps (s .points) (s .edges) js (s .faces))
     last true = refl
     last false = refl

@@ -1,4 +1,5 @@
-// The refined mesh made whole in the scratch tables: its rows by the visits of the faces, then its positions.
+// The refined mesh made whole in the scratch tables: its rows by the visits of the faces, then what its edition settles, then its
+// positions.
 // Names: `newpositions`, `newpoints`, `newedges`, `newintervals` and `newfaces` are the scratch tables of positions, points, edges, intervals, faces.
 // Not here: whether a step may be made (`step_grounds`), and the tables written back (`refining`).
 // Definitions: `steps`, specs/Step.antt, `made`; what must hold: specs/Making.antt.
@@ -9,14 +10,16 @@ ghost use Rattle.steps.specs.Rows.{Room};
 ghost use Rattle.tables.specs.Mesh.{meshOf};
 ghost use Rattle.making.specs.Making.{Ready, madeAs};
 use placing::place_all;
+use refined_meshes::Edition;
+use settling::settle_joins;
 use tables::Counts;
 use tables::EDGE_WIDTH;
 use tables::FACE_WIDTH;
 use tables::POINT_WIDTH;
 use visiting::refined_rows;
 
-// Makes the refined mesh of the mesh with these counts, visiting its faces in the order, and says whether all its positions are
-// finite.
+// Makes the refined mesh of the mesh with these counts in an edition, visiting its faces in the order, and says whether all its positions
+// are finite.
 fn make(
     positions: &[f64],
     points: &[u32],
@@ -30,12 +33,13 @@ fn make(
     newedges: &mut [u32],
     newintervals: &mut [f64],
     newfaces: &mut [u32],
+    edition: Edition,
 ) -> bool
     requires { ⌜
         Ready (meshOf (now positions) (now points) (now edges) (now intervals) (now faces)) counts (now order)
         (meshOf (now newpositions) (now newpoints) (now newedges) (now newintervals) (now newfaces)) ⌝ }
     ensures { λ r. ⌜
-        made
+        made edition
         (meshOf (now (positions .entry)) (now (points .entry)) (now (edges .entry)) (now (intervals .entry)) (now (faces .entry)))
         counts
         (now (order .entry))
@@ -54,6 +58,14 @@ fn make(
         counts,
         order,
     );
+    settle_joins(
+        edges,
+        intervals,
+        counts.edges,
+        newedges,
+        newintervals,
+        edition,
+    );
     place_all(
         positions,
         points,
@@ -64,6 +76,7 @@ fn make(
         newedges,
         newfaces,
         newpositions,
+        edition,
     )
 }
 
@@ -83,13 +96,14 @@ pub fn make_in_rows(
     newedges: &mut [u32],
     newintervals: &mut [f64],
     newfaces: &mut [u32],
+    edition: Edition,
 ) -> bool
     requires { ⌜ Room c (meshOf (now newpositions) (now newpoints) (now newedges) (now newintervals) (now newfaces)) ⌝ }
     requires { ⌜
         Ready (meshOf (now positions) (now points) (now edges) (now intervals) (now faces)) counts (now order)
         (firstRows c (meshOf (now newpositions) (now newpoints) (now newedges) (now newintervals) (now newfaces))) ⌝ }
     ensures { λ r. ⌜
-        made
+        made edition
         (meshOf (now (positions .entry)) (now (points .entry)) (now (edges .entry)) (now (intervals .entry)) (now (faces .entry)))
         counts
         (now (order .entry))
@@ -116,5 +130,6 @@ pub fn make_in_rows(
         &mut newedges[..e],
         &mut newintervals[..i],
         &mut newfaces[..f],
+        edition,
     )
 }

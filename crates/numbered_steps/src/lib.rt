@@ -1,4 +1,4 @@
-// The step of a mesh of at most 64 faces in numbered order, by scratch of zeros, for the programs `refine` and `handover`.
+// The step of a mesh of at most 64 faces in the first edition and in numbered order, by scratch of zeros, for the programs `refine` and `handover`.
 // Not here: the step (`refining`), the numbered order (`refine_parts`), what is written of it (`refine_text`, `handover_text`).
 // Contract: `numbered_step`. Definitions: `numberedStep` of `refine_outputs`, specs/Output.antt; `specs/Parts.antt`. Laws:
 // `proofs/Steps.antt`.
@@ -6,11 +6,13 @@
 ghost use Prim.Native.Nat.{_≤_};
 ghost use Rattle.tables.specs.Mesh.{meshOf};
 ghost use Rattle.built_meshes.specs.Lists.{refineLimits};
+ghost use Rattle.refined_meshes.specs.declared.Edition.the-variants.{First};
 ghost use Rattle.steps.specs.Step.{step};
 ghost use Rattle.refine_outputs.specs.Output.{zeroTables, numberedStep};
 ghost use Rattle.numbered_steps.specs.Parts.{SteppedTo};
 use building_tests::REFINE_FACES;
 use refine_parts::number_faces;
+use refined_meshes::Edition;
 use refining::step;
 use steps::Stepped;
 use tables::Counts;
@@ -38,7 +40,7 @@ fn step_by_zeros(
 ) -> Stepped
     ensures { λ r. ⌜
         SteppedTo r (meshOf (now (positions .exit)) (now (points .exit)) (now (edges .exit)) (now (intervals .exit)) (now (faces .exit)))
-        (step (meshOf (now (positions .entry)) (now (points .entry)) (now (edges .entry)) (now (intervals .entry)) (now (faces .entry)))
+        (step First (meshOf (now (positions .entry)) (now (points .entry)) (now (edges .entry)) (now (intervals .entry)) (now (faces .entry)))
         counts (now (order .entry)) zeroTables) ⌝ }
 {
     let mut newpositions = [0.0; LENT_POINTS * POSITION_WIDTH];
@@ -59,6 +61,7 @@ fn step_by_zeros(
         &mut newedges,
         &mut newintervals,
         &mut newfaces,
+        Edition::First,
     )
 }
 

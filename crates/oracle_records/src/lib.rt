@@ -10,7 +10,8 @@
 //   2  each text that is cut short of this one is built
 //   3  each text that has another byte at one place is built: the further number is that byte
 //   4  lists of zeros are built, all points in face 0: how many points, faces and listed points are the further numbers
-//   5  as 0, in listed orders: the further numbers are, for each step, the length of its order and the order
+//   5  as 0, in listed orders: the further numbers are, for each step, its edition, 0 the first and 1 the second, the length of its
+//      order and the order
 //   6  as 0, a word of the built tables changed: the table, 1 the points, 2 the edges, 3 the faces, the place and the word
 ghost use mathlib.Core.Path.{_≡_};
 ghost use Prim.Native.Nat.{_≤_, _+_};

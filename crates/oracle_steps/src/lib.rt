@@ -18,6 +18,7 @@ use oracle_tables::listing::tell_refused;
 use oracle_tables::listing::tell_stage;
 use oracle_tables::rows::none;
 use oracle_tables::rows::tell_rows;
+use refined_meshes::Edition;
 use refining::step;
 use steps::Stepped;
 use tables::Counts;
@@ -48,7 +49,7 @@ fn fill_numbered(order: &mut [u32])
     }
 }
 
-// Fills an order from the numbers at a place, of which the first is its length.
+// Fills an order from the numbers at a place, of which the first two are the edition and its length.
 fn fill_listed(bytes: &[u8], at: usize, order: &mut [u32])
     requires { ⌜ at ≤ 16777216 ⌝ }
     requires { ⌜ length (now order) ≤ 65535 ⌝ }
@@ -57,7 +58,7 @@ fn fill_listed(bytes: &[u8], at: usize, order: &mut [u32])
     let n = order.len();
     let mut i = 0;
     while i < n {
-        order[i] = word(bytes, at, i + 1);
+        order[i] = word(bytes, at, i + 2);
         i += 1;
     }
 }
@@ -81,6 +82,7 @@ fn step_lent(
     scratch: Lent,
     counts: Counts,
     order: &[u32],
+    edition: Edition,
     positions: &mut [f64],
     points: &mut [u32],
     edges: &mut [u32],
@@ -115,11 +117,20 @@ fn step_lent(
         &mut newedges[..h],
         &mut newintervals[..i],
         &mut newfaces[..j],
+        edition,
     )
 }
 
 // Makes a step in the tables t with the scratch tables s, in as much of them as is lent.
-fn make(t: Tables, s: Tables, counts: Counts, order: &[u32], held: Lent, scratch: Lent) -> Made {
+fn make(
+    t: Tables,
+    s: Tables,
+    counts: Counts,
+    order: &[u32],
+    edition: Edition,
+    held: Lent,
+    scratch: Lent,
+) -> Made {
     let mut positions = t.positions;
     let mut points = t.points;
     let mut edges = t.edges;
@@ -135,6 +146,7 @@ fn make(t: Tables, s: Tables, counts: Counts, order: &[u32], held: Lent, scratch
         scratch,
         counts,
         order,
+        edition,
         &mut positions,
         &mut points,
         &mut edges,
@@ -197,12 +209,24 @@ fn order_length(bytes: &[u8], listed: bool, at: usize, faces: usize) -> usize
     ensures { λ r. ⌜ r ≤ 400 ⌝ }
 {
     if listed {
-        return cut(bytes, at, 0, 400);
+        return cut(bytes, at, 1, 400);
     }
     least(faces, 400)
 }
 
-// Makes a step in numbered order or in the order that is listed at a place, and writes what it answered and left.
+// The edition of the next step: the first, or, if orders are listed, the one that the number at a place says.
+fn edition_at(bytes: &[u8], listed: bool, at: usize) -> Edition
+    requires { ⌜ at ≤ 16777216 ⌝ }
+{
+    if listed {
+        if field(bytes, at, 0) == 1 {
+            return Edition::Second;
+        }
+    }
+    Edition::First
+}
+
+// Makes a step in numbered order, or in the edition and the order that are listed at a place, and writes what it answered and left.
 fn tell_step(bytes: &[u8], head: usize, at: usize, told: bool, stage: Stage) -> Stage
     requires { ⌜ head ≤ 16777216 ⌝ }
     requires { ⌜ at ≤ 16777216 ⌝ }
@@ -217,6 +241,7 @@ fn tell_step(bytes: &[u8], head: usize, at: usize, told: bool, stage: Stage) -> 
         filled(),
         c,
         &order[..n],
+        edition_at(bytes, listed, at),
         lent_by(bytes, head, 6),
         lent_by(bytes, head, 11),
     );
@@ -226,9 +251,9 @@ fn tell_step(bytes: &[u8], head: usize, at: usize, told: bool, stage: Stage) -> 
 // The place after the order that stands at a place.
 fn after_order(bytes: &[u8], at: usize) -> usize
     requires { ⌜ at ≤ 16777216 ⌝ }
-    ensures { λ r. ⌜ r ≤ at + 4411 ⌝ }
+    ensures { λ r. ⌜ r ≤ at + 4422 ⌝ }
 {
-    at + (cut(bytes, at, 0, 400) + 1) * 11
+    at + (cut(bytes, at, 1, 400) + 2) * 11
 }
 
 // Makes the steps of a record, each in the mesh that the last one left.

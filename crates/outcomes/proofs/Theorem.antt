@@ -35,6 +35,7 @@ use Rattle.text_meshes.specs.Claims.{Stands-for}
 use Rattle.text_meshes.proofs.Theorem.{few-faces, told-refused, not-text-exactly, of-lists as text-of-lists}
 use Rattle.text_meshes.specs.declared.TextBuilt.{TextBuilt}
 use Rattle.text_meshes.specs.declared.TextBuilt.the-variants as TextBuilt
+use Rattle.refined_meshes.specs.declared.Edition.{Edition}
 use Rattle.steps.specs.Step.{stepGround, refinedCounts, eachFaceOnce, roomFor, Made, whole, notFinite, made, ended, stepBy, StepOutcome, step}
 use Rattle.steps.specs.OneStep.{Binary64}
 use Rattle.steps.specs.FirstGround.{Due}
@@ -164,53 +165,53 @@ step-outcome o {a} {m} {t} ea em et =
     ap₂ (λ (x : Stepped) (y : Mesh). record { answer = x; tables = y; scratch = t }) (sym ea) (sym em)
     ∙ ap (λ (y : Mesh). record { answer = o .answer; tables = o .tables; scratch = y }) (sym et)
 
-module _ (m : Mesh) (c : Counts) (order : List ℕ) (t : Mesh) where
+module _ (ed : Edition) (m : Mesh) (c : Counts) (order : List ℕ) (t : Mesh) where
   -- an accepted step leaves scratch zeroed
-  scratch-zeroed : (c' : Counts) → step m c order t .answer ≡ Refined c' → step m c order t .scratch ≡ zeroedRows (refinedCounts c) t
+  scratch-zeroed : (c' : Counts) → step ed m c order t .answer ≡ Refined c' → step ed m c order t .scratch ≡ zeroedRows (refinedCounts c) t
   unfolding stepBy ended
   scratch-zeroed c' e = go _ refl _ refl _ refl
     where
       go : (x : Bool) → audit m (c .points) (c .edges) (c .faces) ≡ x → (y : Bool) → eachFaceOnce (c .faces) order ≡ y → (z : Bool)
-          → roomFor (refinedCounts c) m t ≡ z → step m c order t .scratch ≡ zeroedRows (refinedCounts c) t
+          → roomFor (refinedCounts c) m t ≡ z → step ed m c order t .scratch ≡ zeroedRows (refinedCounts c) t
       go false ha y hb z hc =
-          let k : NotClosed ≡ Refined c' = ap (λ x. x .answer) (sym (step-is m c order t ha hb hc)) ∙ e in
+          let k : NotClosed ≡ Refined c' = ap (λ x. x .answer) (sym (step-is ed m c order t ha hb hc)) ∙ e in
           absurd (let w : _≡_ {A = ℕ} 0 1 = cc in omega arith)
       go true ha false hb z hc =
-          let k : NotEachFaceOnce ≡ Refined c' = ap (λ x. x .answer) (sym (step-is m c order t ha hb hc)) ∙ e in
+          let k : NotEachFaceOnce ≡ Refined c' = ap (λ x. x .answer) (sym (step-is ed m c order t ha hb hc)) ∙ e in
           absurd (let w : _≡_ {A = ℕ} 0 1 = cc in omega arith)
       go true ha true hb false hc =
-          let k : NoRoom ≡ Refined c' = ap (λ x. x .answer) (sym (step-is m c order t ha hb hc)) ∙ e in
+          let k : NoRoom ≡ Refined c' = ap (λ x. x .answer) (sym (step-is ed m c order t ha hb hc)) ∙ e in
           absurd (let w : _≡_ {A = ℕ} 0 1 = cc in omega arith)
-      go true ha true hb true hc = made-whole (begun m c order t) refl
+      go true ha true hb true hc = made-whole (begun ed m c order t) refl
         where
-          made-whole : (w : Made) → begun m c order t ≡ w → step m c order t .scratch ≡ zeroedRows (refinedCounts c) t
-          made-whole (whole n) hw = ap (λ x. x .scratch) (step-made m c order t ha hb hc (whole n) hw)
-          made-whole notFinite hw = ap (λ x. x .scratch) (step-made m c order t ha hb hc notFinite hw)
+          made-whole : (w : Made) → begun ed m c order t ≡ w → step ed m c order t .scratch ≡ zeroedRows (refinedCounts c) t
+          made-whole (whole n) hw = ap (λ x. x .scratch) (step-made ed m c order t ha hb hc (whole n) hw)
+          made-whole notFinite hw = ap (λ x. x .scratch) (step-made ed m c order t ha hb hc notFinite hw)
 
-  step-comes : Binary64 c m → Step-comes m c order t (step m c order t)
-  step-comes numbers = go (step m c order t .answer) refl
+  step-comes : Binary64 c m → Step-comes ed m c order t (step ed m c order t)
+  step-comes numbers = go (step ed m c order t .answer) refl
     where
-      refusal : (a : Stepped) (g : ℕ) → stepGround a ≡ some g → g < 33 → step m c order t .answer ≡ a → Step-comes m c order t (step m c order t)
+      refusal : (a : Stepped) (g : ℕ) → stepGround a ≡ some g → g < 33 → step ed m c order t .answer ≡ a → Step-comes ed m c order t (step ed m c order t)
       refusal a g k l e =
-          let r = refusal-leaves m c order t g (ap stepGround e ∙ k) in
-          subst (Step-comes m c order t) (step-outcome (step m c order t) e (r .tables) (r .scratch l))
-          (step-untouched a g k l (step-first-ground m c order t a .0 e))
+          let r = refusal-leaves ed m c order t g (ap stepGround e ∙ k) in
+          subst (Step-comes ed m c order t) (step-outcome (step ed m c order t) e (r .tables) (r .scratch l))
+          (step-untouched a g k l (step-first-ground ed m c order t a .0 e))
 
-      go : (a : Stepped) → step m c order t .answer ≡ a → Step-comes m c order t (step m c order t)
+      go : (a : Stepped) → step ed m c order t .answer ≡ a → Step-comes ed m c order t (step ed m c order t)
       go (Refined c') e =
-          let x = taken m c order t c' e in
+          let x = taken ed m c order t c' e in
           let h = audit-is-closed m (c .points) (c .edges) (c .faces) .0 (x .audited) in
-          let e' : step m c order t .answer ≡ Refined (refinedCounts c) = e ∙ ap Refined (x .counts) in
-          let r = one-step m c order t h numbers c' e .refinement in
-          subst (Step-comes m c order t) (step-outcome (step m c order t) e' (x .tables) (scratch-zeroed c' e))
-          (step-refined (x .mesh) h (step-first-ground m c order t (Refined (refinedCounts c)) .0 e') (x .is-made) (rw (x .tables) at r))
+          let e' : step ed m c order t .answer ≡ Refined (refinedCounts c) = e ∙ ap Refined (x .counts) in
+          let r = one-step ed m c order t h numbers c' e .refinement in
+          subst (Step-comes ed m c order t) (step-outcome (step ed m c order t) e' (x .tables) (scratch-zeroed c' e))
+          (step-refined (x .mesh) h (step-first-ground ed m c order t (Refined (refinedCounts c)) .0 e') (x .is-made) (rw (x .tables) at r))
       go NotClosed e = refusal NotClosed 30 refl (omega arith) e
       go NotEachFaceOnce e = refusal NotEachFaceOnce 31 refl (omega arith) e
       go NoRoom e = refusal NoRoom 32 refl (omega arith) e
       go NotFinite e =
-          let r = refusal-leaves m c order t 33 (ap stepGround e) in
-          subst (Step-comes m c order t) (step-outcome (step m c order t) e (r .tables) (r .zeroed refl))
-          (step-not-finite (step-first-ground m c order t NotFinite .0 e))
+          let r = refusal-leaves ed m c order t 33 (ap stepGround e) in
+          subst (Step-comes ed m c order t) (step-outcome (step ed m c order t) e (r .tables) (r .zeroed refl))
+          (step-not-finite (step-first-ground ed m c order t NotFinite .0 e))
 
 pub theorem : Demand1
 theorem =

@@ -1,11 +1,12 @@
 -- Demand 1: every lists, every text and every tables become a closed mesh or meet the first ground, with what is left in every row; a
 -- refinement is made whole or leaves the mesh as found. It is a single claim, `Demand1`.
---     Built-mesh l m t k      the tables t, lent as m, hold the closed mesh with the counts k that document 01 makes of the lists l
+--     Built-mesh l m t k      the tables t, lent as m, hold the closed mesh with the counts k that the documents make of the lists l
 --     Lists-come c l m o      building from the lists l in the tables m, within the limits c, comes to the outcome o
 --     Text-first b s m a      the answer a names the first ground that is met, of the text s in the tables m within the limits b
 --     Text-first-ground       the claim: a text is refused by a ground exactly if it is the first that is met
 --     Text-comes b s m o      building from the text s comes to the outcome o
---     Step-comes m c order t o    the step of the tables m with the counts c, in this order and by scratch t, comes to the outcome o
+--     Step-comes ed m c order t o     the step of the edition ed of the tables m with the counts c, in this order and by scratch t, comes to
+--                             the outcome o
 --     Demand1                 the claim
 use mathlib.Core.Path.{_≡_}
 use mathlib.Core.Bool.{true, false}
@@ -39,6 +40,7 @@ use Rattle.text_meshes.specs.TextBuilding.{tooLong, listsOf, textNumbers, TextO
 use Rattle.text_meshes.specs.Claims.{Stands-for}
 use Rattle.text_meshes.specs.declared.TextBuilt.{TextBuilt}
 use Rattle.text_meshes.specs.declared.TextBuilt.the-variants as TextBuilt
+use Rattle.refined_meshes.specs.declared.Edition.{Edition}
 use Rattle.steps.specs.Step.{stepGround, refinedCounts, whole, made, StepOutcome, step}
 use Rattle.steps.specs.OneStep.{Refinement, Binary64}
 use Rattle.steps.specs.FirstGround.{Due}
@@ -50,7 +52,7 @@ use Rattle.steps.specs.declared.Stepped.the-variants.{Refined, NotFinite}
 
 pub record Built-mesh (l : Lists) (m t : Mesh) (k : Counts) : Type 0 where
   pub closed : HoldsClosed t (k .points) (k .edges) (k .faces)
-  -- It is what document 01 makes of the lists.
+  -- It is what the documents make of the lists.
   pub builds : Builds l t (k .edges)
   -- It has all points and faces and half as many edges as points listed; the edge rows that ground 4 counts beyond the last are zero.
   pub counted : Audited-counts l t k
@@ -76,7 +78,7 @@ pub data Text-first (b : Bounds) (s : List ℕ) (m : Mesh) : TextBuilt → Type 
   many-bytes : tooLong b (length s) ≡ true → Text-first b s m (TextBuilt.Refused OverCounts)
   -- 1: not of the form
   formless : tooLong b (length s) ≡ false → text s ≡ unparsed → Text-first b s m TextBuilt.NotText
-  -- 2, 3, 4 and 10 to 22: the first ground that its lists meet
+  -- 2, 3, 4, 10 to 22 and 43: the first ground that its lists meet
   of-lists :
       (t : TextMesh) → Stands-for b s t → (w : Where) (g : Ground) → First-met (limitsOf b) (listsOf t) m w g →
       Text-first b s m (TextBuilt.Refused g)
@@ -94,21 +96,21 @@ pub data Text-comes (b : Bounds) (s : List ℕ) (m : Mesh) : TextOutcome → Typ
   -- 1, 2, 3 and 4
   text-untouched :
       (a : TextBuilt) (n : ℕ) → Text-first b s m a → textNumbers a ≡ n ∷ [] → n < 10 → Text-comes b s m (record { answer = a; tables = m })
-  -- 10 to 22
+  -- 10 to 22 and 43
   text-zeroed :
       (t : TextMesh) → Stands-for b s t → (w : Where) (g : Ground) → First-met (limitsOf b) (listsOf t) m w g → 10 ≤ groundNumber g →
       Text-comes b s m (record { answer = TextBuilt.Refused g; tables = zeroedRows (rowsOf (listsOf t)) m })
 
 -- ---- tables and their refinement
 
-pub data Step-comes (m : Mesh) (c : Counts) (order : List ℕ) (t : Mesh) : StepOutcome → Type 0 where
+pub data Step-comes (ed : Edition) (m : Mesh) (c : Counts) (order : List ℕ) (t : Mesh) : StepOutcome → Type 0 where
   -- Made whole: the refined mesh n stands in the first rows, all further rows are as found, and scratch is zeroed.
   step-refined :
       (n : Mesh) (h : HoldsClosed m (c .points) (c .edges) (c .faces)) →
-      Due m c order t (Refined (refinedCounts c)) →
-      made (firstRows c m) c order (firstRows (refinedCounts c) t) ≡ whole n →
-      Refinement (firstRows c m) c (h .mesh) (h .closed) order (overRows (refinedCounts c) n m) →
-      Step-comes m c order t
+      Due ed m c order t (Refined (refinedCounts c)) →
+      made ed (firstRows c m) c order (firstRows (refinedCounts c) t) ≡ whole n →
+      Refinement ed (firstRows c m) c (h .mesh) (h .closed) order (overRows (refinedCounts c) n m) →
+      Step-comes ed m c order t
       (record {
         answer = Refined (refinedCounts c);
         tables = overRows (refinedCounts c) n m;
@@ -116,11 +118,11 @@ pub data Step-comes (m : Mesh) (c : Counts) (order : List ℕ) (t : Mesh) : Step
       })
   -- 30, 31 and 32 leave the mesh and scratch as found
   step-untouched :
-      (a : Stepped) (g : ℕ) → stepGround a ≡ some g → g < 33 → Due m c order t a →
-      Step-comes m c order t (record { answer = a; tables = m; scratch = t })
+      (a : Stepped) (g : ℕ) → stepGround a ≡ some g → g < 33 → Due ed m c order t a →
+      Step-comes ed m c order t (record { answer = a; tables = m; scratch = t })
   -- 33 leaves the mesh as found, and scratch zeroed
   step-not-finite :
-      Due m c order t NotFinite → Step-comes m c order t (record { answer = NotFinite; tables = m; scratch = zeroedRows (refinedCounts c) t })
+      Due ed m c order t NotFinite → Step-comes ed m c order t (record { answer = NotFinite; tables = m; scratch = zeroedRows (refinedCounts c) t })
 
 -- ---- the claim
 
@@ -132,5 +134,6 @@ pub record Demand1 : Type 0 where
   pub texts-first : Text-first-ground
   -- Tables of any content are a closed mesh exactly if they pass the audit.
   pub tables : AuditIsClosed
-  pub steps : (m : Mesh) (c : Counts) (order : List ℕ) (t : Mesh) → Binary64 c m → Step-comes m c order t (step m c order t)
+  pub steps :
+      (ed : Edition) (m : Mesh) (c : Counts) (order : List ℕ) (t : Mesh) → Binary64 c m → Step-comes ed m c order t (step ed m c order t)
   pub steps-first : stepping.First-ground

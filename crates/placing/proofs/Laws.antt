@@ -14,12 +14,14 @@ use Rattle.positions.specs.Position.{placedAt}
 use Rattle.tables.specs.Rows.{putRow}
 use Rattle.tables.specs.Mesh.{Mesh}
 use Rattle.tables.specs.declared.Counts.{Counts}
+use Rattle.refined_meshes.specs.declared.Edition.{Edition}
+use Rattle.refined_meshes.specs.declared.Edition.the-variants.{First, Second}
 use Rattle.refined_meshes.specs.State.{State}
 use Rattle.position_rules.specs.FacePoint.{facePointIn}
 use Rattle.tables.specs.Parts.{withoutPoints}
 use Rattle.position_rules.proofs.Claims.{facePoint-tables}
 use Rattle.placing.specs.Placing.{EdgePointsFit, OldPointsFit}
-use Rattle.steps.specs.Positions.{Placing, so-far, not-finite, put, putNext, placedBy, placedAll, facePointRow, edgePointRow, facePointRule, edgePointRule, oldPointRule}
+use Rattle.steps.specs.Positions.{Placing, so-far, not-finite, put, putNext, placedBy, placedOver, placedAll, facePointRow, edgePointRow, facePointRule, weightedRule, oldPointRule}
 
 module _ (row : ℕ → ℕ) (rule : ℕ → List Float → Position) (r : Placing) where
   -- one position more
@@ -53,7 +55,7 @@ unfolding placedBy
 placed-stopped zero row rule = refl
 placed-stopped (suc n) row rule = ap (putNext (row n) (rule n)) (placed-stopped n row rule)
 
--- ---- the three loops one after the other, for the mesh m with the counts c and the refined rows s
+-- ---- the loops one after the other, for the mesh m with the counts c and the refined rows s
 
 module _ (m : Mesh) (c : Counts) (s : State) where
   faces-same :
@@ -67,30 +69,50 @@ module _ (m : Mesh) (c : Counts) (s : State) where
       → placedBy (c .faces) (facePointRow s) (facePointRule m c) r ≡ q
   faces-placed r h = ap (λ (g : ℕ → Position). placedBy (c .faces) (facePointRow s) (λ f ps. g f) r) (sym faces-same) ∙ h
 
-  module _ (ps : List Float) where
-    pub stopped-at-faces : placedBy (c .faces) (facePointRow s) (facePointRule m c) (so-far ps) ≡ not-finite → placedAll m c s ps ≡ not-finite
+  -- The edge points are put over a table that is there.
+  pub over-stopped : (ed : Edition) → placedOver ed m c s not-finite ≡ not-finite
+  over-stopped First = refl
+  over-stopped Second = placed-stopped (c .edges) (edgePointRow s) (weightedRule First m s)
+
+  module _ (ed : Edition) (ps : List Float) where
+    pub stopped-at-faces : placedBy (c .faces) (facePointRow s) (facePointRule m c) (so-far ps) ≡ not-finite → placedAll ed m c s ps ≡ not-finite
     unfolding placedAll
     stopped-at-faces h =
-        ap (λ (r : Placing). placedBy (c .points) (λ p. p) (oldPointRule m s) (placedBy (c .edges) (edgePointRow s) (edgePointRule m s) r)) h
-        ∙ ap (placedBy (c .points) (λ p. p) (oldPointRule m s)) (placed-stopped (c .edges) (edgePointRow s) (edgePointRule m s))
-        ∙ placed-stopped (c .points) (λ p. p) (oldPointRule m s)
+        ap (λ (r : Placing). placedOver ed m c s (placedBy (c .points) (λ p. p) (oldPointRule m s) (placedBy (c .edges) (edgePointRow s) (weightedRule ed m s) r))) h
+        ∙ ap (λ (r : Placing). placedOver ed m c s (placedBy (c .points) (λ p. p) (oldPointRule m s) r))
+        (placed-stopped (c .edges) (edgePointRow s) (weightedRule ed m s))
+        ∙ ap (placedOver ed m c s) (placed-stopped (c .points) (λ p. p) (oldPointRule m s))
+        ∙ over-stopped ed
 
-    pub stopped-at-edges : (ps₁ : List Float) → placedBy (c .faces) (facePointRow s) (facePointRule m c) (so-far ps) ≡ so-far ps₁
-        → placedBy (c .edges) (edgePointRow s) (edgePointRule m s) (so-far ps₁) ≡ not-finite → placedAll m c s ps ≡ not-finite
-    unfolding placedAll
-    stopped-at-edges ps₁ h k =
-        ap (λ (r : Placing). placedBy (c .points) (λ p. p) (oldPointRule m s) (placedBy (c .edges) (edgePointRow s) (edgePointRule m s) r)) h
-        ∙ ap (placedBy (c .points) (λ p. p) (oldPointRule m s)) k
-        ∙ placed-stopped (c .points) (λ p. p) (oldPointRule m s)
+    module _ (ps₁ : List Float) (h : placedBy (c .faces) (facePointRow s) (facePointRule m c) (so-far ps) ≡ so-far ps₁) where
+      pub stopped-at-edges : placedBy (c .edges) (edgePointRow s) (weightedRule ed m s) (so-far ps₁) ≡ not-finite → placedAll ed m c s ps ≡ not-finite
+      unfolding placedAll
+      stopped-at-edges k =
+          ap (λ (r : Placing). placedOver ed m c s (placedBy (c .points) (λ p. p) (oldPointRule m s) (placedBy (c .edges) (edgePointRow s) (weightedRule ed m s) r))) h
+          ∙ ap (λ (r : Placing). placedOver ed m c s (placedBy (c .points) (λ p. p) (oldPointRule m s) r)) k
+          ∙ ap (placedOver ed m c s) (placed-stopped (c .points) (λ p. p) (oldPointRule m s))
+          ∙ over-stopped ed
 
-    pub all-placed : (ps₁ ps₂ : List Float) (r : Placing) → placedBy (c .faces) (facePointRow s) (facePointRule m c) (so-far ps) ≡ so-far ps₁
-        → placedBy (c .edges) (edgePointRow s) (edgePointRule m s) (so-far ps₁) ≡ so-far ps₂
-        → placedBy (c .points) (λ p. p) (oldPointRule m s) (so-far ps₂) ≡ r → placedAll m c s ps ≡ r
-    unfolding placedAll
-    all-placed ps₁ ps₂ r h k l =
-        ap (λ (q : Placing). placedBy (c .points) (λ p. p) (oldPointRule m s) (placedBy (c .edges) (edgePointRow s) (edgePointRule m s) q)) h
-        ∙ ap (placedBy (c .points) (λ p. p) (oldPointRule m s)) k
-        ∙ l
+      module _ (ps₂ : List Float) (k : placedBy (c .edges) (edgePointRow s) (weightedRule ed m s) (so-far ps₁) ≡ so-far ps₂) where
+        olds-placed : (r : Placing) → placedBy (c .points) (λ p. p) (oldPointRule m s) (so-far ps₂) ≡ r → placedAll ed m c s ps ≡ placedOver ed m c s r
+        unfolding placedAll
+        olds-placed r l =
+            ap (λ (q : Placing). placedOver ed m c s (placedBy (c .points) (λ p. p) (oldPointRule m s) (placedBy (c .edges) (edgePointRow s) (weightedRule ed m s) q))) h
+            ∙ ap (λ (q : Placing). placedOver ed m c s (placedBy (c .points) (λ p. p) (oldPointRule m s) q)) k
+            ∙ ap (placedOver ed m c s) l
+
+        pub stopped-at-olds : placedBy (c .points) (λ p. p) (oldPointRule m s) (so-far ps₂) ≡ not-finite → placedAll ed m c s ps ≡ not-finite
+        stopped-at-olds l = olds-placed not-finite l ∙ over-stopped ed
+
+        pub all-placed : (ps₃ : List Float) (r : Placing) → placedBy (c .points) (λ p. p) (oldPointRule m s) (so-far ps₂) ≡ so-far ps₃
+            → placedOver ed (withoutPoints (m .positions) (m .edges) (m .intervals) []) c s (so-far ps₃) ≡ r → placedAll ed m c s ps ≡ r
+        all-placed ps₃ r l o = olds-placed (so-far ps₃) l ∙ over-same ed (so-far ps₃) ∙ o
+          where
+            -- it looks at no point and no face of the mesh
+            over-same : (ed : Edition) (q : Placing)
+                → placedOver ed m c s q ≡ placedOver ed (withoutPoints (m .positions) (m .edges) (m .intervals) []) c s q
+            over-same First q = refl
+            over-same Second q = refl
 
 -- ---- only the length of the table of new positions counts
 

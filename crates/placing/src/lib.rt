@@ -1,26 +1,29 @@
-// The positions of the points after a step, put into their rows of the scratch tables: the face points, then the edge points,
-// then the old points. Each loop ends at the first position that is not finite.
+// The positions of the points after a step, put into their rows of the scratch tables: the face points, then what weighs for the edges
+// at old points, then the old points. In the first edition the edge points weigh; in the second m does, and the edge points are put over
+// it at the end. Each loop ends at the first position that is not finite.
 // Names: `newedges` and `newfaces` are the tables of edges and faces of the refined mesh, `newpositions` its table of positions.
 // Not here: the rules (`face_points`, `edge_points`, `old_points`), the rows (`visiting`).
 // Definitions: `steps`, specs/Positions.antt; what the loops ask: specs/Placing.antt.
 ghost use mathlib.Core.Path.{_≡_};
+ghost use mathlib.Core.List.{[]};
 ghost use Prim.Native.Nat.{_+_, _*_};
 ghost use lib.ListN.{getD};
 ghost use Rattle.tables.specs.Layout.{edgeWidth, destWord, faceWidth, firstCornerWord};
 ghost use Rattle.tables.specs.Mesh.{meshOf};
 ghost use Rattle.position_rules.specs.FacePoint.{facePointIn};
 ghost use Rattle.tables.specs.Parts.{withoutPoints};
-ghost use Rattle.position_rules.specs.EdgePoint.{edgePoint};
+ghost use Rattle.position_rules.specs.EdgePoint.{weightedPoint};
 ghost use Rattle.position_rules.specs.OldPoint.{oldPoint};
 ghost use Rattle.position_rules.specs.Places.{edgePointAt, facePointAt};
-ghost use Rattle.steps.specs.Positions.{so-far, placedBy, placedAll};
+ghost use Rattle.steps.specs.Positions.{so-far, placedBy, placedOver, placedAll};
 ghost use Rattle.placing.specs.Placing.{came, FacePointsFit, EdgePointsFit, OldPointsFit, refinedTables};
-use edge_points::edge_point;
+use edge_points::weighted_point;
 use face_points::face_point;
 use old_points::old_point;
 use positions::Placed;
 use positions::Position;
 use records::store_position;
+use refined_meshes::Edition;
 use tables::Counts;
 use tables::DEST_WORD;
 use tables::EDGE_WIDTH;
@@ -61,8 +64,9 @@ fn place_face_points(
     true
 }
 
-// Puts the edge points of the first ne edges into their rows, and says whether all are finite.
-fn place_edge_points(
+// Puts what weighs for the first ne edges into the rows of their edge points, and says whether all are finite. In the first edition that
+// is the edge points.
+fn place_weighted_points(
     positions: &[f64],
     edges: &[u32],
     intervals: &[f64],
@@ -70,18 +74,27 @@ fn place_edge_points(
     newedges: &[u32],
     newfaces: &[u32],
     newpositions: &mut [f64],
+    edition: Edition,
 ) -> bool
     requires { ⌜ EdgePointsFit (now positions) (now edges) (now intervals) ne (now newedges) (now newfaces) (now newpositions) ⌝ }
     ensures { λ r. ⌜
         placedBy ne (λ e. getD (now (newedges .entry)) (e * edgeWidth + destWord) 0)
-        (λ e ps. edgePoint (now (positions .entry)) (now (edges .entry)) (now (intervals .entry)) (facePointAt ps (now (newfaces .entry))) e)
+        (λ e ps. weightedPoint edition (now (positions .entry)) (now (edges .entry)) (now (intervals .entry))
+        (facePointAt ps (now (newfaces .entry))) e)
         (so-far (now (newpositions .entry)))
         ≡ came r (now (newpositions .exit)) ⌝ }
 {
     let mut e = 0;
     while e < ne {
-        let Placed::At(x, y, z) = edge_point(positions, edges, intervals, newpositions, newfaces, e)
-        else {
+        let Placed::At(x, y, z) = weighted_point(
+            positions,
+            edges,
+            intervals,
+            newpositions,
+            newfaces,
+            e,
+            edition,
+        ) else {
             return false;
         };
         store_position(
@@ -133,6 +146,38 @@ fn place_old_points(
     true
 }
 
+// Puts the edge points over what weighed for the edges, where that was m, and says whether all are finite.
+fn place_over(
+    positions: &[f64],
+    edges: &[u32],
+    intervals: &[f64],
+    counts: Counts,
+    newedges: &[u32],
+    newfaces: &[u32],
+    newpositions: &mut [f64],
+    edition: Edition,
+) -> bool
+    requires { ⌜ EdgePointsFit (now positions) (now edges) (now intervals) (counts .edges) (now newedges) (now newfaces) (now newpositions) ⌝ }
+    ensures { λ r. ⌜
+        placedOver edition (withoutPoints (now (positions .entry)) (now (edges .entry)) (now (intervals .entry)) []) counts
+        (refinedTables (now (newedges .entry)) (now (newfaces .entry))) (so-far (now (newpositions .entry)))
+        ≡ came r (now (newpositions .exit)) ⌝ }
+{
+    match edition {
+        Edition::First => true,
+        Edition::Second => place_weighted_points(
+            positions,
+            edges,
+            intervals,
+            counts.edges,
+            newedges,
+            newfaces,
+            newpositions,
+            Edition::First,
+        ),
+    }
+}
+
 // Puts all new positions into their rows, and says whether all are finite.
 pub fn place_all(
     positions: &[f64],
@@ -144,12 +189,13 @@ pub fn place_all(
     newedges: &[u32],
     newfaces: &[u32],
     newpositions: &mut [f64],
+    edition: Edition,
 ) -> bool
     requires { ⌜ FacePointsFit (now positions) (now edges) (now intervals) (now faces) (counts .edges) (counts .faces) (now newfaces) (now newpositions) ⌝ }
     requires { ⌜ EdgePointsFit (now positions) (now edges) (now intervals) (counts .edges) (now newedges) (now newfaces) (now newpositions) ⌝ }
     requires { ⌜ OldPointsFit (now positions) (now points) (now edges) (now intervals) (counts .points) (now newedges) (now newfaces) (now newpositions) ⌝ }
     ensures { λ r. ⌜
-        placedAll
+        placedAll edition
         (meshOf (now (positions .entry)) (now (points .entry)) (now (edges .entry)) (now (intervals .entry)) (now (faces .entry)))
         counts
         (refinedTables (now (newedges .entry)) (now (newfaces .entry)))
@@ -168,7 +214,7 @@ pub fn place_all(
     ) {
         return false;
     }
-    if !place_edge_points(
+    if !place_weighted_points(
         positions,
         edges,
         intervals,
@@ -176,10 +222,11 @@ pub fn place_all(
         newedges,
         newfaces,
         newpositions,
+        edition,
     ) {
         return false;
     }
-    place_old_points(
+    if !place_old_points(
         positions,
         points,
         edges,
@@ -188,5 +235,17 @@ pub fn place_all(
         newedges,
         newfaces,
         newpositions,
+    ) {
+        return false;
+    }
+    place_over(
+        positions,
+        edges,
+        intervals,
+        counts,
+        newedges,
+        newfaces,
+        newpositions,
+        edition,
     )
 }

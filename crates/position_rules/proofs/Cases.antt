@@ -1,7 +1,7 @@
 -- The rules computed on recorded meshes: every position after one step is bit for bit what the Rust gives. With even intervals the
 -- order of rounding does not show; the uneven cube shows it, the two triangles have valence 2 and windows that overlap
 -- themselves, and the small cube meets both small denominators of an edge. Each stage is computed from the literal positions of
--- the one before, and the cube's point 0 from the mesh alone. With its intervals all 0 no face point of the cube is finite.
+-- the one before, and the cube's point 0 from the mesh alone, in both editions. With its intervals all 0 no face point of the cube is finite.
 use mathlib.Core.Path.{_≡_, refl}
 use mathlib.Core.List.{List, [], _∷_, map}
 use Prim.Native.Nat.{ℕ, zero, suc}
@@ -15,6 +15,7 @@ use Rattle.tables.specs.Mesh.{Mesh}
 use Rattle.audited_meshes.specs.Walks.{faceWalk}
 use Rattle.audited_meshes.specs.Folds.{again}
 use Rattle.position_rules.specs.Intervals.{acwAbout, cwAbout, threeTerms}
+use Rattle.refined_meshes.specs.declared.Edition.the-variants.{First, Second}
 use Rattle.refined_meshes.specs.Turns.{turns}
 use Rattle.position_rules.specs.FacePoint.{sixTerms, windowWeight, windowSum, facePointOver, facePointAbout, facePointIn}
 use Rattle.position_rules.specs.EdgePoint.{shares, edgeMiddle, edgePoint}
@@ -130,11 +131,19 @@ unfolding oldPoint radialSum radialTerms radialEdge edgeWeight faceWeight acwAbo
 cube-olds = refl
 
 -- all of it at once
-cube-point-0 : placedAt (oldPointIn cube 12 0) ≡ at 0xbfdc71c71c71c71c 0xbfdc71c71c71c71c 0xbfdc71c71c71c71c
+cube-point-0 : placedAt (oldPointIn First cube 12 0) ≡ at 0xbfdc71c71c71c71c 0xbfdc71c71c71c71c 0xbfdc71c71c71c71c
 unfolding oldPointIn edgePointIn oldPoint radialSum radialTerms radialEdge edgeWeight faceWeight edgePoint edgeMiddle
     shares facePointIn facePointAbout facePointOver windowSum windowWeight sixTerms threeTerms acwAbout cwAbout turns again
     faceWalk add sub mul div neg ofBits le ofInt
 cube-point-0 = refl
+
+-- "The cube's corner 0 then goes to -5/9, correctly rounded from -15/27" (document 02, §5): 0xbfe1c71c71c71c72 is the binary64 number
+-- nearest -5/9
+cube-point-0-published : placedAt (oldPointIn Second cube 12 0) ≡ at 0xbfe1c71c71c71c72 0xbfe1c71c71c71c72 0xbfe1c71c71c71c72
+unfolding oldPointIn oldPoint radialSum radialTerms radialEdge edgeWeight faceWeight edgeMiddle
+    facePointIn facePointAbout facePointOver windowSum windowWeight sixTerms threeTerms acwAbout cwAbout turns again
+    faceWalk add sub mul div neg ofBits le ofInt
+cube-point-0-published = refl
 
 -- all intervals 0
 abbrev zeroCube : Mesh

@@ -5,11 +5,13 @@ use Prim.Native.Nat.{ℕ, zero, suc, _+_, _≤_, _<_}
 use native.Mathlib.Omega.{arith}
 use native.Mathlib.Numerals.{add-one}
 use lib.Dec.{ltb}
-use mathlib.Core.Bool.{_&&_}
+use mathlib.Core.Bool.{Bool, true, false, _&&_, true≢false}
 use lib.ListN.{getD, length, List·getD-append}
 use lib.Seq.{getD-at}
-use lib.Ieee.{Float}
+use lib.Ieee.{Float, add, mul, binary64}
+use lib.Ieee.Scale.{finite}
 use Rattle.positions.specs.declared.Position.{Position}
+use Rattle.positions.specs.Position.{finitePosition}
 use Rattle.t_spline.specs.Edge.{commonFace}
 use Rattle.tables.specs.Mesh.{start, valence}
 use Rattle.tables.specs.Records.{edgeAt}
@@ -17,12 +19,15 @@ use Rattle.audited_meshes.specs.Walks.{touches, acwOfPoint, faceWalk, pointWalk
 use Rattle.walks.proofs.Back.{back-first, back-next}
 use Rattle.position_rules.specs.Intervals.{acwAbout}
 use Rattle.position_rules.specs.FacePoint.{facePointAbout, facePointIn}
-use Rattle.position_rules.specs.EdgePoint.{edgePoint}
+use Rattle.refined_meshes.specs.declared.Edition.the-variants.{First, Second}
+use Rattle.position_rules.specs.EdgePoint.{edgePoint, blend}
 use Rattle.position_rules.specs.OldPoint.{radialEdge, radialTerms, radialSum, oldPoint}
 use Rattle.position_rules.specs.Rules.{edgePointIn, oldPointIn}
 use Rattle.position_rules.specs.Fits.{EdgesFit}
-use Rattle.position_rules.specs.Claims.{FacePointTables, EdgePointStands, OldPointStands, RadialRound}
+use Rattle.position_rules.specs.declared.Shares.{Shares}
+use Rattle.position_rules.specs.Claims.{FacePointTables, WeightedPointStands, OldPointStands, WeightedFinite, RadialRound}
 use Rattle.position_rules.proofs.Fits.{acw-below}
+use Rattle.position_rules.proofs.Floats.{finite-parts, add-lost, mul-lost}
 use Rattle.position_rules.proofs.Sums.{radialEdge-none, radialEdge-more, radialSum-none, radialSum-more}
 use Rattle.position_rules.proofs.Audited.{edges-fit, common-below}
 
@@ -30,10 +35,28 @@ pub facePoint-tables : FacePointTables
 unfolding facePointIn facePointAbout faceWalk
 facePoint-tables m ne f = refl
 
-pub edgePoint-stands : EdgePointStands
-unfolding edgePointIn edgePoint
-edgePoint-stands m np ne nf new fs′ a h e l =
+pub weightedPoint-stands : WeightedPointStands
+unfolding edgePoint
+weightedPoint-stands First m np ne nf new fs′ a h e l =
     rw (← h _ (a .edge-in-range e l .leftFace-in-range), ← h _ (a .edge-in-range e l .rightFace-in-range))
+weightedPoint-stands Second m np ne nf new fs′ a h e l = refl
+
+-- A coordinate of a blend is finite only where that of m is.
+m-finite : (x w l r : Float) → finite (add binary64 (add binary64 (mul binary64 x w) l) r) ≡ true → finite x ≡ true
+m-finite x w l r h = go (finite x) refl
+  where
+    go : (b : Bool) → finite x ≡ b → finite x ≡ true
+    go true e = e
+    go false e = absurd (true≢false (sym h ∙ add-lost _ r (add-lost _ l (mul-lost x w e))))
+
+blend-finite : (p : Position) (a : Shares) (l r : Position) → finitePosition (blend p a l r) ≡ true → finitePosition p ≡ true
+blend-finite p a l r h =
+    let f = finite-parts (blend p a l r) h in rw (m-finite (p .x) _ _ _ (f .0 .0), m-finite (p .y) _ _ _ (f .0 .1), m-finite (p .z) _ _ _ (f .1))
+
+pub weighted-finite : WeightedFinite
+unfolding edgePointIn edgePoint
+weighted-finite First m ne e h = h
+weighted-finite Second m ne e h = blend-finite _ _ _ _ h
 
 -- The sum about a point looks at the points of the edges about it and of the faces between them.
 module _ (es : List ℕ) (is : List Float) (ne nf p s : ℕ) (fit : EdgesFit es is ne)
@@ -55,7 +78,7 @@ module _ (es : List ℕ) (is : List Float) (ne nf p s : ℕ) (fit : EdgesFit es 
 
 pub oldPoint-stands : OldPointStands
 unfolding oldPointIn oldPoint
-oldPoint-stands m np ne nf new es′ fs′ a h hf he p l =
+oldPoint-stands ed m np ne nf new es′ fs′ a h hf he p l =
     rw (sum-same (m .edges) (m .intervals) ne nf p (start m p) (edges-fit m np ne nf a) (common-below m np ne nf a h p) _ _ _ _ he hf
     (a .start-in-range p l) (valence m p))
 

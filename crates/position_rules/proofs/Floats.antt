@@ -1,7 +1,8 @@
 -- Sums of numbers that are finite with the sign bit clear, and numbers that are not finite. Assumes nothing.
 --     add-lost, mul-lost, div-lost    what is not finite stays so
 --     sum-lost                        a sum of four terms is not finite where a sum of lesser numbers than two of them is not
---     half-fit                        half of a number that fits is finite, with the sign bit clear, and no greater
+--     half-fit, quarter-fit           half and a quarter of a number that fits are finite, with the sign bit clear, and no greater
+--     finite-parts                    the coordinates of a finite position
 -- A number x is at most y where num x / den x is at most num y / den y.
 use mathlib.Core.Path.{_≡_, refl, sym, _∙_, ap, subst}
 use mathlib.Core.Bool.{Bool, true, false, not, _&&_, _||_, cond, true≢false, false≢true}
@@ -19,6 +20,8 @@ use lib.Ieee.Exact.{HasValue, odd-sign, round-exact}
 use lib.Ieee.Order.{round-mono}
 use lib.Ieee.Positive.{num, den, den-pos, value→cross, through}
 use lib.Ieee.Scale.{finite, grid, round-val, round-under}
+use Rattle.positions.specs.declared.Position.{Position}
+use Rattle.positions.specs.Position.{finitePosition}
 use Rattle.audited_meshes.specs.Audit.{intervalFit}
 
 -- ---- what is not finite stays so
@@ -289,10 +292,51 @@ module _ (d a c b x y : Float) (hd : intervalFit d ≡ true) (fd : T (fits binar
       go true f = second f (finite (add binary64 (add binary64 d a) c)) refl
       go false f = add-lost (add binary64 (add binary64 d a) c) b (add-lost (add binary64 d a) c f)
 
--- ---- newedges
+-- ---- halves and quarters
 
 abbrev pub half : Float → Float
 half d = mul binary64 d (ofBits binary64 0x3fe0000000000000)
+
+-- d times w is finite, with the sign bit clear, and no greater than d
+pub record Part (w d : Float) : Type 0 where
+  pub is-fit : intervalFit (mul binary64 d w) ≡ true
+  pub at-most : AtMost (mul binary64 d w) d
+
+-- w is one n-th
+module _
+    (w : Float) (n : ℕ) (positive : 1 ≤ n)
+    (part-round : (d : Float) → intervalFit d ≡ true → mul binary64 d w ≡ round binary64 false (num d * (1 * 1)) (den d * n))
+    (d : Float) (h : intervalFit d ≡ true) (k : T (fits binary64 d))
+  where
+    o : Own d
+    o = own d h k
+
+    less : num d * (1 * 1) * den d ≤ num d * (den d * n)
+    less =
+        let more : 1 * (num d * den d) ≤ n * (num d * den d) = mul-le-mul-right (num d * den d) positive in
+        rw mul-one (omega (arith, more, one-mul (num d * den d), mul-comm n (num d * den d), mul-assoc (num d) (den d) n))
+
+    under : 0 < den d * n
+    under = mul-pos (den-pos d) (omega arith)
+
+    part-fit : Part w d
+    unfolding o
+    part-fit = go (finite (mul binary64 d w)) refl
+      where
+        go : (v : Bool) → finite (mul binary64 d w) ≡ v → Part w d
+        go true f =
+            let hh : intervalFit (mul binary64 d w) ≡ true = rw (part-round d h) (round-fit _ _ (sym (ap finite (part-round d h)) ∙ f)) in
+            let below : T (le (mul binary64 d w) (round binary64 false (num d) (den d))) =
+            subst (λ z. T (le z (round binary64 false (num d) (den d)))) (sym (part-round d h))
+            (round-mono binary64 (num d * (1 * 1)) (den d * n) (num d) (den d) under (den-pos d) less) in
+            record {
+              is-fit = hh;
+              at-most = at-most-trans (mul binary64 d w) (round binary64 false (num d) (den d)) d
+                  (at-most-of-le (mul binary64 d w) (round binary64 false (num d) (den d)) hh (o .own-fit) below) (le-of-eq (o .own-value));
+            }
+        go false f =
+            absurd (true≢false (sym (o .own-finite)
+            ∙ round-lost (num d * (1 * 1)) (den d * n) (num d) (den d) under (den-pos d) less (sym (ap finite (part-round d h)) ∙ f)))
 
 half-round : (d : Float) → intervalFit d ≡ true → half d ≡ round binary64 false (num d * (1 * 1)) (den d * 2)
 unfolding mul ofBits
@@ -301,30 +345,29 @@ half-round (inf s) h = absurd (false≢true h)
 half-round (fin true m e) h = absurd (false≢true h)
 half-round (fin false m e) h = refl
 
-pub record Half (d : Float) : Type 0 where
-  pub is-fit : intervalFit (half d) ≡ true
-  pub at-most : AtMost (half d) d
+pub half-fit : (d : Float) → intervalFit d ≡ true → T (fits binary64 d) → Part (ofBits binary64 0x3fe0000000000000) d
+half-fit = part-fit (ofBits binary64 0x3fe0000000000000) 2 (omega arith) half-round
 
-pub half-fit : (d : Float) → intervalFit d ≡ true → T (fits binary64 d) → Half d
-half-fit d h k = go (finite (half d)) refl
+quarter-round :
+    (d : Float) → intervalFit d ≡ true → mul binary64 d (ofBits binary64 0x3fd0000000000000) ≡ round binary64 false (num d * (1 * 1)) (den d * 4)
+unfolding mul ofBits
+quarter-round nan h = absurd (false≢true h)
+quarter-round (inf s) h = absurd (false≢true h)
+quarter-round (fin true m e) h = absurd (false≢true h)
+quarter-round (fin false m e) h = refl
+
+pub quarter-fit : (d : Float) → intervalFit d ≡ true → T (fits binary64 d) → Part (ofBits binary64 0x3fd0000000000000) d
+quarter-fit = part-fit (ofBits binary64 0x3fd0000000000000) 4 (omega arith) quarter-round
+
+-- ---- positions
+
+pub finite-parts :
+    (p : Position) → finitePosition p ≡ true → ((finite (p .x) ≡ true) × (finite (p .y) ≡ true)) × (finite (p .z) ≡ true)
+finite-parts p e = go (finite (p .x)) refl (finite (p .y)) refl (finite (p .z)) refl
   where
-    o : Own d
-    o = own d h k
-
-    less : num d * (1 * 1) * den d ≤ num d * (den d * 2)
-    less = rw mul-one (omega (arith, mul-assoc (num d) (den d) 2))
-
-    go : (v : Bool) → finite (half d) ≡ v → Half d
-    go true f =
-        let hh : intervalFit (half d) ≡ true = rw (half-round d h) (round-fit _ _ (sym (ap finite (half-round d h)) ∙ f)) in
-        let below : T (le (half d) (round binary64 false (num d) (den d))) =
-        subst (λ z. T (le z (round binary64 false (num d) (den d)))) (sym (half-round d h))
-        (round-mono binary64 (num d * (1 * 1)) (den d * 2) (num d) (den d) (mul-pos (den-pos d) (omega arith)) (den-pos d) less) in
-        record {
-          is-fit = hh;
-          at-most = at-most-trans (half d) (round binary64 false (num d) (den d)) d
-              (at-most-of-le (half d) (round binary64 false (num d) (den d)) hh (o .own-fit) below) (le-of-eq (o .own-value));
-        }
-    go false f =
-        absurd (true≢false (sym (o .own-finite)
-        ∙ round-lost (num d * (1 * 1)) (den d * 2) (num d) (den d) (mul-pos (den-pos d) (omega arith)) (den-pos d) less (sym (ap finite (half-round d h)) ∙ f)))
+    go : (a : Bool) → finite (p .x) ≡ a → (b : Bool) → finite (p .y) ≡ b → (c : Bool) → finite (p .z) ≡ c
+        → ((finite (p .x) ≡ true) × (finite (p .y) ≡ true)) × (finite (p .z) ≡ true)
+    go true ha true hb true hc = ((ha, hb), hc)
+    go true ha true hb false hc = absurd (true≢false (sym e ∙ rw (ha, hb, hc)))
+    go true ha false hb c hc = absurd (true≢false (sym e ∙ rw (ha, hb)))
+    go false ha b hb c hc = absurd (true≢false (sym e ∙ rw ha))

@@ -2,10 +2,13 @@
 --     FacePointTables      the face point looks at the tables of positions, edges, intervals and faces alone
 --     WindowEdges          the edges of a face point's windows are the ones between their points: of all edges, the border's own edge
 --                          alone touches two consecutive points
---     EdgePointStands      where the face points stand in their places, the rule for edges gives the edge points
---     OldPointStands       where face points and edge points stand in their places, the rule for old points gives the old points
+--     WeightedPointStands  where the face points stand in their places, the rule for edges gives the edge points, and m likewise
+--     OldPointStands       where face points and what weighs for the edges stand in their places, the rule for old points gives the
+--                          old points
+--     WeightedFinite       where an edge point is finite, so is what weighs for the edge: a step that puts m into the edge point's row
+--                          meets no number that is not finite but where the edge point is not finite either
 --     JoiningFits          where the face point is finite, every joining interval of the face is finite with the sign bit clear: it is
---                          the sum of the intervals next to an edge of the border, each whole or halved
+--                          the sum of the intervals next to an edge of the border, each whole or halved, or a quarter of such a sum
 --     RadialRound          the edges of the rule for old points are those that the walk about the point passes, once round
 use mathlib.Core.Path.{_≡_}
 use mathlib.Core.Bool.{true}
@@ -24,9 +27,10 @@ use Rattle.audited_meshes.specs.Audited.{Audited}
 use Rattle.position_rules.specs.FacePoint.{facePointIn}
 use Rattle.audited_meshes.specs.Folds.{again}
 use Rattle.tables.specs.Parts.{withoutPoints}
-use Rattle.position_rules.specs.EdgePoint.{edgePoint}
+use Rattle.refined_meshes.specs.declared.Edition.{Edition}
+use Rattle.position_rules.specs.EdgePoint.{weightedPoint}
 use Rattle.position_rules.specs.OldPoint.{radialEdge, oldPoint}
-use Rattle.position_rules.specs.Rules.{edgePointIn, oldPointIn}
+use Rattle.position_rules.specs.Rules.{edgePointIn, weightedIn, oldPointIn}
 use Rattle.position_rules.specs.Places.{edgePointAt, facePointAt}
 
 abbrev pub FacePointTables : Type 0
@@ -47,20 +51,24 @@ WindowEdges =
 abbrev pub FacePointsStand : Mesh → ℕ → ℕ → List Float → List ℕ → Type 0
 FacePointsStand m ne nf new fs′ = (f : ℕ) → f < nf → facePointAt new fs′ f ≡ facePointIn m ne f
 
-abbrev pub EdgePointsStand : Mesh → ℕ → List Float → List ℕ → Type 0
-EdgePointsStand m ne new es′ = (e : ℕ) → e < ne → edgePointAt new es′ e ≡ edgePointIn m ne e
+abbrev pub WeightedPointsStand : Edition → Mesh → ℕ → List Float → List ℕ → Type 0
+WeightedPointsStand ed m ne new es′ = (e : ℕ) → e < ne → edgePointAt new es′ e ≡ weightedIn ed m ne e
 
-abbrev pub EdgePointStands : Type 0
-EdgePointStands =
-    (m : Mesh) (np ne nf : ℕ) (new : List Float) (fs′ : List ℕ) → Audited m np ne nf → FacePointsStand m ne nf new fs′
-    → (e : ℕ) → e < ne → edgePoint (m .positions) (m .edges) (m .intervals) (facePointAt new fs′) e ≡ edgePointIn m ne e
+abbrev pub WeightedPointStands : Type 0
+WeightedPointStands =
+    (ed : Edition) (m : Mesh) (np ne nf : ℕ) (new : List Float) (fs′ : List ℕ) → Audited m np ne nf → FacePointsStand m ne nf new fs′
+    → (e : ℕ) → e < ne → weightedPoint ed (m .positions) (m .edges) (m .intervals) (facePointAt new fs′) e ≡ weightedIn ed m ne e
 
 abbrev pub OldPointStands : Type 0
 OldPointStands =
-    (m : Mesh) (np ne nf : ℕ) (new : List Float) (es′ fs′ : List ℕ) → Audited m np ne nf → nf ≤ none
-    → FacePointsStand m ne nf new fs′ → EdgePointsStand m ne new es′
+    (ed : Edition) (m : Mesh) (np ne nf : ℕ) (new : List Float) (es′ fs′ : List ℕ) → Audited m np ne nf → nf ≤ none
+    → FacePointsStand m ne nf new fs′ → WeightedPointsStand ed m ne new es′
     → (p : ℕ) → p < np
-    → oldPoint (m .positions) (m .points) (m .edges) (m .intervals) (edgePointAt new es′) (facePointAt new fs′) p ≡ oldPointIn m ne p
+    → oldPoint (m .positions) (m .points) (m .edges) (m .intervals) (edgePointAt new es′) (facePointAt new fs′) p ≡ oldPointIn ed m ne p
+
+abbrev pub WeightedFinite : Type 0
+WeightedFinite =
+    (ed : Edition) (m : Mesh) (ne e : ℕ) → finitePosition (edgePointIn m ne e) ≡ true → finitePosition (weightedIn ed m ne e) ≡ true
 
 abbrev pub RadialRound : Type 0
 RadialRound =

@@ -3,9 +3,12 @@
 --     share                a part of a denominator, 0 if the denominator is small
 --     shares is edge       aL and aR: the sums of the neighbours on either side over twice the sum of all four
 --     middle               m: both ends weighted, or the midpoint if the denominator is small
---     edgeMiddle           m of edge e, each end weighted by d + A2 + C2 about that end
+--     edgeMiddle           m of edge e from o to t, each end weighted by d + A2 + C2 about that end
+--     edgeMiddleOf         m of edge e
 --     blend                m (1 - aR - aL) + aL times the left face point + aR times the right one
 --     edgePoint            the edge point of edge e
+--     weightedPoint ed     what the rule for old points weighs for edge e in the edition ed: "equation 16 weights equation 15's m"
+--                          (document 02, §5) in the second, the edge point in the first
 use mathlib.Core.Bool.{cond}
 use mathlib.Core.List.{List}
 use Prim.Native.Nat.{ℕ}
@@ -18,6 +21,8 @@ use Rattle.t_spline.specs.declared.TnurccConnection.{TnurccConnection}
 use Rattle.t_spline.specs.declared.TnurccConnection.the-variants.{LeftCw, LeftAcw, RightCw, RightAcw}
 use Rattle.t_spline.specs.Edge.{connectionOf}
 use Rattle.tables.specs.Records.{positionAt, edgeAt}
+use Rattle.refined_meshes.specs.declared.Edition.{Edition}
+use Rattle.refined_meshes.specs.declared.Edition.the-variants.{First, Second}
 use Rattle.position_rules.specs.declared.Shares.{Shares}
 use Rattle.position_rules.specs.Intervals.{threeTerms}
 
@@ -50,6 +55,10 @@ middle o wo t wt =
 unfoldable pub edgeMiddle : List Float → List ℕ → List Float → ℕ → ℕ → ℕ → Position
 edgeMiddle ps es is o t e = middle (positionAt ps o) (threeTerms es is o e) (positionAt ps t) (threeTerms es is t e)
 
+-- from the origin of edge e to its destination
+abbrev pub edgeMiddleOf : List Float → List ℕ → List Float → ℕ → Position
+edgeMiddleOf ps es is e = edgeMiddle ps es is (edgeAt es is e .origin) (edgeAt es is e .dest) e
+
 abbrev pub blend : Position → Shares → Position → Position → Position
 blend m a left right =
     plus (plus (product m (sub binary64 (sub binary64 (ofBits binary64 0x3ff0000000000000) (a .right)) (a .left))) (product left (a .left)))
@@ -58,4 +67,8 @@ blend m a left right =
 unfoldable pub edgePoint : List Float → List ℕ → List Float → (ℕ → Position) → ℕ → Position
 edgePoint ps es is fp e =
     let edge : TnurccEdge = edgeAt es is e in
-    blend (edgeMiddle ps es is (edge .origin) (edge .dest) e) (shares is edge) (fp (edge .«face_left»)) (fp (edge .«face_right»))
+    blend (edgeMiddleOf ps es is e) (shares is edge) (fp (edge .«face_left»)) (fp (edge .«face_right»))
+
+abbrev pub weightedPoint : Edition → List Float → List ℕ → List Float → (ℕ → Position) → ℕ → Position
+weightedPoint First ps es is fp e = edgePoint ps es is fp e
+weightedPoint Second ps es is fp e = edgeMiddleOf ps es is e

@@ -3,7 +3,7 @@
 --     EdgeFits es is e         the edge e is one of such edges
 --     BorderFits es is bs n    the n edges bs of a border are there, 3 to 64 of them
 --     PointsFit ps bp n        the n + 4 points bp of a border are there
---     FacePointFits            what the face point asks; EdgePointFits, OldPointFits likewise
+--     FacePointFits            what the face point asks; MiddleFits, EdgePointFits, OldPointFits likewise
 --     NewPointsFit             the places of the new points are there
 --     PlacesFit, RadialFits    the edges about a point are there, the faces between them, and the new points of both
 use mathlib.Core.Path.{_≡_}
@@ -47,6 +47,12 @@ pub record NeighboursFit (is : List Float) (edge : TnurccEdge) : Type 0 where
   pub leftAcw-there : getD (edge .connections) 1 0 < length is
   pub rightCw-there : getD (edge .connections) 2 0 < length is
   pub rightAcw-there : getD (edge .connections) 3 0 < length is
+
+-- the edge e and its ends
+pub record MiddleFits (ps : List Float) (es : List ℕ) (is : List Float) (e : ℕ) : Type 0 where
+  pub edge-fits : EdgeFits es is e
+  pub origin-there : getD es (e * edgeWidth) 0 * positionWidth + positionWidth ≤ length ps
+  pub dest-there : getD es (e * edgeWidth + destWord) 0 * positionWidth + positionWidth ≤ length ps
 
 -- the edge e, its ends, and the points of its two faces
 pub record EdgePointFits (ps : List Float) (es : List ℕ) (is new : List Float) (fs′ : List ℕ) (e : ℕ) : Type 0 where

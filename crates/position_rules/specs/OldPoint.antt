@@ -1,5 +1,5 @@
 -- The old point (document 01, "Old point", equations 16 to 19). Here es and is are the tables of edges and intervals, ep e is
--- the edge point of edge e, fp f the face point of face f.
+-- what weighs for edge e (its edge point or its m, by the edition), fp f the face point of face f.
 --     radialEdge es p s i      the i-th edge about p, anticlockwise from s
 --     edgeWeight               0.5 (A1 + C1) (A2 + C2) of an edge
 --     faceWeight               A1 of an edge times C1 of the next one

@@ -2,16 +2,21 @@
 -- visiting order.
 --     facePointIn m ne f     the face point of face f (`specs/FacePoint.antt`)
 --     edgePointIn m ne e     the edge point of edge e
---     oldPointIn m ne p      where the point p goes
+--     weightedIn ed m ne e   what the rule for old points weighs for edge e in the edition ed
+--     oldPointIn ed m ne p   where the point p goes in the edition ed
 use Prim.Native.Nat.{ℕ}
 use Rattle.positions.specs.declared.Position.{Position}
 use Rattle.tables.specs.Mesh.{Mesh}
+use Rattle.refined_meshes.specs.declared.Edition.{Edition}
 use Rattle.position_rules.specs.FacePoint.{facePointIn}
-use Rattle.position_rules.specs.EdgePoint.{edgePoint}
+use Rattle.position_rules.specs.EdgePoint.{edgePoint, weightedPoint}
 use Rattle.position_rules.specs.OldPoint.{oldPoint}
 
 unfoldable pub edgePointIn : Mesh → ℕ → ℕ → Position
 edgePointIn m ne e = edgePoint (m .positions) (m .edges) (m .intervals) (facePointIn m ne) e
 
-unfoldable pub oldPointIn : Mesh → ℕ → ℕ → Position
-oldPointIn m ne p = oldPoint (m .positions) (m .points) (m .edges) (m .intervals) (edgePointIn m ne) (facePointIn m ne) p
+abbrev pub weightedIn : Edition → Mesh → ℕ → ℕ → Position
+weightedIn ed m ne e = weightedPoint ed (m .positions) (m .edges) (m .intervals) (facePointIn m ne) e
+
+unfoldable pub oldPointIn : Edition → Mesh → ℕ → ℕ → Position
+oldPointIn ed m ne p = oldPoint (m .positions) (m .points) (m .edges) (m .intervals) (weightedIn ed m ne) (facePointIn m ne) p

@@ -18,6 +18,7 @@ use Rattle.refined_meshes.specs.State.{copied, putEdge, putFace, putPoint, putS
 use Rattle.refined_meshes.specs.Split.{splitEdge, splitWhole}
 use Rattle.refined_meshes.specs.Ring.{putFacePoint, putFirst, putJoin, putNewFace, putSecond}
 use Rattle.refined_meshes.specs.Visits.{putRing, refinedRows, ringOf, splitAll, visit, visitAlong, visits}
+use Rattle.refined_meshes.specs.Settled.{settled, settledRows}
 use Rattle.position_rules.specs.Intervals.{acwAbout, cwAbout, threeTerms}
 use Rattle.position_rules.specs.FacePoint.{facePointOver, facePointAbout, facePointIn, sixTerms, windowSum, windowWeight}
 use Rattle.position_rules.specs.EdgePoint.{edgeMiddle, edgePoint, shares}
@@ -46,7 +47,7 @@ pub cube : output (bytes "[mesh 1]\n" ++
     ≡ bytes "[mesh 8 12 6]\n[step 26 48 24]\n[at 0 bfdc71c71c71c71c bfdc71c71c71c71c bfdc71c71c71c71c]\n"
 unfolding output digitValue value stands literal digit bits digitsFrom decimalFrom decimal many coordinateForm pointForm listedForm sideForm
     faceForm headForm ends mesh text times flat toBits decimalDigits hexByte hexBytes build step numbered linksOf lt over zeroed
-    refinedRows copied visits visit faceWalk turns filled visitAlong splitAll splitWhole splitEdge ringOf putRing putJoin
+    settledRows settled refinedRows copied visits visit faceWalk turns filled visitAlong splitAll splitWhole splitEdge ringOf putRing putJoin
     putFirst putSecond putNewFace putFacePoint putEdge putPoint putStart putFace facePointIn facePointAbout facePointOver
     windowSum windowWeight sixTerms threeTerms acwAbout cwAbout again edgePoint edgeMiddle shares oldPoint radialSum
     radialTerms radialEdge edgeWeight faceWeight add sub mul div neg le ofBits ofInt
@@ -72,7 +73,7 @@ zero-cube : output (bytes "[mesh 1]\n" ++
     ≡ bytes "[mesh 8 12 6]\n[refused 33]\n"
 unfolding output digitValue value stands literal digit bits digitsFrom decimalFrom decimal many coordinateForm pointForm listedForm sideForm
     faceForm headForm ends mesh text times flat toBits decimalDigits hexByte hexBytes build step numbered linksOf lt over zeroed
-    refinedRows copied visits visit faceWalk turns filled visitAlong splitAll splitWhole splitEdge ringOf putRing putJoin
+    settledRows settled refinedRows copied visits visit faceWalk turns filled visitAlong splitAll splitWhole splitEdge ringOf putRing putJoin
     putFirst putSecond putNewFace putFacePoint putEdge putPoint putStart putFace facePointIn facePointAbout facePointOver
     windowSum windowWeight sixTerms threeTerms acwAbout cwAbout again edgePoint edgeMiddle shares oldPoint radialSum
     radialTerms radialEdge edgeWeight faceWeight add sub mul div neg le ofBits ofInt

@@ -25,6 +25,7 @@ use Rattle.text_meshes.specs.Within.{AsLong, Within-limits}
 use Rattle.text_meshes.specs.declared.TextBuilt.{TextBuilt}
 use Rattle.text_meshes.specs.declared.TextBuilt.the-variants.{Accepted, NotText, Refused}
 use Rattle.text_meshes.proofs.Theorem.{accepted-within}
+use Rattle.refined_meshes.specs.declared.Edition.the-variants.{First}
 use Rattle.steps.specs.Step.{refinedCounts, withinCeilings, roomFor, Made, whole, notFinite, made, ended, stepBy}
 use Rattle.tables.specs.Counted.{rowsFor, firstRows}
 use Rattle.steps.specs.declared.Stepped.{Stepped}
@@ -81,8 +82,8 @@ step-answer m c w =
     let he = w .few-edges in
     let hf = w .few-faces in
     let room = room-there (refinedCounts c) m (omega arith) (omega arith) (omega arith) (w .as-long) in
-    rw (step-is m c (numbered (c .faces)) zeroTables (w .passes) (numbered-once (c .faces)) room)
-    (ended-answer m (refinedCounts c) zeroTables (made (firstRows c m) c (numbered (c .faces)) (firstRows (refinedCounts c) zeroTables)))
+    rw (step-is First m c (numbered (c .faces)) zeroTables (w .passes) (numbered-once (c .faces)) room)
+    (ended-answer m (refinedCounts c) zeroTables (made First (firstRows c m) c (numbered (c .faces)) (firstRows (refinedCounts c) zeroTables)))
 
 pub two-answers : Two-answers
 two-answers s c a h =

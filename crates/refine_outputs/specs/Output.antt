@@ -4,7 +4,7 @@
 --     pointLine ps            where point 0 is, by the table of positions ps
 --     groundLine ns           the line of a ground, by document 01's numbers of the answer
 --     stepLines c a ps        the lines after a step of a mesh with the counts c, by its answer and the positions that it left
---     numberedStep c m        the step of the mesh with the counts c in the tables m, its faces visited in numbered order
+--     numberedStep c m        the step of the mesh with the counts c in the tables m, in the first edition, its faces visited in numbered order
 --     output s                the whole output
 --     Writing                 how many bytes are written, and the lent bytes afterwards
 --     refine s out            the output at the front of the bytes out that are lent
@@ -22,6 +22,7 @@ use Rattle.text_meshes.specs.TextBuilding.{buildText}
 use Rattle.text_meshes.specs.TextBuilding as text
 use Rattle.text_meshes.specs.declared.TextBuilt.{TextBuilt}
 use Rattle.text_meshes.specs.declared.TextBuilt.the-variants.{Accepted, NotText, Refused}
+use Rattle.refined_meshes.specs.declared.Edition.the-variants.{First}
 use Rattle.steps.specs.Step.{step, StepOutcome}
 use Rattle.steps.specs.Step as steps
 use Rattle.steps.specs.declared.Stepped.{Stepped}
@@ -62,7 +63,7 @@ linesOf c o = stepLines c (o .answer) (o .tables .positions)
 
 unfoldable pub numberedStep : Counts → Mesh → StepOutcome
 unfolding step numbered zeroTables
-numberedStep c m = step m c (numbered (c .faces)) zeroTables
+numberedStep c m = step First m c (numbered (c .faces)) zeroTables
 
 -- by the answer of building, and the tables m that it left
 unfoldable pub outputIf : TextBuilt → Mesh → List ℕ

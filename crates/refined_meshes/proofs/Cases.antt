@@ -1,18 +1,20 @@
 -- The visits computed on the meshes of `proofs/Records.antt`: every word of points, edges and faces and every interval is the Rust's, in
--- numbered order and in others, whatever stood in the scratch tables.
+-- numbered order and in others, whatever stood in the scratch tables. In the second edition each of the cube's joining intervals is 0.5.
 use mathlib.Core.Path.{_≡_, refl}
 use mathlib.Core.List.{[], _∷_}
 use Prim.Native.Nat.{ℕ, _*_}
 use lib.ListN.{replicate}
-use lib.Ieee.{nan, mul, add, ofBits}
+use lib.Ieee.{nan, mul, add, ofBits, binary64}
 use Rattle.tables.specs.Mesh.{Mesh}
 use Rattle.tables.specs.Rows.{over}
 use Rattle.audited_meshes.specs.Walks.{faceWalk}
+use Rattle.refined_meshes.specs.declared.Edition.the-variants.{Second}
 use Rattle.refined_meshes.specs.Turns.{turns, filled}
 use Rattle.refined_meshes.specs.State.{State, putEdge, putPoint, putStart, putFace, copied}
 use Rattle.refined_meshes.specs.Split.{splitEdge, splitWhole}
 use Rattle.refined_meshes.specs.Ring.{putJoin, putFirst, putSecond, putNewFace, putFacePoint}
 use Rattle.refined_meshes.specs.Visits.{refinedRows, visits, visit, visitAlong, splitAll, ringOf, putRing}
+use Rattle.refined_meshes.specs.Settled.{settledSide, settledIntervals, settled, settledRows}
 use Rattle.refined_meshes.proofs.Records.{cube, cubeNumbered, cubeLastToFirst, prism, prismRefined, triangles, trianglesRefined}
 
 -- scratch tables of np, ne and nf rows with other things in them
@@ -43,6 +45,12 @@ cube-numbered : refinedRows cube 8 12 6 (0 ∷ 1 ∷ 2 ∷ 3 ∷ 4 ∷ 5 ∷ [])
 unfolding refinedRows copied over visits visit faceWalk turns filled visitAlong splitAll splitWhole splitEdge ringOf putRing
     putJoin putFirst putSecond putNewFace putFacePoint putEdge putPoint putStart putFace mul add ofBits
 cube-numbered = refl
+
+-- "each of its joining intervals is 0.5" (document 02, §5): 24 of these are the joining edges', 24 the halves'
+cube-published : settledRows Second cube 8 12 6 (0 ∷ 1 ∷ 2 ∷ 3 ∷ 4 ∷ 5 ∷ []) (used 26 48 24) .intervals ≡ replicate 48 (ofBits binary64 0x3fe0000000000000)
+unfolding settledRows settled settledIntervals settledSide refinedRows copied over visits visit faceWalk turns filled visitAlong splitAll
+    splitWhole splitEdge ringOf putRing putJoin putFirst putSecond putNewFace putFacePoint putEdge putPoint putStart putFace mul add ofBits
+cube-published = refl
 
 cube-last-to-first : refinedRows cube 8 12 6 (5 ∷ 4 ∷ 3 ∷ 2 ∷ 1 ∷ 0 ∷ []) (used 26 48 24) ≡ rowsOf cubeLastToFirst 26 48 24
 unfolding refinedRows copied over visits visit faceWalk turns filled visitAlong splitAll splitWhole splitEdge ringOf putRing

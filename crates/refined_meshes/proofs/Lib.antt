@@ -18,6 +18,7 @@ pub mod Runs
 pub mod Renumbered
 pub mod Refines
 pub mod Fits
+pub mod Settled
 pub mod Laws
 pub mod Records
 pub mod Cases

@@ -1,6 +1,6 @@
--- Visits in an order that names each face once make the refinement. Assumes nothing.
+-- Visits in an order that names each face once make the refinement of the first edition. Assumes nothing.
 --     refines-of-arrived        what stands after the last turn is the refinement
---     visits-refine             the claim
+--     first-refines             what the visits leave
 --     visited-points, visited-edges, visited-faces     what the tables held before shows in no row that the visits make
 use mathlib.Core.Path.{_≡_, refl, sym, _∙_, ap}
 use mathlib.Core.Bool.{Bool, true, false}
@@ -26,7 +26,8 @@ use Rattle.audited_meshes.specs.Rows.{place as placeNo, cornerWord, Stands, Hol
 use Rattle.refined_meshes.specs.State.{State, withPositions, edgeOf, copied}
 use Rattle.refined_meshes.specs.Order.{EachOnce, turnIn}
 use Rattle.refined_meshes.specs.Visits.{refinedRows, visits}
-use Rattle.refined_meshes.specs.Refines.{Refines, StartOfOld, VisitsRefine}
+use Rattle.refined_meshes.specs.declared.Edition.the-variants.{First}
+use Rattle.refined_meshes.specs.Refines.{Refines, StartOfOld}
 use Rattle.refined_meshes.specs.Refines as Claims
 use Rattle.refined_meshes.proofs.Places.{dartAt, place, face-dartAt, dartAt-prev, dartAt-zero}
 use Rattle.refined_meshes.proofs.Leads.{when, when-below, when-injective, leads, lead}
@@ -315,10 +316,10 @@ module _
             let l : when c by-turns (face t (flip d)) ≤ when c by-turns (face t d) = ltb-false _ _ (unfold leads in q) in
             rw (q, lt-ltb (turnIn order (face t (flip d) .0)) (turnIn order (face t d .0)) (omega (arith, own, across, other)))
 
-    joint-is : (d : Dart (Row ne)) → joint m c by-turns d ≡ Claims.joint m t c order d
+    joint-is : (d : Dart (Row ne)) → joint m c by-turns d ≡ Claims.joint m t First c order d
     joint-is d = rw (found-is (c .next d), found-is (c .prev d))
 
-    refines-of-arrived : (ps : List Float) → Refines m t c order (withPositions ps s)
+    refines-of-arrived : (ps : List Float) → Refines First m t c order (withPositions ps s)
     unfolding points edges faces
     refines-of-arrived ps =
         record {
@@ -389,9 +390,12 @@ module _
               highest = λ e q. l .latest e q (past e);
             })
 
-pub visits-refine : VisitsRefine
+pub first-refines :
+    (m : Mesh) (np ne nf : ℕ) (h : HoldsClosed m np ne nf) (order : List ℕ) → EachOnce nf order → (u : Mesh)
+    → np + ne + nf ≤ pointRows u → 4 * ne ≤ edgeRows u → 2 * ne ≤ faceRows u
+    → (ps : List Float) → Refines First m (h .mesh) (h .closed) order (withPositions ps (refinedRows m np ne nf order u))
 unfolding refinedRows
-visits-refine m np ne nf h order once u pr er fr ps =
+first-refines m np ne nf h order once u pr er fr ps =
     let r : Rooms m np ne nf u = rooms-of m h order once u pr er fr in
     refines-of-arrived m (h .stands) (h .closed) order once (visits m np ne nf order (copied m np ne nf u))
     (arriving r (h .stands) (h .closed) order once nf (omega arith)) ps

@@ -3,6 +3,7 @@ pub mod State
 pub mod Split
 pub mod Ring
 pub mod Visits
+pub mod Settled
 pub mod Order
 pub mod Refines
 pub mod Fits

@@ -1,10 +1,12 @@
--- What the visits make of a closed mesh: its refinement on kinds (`refined` of `closed_meshes`) under some numbering of the new rows.
+-- What a step of an edition makes of a closed mesh: its refinement on kinds (`refined` of `closed_meshes`) under some numbering of the
+-- new rows.
 --     found m t order d          the interval of d's edge as found on arriving at d's face
---     joint m t c order d        the interval of the joining edge to the midpoint of d's edge
+--     joint m t ed c order d     the interval of the joining edge to the midpoint of d's edge, in the edition ed
 --     Highest                    the highest row of the destination halves that end in an old point
 --     StartOfOld                 what the start edge of an old point is
---     Refines m t c order m'     the tables m' hold the refinement of the closed mesh t, which stands in the tables m
---     VisitsRefine               the claim: visits in an order that names each face once make the refinement
+--     Refines ed m t c order m'  the tables m' hold the refinement, in the edition ed, of the closed mesh t, which stands in the tables m
+--     VisitsRefine               the claim: visits in an order that names each face once, and what the edition settles after them, make
+--                                the refinement
 use mathlib.Core.Path.{_≡_}
 use mathlib.Core.Bool.{cond}
 use mathlib.Core.List.{List}
@@ -18,10 +20,12 @@ use Rattle.closed_meshes.specs.Refinement.{old, mid, facePoint, org, dst, join,
 use Rattle.closed_meshes.specs.Renumbering.{Isomorphism, Touching, Row}
 use Rattle.tables.specs.Mesh.{Mesh, start, mark, dest, interval, faceStart, corner, pointRows, edgeRows, faceRows}
 use Rattle.audited_meshes.specs.Rows.{Stands, HoldsClosed}
+use Rattle.refined_meshes.specs.declared.Edition.{Edition}
+use Rattle.refined_meshes.specs.declared.Edition.the-variants.{First, Second}
 use Rattle.refined_meshes.specs.State.{withPositions}
 use Rattle.refined_meshes.specs.Split.{half}
 use Rattle.refined_meshes.specs.Order.{EachOnce, turnIn}
-use Rattle.refined_meshes.specs.Visits.{refinedRows}
+use Rattle.refined_meshes.specs.Settled.{quarter, settledRows}
 
 module _ (m : Mesh) {np ne nf : ℕ} (t : MeshOver (Row np) (Row ne) (Row nf)) where
   -- It is found halved exactly if the face across comes earlier in the order.
@@ -29,9 +33,10 @@ module _ (m : Mesh) {np ne nf : ℕ} (t : MeshOver (Row np) (Row ne) (Row nf)) w
   found order d =
       cond (ltb (turnIn order (face t (flip d) .0)) (turnIn order (face t d .0))) (half (interval m (edge d .0))) (interval m (edge d .0))
 
-  -- the next plus the previous perimeter interval
-  abbrev pub joint : Closed t → List ℕ → Dart (Row ne) → Float
-  joint c order d = add binary64 (found order (c .next d)) (found order (c .prev d))
+  -- The next plus the previous perimeter interval; or a quarter of their sum, each whole as before the step, whatever the order.
+  abbrev pub joint : Edition → Closed t → List ℕ → Dart (Row ne) → Float
+  joint First c order d = add binary64 (found order (c .next d)) (found order (c .prev d))
+  joint Second c order d = quarter (interval m (edge (c .next d) .0)) (interval m (edge (c .prev d) .0))
 
 -- The start edge w of the old point p is the highest-numbered destination half that ends in it; it is unchanged if none does.
 pub record Highest {np ne nf : ℕ} (t : MeshOver (Row np) (Row ne) (Row nf)) (halfRow : Row ne → ℕ) (p : Row np) (w : ℕ) : Type 0 where
@@ -43,7 +48,7 @@ pub record Highest {np ne nf : ℕ} (t : MeshOver (Row np) (Row ne) (Row nf)) (h
 abbrev pub StartOfOld : {np ne nf : ℕ} → MeshOver (Row np) (Row ne) (Row nf) → (Row ne → ℕ) → Row np → ℕ → ℕ → Type 0
 StartOfOld {np} {ne} t halfRow p before w = (((e : Row ne) → t .dest e ≢ p) × (w ≡ before)) ⊎ Highest t halfRow p w
 
-pub record Refines (m : Mesh) {np ne nf : ℕ} (t : MeshOver (Row np) (Row ne) (Row nf)) (c : Closed t) (order : List ℕ) (m' : Mesh) : Type 0 where
+pub record Refines (ed : Edition) (m : Mesh) {np ne nf : ℕ} (t : MeshOver (Row np) (Row ne) (Row nf)) (c : Closed t) (order : List ℕ) (m' : Mesh) : Type 0 where
   -- The rows of m' are a mesh that is the refinement on kinds, up to their numbering; their start edges touch them.
   pub mesh : MeshOver (Row (np + ne + nf)) (Row (4 * ne)) (Row (2 * ne))
   pub stands : Stands m' mesh
@@ -60,10 +65,10 @@ pub record Refines (m : Mesh) {np ne nf : ℕ} (t : MeshOver (Row np) (Row ne) (
   pub old-mark : (p : Row np) → mark m' (p .0) ≡ mark m (p .0)
   pub mid-mark : (e : Row ne) → mark m' (numbering .points .to (mid e) .0) ≡ 0
   pub centre-mark : (f : Row nf) → mark m' (numbering .points .to (facePoint f) .0) ≡ 0
-  -- Both halves get d times 0.5, and joining edges their intervals by the order.
+  -- Both halves get d times 0.5, and joining edges their intervals by the edition.
   pub origin-interval : (e : Row ne) → interval m' (e .0) ≡ half (interval m (e .0))
   pub destination-interval : (e : Row ne) → interval m' (numbering .edges .to (dst e) .0) ≡ half (interval m (e .0))
-  pub join-interval : (d : Dart (Row ne)) → interval m' (numbering .edges .to (join d) .0) ≡ joint m t c order d
+  pub join-interval : (d : Dart (Row ne)) → interval m' (numbering .edges .to (join d) .0) ≡ joint m t ed c order d
   -- The start edges that the visits leave: a face point's is the joining edge of the last place of its perimeter.
   pub old-start : (p : Row np) → StartOfOld t (λ e. numbering .edges .to (dst e) .0) p (start m (p .0)) (start m' (p .0))
   pub mid-start : (e : Row ne) → start m' (numbering .points .to (mid e) .0) ≡ e .0
@@ -73,6 +78,6 @@ pub record Refines (m : Mesh) {np ne nf : ℕ} (t : MeshOver (Row np) (Row ne) (
 
 abbrev pub VisitsRefine : Type 0
 VisitsRefine =
-    (m : Mesh) (np ne nf : ℕ) (h : HoldsClosed m np ne nf) (order : List ℕ) → EachOnce nf order → (t : Mesh)
+    (ed : Edition) (m : Mesh) (np ne nf : ℕ) (h : HoldsClosed m np ne nf) (order : List ℕ) → EachOnce nf order → (t : Mesh)
     → np + ne + nf ≤ pointRows t → 4 * ne ≤ edgeRows t → 2 * ne ≤ faceRows t
-    → (ps : List Float) → Refines m (h .mesh) (h .closed) order (withPositions ps (refinedRows m np ne nf order t))
+    → (ps : List Float) → Refines ed m (h .mesh) (h .closed) order (withPositions ps (settledRows ed m np ne nf order t))

@@ -19,13 +19,14 @@ use Rattle.closed_meshes.proofs.Isomorphisms.{to-injective, onto}
 use Rattle.audited_meshes.specs.Rows.{place, cornerWord}
 use Rattle.steps.specs.Step.{refinedCounts}
 use Rattle.tables.specs.Counted.{firstRows}
+use Rattle.refined_meshes.specs.declared.Edition.{Edition}
 use Rattle.steps.specs.OneStep.{Refinement}
 use Rattle.runs.specs.Runs.{lent, NamedMesh, stage, NewNames}
 use Rattle.runs.proofs.Readings.{PointsFirst, reading}
 
 module _
-    {start c : Counts} (m m' : Mesh) (n : NamedMesh start (lent m c)) {order : List ℕ}
-    (r : Refinement (firstRows c m) c (n .holds .mesh) (n .holds .closed) order m')
+    {start c : Counts} (m m' : Mesh) (n : NamedMesh start (lent m c)) {ed : Edition} {order : List ℕ}
+    (r : Refinement ed (firstRows c m) c (n .holds .mesh) (n .holds .closed) order m')
   where
     -- the rows of kinds
     unfoldable pub point : NewPoint (Row (c .points)) (Row (c .edges)) (Row (c .faces)) → Row (refinedCounts c .points)

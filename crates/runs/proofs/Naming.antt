@@ -1,16 +1,19 @@
 -- The names that a list of steps makes. Assumes nothing.
+--     EachEdition            what holds of each edition of a list
 --     along                  induction over the steps of a run
 --     Reached s k l n        k steps of closed_meshes lead from the stage s to a mesh with the names n, in the tables l
 --     reached                the names of a run are reached, in as many steps as it has accepted ones
 --     named                  there are names
 --     settled                there is one naming of a run
 use mathlib.Core.Path.{_≡_, refl, sym, _∙_, ap, ap₂, subst, pathJ}
+use mathlib.Core.Bool.{true}
 use mathlib.Core.List.{List, [], _∷_}
 use mathlib.Core.Logic.{_⊎_, inl, inr}
 use mathlib.Core.Option.{some}
 use Prim.Native.Nat.{ℕ, suc, _+_}
 use native.Mathlib.Nat.{add-zero}
 use native.Mathlib.Omega.{arith}
+use lib.Dec.{T}
 use Rattle.tables.specs.Mesh.{Mesh}
 use Rattle.tables.specs.declared.Counts.{Counts}
 use Rattle.closed_meshes.specs.Renumbering.{Row}
@@ -20,12 +23,13 @@ use Rattle.closed_meshes.specs.Runs.{StepsTo, then}
 use Rattle.closed_meshes.proofs.Counting.{row-path}
 use Rattle.closed_meshes.proofs.Isomorphisms.{onto}
 use Rattle.audited_meshes.specs.Rows.{HoldsClosed}
+use Rattle.refined_meshes.specs.declared.Edition.{Edition}
 use Rattle.steps.specs.declared.Stepped.{Stepped}
 use Rattle.steps.specs.declared.Stepped.the-variants.{Refined, NotClosed, NotEachFaceOnce, NoRoom, NotFinite}
 use Rattle.steps.specs.Step.{stepGround, refinedCounts}
 use Rattle.tables.specs.Counted.{firstRows}
 use Rattle.steps.specs.OneStep.{Refinement, Binary64}
-use Rattle.runs.specs.Runs.{Lent, Handed, outcome, after, run, oneMore, accepted, lent, NamedMesh, stage, NewNames, SameNames, Renamed, Naming, done, further}
+use Rattle.runs.specs.Runs.{Lent, Handed, outcome, after, run, oneMore, accepted, inEdition, editions, lent, NamedMesh, stage, NewNames, SameNames, Renamed, Naming, done, further}
 use Rattle.runs.proofs.Names.{point, edge-no, face-no, point-name, edge-name, face-name, step-of-names, named-after, new-names}
 use Rattle.runs.proofs.Steps.{answered, refused-number, same-names-of, renamed-same, after-refused, made-of, after-accepted, numbers-after}
 
@@ -75,20 +79,50 @@ add-accepted NotEachFaceOnce k a = refl
 add-accepted NoRoom k a = refl
 add-accepted NotFinite k a = refl
 
--- What holds in the beginning, is kept by the same names and is made by new names holds of the names that a run makes.
+-- What holds of each edition of a list.
+unfoldable pub EachEdition : (Edition → Type 0) → List Edition → Type 0
+EachEdition Q [] = T true
+EachEdition Q (ed ∷ eds) = Q ed × EachEdition Q eds
+
+pub each-edition : (Q : Edition → Type 0) → ((ed : Edition) → Q ed) → (eds : List Edition) → EachEdition Q eds
+unfolding EachEdition
+each-edition Q h [] = tt
+each-edition Q h (ed ∷ eds) = (h ed, each-edition Q h eds)
+
+module _ (Q : Edition → Type 0) (ed : Edition) (eds : List Edition) where
+  -- It holds of the edition of an accepted step,
+  this-edition : (g : Stepped) (c : Counts) → g ≡ Refined c → EachEdition Q (inEdition g ed eds) → Q ed
+  unfolding EachEdition
+  this-edition (Refined c') c e q = q .0
+  this-edition NotClosed c e q = absurd (let z : _≡_ {A = ℕ} 0 1 = cc in omega arith)
+  this-edition NotEachFaceOnce c e q = absurd (let z : _≡_ {A = ℕ} 0 1 = cc in omega arith)
+  this-edition NoRoom c e q = absurd (let z : _≡_ {A = ℕ} 0 1 = cc in omega arith)
+  this-edition NotFinite c e q = absurd (let z : _≡_ {A = ℕ} 0 1 = cc in omega arith)
+
+  -- and of those after it.
+  later-editions : (g : Stepped) → EachEdition Q (inEdition g ed eds) → EachEdition Q eds
+  unfolding EachEdition
+  later-editions (Refined c) q = q .1
+  later-editions NotClosed q = q
+  later-editions NotEachFaceOnce q = q
+  later-editions NoRoom q = q
+  later-editions NotFinite q = q
+
+-- What holds in the beginning, is kept by the same names and is made by new names holds of the names that a run makes. Q is what is known
+-- of the editions of the accepted steps.
 module _
-    {first : Counts} (P : ℕ → (l : Lent) → NamedMesh first l → Type 1)
+    {first : Counts} (Q : Edition → Type 0) (P : ℕ → (l : Lent) → NamedMesh first l → Type 1)
     (same : (k : ℕ) (l : Lent) (n : NamedMesh first l) → P k l n → (n' : NamedMesh first l) → SameNames n n' → P k l n')
     (new :
-    (k : ℕ) (l : Lent) (n : NamedMesh first l) → P k l n → (order : List ℕ) (m' : Mesh) →
+    (k : ℕ) (l : Lent) (n : NamedMesh first l) → P k l n → (ed : Edition) → Q ed → (order : List ℕ) (m' : Mesh) →
     ((h : HoldsClosed (l .tables) (l .counts .points) (l .counts .edges) (l .counts .faces)) →
-    Refinement (firstRows (l .counts) (l .tables)) (l .counts) (h .mesh) (h .closed) order m') →
+    Refinement ed (firstRows (l .counts) (l .tables)) (l .counts) (h .mesh) (h .closed) order m') →
     (n' : NamedMesh first (lent m' (refinedCounts (l .counts)))) → NewNames (suc k) n n' → P (suc k) (lent m' (refinedCounts (l .counts))) n')
   where
     along-step :
         (k : ℕ) (l : Lent) (n : NamedMesh first l) → P k l n → Binary64 (l .counts) (l .tables) → (h : Handed) (n' : NamedMesh first (after l h)) →
-        Renamed k (outcome l h .answer) n n' → P (oneMore (outcome l h .answer) k) (after l h) n'
-    along-step k l n r b h n' a = go (answered (outcome l h .answer))
+        ((c : Counts) → outcome l h .answer ≡ Refined c → Q (h .edition)) → Renamed k (outcome l h .answer) n n' → P (oneMore (outcome l h .answer) k) (after l h) n'
+    along-step k l n r b h n' known a = go (answered (outcome l h .answer))
       where
         go :
             ((c : Counts) × (outcome l h .answer ≡ Refined c)) ⊎ ((x : ℕ) × (stepGround (outcome l h .answer) ≡ some x)) →
@@ -96,7 +130,7 @@ module _
         go (inl (c, e)) =
             subst (λ g. P (oneMore g k) (after l h) n') (sym e)
             (pathJ (λ y q. (n' : NamedMesh first y) → NewNames (suc k) n n' → P (suc k) y n')
-            (new k l n r (h .order) (outcome l h .tables) (λ H. made-of l h b H c e .refinement))
+            (new k l n r (h .edition) (known c e) (h .order) (outcome l h .tables) (λ H. made-of l h b H c e .refinement))
             (sym (after-accepted l h b (n .holds) c e)) n' (subst (λ g. Renamed k g n n') e a))
         go (inr (x, q)) =
             subst (λ j. P j (after l h) n') (sym (refused-number (outcome l h .answer) x k q))
@@ -105,12 +139,13 @@ module _
 
     pub along :
         {k : ℕ} {l l' : Lent} {n : NamedMesh first l} {hs : List Handed} {n' : NamedMesh first l'} → Naming k l n hs l' n' →
-        Binary64 (l .counts) (l .tables) → P k l n → P (k + accepted l hs) l' n'
-    unfolding accepted
-    along {k} {l} {l'} {n} {hs} {n'} done b r = subst (λ j. P j l n) (sym (add-zero k)) r
-    along (further {k} {l} {l''} {n} {h} {hs} {n'} {n''} a d) b r =
+        Binary64 (l .counts) (l .tables) → EachEdition Q (editions l hs) → P k l n → P (k + accepted l hs) l' n'
+    unfolding accepted editions
+    along {k} {l} {l'} {n} {hs} {n'} done b q r = subst (λ j. P j l n) (sym (add-zero k)) r
+    along (further {k} {l} {l''} {n} {h} {hs} {n'} {n''} a d) b q r =
         subst (λ j. P j l'' n'') (add-accepted (outcome l h .answer) k (accepted (after l h) hs))
-        (along d (numbers-after l h b (n .holds)) (along-step k l n r b h n' a))
+        (along d (numbers-after l h b (n .holds)) (later-editions Q (h .edition) (editions (after l h) hs) (outcome l h .answer) q)
+        (along-step k l n r b h n' (λ c e. this-edition Q (h .edition) (editions (after l h) hs) (outcome l h .answer) c e q) a))
 
 module _ {first : Counts} (s : Stage (Row (first .points)) (Row (first .edges)) (Row (first .faces))) where
   pub record Reached (k : ℕ) (l : Lent) (n : NamedMesh first l) : Type 1 where
@@ -125,13 +160,15 @@ module _ {first : Counts} (s : Stage (Row (first .points)) (Row (first .edges)) 
   pub reached :
       {k : ℕ} {l l' : Lent} {n : NamedMesh first l} {hs : List Handed} {n' : NamedMesh first l'} → Naming k l n hs l' n' →
       Binary64 (l .counts) (l .tables) → Reached k l n → Reached (k + accepted l hs) l' n'
-  reached =
-      along Reached reached-same λ k l n r order m' made n' a.
+  reached {k} {l} {l'} {n} {hs} {n'} d b =
+      along (λ ed. T true) Reached reached-same
+      (λ k l n r ed q order m' made n' a.
       record {
         mesh = n';
         same = same-names-refl n';
         run = then (r .run) (step-of-names (l .tables) m' (r .mesh) (made (r .mesh .holds)) (suc k) n' (new-names-same (r .same) a));
-      }
+      })
+      d b (each-edition (λ ed. T true) (λ ed. tt) (editions l hs))
 
 module _ {first : Counts} where
   -- There are names after a step,
@@ -168,8 +205,8 @@ module _ {first : Counts} where
 
 -- Names by the rules from the same names are the same.
 module _
-    {first c : Counts} (m m' : Mesh) (n : NamedMesh first (lent m c)) {order : List ℕ}
-    (r : Refinement (firstRows c m) c (n .holds .mesh) (n .holds .closed) order m') (k : ℕ)
+    {first c : Counts} (m m' : Mesh) (n : NamedMesh first (lent m c)) {ed : Edition} {order : List ℕ}
+    (r : Refinement ed (firstRows c m) c (n .holds .mesh) (n .holds .closed) order m') (k : ℕ)
   where
     new-names-settled :
         (o o' : NamedMesh first (lent m' (refinedCounts c))) → NewNames k n o → NewNames k n o' → SameNames o o'

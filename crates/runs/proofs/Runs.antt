@@ -1,8 +1,9 @@
 -- Demand 3. The names of each run are reached by steps on kinds, and two runs of as many steps match
 -- whatever their numberings. Assumes nothing.
 use mathlib.Core.Path.{_≡_, refl, sym, _∙_, ap, subst}
-use mathlib.Core.List.{List}
-use Prim.Native.Nat.{_≤_, _<_}
+use mathlib.Core.List.{List, [], _∷_}
+use Prim.Native.Nat.{ℕ, suc, _≤_, _<_}
+use lib.ListN.{length, getD}
 use native.Mathlib.Nat.{zero-add}
 use native.Mathlib.Omega.{arith}
 use native.Mathlib.Decide.{ℕ-discrete}
@@ -21,12 +22,16 @@ use Rattle.closed_meshes.proofs.TwoRuns.{shared-of-matching}
 use Rattle.audited_meshes.specs.Rows.{HoldsClosed}
 use Rattle.audited_meshes.proofs.Holds.{audited-of-closed, audit-is-closed}
 use Rattle.tables.specs.Counted.{firstRows}
+use Rattle.refined_meshes.specs.declared.Edition.{Edition}
+use Rattle.refined_meshes.specs.declared.Edition.the-variants.{First}
+use Rattle.steps.specs.declared.Stepped.{Stepped}
+use Rattle.steps.specs.declared.Stepped.the-variants.{Refined, NotClosed, NotEachFaceOnce, NoRoom, NotFinite}
 use Rattle.steps.specs.OneStep.{Binary64}
 use Rattle.steps.proofs.Rows.{SameRows, same-of-firstRows, room-of-firstRows, room-of-holds, holds-same, position-same}
-use Rattle.runs.specs.Runs.{Lent, Handed, run, accepted, lent, NamedMesh, stage, SameNames, NamedRun, TwoRuns, Demand3}
+use Rattle.runs.specs.Runs.{Lent, Handed, outcome, after, run, oneMore, accepted, inEdition, editions, lent, NamedMesh, stage, SameNames, NamedRun, TwoRuns, Demand3}
 use Rattle.runs.proofs.Readings.{matching-same, first-reading, first-points-first}
 use Rattle.runs.proofs.Steps.{each-step}
-use Rattle.runs.proofs.Naming.{same-names-refl, same-names-sym, same-names-trans, Reached, reached, named, settled}
+use Rattle.runs.proofs.Naming.{same-names-refl, same-names-sym, same-names-trans, EachEdition, Reached, reached, named, settled}
 use Rattle.runs.proofs.Positions.{Positions, afterOne, positions}
 
 -- Matches compose.
@@ -117,60 +122,97 @@ module _
           (matches-end nb n')))
           (end-differs nb n')
 
--- The positions of a run, by names.
-module _ {c : Counts} {m : Mesh} (numbers : Binary64 c m) {hs : List Handed} (n : NamedRun c m hs) where
-  positions-end : Positions c m (n .begun) (n .given) (accepted (lent m c) hs) (run (lent m c) hs) (n .ended)
-  positions-end =
-      subst (λ k. Positions c m (n .begun) (n .given) k (run (lent m c) hs) (n .ended)) (zero-add (accepted (lent m c) hs))
-      (positions c m (n .begun) (n .given) (n .naming) numbers
-      (record { none-accepted = λ z. (refl, same-names-refl (n .begun)); one-accepted = λ z. absurd (omega arith) }))
+-- There are as many editions as accepted steps.
+editions-counted : (l : Lent) (hs : List Handed) → length (editions l hs) ≡ accepted l hs
+unfolding editions accepted
+editions-counted l [] = refl
+editions-counted l (h ∷ hs) = go (outcome l h .answer) (editions-counted (after l h) hs)
+  where
+    go : (g : Stepped) → length (editions (after l h) hs) ≡ accepted (after l h) hs →
+        length (inEdition g (h .edition) (editions (after l h) hs)) ≡ oneMore g (accepted (after l h) hs)
+    go (Refined c) e = ap suc e
+    go NotClosed e = e
+    go NotEachFaceOnce e = e
+    go NoRoom e = e
+    go NotFinite e = e
 
-  -- With no accepted step a point is the point of its row.
-  module _ (z : accepted (lent m c) hs ≡ 0) (p : Row (run (lent m c) hs .counts .points)) where
-    first-row : Row (c .points)
-    first-row = (p .0, subst (λ x. p .0 < x .counts .points) (sym (positions-end .none-accepted z .0)) (p .1))
+-- the edition of the one accepted step
+abbrev oneEdition : List Edition → Edition
+oneEdition eds = getD eds 0 First
 
-    first-name : n .ended .names .point p ≡ givenPoint first-row
-    unfolding first-row
-    first-name = positions-end .none-accepted z .1 .points first-row p refl ∙ ap (λ x. x .point first-row) (n .given)
+only-one : (eds : List Edition) → length eds ≤ 1 → EachEdition (λ ed. ed ≡ oneEdition eds) eds
+unfolding EachEdition
+only-one [] l = tt
+only-one (ed ∷ []) l = (refl, tt)
+only-one (ed ∷ d ∷ eds) l = absurd (omega arith)
 
-    first-position : positionAt (run (lent m c) hs .tables .positions) (p .0) ≡ positionAt (m .positions) (first-row .0)
-    unfolding first-row
-    first-position = ap (λ x. positionAt (x .tables .positions) (p .0)) (sym (positions-end .none-accepted z .0))
+-- The positions of a run with at most one accepted step, by names.
+module _
+    {c : Counts} {m : Mesh} (numbers : Binary64 c m) {hs : List Handed} (n : NamedRun c m hs) (few : accepted (lent m c) hs ≤ 1)
+  where
+    abbrev one : Edition
+    one = oneEdition (editions (lent m c) hs)
+
+    positions-end : Positions one c m (n .begun) (n .given) (accepted (lent m c) hs) (run (lent m c) hs) (n .ended)
+    positions-end =
+        subst (λ k. Positions one c m (n .begun) (n .given) k (run (lent m c) hs) (n .ended)) (zero-add (accepted (lent m c) hs))
+        (positions one c m (n .begun) (n .given) (n .naming) numbers
+        (only-one (editions (lent m c) hs) (omega (arith, editions-counted (lent m c) hs)))
+        (record { none-accepted = λ z. (refl, same-names-refl (n .begun)); one-accepted = λ z. absurd (omega arith) }))
+
+    -- With no accepted step a point is the point of its row.
+    module _ (z : accepted (lent m c) hs ≡ 0) (p : Row (run (lent m c) hs .counts .points)) where
+      first-row : Row (c .points)
+      first-row = (p .0, subst (λ x. p .0 < x .counts .points) (sym (positions-end .none-accepted z .0)) (p .1))
+
+      first-name : n .ended .names .point p ≡ givenPoint first-row
+      unfolding first-row
+      first-name = positions-end .none-accepted z .1 .points first-row p refl ∙ ap (λ x. x .point first-row) (n .given)
+
+      first-position : positionAt (run (lent m c) hs .tables .positions) (p .0) ≡ positionAt (m .positions) (first-row .0)
+      unfolding first-row
+      first-position = ap (λ x. positionAt (x .tables .positions) (p .0)) (sym (positions-end .none-accepted z .0))
 
 module _
     {c : Counts} {a b : Mesh} (e : firstRows c a ≡ firstRows c b) (na : Binary64 c a) (nb : Binary64 c b) {hsA hsB : List Handed}
-    (n : NamedRun c a hsA) (n' : NamedRun c b hsB) (k : accepted (lent a c) hsA ≡ accepted (lent b c) hsB) (p : Row (run (lent a c) hsA .counts .points))
-    (p' : Row (run (lent b c) hsB .counts .points)) (q : n .ended .names .point p ≡ n' .ended .names .point p')
+    (n : NamedRun c a hsA) (n' : NamedRun c b hsB) (same : editions (lent a c) hsA ≡ editions (lent b c) hsB) (few : accepted (lent a c) hsA ≤ 1)
+    (p : Row (run (lent a c) hsA .counts .points)) (p' : Row (run (lent b c) hsB .counts .points))
+    (q : n .ended .names .point p ≡ n' .ended .names .point p')
   where
+    -- as many steps are accepted
+    k : accepted (lent a c) hsA ≡ accepted (lent b c) hsB
+    k = sym (editions-counted (lent a c) hsA) ∙ ap length same ∙ editions-counted (lent b c) hsB
+
+    few' : accepted (lent b c) hsB ≤ 1
+    few' = subst (λ j. j ≤ 1) k few
+
     -- no step is accepted
     unmoved :
         accepted (lent a c) hsA ≡ 0 →
         positionAt (run (lent a c) hsA .tables .positions) (p .0) ≡ positionAt (run (lent b c) hsB .tables .positions) (p' .0)
     unmoved z =
-        let r = first-row na n z p in
-        let r' = first-row nb n' (sym k ∙ z) p' in
-        let g : givenPoint r ≡ givenPoint r' = sym (first-name na n z p) ∙ q ∙ first-name nb n' (sym k ∙ z) p' in
+        let r = first-row na n few z p in
+        let r' = first-row nb n' few' (sym k ∙ z) p' in
+        let g : givenPoint r ≡ givenPoint r' = sym (first-name na n few z p) ∙ q ∙ first-name nb n' few' (sym k ∙ z) p' in
         let i : r ≡ r' = cc in
-        first-position na n z p
+        first-position na n few z p
         ∙ sym (position-same (same-of-firstRows c a b e) (r .0) (r .1))
         ∙ ap (λ x. positionAt (b .positions) (x .0)) i
-        ∙ sym (first-position nb n' (sym k ∙ z) p')
+        ∙ sym (first-position nb n' few' (sym k ∙ z) p')
 
     -- one step is accepted
     moved :
         accepted (lent a c) hsA ≡ 1 →
         positionAt (run (lent a c) hsA .tables .positions) (p .0) ≡ positionAt (run (lent b c) hsB .tables .positions) (p' .0)
     moved z =
-        positions-end na n .one-accepted z p
-        ∙ ap (afterOne (firstRows c a) c) q
-        ∙ ap (λ x. afterOne x c (n' .ended .names .point p')) e
-        ∙ sym (positions-end nb n' .one-accepted (sym k ∙ z) p')
+        positions-end na n few .one-accepted z p
+        ∙ ap (afterOne (one na n few) (firstRows c a) c) q
+        ∙ ap (λ x. afterOne (one na n few) x c (n' .ended .names .point p')) e
+        ∙ ap (λ x. afterOne (oneEdition x) (firstRows c b) c (n' .ended .names .point p')) same
+        ∙ sym (positions-end nb n' few' .one-accepted (sym k ∙ z) p')
 
-    positions-agree :
-        accepted (lent a c) hsA ≤ 1 →
-        positionAt (run (lent a c) hsA .tables .positions) (p .0) ≡ positionAt (run (lent b c) hsB .tables .positions) (p' .0)
-    positions-agree l = go (ℕ-discrete (accepted (lent a c) hsA) 0)
+    positions-agree : positionAt (run (lent a c) hsA .tables .positions) (p .0) ≡ positionAt (run (lent b c) hsB .tables .positions) (p' .0)
+    positions-agree = go (ℕ-discrete (accepted (lent a c) hsA) 0)
       where
         go :
             Dec (accepted (lent a c) hsA ≡ 0) →
@@ -212,7 +254,7 @@ two-runs c a b h na e hsA hsB =
       apart-A = λ n. end-differs na n;
       apart-B = λ n. end-differs nb n;
       shared = λ k n n'. runs-shared s na nb n n' k;
-      positions = λ k l n n' p p' q. positions-agree e na nb n n' k p p' q l;
+      positions = λ same few n n' p p' q. positions-agree e na nb n n' same few p p' q;
     }
 
 pub theorem : Demand3

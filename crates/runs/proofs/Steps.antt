@@ -65,14 +65,14 @@ module _ {first : Counts} {l l' : Lent} (n : NamedMesh first l) (n' : NamedMesh 
 module _ (l : Lent) (h : Handed) where
   pub after-refused : (x : ℕ) → stepGround (outcome l h .answer) ≡ some x → after l h ≡ l
   after-refused x q =
-      let t = untouched (l .tables) (l .counts) (h .order) (h .scratch) x q .tables in
+      let t = untouched (h .edition) (l .tables) (l .counts) (h .order) (h .scratch) x q .tables in
       let c = refused-counts (outcome l h .answer) x (l .counts) q in
       ap₂ lent t c
 
 module _ (l : Lent) (h : Handed) (numbers : Binary64 (l .counts) (l .tables)) where
   module _ (H : HoldsClosed (l .tables) (l .counts .points) (l .counts .edges) (l .counts .faces)) (c : Counts) (e : outcome l h .answer ≡ Refined c) where
-    pub made-of : Accepted (l .tables) (l .counts) (h .order) (h .scratch) H c
-    made-of = one-step (l .tables) (l .counts) (h .order) (h .scratch) H numbers c e
+    pub made-of : Accepted (h .edition) (l .tables) (l .counts) (h .order) (h .scratch) H c
+    made-of = one-step (h .edition) (l .tables) (l .counts) (h .order) (h .scratch) H numbers c e
 
     counts-accepted : after l h .counts ≡ refinedCounts (l .counts)
     counts-accepted = ap (λ g. countsAfter g (l .counts)) e ∙ made-of .counts
@@ -80,9 +80,9 @@ module _ (l : Lent) (h : Handed) (numbers : Binary64 (l .counts) (l .tables)) wh
     pub after-accepted : after l h ≡ lent (outcome l h .tables) (refinedCounts (l .counts))
     after-accepted = ap (lent (outcome l h .tables)) counts-accepted
 
-    in-order : made (firstRows (l .counts) (l .tables)) (l .counts) (h .order) (firstRows c (h .scratch)) ≡ whole (firstRows c (after l h .tables))
+    in-order : made (h .edition) (firstRows (l .counts) (l .tables)) (l .counts) (h .order) (firstRows c (h .scratch)) ≡ whole (firstRows c (after l h .tables))
     in-order =
-        subst (λ c. made (firstRows (l .counts) (l .tables)) (l .counts) (h .order) (firstRows c (h .scratch)) ≡ whole (firstRows c (after l h .tables)))
+        subst (λ c. made (h .edition) (firstRows (l .counts) (l .tables)) (l .counts) (h .order) (firstRows c (h .scratch)) ≡ whole (firstRows c (after l h .tables)))
         (sym (made-of .counts)) (made-of .in-order)
 
   module _ (H : HoldsClosed (l .tables) (l .counts .points) (l .counts .edges) (l .counts .faces)) where

@@ -1,13 +1,14 @@
--- Demand 3: two runs A and B of refining steps from one accepted mesh, A in numbered order, B in any orders. It is a single claim
--- about whole lists of steps, refused steps included.
+-- Demand 3: two runs A and B of refining steps from one accepted mesh, A in numbered order, B in any orders, each step of either edition
+-- (document 02, §5). It is a single claim about whole lists of steps, refused steps included.
 --     Lent                     tables, and the counts of the mesh in them
---     Handed                   what a step is handed anew: an order and scratch tables, of any content and lengths
+--     Handed                   what a step is handed anew: an edition, and an order and scratch tables, of any content and lengths
 --     outcome l h              what the step answers and leaves
 --     countsAfter g c          the counts after a step that answers g: a refused one leaves the counts c
 --     after l h                the tables and counts that a step leaves
 --     run l hs                 the tables and counts that a list of steps leaves
 --     oneMore g k              k, and one more if the step that answers g is accepted
 --     accepted l hs            how many steps of a list are accepted
+--     editions l hs            the editions of the steps of a list that are accepted
 --     numbered n               the order 0, 1, .., n - 1
 --     NumberedOrder l hs       every step of hs that is accepted is handed the numbered order; a refused one may be handed any
 --     NamedMesh first l        the closed mesh in the tables, and a name for each of its rows; the first mesh has the counts first
@@ -37,6 +38,7 @@ use Rattle.closed_meshes.specs.Names.{Names, midpointOf, facePointOf, destinati
 use Rattle.closed_meshes.specs.Shared.{Stage, Shared, NamesDiffer}
 use Rattle.audited_meshes.specs.Audit.{audit}
 use Rattle.audited_meshes.specs.Rows.{HoldsClosed, place}
+use Rattle.refined_meshes.specs.declared.Edition.{Edition}
 use Rattle.steps.specs.declared.Stepped.{Stepped}
 use Rattle.steps.specs.declared.Stepped.the-variants.{Refined, NotClosed, NotEachFaceOnce, NoRoom, NotFinite}
 use Rattle.steps.specs.Step.{stepGround, refinedCounts, whole, made, StepOutcome, step}
@@ -50,11 +52,12 @@ pub record Lent : Type 0 where
   pub counts : Counts
 
 pub record Handed : Type 0 where
+  pub edition : Edition
   pub order : List ℕ
   pub scratch : Mesh
 
 abbrev pub outcome : Lent → Handed → StepOutcome
-outcome l h = step (l .tables) (l .counts) (h .order) (h .scratch)
+outcome l h = step (h .edition) (l .tables) (l .counts) (h .order) (h .scratch)
 
 abbrev pub countsAfter : Stepped → Counts → Counts
 countsAfter (Refined c') c = c'
@@ -80,6 +83,17 @@ oneMore NotFinite k = k
 unfoldable pub accepted : Lent → List Handed → ℕ
 accepted l [] = 0
 accepted l (h ∷ hs) = oneMore (outcome l h .answer) (accepted (after l h) hs)
+
+abbrev pub inEdition : Stepped → Edition → List Edition → List Edition
+inEdition (Refined c) ed eds = ed ∷ eds
+inEdition NotClosed ed eds = eds
+inEdition NotEachFaceOnce ed eds = eds
+inEdition NoRoom ed eds = eds
+inEdition NotFinite ed eds = eds
+
+unfoldable pub editions : Lent → List Handed → List Edition
+editions l [] = []
+editions l (h ∷ hs) = inEdition (outcome l h .answer) (h .edition) (editions (after l h) hs)
 
 unfoldable pub numbered : ℕ → List ℕ
 numbered zero = []
@@ -168,17 +182,17 @@ module _ {first : Counts} where
 pub record StepClaim (l : Lent) (h : Handed) : Type 0 where
   -- After the step the mesh is closed.
   pub closed : audit (after l h .tables) (after l h .counts .points) (after l h .counts .edges) (after l h .counts .faces) ≡ true
-  -- An accepted step takes V, E, F to V + E + F, 4 E, 2 E, and what it leaves is the refinement in the order handed in.
+  -- An accepted step takes V, E, F to V + E + F, 4 E, 2 E, and what it leaves is its edition's refinement in the order handed in.
   pub counted : (c : Counts) → outcome l h .answer ≡ Refined c → after l h .counts ≡ refinedCounts (l .counts)
   pub refined :
       (c : Counts) → outcome l h .answer ≡ Refined c →
-      made (firstRows (l .counts) (l .tables)) (l .counts) (h .order) (firstRows c (h .scratch))
+      made (h .edition) (firstRows (l .counts) (l .tables)) (l .counts) (h .order) (firstRows c (h .scratch))
       ≡ whole (firstRows c (after l h .tables))
   -- That is the refinement on kinds, with its marks, intervals and start edges, and every position is its rule's answer.
   pub on-kinds :
       (c : Counts) → outcome l h .answer ≡ Refined c →
       (n : HoldsClosed (l .tables) (l .counts .points) (l .counts .edges) (l .counts .faces)) →
-      Refinement (firstRows (l .counts) (l .tables)) (l .counts) (n .mesh) (n .closed) (h .order) (after l h .tables)
+      Refinement (h .edition) (firstRows (l .counts) (l .tables)) (l .counts) (n .mesh) (n .closed) (h .order) (after l h .tables)
   -- A refused step changes nothing.
   pub refused : (g : ℕ) → stepGround (outcome l h .answer) ≡ some g → after l h ≡ l
 
@@ -199,8 +213,8 @@ pub record NamedRun (c : Counts) (m : Mesh) (hs : List Handed) : Type 0 where
 
 -- Two runs, of the steps hsA from the tables a and of the steps hsB from the tables b, the mesh of the counts c in both.
 pub record TwoRuns (c : Counts) (a b : Mesh) (hsA hsB : List Handed) : Type 0 where
-  -- After each step the mesh is closed; each accepted step is the refinement in the order handed in, each refused one changes
-  -- nothing.
+  -- After each step the mesh is closed; each accepted step is its edition's refinement in the order handed in, each refused one
+  -- changes nothing.
   pub steps-A : EachStep (lent a c) hsA
   pub steps-B : EachStep (lent b c) hsB
   -- There are names, and they are settled.
@@ -215,15 +229,15 @@ pub record TwoRuns (c : Counts) (a b : Mesh) (hsA hsB : List Handed) : Type 0 wh
   pub shared :
       accepted (lent a c) hsA ≡ accepted (lent b c) hsB → (n : NamedRun c a hsA) (n' : NamedRun c b hsB) →
       Shared (stage (n .ended)) (stage (n' .ended))
-  -- With at most one accepted step every position agrees too, bit for bit.
+  -- With at most one accepted step, which A and B have in the same edition, every position agrees too, bit for bit.
   pub positions :
-      accepted (lent a c) hsA ≡ accepted (lent b c) hsB → accepted (lent a c) hsA ≤ 1 → (n : NamedRun c a hsA) (n' : NamedRun c b hsB) →
+      editions (lent a c) hsA ≡ editions (lent b c) hsB → accepted (lent a c) hsA ≤ 1 → (n : NamedRun c a hsA) (n' : NamedRun c b hsB) →
       (p : Row (run (lent a c) hsA .counts .points)) (p' : Row (run (lent b c) hsB .counts .points)) →
       n .ended .names .point p ≡ n' .ended .names .point p' →
       positionAt (run (lent a c) hsA .tables .positions) (p .0) ≡ positionAt (run (lent b c) hsB .tables .positions) (p' .0)
 
 -- One accepted mesh, of binary64 numbers, stands in tables of any lengths, those of A and those of B. The accepted steps of A are in
--- numbered order, its refused ones in any; B is handed any orders. Both are handed any scratch tables.
+-- numbered order, its refused ones in any; B is handed any orders. Both are handed any scratch tables, and an edition at each step.
 abbrev pub Demand3 : Type 0
 Demand3 =
     (c : Counts) (a b : Mesh) → audit a (c .points) (c .edges) (c .faces) ≡ true → Binary64 c a → firstRows c a ≡ firstRows c b →

@@ -12,12 +12,10 @@ use Rattle.built_meshes.specs.Building.{BuildOutcome}
 use Rattle.built_meshes.specs.declared.Built.{Built}
 use Rattle.text_meshes.specs.TextBuilding.{TextOutcome, textNumbers}
 use Rattle.text_meshes.specs.declared.TextBuilt.{TextBuilt}
-use Rattle.steps.specs.Step.{StepOutcome, stepNumbers, step}
-use Rattle.steps.specs.declared.Stepped.{Stepped}
 use Rattle.crossings.specs.Crossings as crossings
 use Rattle.crossings.specs.declared.Crossing.{Crossing}
-use Rattle.station_answers.specs.Answers.{countsIn, answerOf, countsWritten, edgeAfter}
-use Rattle.station.specs.Station.{BuildingTold, built, textBuilt, audited, StepTold, stepped, Finding, found}
+use Rattle.station_answers.specs.Answers.{answerOf, countsWritten, edgeAfter}
+use Rattle.station.specs.Station.{BuildingTold, built, textBuilt, audited, Finding, found}
 
 -- the outcome of building from lists, told with the number n and the counts ys
 pub built-told : (xs : List ℕ) {a : Built} {m : Mesh} {o : BuildOutcome} {ys : List ℕ} {n : ℕ}
@@ -38,13 +36,6 @@ module _ (m : Mesh) {k c : Counts} (e : k ≡ c) where
 
   pub audited-open : audit m (k .points) (k .edges) (k .faces) ≡ false → 30 ≡ audited m c
   audited-open h = rw (sym e, h)
-
--- the outcome of the step, from the counts k as the code loaded them
-pub step-told : (xs : List ℕ) {k : Counts} (m : Mesh) {m' : Mesh} (t : Mesh) {t' : Mesh} (order : List ℕ) {ys : List ℕ} {a : Stepped}
-    {n : ℕ} → k ≡ countsIn xs → _≡_ {A = StepOutcome} (record { answer = a; tables = m'; scratch = t' }) (step m k order t)
-    → n ≡ answerOf (stepNumbers a) → ys ≡ countsWritten xs (stepNumbers a)
-    → _≡_ {A = StepTold} (record { answer = n; counts = ys; tables = m'; scratch = t' }) (stepped xs (step m (countsIn xs) order t))
-step-told xs m t order p e n q = rw (sym p, sym e, n, q)
 
 -- the answer of the depth finder, from the counts k as the code loaded them
 pub crossing-told : (xs : List ℕ) (m : Mesh) {k : Counts} (c : Counts) (d : Float) {ys : List ℕ} {a : Crossing} {n : ℕ} → k ≡ c

@@ -3,8 +3,6 @@
 --     built xs o              the outcome o of building from lists, if the array of counts was xs
 --     textBuilt xs o          the outcome o of building from a text
 --     audited m c             0 if the tables m are a closed mesh with the counts c, else 30
---     StepTold                the answer of a step, the array of counts, the tables and the scratch tables afterwards
---     stepped xs o            the outcome o of a step
 --     Finding                 the answer of the depth finder, and the array of one edge afterwards
 --     found xs r              the answer r of the depth finder, if the array of one edge was xs
 --     libraryVersion          the version of the library: 1 for document 01, and one more for each request of document 02 that is in it
@@ -17,7 +15,6 @@ use Rattle.audited_meshes.specs.Audit.{audit}
 use Rattle.built_meshes.specs.Answers.{builtNumbers}
 use Rattle.built_meshes.specs.Building as building
 use Rattle.text_meshes.specs.TextBuilding as text
-use Rattle.steps.specs.Step as steps
 use Rattle.crossings.specs.Crossings as crossings
 use Rattle.crossings.specs.declared.Crossing.{Crossing}
 use Rattle.station_answers.specs.Answers.{answerOf, countsWritten, edgeAfter}
@@ -39,21 +36,6 @@ textBuilt xs o = toldBuilding xs (text.textNumbers (o .answer)) (o .tables)
 abbrev pub audited : Mesh → Counts → ℕ
 audited m c = cond (audit m (c .points) (c .edges) (c .faces)) 0 30
 
-pub record StepTold : Type 0 where
-  pub answer : ℕ
-  pub counts : List ℕ
-  pub tables : Mesh
-  pub scratch : Mesh
-
-abbrev pub stepped : List ℕ → steps.StepOutcome → StepTold
-stepped xs o =
-    record {
-      answer = answerOf (steps.stepNumbers (o .answer));
-      counts = countsWritten xs (steps.stepNumbers (o .answer));
-      tables = o .tables;
-      scratch = o .scratch;
-    }
-
 pub record Finding : Type 0 where
   pub answer : ℕ
   pub edge : List ℕ
@@ -62,4 +44,4 @@ abbrev pub found : List ℕ → Crossing → Finding
 found xs r = record { answer = crossings.numberOf r; edge = edgeAfter xs r }
 
 abbrev pub libraryVersion : ℕ
-libraryVersion = 6
+libraryVersion = 7

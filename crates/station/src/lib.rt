@@ -2,9 +2,9 @@
 // and lengths (station/lavyngo.h declares them). Every answer is document 01's number or document 02's: 0 for what is accepted, else
 // that of the ground. Counts stand in an array of three that the caller lends: points, edges, faces.
 // Not here: what the functions do (`building`, `text_building`, `audit`, `refining`, `depth_finder`, `listing_writing`,
-// `listing_reading`), how an answer is told (`station_answers`, `station_listings`).
-// Contracts: `lavyngo_build`, `lavyngo_build_2`, `lavyngo_build_text`, `lavyngo_audit`, `lavyngo_step`, `lavyngo_find_depth`,
-// `lavyngo_write_listing`, `lavyngo_read_listing`, `lavyngo_version`. Definitions: `specs/Station.antt`. Laws: `proofs/Laws.antt`.
+// `listing_reading`), how an answer is told (`station_answers`, `station_steps`, `station_listings`).
+// Contracts: `lavyngo_build`, `lavyngo_build_2`, `lavyngo_build_text`, `lavyngo_audit`, `lavyngo_step`, `lavyngo_step_published`,
+// `lavyngo_find_depth`, `lavyngo_write_listing`, `lavyngo_read_listing`, `lavyngo_version`. Definitions: `specs/Station.antt`. Laws: `proofs/Laws.antt`.
 ghost use mathlib.Core.Path.{_≡_};
 ghost use Rattle.built_meshes.specs.Building.{build};
 ghost use Rattle.built_meshes.specs.Lists.{generalLimits};
@@ -13,9 +13,11 @@ ghost use Rattle.built_meshes.specs.declared.Version.the-variants.{Two};
 ghost use Rattle.building_tests.specs.declared.Bounds.the-variants.{General};
 ghost use Rattle.text_meshes.specs.TextBuilding.{buildText};
 ghost use Rattle.tables.specs.Mesh.{meshOf};
+ghost use Rattle.refined_meshes.specs.declared.Edition.the-variants.{First, Second};
 ghost use Rattle.steps.specs.Step.{step};
 ghost use Rattle.steps.specs.OneStep.{Binary64};
-ghost use Rattle.station.specs.Station.{BuildingTold, built, textBuilt, audited, StepTold, stepped, Finding, found, libraryVersion};
+ghost use Rattle.station.specs.Station.{BuildingTold, built, textBuilt, audited, Finding, found, libraryVersion};
+ghost use Rattle.station_steps.specs.Told.{StepTold, stepped};
 ghost use Rattle.crossings.specs.Crossings.{find};
 ghost use Rattle.station_answers.specs.Answers.{countsIn};
 ghost use Rattle.listings.specs.Handing.{writeListing, readListing};
@@ -25,19 +27,19 @@ use building::build;
 use building_tests::Bounds;
 use built_meshes::Version;
 use depth_finder::find_depth;
-use refining::step;
+use refined_meshes::Edition;
 use station_answers::load_counts;
 use station_answers::tell_built;
 use station_answers::tell_crossing;
-use station_answers::tell_stepped;
 use station_answers::tell_text_built;
 use station_listings::read_listing_told;
 use station_listings::write_listing_told;
+use station_steps::step_told;
 use text_building::build_text;
 
 // The version of the library: 1 for document 01, and one more for each request of document 02 that is in it. LAVYNGO_VERSION in the
 // header is the same number.
-pub const LIBRARY_VERSION: u32 = 6;
+pub const LIBRARY_VERSION: u32 = 7;
 
 // Builds a mesh from lists of version 1 in the lent tables. The counts are written if it is accepted.
 #[no_mangle]
@@ -205,29 +207,77 @@ pub extern "C" fn lavyngo_step(
           scratch = meshOf (now (newpositions .exit)) (now (newpoints .exit)) (now (newedges .exit)) (now (newintervals .exit)) (now (newfaces .exit));
         })
         (stepped (now (counts .entry))
-        (step (meshOf (now (positions .entry)) (now (points .entry)) (now (edges .entry)) (now (intervals .entry)) (now (faces .entry)))
+        (step First (meshOf (now (positions .entry)) (now (points .entry)) (now (edges .entry)) (now (intervals .entry)) (now (faces .entry)))
         (countsIn (now (counts .entry))) (now (order .entry))
         (meshOf (now (newpositions .entry)) (now (newpoints .entry)) (now (newedges .entry)) (now (newintervals .entry)) (now (newfaces .entry))))) ⌝ }
     ensures numbers { λ _. ⌜
         Binary64 (countsIn (now (counts .entry)))
         (meshOf (now (positions .entry)) (now (points .entry)) (now (edges .entry)) (now (intervals .entry)) (now (faces .entry))) ⌝ }
 {
-    let c = load_counts(counts);
-    let answer = step(
+    step_told(
         positions,
         points,
         edges,
         intervals,
         faces,
-        c,
+        counts,
         order,
         newpositions,
         newpoints,
         newedges,
         newintervals,
         newfaces,
-    );
-    tell_stepped(counts, answer)
+        Edition::First,
+    )
+}
+
+// The same in the second edition, by the published position rule (document 02, §5).
+#[no_mangle]
+pub extern "C" fn lavyngo_step_published(
+    positions: &mut [f64],
+    points: &mut [u32],
+    edges: &mut [u32],
+    intervals: &mut [f64],
+    faces: &mut [u32],
+    counts: &mut [usize; 3],
+    order: &[u32],
+    newpositions: &mut [f64],
+    newpoints: &mut [u32],
+    newedges: &mut [u32],
+    newintervals: &mut [f64],
+    newfaces: &mut [u32],
+) -> u32
+    ensures outcome { λ r. ⌜
+        _≡_ {A = StepTold}
+        (record {
+          answer = r;
+          counts = now (counts .exit);
+          tables = meshOf (now (positions .exit)) (now (points .exit)) (now (edges .exit)) (now (intervals .exit)) (now (faces .exit));
+          scratch = meshOf (now (newpositions .exit)) (now (newpoints .exit)) (now (newedges .exit)) (now (newintervals .exit)) (now (newfaces .exit));
+        })
+        (stepped (now (counts .entry))
+        (step Second (meshOf (now (positions .entry)) (now (points .entry)) (now (edges .entry)) (now (intervals .entry)) (now (faces .entry)))
+        (countsIn (now (counts .entry))) (now (order .entry))
+        (meshOf (now (newpositions .entry)) (now (newpoints .entry)) (now (newedges .entry)) (now (newintervals .entry)) (now (newfaces .entry))))) ⌝ }
+    ensures numbers { λ _. ⌜
+        Binary64 (countsIn (now (counts .entry)))
+        (meshOf (now (positions .entry)) (now (points .entry)) (now (edges .entry)) (now (intervals .entry)) (now (faces .entry))) ⌝ }
+{
+    step_told(
+        positions,
+        points,
+        edges,
+        intervals,
+        faces,
+        counts,
+        order,
+        newpositions,
+        newpoints,
+        newedges,
+        newintervals,
+        newfaces,
+        Edition::Second,
+    )
 }
 
 // Finds the lowest-numbered edge of the mesh that crosses a depth, which is a z coordinate. The edge is written if there is one.

@@ -11,6 +11,7 @@ ghost use Rattle.making.specs.Making.{madeAs};
 ghost use Rattle.step_parts.specs.Passed.{Passed};
 use counted_rows::zero_rows;
 use making::make_in_rows;
+use refined_meshes::Edition;
 use row_copies::copy_rows;
 use tables::Counts;
 use tables::EDGE_WIDTH;
@@ -32,12 +33,13 @@ pub fn make_from_rows(
     newedges: &mut [u32],
     newintervals: &mut [f64],
     newfaces: &mut [u32],
+    edition: Edition,
 ) -> bool
     requires { ⌜
-        Passed (meshOf (now positions) (now points) (now edges) (now intervals) (now faces)) counts (now order)
+        Passed edition (meshOf (now positions) (now points) (now edges) (now intervals) (now faces)) counts (now order)
         (meshOf (now newpositions) (now newpoints) (now newedges) (now newintervals) (now newfaces)) c ⌝ }
     ensures { λ r. ⌜
-        made
+        made edition
         (firstRows counts (meshOf (now (positions .entry)) (now (points .entry)) (now (edges .entry)) (now (intervals .entry)) (now (faces .entry))))
         counts
         (now (order .entry))
@@ -65,6 +67,7 @@ pub fn make_from_rows(
         newedges,
         newintervals,
         newfaces,
+        edition,
     )
 }
 

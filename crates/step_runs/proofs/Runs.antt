@@ -1,4 +1,4 @@
--- The loop of `run_steps`, over plain variables: os and ns are the orders and their lengths, l₀ and t₀ what was lent; before step i the
+-- The loop of `run_steps`, over plain variables: ed is the edition of the steps, os and ns are the orders and their lengths, l₀ and t₀ what was lent; before step i the
 -- tables and counts are l, the scratch tables t, k steps were accepted, and the orders begin at `at`. Assumes nothing.
 --     run-start, run-turn, run-end          the invariant `Running`
 --     going-start, going-turn, going-end    the same with the lengths of the tables
@@ -14,6 +14,7 @@ use lib.Seq.{drop-drop, drop-cons, take-all}
 use borrow.Author.Tests.{leb-true, leb-false}
 use Rattle.tables.specs.Mesh.{Mesh}
 use Rattle.tables.specs.declared.Counts.{Counts}
+use Rattle.refined_meshes.specs.declared.Edition.{Edition}
 use Rattle.steps.specs.declared.Stepped.{Stepped}
 use Rattle.steps.specs.declared.Stepped.the-variants.{Refined, NotClosed, NotEachFaceOnce, NoRoom, NotFinite}
 use Rattle.steps.specs.Step.{StepOutcome, step}
@@ -97,7 +98,7 @@ oneMore-few NotEachFaceOnce k i h = omega arith
 oneMore-few NoRoom k i h = omega arith
 oneMore-few NotFinite k i h = omega arith
 
-module _ (l₀ : Lent) (t₀ : Mesh) (os ns : List ℕ) where
+module _ (ed : Edition) (l₀ : Lent) (t₀ : Mesh) (os ns : List ℕ) where
   abbrev rest : ℕ → ℕ → List (List ℕ)
   rest at i = ordersOf (drop at os) (drop i ns)
 
@@ -105,9 +106,9 @@ module _ (l₀ : Lent) (t₀ : Mesh) (os ns : List ℕ) where
     pub within : at ≤ length os
     pub few : k ≤ i
     pub bounded : i ≤ length ns
-    pub left : run l (handed l t (rest at i)) ≡ run l₀ (handed l₀ t₀ (ordersOf os ns))
-    pub count : k + accepted l (handed l t (rest at i)) ≡ accepted l₀ (handed l₀ t₀ (ordersOf os ns))
-    pub scratch : scratchAfter l t (rest at i) ≡ scratchAfter l₀ t₀ (ordersOf os ns)
+    pub left : run l (handed ed l t (rest at i)) ≡ run l₀ (handed ed l₀ t₀ (ordersOf os ns))
+    pub count : k + accepted l (handed ed l t (rest at i)) ≡ accepted l₀ (handed ed l₀ t₀ (ordersOf os ns))
+    pub scratch : scratchAfter ed l t (rest at i) ≡ scratchAfter ed l₀ t₀ (ordersOf os ns)
 
   pub run-start : Running l₀ t₀ 0 0 0
   run-start = record { within = omega arith; few = omega arith; bounded = omega arith; left = refl; count = omega arith; scratch = refl }
@@ -126,7 +127,7 @@ module _ (l₀ : Lent) (t₀ : Mesh) (os ns : List ℕ) where
           ∙ ap₂ (λ (o : List ℕ) (r : List (List ℕ)). o ∷ r) (sym (part-is os at n))
           (ap₂ (λ (v w : List ℕ). ordersOf v w) (sym (rest-is os at n)) (ap (λ (j : ℕ). drop j ns) e))
 
-      pub run-turn : (o : StepOutcome) → o ≡ outcome l (handing order t) → (c : Counts) → c ≡ countsAfter (o .answer) (l .counts)
+      pub run-turn : (o : StepOutcome) → o ≡ outcome l (handing ed order t) → (c : Counts) → c ≡ countsAfter (o .answer) (l .counts)
           → (k′ : ℕ) → k′ ≡ oneMore (o .answer) k
           → Running (record { tables = o .tables; counts = c }) (o .scratch) k′ (endAt os at (getD ns i 0)) (i + 1)
       unfolding run accepted handed scratchAfter
@@ -134,17 +135,17 @@ module _ (l₀ : Lent) (t₀ : Mesh) (os ns : List ℕ) where
           let n = getD ns i 0 in
           let low = least-below n (length os - at) in
           let w = h .within in
-          let hd = handing order t in
+          let hd = handing ed order t in
           let r = rest (endAt os at n) (i + 1) in
           let la : record { tables = o .tables; counts = c } ≡ after l hd =
           rw (ec, eo) in
-          let left′ : run (after l hd) (handed (after l hd) (outcome l hd .scratch) r) ≡ run l₀ (handed l₀ t₀ (ordersOf os ns)) =
-          ap (λ (v : List (List ℕ)). run l (handed l t v)) (sym rest-cons) ∙ h .left in
-          let count′ : k + oneMore (outcome l hd .answer) (accepted (after l hd) (handed (after l hd) (outcome l hd .scratch) r))
-          ≡ accepted l₀ (handed l₀ t₀ (ordersOf os ns)) =
-          ap (λ (v : List (List ℕ)). k + accepted l (handed l t v)) (sym rest-cons) ∙ h .count in
-          let scratch′ : scratchAfter (after l hd) (outcome l hd .scratch) r ≡ scratchAfter l₀ t₀ (ordersOf os ns) =
-          ap (scratchAfter l t) (sym rest-cons) ∙ h .scratch in
+          let left′ : run (after l hd) (handed ed (after l hd) (outcome l hd .scratch) r) ≡ run l₀ (handed ed l₀ t₀ (ordersOf os ns)) =
+          ap (λ (v : List (List ℕ)). run l (handed ed l t v)) (sym rest-cons) ∙ h .left in
+          let count′ : k + oneMore (outcome l hd .answer) (accepted (after l hd) (handed ed (after l hd) (outcome l hd .scratch) r))
+          ≡ accepted l₀ (handed ed l₀ t₀ (ordersOf os ns)) =
+          ap (λ (v : List (List ℕ)). k + accepted l (handed ed l t v)) (sym rest-cons) ∙ h .count in
+          let scratch′ : scratchAfter ed (after l hd) (outcome l hd .scratch) r ≡ scratchAfter ed l₀ t₀ (ordersOf os ns) =
+          ap (scratchAfter ed l t) (sym rest-cons) ∙ h .scratch in
           let few′ = oneMore-few (outcome l hd .answer) k i (h .few) in
           rw (la, ek, eo)
           (record {
@@ -156,13 +157,13 @@ module _ (l₀ : Lent) (t₀ : Mesh) (os ns : List ℕ) where
             scratch = scratch′;
           })
 
-    pub run-end : length ns ≤ i → record { left = l; accepted = k; scratch = t } ≡ ran l₀ t₀ (ordersOf os ns)
+    pub run-end : length ns ≤ i → record { left = l; accepted = k; scratch = t } ≡ ran ed l₀ t₀ (ordersOf os ns)
     unfolding ran ordersOf
     run-end past =
         let e : rest at i ≡ [] = ap (ordersOf (drop at os)) (drop-past i ns past) in
-        let a = ap (λ (v : List (List ℕ)). run l (handed l t v)) (sym e) ∙ h .left in
-        let b = ap (λ (v : List (List ℕ)). k + accepted l (handed l t v)) (sym e) ∙ h .count in
-        let s = ap (scratchAfter l t) (sym e) ∙ h .scratch in
+        let a = ap (λ (v : List (List ℕ)). run l (handed ed l t v)) (sym e) ∙ h .left in
+        let b = ap (λ (v : List (List ℕ)). k + accepted l (handed ed l t v)) (sym e) ∙ h .count in
+        let s = ap (scratchAfter ed l t) (sym e) ∙ h .scratch in
         rw (← a, ← b, ← s) (ap (λ (x : ℕ). record { left = l; accepted = x; scratch = t }) (sym (add-zero k)))
 
 -- ---- the loop with the lengths of the tables
@@ -184,35 +185,35 @@ same-lengths a b =
       faces = a .faces ∙ b .faces;
     }
 
-module _ (m₀ : Mesh) (c₀ : Counts) (t₀ : Mesh) (os ns : List ℕ) where
+module _ (ed : Edition) (m₀ : Mesh) (c₀ : Counts) (t₀ : Mesh) (os ns : List ℕ) where
   pub record Going (m : Mesh) (c : Counts) (t : Mesh) (k at i : ℕ) : Type 0 where
-    pub running : Running (lent m₀ c₀) t₀ os ns (lent m c) t k at i
+    pub running : Running ed (lent m₀ c₀) t₀ os ns (lent m c) t k at i
     pub same : SameLengths m m₀
     pub same-scratch : SameLengths t t₀
 
   pub going-start : Going m₀ c₀ t₀ 0 0 0
   going-start =
       record {
-        running = run-start (lent m₀ c₀) t₀ os ns;
+        running = run-start ed (lent m₀ c₀) t₀ os ns;
         same = record { positions = refl; points = refl; edges = refl; intervals = refl; faces = refl };
         same-scratch = record { positions = refl; points = refl; edges = refl; intervals = refl; faces = refl };
       }
 
   module _ {m : Mesh} {c : Counts} {t : Mesh} {k at i : ℕ} (h : Going m c t k at i) where
     pub going-turn : i < length ns → {n r : ℕ} → n ≡ getD ns i 0 → r ≡ least n (length os - at) → {a : Stepped} {m′ t′ : Mesh}
-        → record { answer = a; tables = m′; scratch = t′ } ≡ step m c (take (at + r - at) (drop at os)) t → SameLengths m′ m → SameLengths t′ t
+        → record { answer = a; tables = m′; scratch = t′ } ≡ step ed m c (take (at + r - at) (drop at os)) t → SameLengths m′ m → SameLengths t′ t
         → {c′ : Counts} → c′ ≡ countsAfter a c → {k′ : ℕ} → k′ ≡ oneMore a k → Going m′ c′ t′ k′ (at + r) (i + 1)
     going-turn more {n} {r} en er {a} {m′} {t′} eo sm st {c′} ec {k′} ek =
         let e : r ≡ least (getD ns i 0) (length os - at) = er ∙ ap (λ (v : ℕ). least v (length os - at)) en in
         let o : StepOutcome = record { answer = a; tables = m′; scratch = t′ } in
-        let eo′ : o ≡ step m c (take (endAt os at (getD ns i 0) - at) (drop at os)) t =
-        eo ∙ ap (λ (v : ℕ). step m c (take (at + v - at) (drop at os)) t) e in
-        let turned = run-turn (lent m₀ c₀) t₀ os ns (lent m c) t k at i (h .running) more o eo′ c′ ec k′ ek in
+        let eo′ : o ≡ step ed m c (take (endAt os at (getD ns i 0) - at) (drop at os)) t =
+        eo ∙ ap (λ (v : ℕ). step ed m c (take (at + v - at) (drop at os)) t) e in
+        let turned = run-turn ed (lent m₀ c₀) t₀ os ns (lent m c) t k at i (h .running) more o eo′ c′ ec k′ ek in
         record {
           running = rw e turned;
           same = same-lengths sm (h .same);
           same-scratch = same-lengths st (h .same-scratch);
         }
 
-    pub going-end : length ns ≤ i → record { left = lent m c; accepted = k; scratch = t } ≡ ran (lent m₀ c₀) t₀ (ordersOf os ns)
-    going-end past = run-end (lent m₀ c₀) t₀ os ns (lent m c) t k at i (h .running) past
+    pub going-end : length ns ≤ i → record { left = lent m c; accepted = k; scratch = t } ≡ ran ed (lent m₀ c₀) t₀ (ordersOf os ns)
+    going-end past = run-end ed (lent m₀ c₀) t₀ os ns (lent m c) t k at i (h .running) past

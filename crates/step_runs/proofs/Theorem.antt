@@ -10,16 +10,16 @@ use Rattle.step_runs.specs.Claims.{In-orders, Runs-share}
 
 pub in-orders : In-orders
 unfolding handed
-in-orders l t [] = refl
-in-orders l t (o ∷ os) = ap (λ (r : List (List ℕ)). o ∷ r) (in-orders (after l (handing o t)) (outcome l (handing o t) .scratch) os)
+in-orders ed l t [] = refl
+in-orders ed l t (o ∷ os) = ap (λ (r : List (List ℕ)). o ∷ r) (in-orders ed (after l (handing ed o t)) (outcome l (handing ed o t) .scratch) os)
 
 pub runs-share : Runs-share
 unfolding ran
-runs-share c a b ta tb ordersA ordersB closed numbers same numbered =
+runs-share edA edB c a b ta tb ordersA ordersB closed numbers same numbered =
     record {
       left-A = refl;
       left-B = refl;
       accepted-A = refl;
       accepted-B = refl;
-      two-runs = theorem c a b closed numbers same (handed (lent a c) ta ordersA) (handed (lent b c) tb ordersB) numbered;
+      two-runs = theorem c a b closed numbers same (handed edA (lent a c) ta ordersA) (handed edB (lent b c) tb ordersB) numbered;
     }

@@ -10,6 +10,7 @@ ghost use Rattle.tables.specs.Mesh.{meshOf};
 ghost use Rattle.steps.specs.OneStep.{Binary64};
 ghost use Rattle.runs.specs.Runs.{countsAfter, oneMore, lent};
 ghost use Rattle.step_runs.specs.Runs.{least, RunOutcome, ordersOf, ran};
+use refined_meshes::Edition;
 use refining::step;
 use steps::Stepped;
 use tables::Counts;
@@ -58,7 +59,7 @@ fn accepted_after(answer: Stepped, k: usize) -> usize
     }
 }
 
-// Makes as many steps as there are lengths, from the mesh with the counts on. The orders stand one behind the other in `orders`, each
+// Makes as many steps of an edition as there are lengths, from the mesh with the counts on. The orders stand one behind the other in `orders`, each
 // as long as its length says, the last of them cut where there is no more. A refused step leaves the mesh as found, and the next follows.
 // `numbers` says what is true of every lent table of f64: it is the premise `Binary64` of `Demand3` (`runs`).
 pub fn run_steps(
@@ -75,6 +76,7 @@ pub fn run_steps(
     newedges: &mut [u32],
     newintervals: &mut [f64],
     newfaces: &mut [u32],
+    edition: Edition,
 ) -> Ran
     ensures outcome { λ r. ⌜
         _≡_ {A = RunOutcome}
@@ -85,7 +87,7 @@ pub fn run_steps(
           accepted = r .accepted;
           scratch = meshOf (now (newpositions .exit)) (now (newpoints .exit)) (now (newedges .exit)) (now (newintervals .exit)) (now (newfaces .exit));
         })
-        (ran
+        (ran edition
         (lent
         (meshOf (now (positions .entry)) (now (points .entry)) (now (edges .entry)) (now (intervals .entry)) (now (faces .entry))) counts)
         (meshOf (now (newpositions .entry)) (now (newpoints .entry)) (now (newedges .entry)) (now (newintervals .entry)) (now (newfaces .entry)))
@@ -113,6 +115,7 @@ pub fn run_steps(
             newedges,
             newintervals,
             newfaces,
+            edition,
         );
         c = counts_after(answer, c);
         accepted = accepted_after(answer, accepted);

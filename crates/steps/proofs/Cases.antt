@@ -1,5 +1,6 @@
--- The step computed on the cube, refined and refused on each of the grounds 30 to 32. Document 01's own pieces: `filed_pieces`.
---     Piece       a mesh in lent tables, an order, scratch tables, and what is to be answered
+-- The step computed on the cube, refined in both editions and refused on each of the grounds 30 to 32. Document 01's own pieces:
+-- `filed_pieces`.
+--     Piece       an edition, a mesh in lent tables, an order, scratch tables, and what is to be answered
 --     pieces      the cube; the cube with an interval, an order, scratch tables or tables that a ground refuses
 use mathlib.Core.Path.{_≡_, refl}
 use mathlib.Core.List.{List, [], _∷_, _++_, map}
@@ -11,11 +12,14 @@ use Rattle.tables.specs.Rows.{over, zeroed}
 use Rattle.tables.specs.declared.Counts.{Counts}
 use Rattle.audited_meshes.specs.Walks.{faceWalk}
 use Rattle.audited_meshes.specs.Folds.{again}
+use Rattle.refined_meshes.specs.declared.Edition.{Edition}
+use Rattle.refined_meshes.specs.declared.Edition.the-variants.{First, Second}
 use Rattle.refined_meshes.specs.Turns.{turns, filled}
 use Rattle.refined_meshes.specs.State.{putEdge, putPoint, putStart, putFace, copied}
 use Rattle.refined_meshes.specs.Split.{splitEdge, splitWhole}
 use Rattle.refined_meshes.specs.Ring.{putJoin, putFirst, putSecond, putNewFace, putFacePoint}
 use Rattle.refined_meshes.specs.Visits.{splitAll, ringOf, putRing, visitAlong, visit, visits, refinedRows}
+use Rattle.refined_meshes.specs.Settled.{settledSide, settledIntervals, settled, settledRows}
 use Rattle.refined_meshes.proofs.Records.{bits, cube}
 use Rattle.position_rules.specs.Intervals.{acwAbout, cwAbout, threeTerms}
 use Rattle.position_rules.specs.FacePoint.{sixTerms, windowWeight, windowSum, facePointOver, facePointAbout, facePointIn}
@@ -24,6 +28,7 @@ use Rattle.position_rules.specs.OldPoint.{radialEdge, edgeWeight, faceWeight, r
 use Rattle.steps.specs.Step.{stepNumbers, step}
 
 record Piece : Type 0 where
+  edition : Edition
   mesh : Mesh
   counts : Counts
   order : List ℕ
@@ -31,7 +36,7 @@ record Piece : Type 0 where
   expected : List ℕ
 
 abbrev answered : Piece → List ℕ
-answered p = stepNumbers (step (p .mesh) (p .counts) (p .order) (p .scratch) .answer)
+answered p = stepNumbers (step (p .edition) (p .mesh) (p .counts) (p .order) (p .scratch) .answer)
 
 -- tables of np, ne and nf rows with other things in them
 abbrev used : ℕ → ℕ → ℕ → Mesh
@@ -71,33 +76,34 @@ abbrev cubeAlone : Mesh
 cubeAlone =
     record { positions = cubePoints; points = cube .points; edges = cube .edges; intervals = cube .intervals; faces = cube .faces }
 
-abbrev cubeWith : Mesh → List ℕ → Mesh → List ℕ → Piece
-cubeWith m order scratch expected =
-    record { mesh = m; counts = record { points = 8; edges = 12; faces = 6 }; order = order; scratch = scratch; expected = expected }
+abbrev cubeWith : Edition → Mesh → List ℕ → Mesh → List ℕ → Piece
+cubeWith ed m order scratch expected =
+    record { edition = ed; mesh = m; counts = record { points = 8; edges = 12; faces = 6 }; order = order; scratch = scratch; expected = expected }
 
 abbrev numbered : List ℕ
 numbered = 0 ∷ 1 ∷ 2 ∷ 3 ∷ 4 ∷ 5 ∷ []
 
 pieces : List Piece
 pieces =
-    -- the cube, not in numbered order
-    cubeWith (cubeOf (cube .intervals)) (3 ∷ 5 ∷ 0 ∷ 1 ∷ 4 ∷ 2 ∷ []) (used 27 48 24) (26 ∷ 48 ∷ 24 ∷ [])
+    -- the cube, not in numbered order, in both editions
+    cubeWith First (cubeOf (cube .intervals)) (3 ∷ 5 ∷ 0 ∷ 1 ∷ 4 ∷ 2 ∷ []) (used 27 48 24) (26 ∷ 48 ∷ 24 ∷ [])
+    ∷ cubeWith Second (cubeOf (cube .intervals)) (3 ∷ 5 ∷ 0 ∷ 1 ∷ 4 ∷ 2 ∷ []) (used 27 48 24) (26 ∷ 48 ∷ 24 ∷ [])
     -- an interval with its sign bit set, whatever the order
-    ∷ cubeWith (cubeOf (replicate 12 (bits 0x8000000000000000))) [] (used 0 0 0) (30 ∷ [])
+    ∷ cubeWith First (cubeOf (replicate 12 (bits 0x8000000000000000))) [] (used 0 0 0) (30 ∷ [])
     -- orders that are too short, too long, name a face twice, or name no face, whatever the rows
-    ∷ cubeWith (cubeOf (cube .intervals)) (0 ∷ 1 ∷ 2 ∷ 3 ∷ 4 ∷ []) (used 0 0 0) (31 ∷ [])
-    ∷ cubeWith (cubeOf (cube .intervals)) (0 ∷ 1 ∷ 2 ∷ 3 ∷ 4 ∷ 5 ∷ 0 ∷ []) (used 26 48 24) (31 ∷ [])
-    ∷ cubeWith (cubeOf (cube .intervals)) (0 ∷ 1 ∷ 2 ∷ 3 ∷ 4 ∷ 4 ∷ []) (used 26 48 24) (31 ∷ [])
-    ∷ cubeWith (cubeOf (cube .intervals)) (0 ∷ 1 ∷ 2 ∷ 3 ∷ 4 ∷ 6 ∷ []) (used 26 48 24) (31 ∷ [])
+    ∷ cubeWith First (cubeOf (cube .intervals)) (0 ∷ 1 ∷ 2 ∷ 3 ∷ 4 ∷ []) (used 0 0 0) (31 ∷ [])
+    ∷ cubeWith First (cubeOf (cube .intervals)) (0 ∷ 1 ∷ 2 ∷ 3 ∷ 4 ∷ 5 ∷ 0 ∷ []) (used 26 48 24) (31 ∷ [])
+    ∷ cubeWith First (cubeOf (cube .intervals)) (0 ∷ 1 ∷ 2 ∷ 3 ∷ 4 ∷ 4 ∷ []) (used 26 48 24) (31 ∷ [])
+    ∷ cubeWith First (cubeOf (cube .intervals)) (0 ∷ 1 ∷ 2 ∷ 3 ∷ 4 ∷ 6 ∷ []) (used 26 48 24) (31 ∷ [])
     -- a row too few of a kind, in scratch and in the tables
-    ∷ cubeWith (cubeOf (cube .intervals)) numbered (used 25 48 24) (32 ∷ [])
-    ∷ cubeWith (cubeOf (cube .intervals)) numbered (used 26 47 24) (32 ∷ [])
-    ∷ cubeWith (cubeOf (cube .intervals)) numbered (used 26 48 23) (32 ∷ [])
-    ∷ cubeWith cubeAlone numbered (used 26 48 24) (32 ∷ [])
+    ∷ cubeWith First (cubeOf (cube .intervals)) numbered (used 25 48 24) (32 ∷ [])
+    ∷ cubeWith First (cubeOf (cube .intervals)) numbered (used 26 47 24) (32 ∷ [])
+    ∷ cubeWith First (cubeOf (cube .intervals)) numbered (used 26 48 23) (32 ∷ [])
+    ∷ cubeWith First cubeAlone numbered (used 26 48 24) (32 ∷ [])
     ∷ []
 
 pieces-answered : map answered pieces ≡ map (λ p. p .expected) pieces
-unfolding pieces step over zeroed refinedRows copied visits visit faceWalk turns filled visitAlong splitAll splitWhole
+unfolding pieces step over zeroed settledRows settled settledIntervals settledSide refinedRows copied visits visit faceWalk turns filled visitAlong splitAll splitWhole
     splitEdge ringOf putRing putJoin putFirst putSecond putNewFace putFacePoint putEdge putPoint putStart putFace
     facePointIn facePointAbout facePointOver windowSum windowWeight sixTerms threeTerms acwAbout cwAbout again edgePoint
     edgeMiddle shares oldPoint radialSum radialTerms radialEdge edgeWeight faceWeight add sub mul div neg le ofBits

@@ -17,6 +17,7 @@ use Rattle.audited_meshes.specs.Audit.{audit}
 use Rattle.audited_meshes.proofs.Tests.{Is, and-is, eqb-is, ltb-is, leb-is, every-is}
 use Rattle.audited_meshes.proofs.Audited.{distinct-is, audit-is-audited}
 use Rattle.audited_meshes.proofs.Holds.{audit-is-closed}
+use Rattle.refined_meshes.specs.declared.Edition.{Edition}
 use Rattle.refined_meshes.specs.Order.{EachOnce}
 use Rattle.steps.specs.declared.Stepped.{Stepped}
 use Rattle.steps.specs.declared.Stepped.the-variants.{Refined, NotClosed, NotEachFaceOnce, NoRoom, NotFinite}
@@ -92,8 +93,8 @@ room-enough c m t h = go
 
 -- ---- the answer
 
-module _ (m : Mesh) (c : Counts) (order : List ℕ) (t : Mesh) where
-  due-once : (a b : Stepped) → Due m c order t a → Due m c order t b → a ≡ b
+module _ (ed : Edition) (m : Mesh) (c : Counts) (order : List ℕ) (t : Mesh) where
+  due-once : (a b : Stepped) → Due ed m c order t a → Due ed m c order t b → a ≡ b
   due-once NotClosed NotClosed x y = refl
   due-once NotClosed NotEachFaceOnce x y = absurd (x (y .0))
   due-once NotClosed NoRoom x y = absurd (x (y .0))
@@ -120,7 +121,7 @@ module _ (m : Mesh) (c : Counts) (order : List ℕ) (t : Mesh) where
   due-once (Refined k) NotFinite x y = absurd (y .3 (x .3))
   due-once (Refined k) (Refined n) x y = ap Refined (x .4 ∙ sym (y .4))
 
-  answer-due : Due m c order t (step m c order t .answer)
+  answer-due : Due ed m c order t (step ed m c order t .answer)
   unfolding stepBy ended begun
   answer-due = go _ refl _ refl _ refl
     where
@@ -129,39 +130,39 @@ module _ (m : Mesh) (c : Counts) (order : List ℕ) (t : Mesh) where
 
       mending :
           audit m (c .points) (c .edges) (c .faces) ≡ true → eachFaceOnce (c .faces) order ≡ true → roomFor (refinedCounts c) m t ≡ true →
-          (w : Made) → begun m c order t ≡ w → Due m c order t (step m c order t .answer)
+          (w : Made) → begun ed m c order t ≡ w → Due ed m c order t (step ed m c order t .answer)
       mending ha ho hr (whole n) hw =
           let rooms = rooms-of-test (refinedCounts c) m t hr in
           let few : c .faces ≤ none = omega (arith, rooms .1 .points) in
           let once = eachFaceOnce-is (c .faces) order ho in
-          subst (λ a. Due m c order t a) (sym (ap (λ o. o .answer) (step-made m c order t ha ho hr (whole n) hw))) (
+          subst (λ a. Due ed m c order t a) (sym (ap (λ o. o .answer) (step-made ed m c order t ha ho hr (whole n) hw))) (
             audit-is-audited m _ _ _ .0 ha,
             once,
             room-enough (refinedCounts c) m t hr,
-            finite-made (firstRows c m) c (holds-firstRows (audit-is-closed m _ _ _ .0 ha)) few order once (firstRows (refinedCounts c) t)
+            finite-made ed (firstRows c m) c (holds-firstRows (audit-is-closed m _ _ _ .0 ha)) few order once (firstRows (refinedCounts c) t)
                 (exact-firstRows (refinedCounts c) t (rooms .0 .1)) n hw,
             refl,
           )
       mending ha ho hr notFinite hw =
-          let is : step m c order t .answer ≡ NotFinite = ap (λ o. o .answer) (step-made m c order t ha ho hr notFinite hw) in
-          subst (λ a. Due m c order t a) (sym is)
-          (audit-is-audited m _ _ _ .0 ha, eachFaceOnce-is (c .faces) order ho, room-enough (refinedCounts c) m t hr, not-finite-exactly m c order t ha ho hr .0 is)
+          let is : step ed m c order t .answer ≡ NotFinite = ap (λ o. o .answer) (step-made ed m c order t ha ho hr notFinite hw) in
+          subst (λ a. Due ed m c order t a) (sym is)
+          (audit-is-audited m _ _ _ .0 ha, eachFaceOnce-is (c .faces) order ho, room-enough (refinedCounts c) m t hr, not-finite-exactly ed m c order t ha ho hr .0 is)
 
       go :
           (a : Bool) → audit m (c .points) (c .edges) (c .faces) ≡ a → (o : Bool) → eachFaceOnce (c .faces) order ≡ o → (r : Bool) →
-          roomFor (refinedCounts c) m t ≡ r → Due m c order t (step m c order t .answer)
+          roomFor (refinedCounts c) m t ≡ r → Due ed m c order t (step ed m c order t .answer)
       go false ha o ho r hr =
-          subst (λ a. Due m c order t a) (sym (ap (λ o. o .answer) (step-is m c order t ha ho hr))) (fails ha (audit-is-audited m _ _ _ .1))
+          subst (λ a. Due ed m c order t a) (sym (ap (λ o. o .answer) (step-is ed m c order t ha ho hr))) (fails ha (audit-is-audited m _ _ _ .1))
       go true ha false ho r hr =
-          subst (λ a. Due m c order t a) (sym (ap (λ o. o .answer) (step-is m c order t ha ho hr)))
+          subst (λ a. Due ed m c order t a) (sym (ap (λ o. o .answer) (step-is ed m c order t ha ho hr)))
           (audit-is-audited m _ _ _ .0 ha, fails ho (once-test (c .faces) order))
       go true ha true ho false hr =
-          subst (λ a. Due m c order t a) (sym (ap (λ o. o .answer) (step-is m c order t ha ho hr)))
+          subst (λ a. Due ed m c order t a) (sym (ap (λ o. o .answer) (step-is ed m c order t ha ho hr)))
           (audit-is-audited m _ _ _ .0 ha, eachFaceOnce-is (c .faces) order ho, no-room (refinedCounts c) m t hr)
-      go true ha true ho true hr = mending ha ho hr (begun m c order t) refl
+      go true ha true ho true hr = mending ha ho hr (begun ed m c order t) refl
 
 pub first-ground : First-ground
-first-ground m c order t a = (
-  λ e. subst (λ a. Due m c order t a) e (answer-due m c order t),
-  λ d. due-once m c order t (step m c order t .answer) a (answer-due m c order t) d,
+first-ground ed m c order t a = (
+  λ e. subst (λ a. Due ed m c order t a) e (answer-due ed m c order t),
+  λ d. due-once ed m c order t (step ed m c order t .answer) a (answer-due ed m c order t) d,
 )

@@ -20,9 +20,10 @@ use Rattle.tables.specs.declared.Counts.{Counts}
 use Rattle.audited_meshes.specs.Folds.{distinct}
 use Rattle.audited_meshes.specs.Audit.{audit}
 use Rattle.audited_meshes.proofs.Tests.{and-is, eqb-is, ltb-is, leb-is, not-is, self-is, every-is}
+use Rattle.refined_meshes.specs.declared.Edition.{Edition}
 use Rattle.refined_meshes.specs.State.{State, withPositions}
 use Rattle.refined_meshes.specs.Order.{EachOnce}
-use Rattle.refined_meshes.specs.Visits.{refinedRows}
+use Rattle.refined_meshes.specs.Settled.{settledRows}
 use Rattle.steps.specs.declared.Stepped.{Stepped}
 use Rattle.steps.specs.declared.Stepped.the-variants.{Refined, NotClosed, NotEachFaceOnce, NoRoom, NotFinite}
 use Rattle.steps.specs.Positions.{Placing, so-far, not-finite, placedAll}
@@ -63,7 +64,7 @@ rooms-of-test c m t e =
     ((room-of-test c m (h .0 .0), room-of-test c t (h .0 .1)), within-of-test c (h .1))
 
 -- what stands behind the answer Refined
-pub record Taken (m : Mesh) (c : Counts) (order : List ℕ) (t : Mesh) (c' : Counts) : Type 0 where
+pub record Taken (ed : Edition) (m : Mesh) (c : Counts) (order : List ℕ) (t : Mesh) (c' : Counts) : Type 0 where
   pub counts : c' ≡ refinedCounts c
   pub audited : audit m (c .points) (c .edges) (c .faces) ≡ true
   pub once : EachOnce (c .faces) order
@@ -71,33 +72,33 @@ pub record Taken (m : Mesh) (c : Counts) (order : List ℕ) (t : Mesh) (c' : Cou
   pub scratch-room : Room (refinedCounts c) t
   pub within : Within (refinedCounts c)
   pub mesh : Mesh
-  pub is-made : made (firstRows c m) c order (firstRows (refinedCounts c) t) ≡ whole mesh
-  pub tables : step m c order t .tables ≡ overRows (refinedCounts c) mesh m
+  pub is-made : made ed (firstRows c m) c order (firstRows (refinedCounts c) t) ≡ whole mesh
+  pub tables : step ed m c order t .tables ≡ overRows (refinedCounts c) mesh m
 
-module _ (m : Mesh) (c : Counts) (order : List ℕ) (t : Mesh) where
+module _ (ed : Edition) (m : Mesh) (c : Counts) (order : List ℕ) (t : Mesh) where
   -- The mesh in the making.
   unfoldable pub begun : Made
-  begun = made (firstRows c m) c order (firstRows (refinedCounts c) t)
+  begun = made ed (firstRows c m) c order (firstRows (refinedCounts c) t)
 
   -- The step by the answers of its tests.
   pub step-is :
       {a o r : Bool} → audit m (c .points) (c .edges) (c .faces) ≡ a → eachFaceOnce (c .faces) order ≡ o → roomFor (refinedCounts c) m t ≡ r →
-      step m c order t ≡ stepBy (testedIf a o r (refinedCounts c)) m c order t
+      step ed m c order t ≡ stepBy ed (testedIf a o r (refinedCounts c)) m c order t
   unfolding step
   step-is ha ho hr = rw (ha, ho, hr)
 
   -- The step that 30 to 32 do not refuse.
   pub step-made :
       audit m (c .points) (c .edges) (c .faces) ≡ true → eachFaceOnce (c .faces) order ≡ true → roomFor (refinedCounts c) m t ≡ true →
-      (w : Made) → begun ≡ w → step m c order t ≡ ended m (refinedCounts c) t w
+      (w : Made) → begun ≡ w → step ed m c order t ≡ ended m (refinedCounts c) t w
   unfolding stepBy begun
   step-made ha ho hr w e = step-is ha ho hr ∙ ap (ended m (refinedCounts c) t) e
 
-  pub taken : (c' : Counts) → step m c order t .answer ≡ Refined c' → Taken m c order t c'
+  pub taken : (c' : Counts) → step ed m c order t .answer ≡ Refined c' → Taken ed m c order t c'
   unfolding stepBy ended begun
   taken c' e = go _ refl _ refl _ refl
     where
-      mending : audit m (c .points) (c .edges) (c .faces) ≡ true → eachFaceOnce (c .faces) order ≡ true → roomFor (refinedCounts c) m t ≡ true → (w : Made) → begun ≡ w → Taken m c order t c'
+      mending : audit m (c .points) (c .edges) (c .faces) ≡ true → eachFaceOnce (c .faces) order ≡ true → roomFor (refinedCounts c) m t ≡ true → (w : Made) → begun ≡ w → Taken ed m c order t c'
       mending ha ho hr (whole n) hw =
           let q = step-made ha ho hr (whole n) hw in
           let k : Refined (refinedCounts c) ≡ Refined c' = ap (λ x. x .answer) (sym q) ∙ e in
@@ -120,7 +121,7 @@ module _ (m : Mesh) (c : Counts) (order : List ℕ) (t : Mesh) where
 
       go :
           (a : Bool) → audit m (c .points) (c .edges) (c .faces) ≡ a → (o : Bool) → eachFaceOnce (c .faces) order ≡ o → (r : Bool) →
-          roomFor (refinedCounts c) m t ≡ r → Taken m c order t c'
+          roomFor (refinedCounts c) m t ≡ r → Taken ed m c order t c'
       go false ha o ho r hr =
           let k : NotClosed ≡ Refined c' = ap (λ x. x .answer) (sym (step-is ha ho hr)) ∙ e in
           absurd (let z : _≡_ {A = ℕ} 0 1 = cc in omega arith)
@@ -134,8 +135,8 @@ module _ (m : Mesh) (c : Counts) (order : List ℕ) (t : Mesh) where
 
   -- A step that 30, 31 or 32 refuses leaves everything as found.
   refused-early :
-      (b : Stepped) (n : ℕ) → n < 33 → stepGround b ≡ some n → step m c order t ≡ stepRefusal b m t → (g : ℕ) →
-      stepGround (step m c order t .answer) ≡ some g → Refused m c order t g
+      (b : Stepped) (n : ℕ) → n < 33 → stepGround b ≡ some n → step ed m c order t ≡ stepRefusal b m t → (g : ℕ) →
+      stepGround (step ed m c order t .answer) ≡ some g → Refused ed m c order t g
   refused-early b n l k q g e =
       let z : some n ≡ some g = sym k ∙ ap (λ o. stepGround (o .answer)) (sym q) ∙ e in
       let w : n ≡ g = cc in
@@ -144,42 +145,42 @@ module _ (m : Mesh) (c : Counts) (order : List ℕ) (t : Mesh) where
 -- A refused step leaves the tables as found, and scratch too but for 33.
 pub untouched : Untouched
 unfolding stepBy ended begun
-untouched m c order t g e = go _ refl _ refl _ refl
+untouched ed m c order t g e = go _ refl _ refl _ refl
   where
     mending :
         audit m (c .points) (c .edges) (c .faces) ≡ true → eachFaceOnce (c .faces) order ≡ true → roomFor (refinedCounts c) m t ≡ true →
-        (w : Made) → begun m c order t ≡ w → Refused m c order t g
+        (w : Made) → begun ed m c order t ≡ w → Refused ed m c order t g
     mending ha ho hr (whole n) hw =
-        let q = step-made m c order t ha ho hr (whole n) hw in
+        let q = step-made ed m c order t ha ho hr (whole n) hw in
         let k : none ≡ some g = ap (λ o. stepGround (o .answer)) (sym q) ∙ e in
         absurd (let z : _≡_ {A = ℕ} 0 1 = cc in omega arith)
     mending ha ho hr notFinite hw =
-        let q = step-made m c order t ha ho hr notFinite hw in
+        let q = step-made ed m c order t ha ho hr notFinite hw in
         let k : some 33 ≡ some g = ap (λ o. stepGround (o .answer)) (sym q) ∙ e in
         let w : 33 ≡ g = cc in
         record { tables = ap (λ o. o .tables) q; scratch = λ i. absurd (omega arith); zeroed = λ i. ap (λ o. o .scratch) q }
 
     go :
         (a : Bool) → audit m (c .points) (c .edges) (c .faces) ≡ a → (o : Bool) → eachFaceOnce (c .faces) order ≡ o → (r : Bool) →
-        roomFor (refinedCounts c) m t ≡ r → Refused m c order t g
-    go false ha o ho r hr = refused-early m c order t NotClosed 30 (omega arith) refl (step-is m c order t ha ho hr) g e
-    go true ha false ho r hr = refused-early m c order t NotEachFaceOnce 31 (omega arith) refl (step-is m c order t ha ho hr) g e
-    go true ha true ho false hr = refused-early m c order t NoRoom 32 (omega arith) refl (step-is m c order t ha ho hr) g e
-    go true ha true ho true hr = mending ha ho hr (begun m c order t) refl
+        roomFor (refinedCounts c) m t ≡ r → Refused ed m c order t g
+    go false ha o ho r hr = refused-early ed m c order t NotClosed 30 (omega arith) refl (step-is ed m c order t ha ho hr) g e
+    go true ha false ho r hr = refused-early ed m c order t NotEachFaceOnce 31 (omega arith) refl (step-is ed m c order t ha ho hr) g e
+    go true ha true ho false hr = refused-early ed m c order t NoRoom 32 (omega arith) refl (step-is ed m c order t ha ho hr) g e
+    go true ha true ho true hr = mending ha ho hr (begun ed m c order t) refl
 
 -- The mesh that is made: the visits' rows, with all positions put.
-pub record Begun (m : Mesh) (c : Counts) (order : List ℕ) (t : Mesh) (n : Mesh) : Type 0 where
+pub record Begun (ed : Edition) (m : Mesh) (c : Counts) (order : List ℕ) (t : Mesh) (n : Mesh) : Type 0 where
   pub positions : List Float
-  pub put : placedAll m c (refinedRows m (c .points) (c .edges) (c .faces) order t) (t .positions) ≡ so-far positions
-  pub mesh : n ≡ withPositions positions (refinedRows m (c .points) (c .edges) (c .faces) order t)
+  pub put : placedAll ed m c (settledRows ed m (c .points) (c .edges) (c .faces) order t) (t .positions) ≡ so-far positions
+  pub mesh : n ≡ withPositions positions (settledRows ed m (c .points) (c .edges) (c .faces) order t)
 
-pub made-is : (m : Mesh) (c : Counts) (order : List ℕ) (t n : Mesh) → made m c order t ≡ whole n → Begun m c order t n
+pub made-is : (ed : Edition) (m : Mesh) (c : Counts) (order : List ℕ) (t n : Mesh) → made ed m c order t ≡ whole n → Begun ed m c order t n
 unfolding made placedRows
-made-is m c order t n e = go _ refl e
+made-is ed m c order t n e = go _ refl e
   where
     s : State
-    s = refinedRows m (c .points) (c .edges) (c .faces) order t
+    s = settledRows ed m (c .points) (c .edges) (c .faces) order t
 
-    go : (r : Placing) → placedAll m c s (t .positions) ≡ r → madeOf s r ≡ whole n → Begun m c order t n
+    go : (r : Placing) → placedAll ed m c s (t .positions) ≡ r → madeOf s r ≡ whole n → Begun ed m c order t n
     go (so-far qs) h e = record { positions = qs; put = h; mesh = cc }
     go not-finite h e = absurd (let z : _≡_ {A = ℕ} 0 1 = cc in omega arith)

@@ -1,4 +1,4 @@
--- Visits leave every table as long as it was. Assumes nothing.
+-- Visits, and what is settled after them, leave every table as long as it was. Assumes nothing.
 --     exact-made              what is made in tables of just the rows of the mesh after a step has just these rows
 use mathlib.Core.Path.{_≡_, refl, _∙_}
 use mathlib.Core.Bool.{Bool, true, false}
@@ -15,11 +15,14 @@ use Rattle.tables.specs.declared.Counts.{Counts}
 use Rattle.tables.proofs.Laws.{length-putRow, length-over}
 use Rattle.audited_meshes.specs.Audited.{Audited}
 use Rattle.audited_meshes.specs.Walks.{passed, faceWalk}
+use Rattle.refined_meshes.specs.declared.Edition.{Edition}
 use Rattle.refined_meshes.specs.Turns.{turns}
 use Rattle.refined_meshes.specs.State.{State, withPositions, edgeOf, putEdge, putPoint, putStart, putFace, takeRows, copied}
 use Rattle.refined_meshes.specs.Split.{splitEdge, splitIf, splitWhole, originHalf, destinationHalf}
 use Rattle.refined_meshes.specs.Ring.{Ring, putJoin, putFirst, putSecond, putNewFace, putFacePoint}
 use Rattle.refined_meshes.specs.Visits.{splitAll, putRing, visitAlong, visit, visits, refinedRows}
+use Rattle.refined_meshes.specs.Settled.{settled, settledRows}
+use Rattle.refined_meshes.proofs.Settled.{length-settled}
 use Rattle.steps.specs.Positions.{so-far, placedAll}
 use Rattle.steps.specs.Step.{refinedCounts}
 use Rattle.steps.specs.Rows.{Room}
@@ -131,25 +134,33 @@ long-visit m np ne f s =
     as-long-trans (long-take 1 0 0 s)
     (as-long-trans (long-turns _ (λ i s. long-splitWhole np _ s) (passed (faceWalk m ne f)) _) (long-ring m _ _))
 
--- The tables after all visits are as long as the scratch tables, where a copy of the mesh has room.
-module _ (m : Mesh) (np ne nf : ℕ) (order : List ℕ) (t : Mesh) where
-  pub long-refinedRows : AsLong (copied m np ne nf t) (refinedRows m np ne nf order t)
+long-settled : (ed : Edition) (m : Mesh) (ne : ℕ) (s : State) → AsLong s (settled ed m ne s)
+unfolding settled
+long-settled ed m ne s = record { points = refl; edges = refl; intervals = length-settled ed m ne s; faces = refl }
+
+-- The tables after all visits, and settled, are as long as the scratch tables, where a copy of the mesh has room.
+module _ (ed : Edition) (m : Mesh) (np ne nf : ℕ) (order : List ℕ) (t : Mesh) where
+  long-refinedRows : AsLong (copied m np ne nf t) (refinedRows m np ne nf order t)
   unfolding refinedRows visits
   long-refinedRows = long-turns _ (λ i s. long-visit m np ne (getD order i 0) s) nf (copied m np ne nf t)
 
+  pub long-settledRows : AsLong (copied m np ne nf t) (settledRows ed m np ne nf order t)
+  unfolding settledRows
+  long-settledRows = as-long-trans long-refinedRows (long-settled ed m ne (refinedRows m np ne nf order t))
+
 module _
-    (m : Mesh) (c : Counts) (held : Room c m) (audited : Audited m (c .points) (c .edges) (c .faces)) (few : c .faces ≤ none) (fewer : c .faces ≤ 2 * c .edges)
+    (ed : Edition) (m : Mesh) (c : Counts) (held : Room c m) (audited : Audited m (c .points) (c .edges) (c .faces)) (few : c .faces ≤ none) (fewer : c .faces ≤ 2 * c .edges)
     (order : List ℕ) (t : Mesh) (room : Exact (refinedCounts c) t)
-    (rows : PointRows c (refinedRows m (c .points) (c .edges) (c .faces) order t) (refinedCounts c .points)) (qs : List Float)
-    (put : placedAll m c (refinedRows m (c .points) (c .edges) (c .faces) order t) (t .positions) ≡ so-far qs)
+    (rows : PointRows c (settledRows ed m (c .points) (c .edges) (c .faces) order t) (refinedCounts c .points)) (qs : List Float)
+    (put : placedAll ed m c (settledRows ed m (c .points) (c .edges) (c .faces) order t) (t .positions) ≡ so-far qs)
   where
-    pub exact-made : Exact (refinedCounts c) (withPositions qs (refinedRows m (c .points) (c .edges) (c .faces) order t))
+    pub exact-made : Exact (refinedCounts c) (withPositions qs (settledRows ed m (c .points) (c .edges) (c .faces) order t))
     unfolding copied
     exact-made =
-        let l = long-refinedRows m (c .points) (c .edges) (c .faces) order t in
+        let l = long-settledRows ed m (c .points) (c .edges) (c .faces) order t in
         record {
           positions =
-              length-all m c audited few (refinedRows m (c .points) (c .edges) (c .faces) order t) (refinedCounts c .points) rows (t .positions)
+              length-all m c audited few (settledRows ed m (c .points) (c .edges) (c .faces) order t) (refinedCounts c .points) rows ed (t .positions)
               (omega (arith, room .positions)) qs put
               ∙ room .positions;
           points = l .points ∙ length-over _ (m .points) (t .points) (held .points) (omega (arith, room .points)) ∙ room .points;

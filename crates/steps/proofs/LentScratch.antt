@@ -18,12 +18,16 @@ use Rattle.t_spline.specs.declared.TnurccEdge.{TnurccEdge}
 use Rattle.audited_meshes.specs.Audited.{Audited}
 use Rattle.audited_meshes.specs.Rows.{HoldsClosed}
 use Rattle.audited_meshes.proofs.Holds.{audited-of-closed, audit-is-closed}
+use Rattle.refined_meshes.specs.declared.Edition.{Edition}
 use Rattle.refined_meshes.specs.State.{State, withPositions}
 use Rattle.refined_meshes.specs.Order.{EachOnce}
 use Rattle.refined_meshes.specs.Visits.{refinedRows}
+use Rattle.refined_meshes.specs.Settled.{settled, settledRows}
 use Rattle.refined_meshes.specs.Refines.{Refines}
 use Rattle.refined_meshes.proofs.Words.{pointOf, faceOf}
-use Rattle.refined_meshes.proofs.Refines.{visits-refine, visited-points, visited-edges, visited-faces}
+use Rattle.refined_meshes.proofs.Refines.{visited-points, visited-edges, visited-faces}
+use Rattle.refined_meshes.proofs.Fits.{all-taken}
+use Rattle.refined_meshes.proofs.Settled.{settled-edges, visits-refine}
 use Rattle.steps.specs.declared.Stepped.{Stepped}
 use Rattle.steps.specs.declared.Stepped.the-variants.{Refined, NotClosed, NotEachFaceOnce, NoRoom, NotFinite}
 use Rattle.steps.specs.Positions.{so-far, facePointRow, edgePointRow, placedAll}
@@ -42,60 +46,65 @@ use Rattle.steps.proofs.FirstGround.{first-ground}
 -- ---- what is made of one mesh in two scratch tables
 
 module _
-    (m : Mesh) (c : Counts) (h : HoldsClosed m (c .points) (c .edges) (c .faces)) (few : c .faces ≤ none) (order : List ℕ)
+    (ed : Edition) (m : Mesh) (c : Counts) (h : HoldsClosed m (c .points) (c .edges) (c .faces)) (few : c .faces ≤ none) (order : List ℕ)
     (once : EachOnce (c .faces) order) (t t' : Mesh) (x : Exact (refinedCounts c) t) (x' : Exact (refinedCounts c) t')
   where
     abbrev s : State
-    s = refinedRows m (c .points) (c .edges) (c .faces) order t
+    s = settledRows ed m (c .points) (c .edges) (c .faces) order t
 
     abbrev s' : State
-    s' = refinedRows m (c .points) (c .edges) (c .faces) order t'
+    s' = settledRows ed m (c .points) (c .edges) (c .faces) order t'
 
     audited : Audited m (c .points) (c .edges) (c .faces)
     audited = audited-of-closed m (h .mesh) (h .stands) (h .closed) (h .fit)
 
     refines : (t : Mesh) → Exact (refinedCounts c) t → (ps : List Float) →
-        Refines m (h .mesh) (h .closed) order (withPositions ps (refinedRows m (c .points) (c .edges) (c .faces) order t))
+        Refines ed m (h .mesh) (h .closed) order (withPositions ps (settledRows ed m (c .points) (c .edges) (c .faces) order t))
     refines t x ps =
         let r = room-of-exact x in
-        visits-refine m (c .points) (c .edges) (c .faces) h order once t (points-fit r) (edges-fit r) (faces-fit r) ps
+        visits-refine ed m (c .points) (c .edges) (c .faces) h order once t (points-fit r) (edges-fit r) (faces-fit r) ps
 
     placed : (t : Mesh) → Exact (refinedCounts c) t → (qs : List Float) →
-        placedAll m c (refinedRows m (c .points) (c .edges) (c .faces) order t) (t .positions) ≡ so-far qs →
-        AllPlaced m c (refinedRows m (c .points) (c .edges) (c .faces) order t) qs
+        placedAll ed m c (settledRows ed m (c .points) (c .edges) (c .faces) order t) (t .positions) ≡ so-far qs →
+        AllPlaced ed m c (settledRows ed m (c .points) (c .edges) (c .faces) order t) qs
     placed t x qs e =
-        placed-all m c audited few (refinedRows m (c .points) (c .edges) (c .faces) order t) (refinedCounts c .points)
-        (point-rows m c h order t (t .positions) (refines t x (t .positions))) (t .positions) (omega (arith, x .positions)) qs e
+        placed-all m c audited few (settledRows ed m (c .points) (c .edges) (c .faces) order t) (refinedCounts c .points)
+        (point-rows ed m c h order t (t .positions) (refines t x (t .positions))) ed (t .positions) (omega (arith, x .positions)) qs e
 
     points-same : (p : ℕ) → p < refinedCounts c .points → pointOf s' p ≡ pointOf s p
-    unfolding refinedRows
+    unfolding settledRows settled refinedRows pointOf
     points-same =
         let r = room-of-exact x in
         let r' = room-of-exact x' in
         visited-points m (c .points) (c .edges) (c .faces) h order once t t' (points-fit r) (edges-fit r) (faces-fit r) (points-fit r') (edges-fit r') (faces-fit r')
 
     edges-same : (e : ℕ) → e < refinedCounts c .edges → edgeAt (s' .edges) (s' .intervals) e ≡ edgeAt (s .edges) (s .intervals) e
-    unfolding refinedRows
+    unfolding settledRows refinedRows
     edges-same =
         let r = room-of-exact x in
         let r' = room-of-exact x' in
-        visited-edges m (c .points) (c .edges) (c .faces) h order once t t' (points-fit r) (edges-fit r) (faces-fit r) (points-fit r') (edges-fit r') (faces-fit r')
+        let taken = all-taken m (c .points) (c .edges) (c .faces) h order once t (points-fit r) (edges-fit r) (faces-fit r) in
+        let taken' = all-taken m (c .points) (c .edges) (c .faces) h order once t' (points-fit r') (edges-fit r') (faces-fit r') in
+        settled-edges m (c .edges) (refinedRows m (c .points) (c .edges) (c .faces) order t) (refinedRows m (c .points) (c .edges) (c .faces) order t')
+        (taken .room .intervals-room) (taken' .room .intervals-room)
+        (visited-edges m (c .points) (c .edges) (c .faces) h order once t t' (points-fit r) (edges-fit r) (faces-fit r) (points-fit r') (edges-fit r') (faces-fit r'))
+        ed
 
     faces-same : (f : ℕ) → f < refinedCounts c .faces → faceOf s' f ≡ faceOf s f
-    unfolding refinedRows
+    unfolding settledRows settled refinedRows faceOf
     faces-same =
         let r = room-of-exact x in
         let r' = room-of-exact x' in
         visited-faces m (c .points) (c .edges) (c .faces) h order once t t' (points-fit r) (edges-fit r) (faces-fit r) (points-fit r') (edges-fit r') (faces-fit r')
 
-    module _ (qs qs' : List Float) (e : placedAll m c s (t .positions) ≡ so-far qs) (e' : placedAll m c s' (t' .positions) ≡ so-far qs') where
-      v : Refines m (h .mesh) (h .closed) order (withPositions qs s)
+    module _ (qs qs' : List Float) (e : placedAll ed m c s (t .positions) ≡ so-far qs) (e' : placedAll ed m c s' (t' .positions) ≡ so-far qs') where
+      v : Refines ed m (h .mesh) (h .closed) order (withPositions qs s)
       v = refines t x qs
 
-      a : AllPlaced m c s qs
+      a : AllPlaced ed m c s qs
       a = placed t x qs e
 
-      a' : AllPlaced m c s' qs'
+      a' : AllPlaced ed m c s' qs'
       a' = placed t' x' qs' e'
 
       edge-row-same : (i : ℕ) → i < c .edges → edgePointRow s' i ≡ edgePointRow s i
@@ -142,14 +151,14 @@ module _
 
 -- what is made has just the rows of the mesh after the step
 exact-alone :
-    (m : Mesh) (c : Counts) (h : HoldsClosed m (c .points) (c .edges) (c .faces)) → c .faces ≤ none → (order : List ℕ) → EachOnce (c .faces) order →
-    (t : Mesh) → Exact (refinedCounts c) t → (qs : List Float) → placedAll m c (refinedRows m (c .points) (c .edges) (c .faces) order t) (t .positions) ≡ so-far qs →
-    Exact (refinedCounts c) (withPositions qs (refinedRows m (c .points) (c .edges) (c .faces) order t))
-exact-alone m c h few order once t x qs e =
+    (ed : Edition) (m : Mesh) (c : Counts) (h : HoldsClosed m (c .points) (c .edges) (c .faces)) → c .faces ≤ none → (order : List ℕ) → EachOnce (c .faces) order →
+    (t : Mesh) → Exact (refinedCounts c) t → (qs : List Float) → placedAll ed m c (settledRows ed m (c .points) (c .edges) (c .faces) order t) (t .positions) ≡ so-far qs →
+    Exact (refinedCounts c) (withPositions qs (settledRows ed m (c .points) (c .edges) (c .faces) order t))
+exact-alone ed m c h few order once t x qs e =
     let r = room-of-exact x in
-    let v = visits-refine m (c .points) (c .edges) (c .faces) h order once t (points-fit r) (edges-fit r) (faces-fit r) (t .positions) in
-    exact-made m c (room-of-holds h) (audited-of-closed m (h .mesh) (h .stands) (h .closed) (h .fit)) few (faces-fewer v) order t x
-    (point-rows m c h order t (t .positions) v) qs e
+    let v = visits-refine ed m (c .points) (c .edges) (c .faces) h order once t (points-fit r) (edges-fit r) (faces-fit r) (t .positions) in
+    exact-made ed m c (room-of-holds h) (audited-of-closed m (h .mesh) (h .stands) (h .closed) (h .fit)) few (faces-fewer v) order t x
+    (point-rows ed m c h order t (t .positions) v) qs e
 
 -- ---- rows that are the same
 
@@ -218,41 +227,41 @@ room-same c m t t' s (inr h) = inr h
 numbers-back : {t t' : Mesh} → Same-numbers t t' → Same-numbers t' t
 numbers-back s = record { points = sym (s .points); edges = sym (s .edges); faces = sym (s .faces) }
 
-due-same : (m : Mesh) (c : Counts) (order : List ℕ) (t t' : Mesh) → Same-numbers t t' → (a : Stepped) → Due m c order t a → Due m c order t' a
-due-same m c order t t' s NotClosed d = d
-due-same m c order t t' s NotEachFaceOnce d = d
-due-same m c order t t' s NoRoom d = (d .0, d .1, room-same (refinedCounts c) m t t' s (d .2))
-due-same m c order t t' s NotFinite d = (d .0, d .1, λ h. d .2 (room-same (refinedCounts c) m t' t (numbers-back s) h), d .3)
-due-same m c order t t' s (Refined k) d = (d .0, d .1, λ h. d .2 (room-same (refinedCounts c) m t' t (numbers-back s) h), d .3, d .4)
+due-same : (ed : Edition) (m : Mesh) (c : Counts) (order : List ℕ) (t t' : Mesh) → Same-numbers t t' → (a : Stepped) → Due ed m c order t a → Due ed m c order t' a
+due-same ed m c order t t' s NotClosed d = d
+due-same ed m c order t t' s NotEachFaceOnce d = d
+due-same ed m c order t t' s NoRoom d = (d .0, d .1, room-same (refinedCounts c) m t t' s (d .2))
+due-same ed m c order t t' s NotFinite d = (d .0, d .1, λ h. d .2 (room-same (refinedCounts c) m t' t (numbers-back s) h), d .3)
+due-same ed m c order t t' s (Refined k) d = (d .0, d .1, λ h. d .2 (room-same (refinedCounts c) m t' t (numbers-back s) h), d .3, d .4)
 
-module _ (m : Mesh) (c : Counts) (order : List ℕ) (t t' : Mesh) (s : Same-numbers t t') where
-  answer-same : step m c order t' .answer ≡ step m c order t .answer
+module _ (ed : Edition) (m : Mesh) (c : Counts) (order : List ℕ) (t t' : Mesh) (s : Same-numbers t t') where
+  answer-same : step ed m c order t' .answer ≡ step ed m c order t .answer
   answer-same =
-      let a = step m c order t .answer in
-      first-ground m c order t' a .1 (due-same m c order t t' s a (first-ground m c order t a .0 refl))
+      let a = step ed m c order t .answer in
+      first-ground ed m c order t' a .1 (due-same ed m c order t t' s a (first-ground ed m c order t a .0 refl))
 
-  refined-same : (k : Counts) → step m c order t .answer ≡ Refined k → Same-mesh k (step m c order t .tables) (step m c order t' .tables)
+  refined-same : (k : Counts) → step ed m c order t .answer ≡ Refined k → Same-mesh k (step ed m c order t .tables) (step ed m c order t' .tables)
   refined-same k e =
       let e' = answer-same ∙ e in
-      let x = taken m c order t k e in
-      let x' = taken m c order t' k e' in
+      let x = taken ed m c order t k e in
+      let x' = taken ed m c order t' k e' in
       let h = audit-is-closed m _ _ _ .0 (x .audited) in
       let h1 = holds-firstRows h in
       let few : c .faces ≤ none = omega (arith, x .within .points) in
       let u = firstRows (refinedCounts c) t in
       let u' = firstRows (refinedCounts c) t' in
-      let b = made-is (firstRows c m) c order u (x .mesh) (x .is-made) in
-      let b' = made-is (firstRows c m) c order u' (x' .mesh) (x' .is-made) in
-      let made-same = made-alike (firstRows c m) c h1 few order (x .once) u u'
+      let b = made-is ed (firstRows c m) c order u (x .mesh) (x .is-made) in
+      let b' = made-is ed (firstRows c m) c order u' (x' .mesh) (x' .is-made) in
+      let made-same = made-alike ed (firstRows c m) c h1 few order (x .once) u u'
       (exact-firstRows (refinedCounts c) t (x .scratch-room)) (exact-firstRows (refinedCounts c) t' (x' .scratch-room))
       (b .positions) (b' .positions) (b .put) (b' .put) in
       let exact = subst (Exact (refinedCounts c)) (sym (b .mesh))
-      (exact-alone (firstRows c m) c h1 few order (x .once) u (exact-firstRows (refinedCounts c) t (x .scratch-room))
+      (exact-alone ed (firstRows c m) c h1 few order (x .once) u (exact-firstRows (refinedCounts c) t (x .scratch-room))
       (b .positions) (b .put)) in
       let exact' = subst (Exact (refinedCounts c)) (sym (b' .mesh))
-      (exact-alone (firstRows c m) c h1 few order (x' .once) u'
+      (exact-alone ed (firstRows c m) c h1 few order (x' .once) u'
       (exact-firstRows (refinedCounts c) t' (x' .scratch-room)) (b' .positions) (b' .put)) in
-      let one = withPositions (b .positions) (refinedRows (firstRows c m) (c .points) (c .edges) (c .faces) order u) in
+      let one = withPositions (b .positions) (settledRows ed (firstRows c m) (c .points) (c .edges) (c .faces) order u) in
       let between : Same-mesh (refinedCounts c) (x .mesh) (x' .mesh) = subst
       (λ n. Same-mesh (refinedCounts c) n (x' .mesh)) (sym (b .mesh))
       (subst (λ n. Same-mesh (refinedCounts c) one n) (sym (b' .mesh)) made-same) in
@@ -260,9 +269,9 @@ module _ (m : Mesh) (c : Counts) (order : List ℕ) (t t' : Mesh) (s : Same-numb
       (overRows (refinedCounts c) (x' .mesh) m) = mesh-trans
       (mesh-sym (mesh-of-rows (same-overRows (refinedCounts c) (x .mesh) m exact)))
       (mesh-trans between (mesh-of-rows (same-overRows (refinedCounts c) (x' .mesh) m exact'))) in
-      subst (λ k. Same-mesh k (step m c order t .tables) (step m c order t' .tables)) (sym (x .counts))
-      (subst (λ n. Same-mesh (refinedCounts c) n (step m c order t' .tables)) (sym (x .tables))
+      subst (λ k. Same-mesh k (step ed m c order t .tables) (step ed m c order t' .tables)) (sym (x .counts))
+      (subst (λ n. Same-mesh (refinedCounts c) n (step ed m c order t' .tables)) (sym (x .tables))
       (subst (λ n. Same-mesh (refinedCounts c) (overRows (refinedCounts c) (x .mesh) m) n) (sym (x' .tables)) there))
 
 pub lent-scratch : Lent-scratch
-lent-scratch m c order t t' s = record { answer = answer-same m c order t t' s; refined = refined-same m c order t t' s }
+lent-scratch ed m c order t t' s = record { answer = answer-same ed m c order t t' s; refined = refined-same ed m c order t t' s }

@@ -12,13 +12,14 @@ use Rattle.closed_meshes.specs.Mesh.{MeshOver}
 use Rattle.closed_meshes.specs.Closed.{Closed}
 use Rattle.closed_meshes.specs.Refinement.{mid, facePoint, dst, join}
 use Rattle.closed_meshes.specs.Renumbering.{Row}
+use Rattle.refined_meshes.specs.declared.Edition.{Edition}
 use Rattle.refined_meshes.specs.Refines.{StartOfOld, Refines}
 use Rattle.steps.specs.Step.{refinedCounts}
 use Rattle.steps.proofs.Rows.{SameRows, stands-same}
 
 module _
-    {m : Mesh} {c : Counts} {t : MeshOver (Row (c .points)) (Row (c .edges)) (Row (c .faces))} {d : Closed t} {order : List ℕ} {m' : Mesh}
-    (r : Refines m t d order m')
+    {ed : Edition} {m : Mesh} {c : Counts} {t : MeshOver (Row (c .points)) (Row (c .edges)) (Row (c .faces))} {d : Closed t} {order : List ℕ} {m' : Mesh}
+    (r : Refines ed m t d order m')
   where
     -- Every face has a first new face.
     pub faces-fewer : c .faces ≤ 2 * c .edges
@@ -31,7 +32,7 @@ module _
 
     -- Every row that the counts after the step count is the same.
     module _ {m'' : Mesh} (s : SameRows (refinedCounts c) m' m'') where
-      unfoldable pub refines-same : Refines m t d order m''
+      unfoldable pub refines-same : Refines ed m t d order m''
       refines-same =
           record {
             mesh = r .mesh;

@@ -1,7 +1,7 @@
--- When a step gives each of its answers, in document 01's words and order.
+-- When a step of an edition ed gives each of its answers, in document 01's words and order.
 --     Short c t                the tables t have fewer rows of a kind than a mesh with the counts c
 --     No-room c m t            so have the tables m or scratch t, or the counts c are over the ceilings
---     Due m c order t a        the answer a is due: its condition holds, and that of no ground before it
+--     Due ed m c order t a     the answer a is due: its condition holds, and that of no ground before it
 --     First-ground             the claim: the answer is the one that is due, both ways
 use mathlib.Core.Path.{_≡_}
 use mathlib.Core.List.{List}
@@ -11,6 +11,7 @@ use Rattle.tables.specs.Layout.{pointCeiling, edgeCeiling, faceCeiling}
 use Rattle.tables.specs.Mesh.{Mesh, pointRows, edgeRows, faceRows}
 use Rattle.tables.specs.declared.Counts.{Counts}
 use Rattle.audited_meshes.specs.Audited.{Audited}
+use Rattle.refined_meshes.specs.declared.Edition.{Edition}
 use Rattle.refined_meshes.specs.Order.{EachOnce}
 use Rattle.steps.specs.declared.Stepped.{Stepped}
 use Rattle.steps.specs.declared.Stepped.the-variants.{Refined, NotClosed, NotEachFaceOnce, NoRoom, NotFinite}
@@ -25,7 +26,7 @@ abbrev pub No-room : Counts → Mesh → Mesh → Type 0
 No-room c m t =
     (Short c m ⊎ Short c t) ⊎ ((pointCeiling < c .points) ⊎ ((edgeCeiling < c .edges) ⊎ (faceCeiling < c .faces)))
 
-module _ (m : Mesh) (c : Counts) (order : List ℕ) (t : Mesh) where
+module _ (ed : Edition) (m : Mesh) (c : Counts) (order : List ℕ) (t : Mesh) where
   -- the grounds that are not met
   abbrev pub Closed-mesh : Type 0
   Closed-mesh = Audited m (c .points) (c .edges) (c .faces)
@@ -37,8 +38,9 @@ module _ (m : Mesh) (c : Counts) (order : List ℕ) (t : Mesh) where
   Due NotClosed = ¬ Closed-mesh
   Due NotEachFaceOnce = Closed-mesh × (¬ EachOnce (c .faces) order)
   Due NoRoom = Closed-mesh × EachOnce (c .faces) order × No-room (refinedCounts c) m t
-  Due NotFinite = Closed-mesh × EachOnce (c .faces) order × Room-enough × (¬ AllFinite (firstRows c m) c)
-  Due (Refined k) = Closed-mesh × EachOnce (c .faces) order × Room-enough × AllFinite (firstRows c m) c × (k ≡ refinedCounts c)
+  Due NotFinite = Closed-mesh × EachOnce (c .faces) order × Room-enough × (¬ AllFinite ed (firstRows c m) c)
+  Due (Refined k) = Closed-mesh × EachOnce (c .faces) order × Room-enough × AllFinite ed (firstRows c m) c × (k ≡ refinedCounts c)
 
 abbrev pub First-ground : Type 0
-First-ground = (m : Mesh) (c : Counts) (order : List ℕ) (t : Mesh) (a : Stepped) → (step m c order t .answer ≡ a) ↔ Due m c order t a
+First-ground =
+    (ed : Edition) (m : Mesh) (c : Counts) (order : List ℕ) (t : Mesh) (a : Stepped) → (step ed m c order t .answer ≡ a) ↔ Due ed m c order t a

@@ -10,6 +10,7 @@ use Prim.Native.Nat.{ℕ, _<_}
 use Rattle.tables.specs.Mesh.{Mesh, valence, start, mark, faceStart, corner, pointRows, edgeRows, faceRows}
 use Rattle.tables.specs.Records.{positionAt, edgeAt}
 use Rattle.tables.specs.declared.Counts.{Counts}
+use Rattle.refined_meshes.specs.declared.Edition.{Edition}
 use Rattle.steps.specs.declared.Stepped.the-variants.{Refined}
 use Rattle.steps.specs.Step.{step}
 
@@ -27,9 +28,10 @@ pub record Same-mesh (c : Counts) (t t' : Mesh) : Type 0 where
   pub face-start : (f : ℕ) → f < c .faces → faceStart t' f ≡ faceStart t f
   pub corner : (f k : ℕ) → f < c .faces → k < 4 → corner t' f k ≡ corner t f k
 
-pub record Shows-nothing (m : Mesh) (c : Counts) (order : List ℕ) (t t' : Mesh) : Type 0 where
-  pub answer : step m c order t' .answer ≡ step m c order t .answer
-  pub refined : (k : Counts) → step m c order t .answer ≡ Refined k → Same-mesh k (step m c order t .tables) (step m c order t' .tables)
+pub record Shows-nothing (ed : Edition) (m : Mesh) (c : Counts) (order : List ℕ) (t t' : Mesh) : Type 0 where
+  pub answer : step ed m c order t' .answer ≡ step ed m c order t .answer
+  pub refined : (k : Counts) → step ed m c order t .answer ≡ Refined k → Same-mesh k (step ed m c order t .tables) (step ed m c order t' .tables)
 
 abbrev pub Lent-scratch : Type 0
-Lent-scratch = (m : Mesh) (c : Counts) (order : List ℕ) (t t' : Mesh) → Same-numbers t t' → Shows-nothing m c order t t'
+Lent-scratch =
+    (ed : Edition) (m : Mesh) (c : Counts) (order : List ℕ) (t t' : Mesh) → Same-numbers t t' → Shows-nothing ed m c order t t'

@@ -1,14 +1,15 @@
--- One step of refining, for tables, counts, order and scratch of any content and any lengths, in document 01's words and order.
+-- One step of refining in an edition ed, for tables, counts, order and scratch of any content and any lengths, in document 01's words and
+-- order. The grounds 30 to 32 are the same in both editions.
 --     stepNumbers a            the answer in document 01's numbers: points, edges and faces, or the number of the ground
 --     stepGround a             the number of the ground that is answered
 --     refinedCounts c          V, E, F become V + E + F, 4 E, 2 E
 --     eachFaceOnce nf order    the order is each of nf faces once
 --     withinCeilings c         at most 65,536 points, 131,072 edges and 65,536 faces
 --     roomFor c m t            room for the mesh with the counts c, in the tables m and in scratch t
---     made m c order t         the refined mesh of m, made in the tables t; or the word that a position is not finite
+--     made ed m c order t      the refined mesh of m, made in the tables t; or the word that a position is not finite
 --     StepOutcome              the answer, the tables afterwards, the scratch tables afterwards
 --     tested m c order t       the first of the grounds 30, 31 and 32 that holds, or the counts after the step
---     step m c order t         the step of the mesh in the tables m with the counts c, in the order handed in, by scratch t
+--     step ed m c order t      the step of the mesh in the tables m with the counts c, in the order handed in, by scratch t
 use mathlib.Core.Bool.{Bool, true, false, _&&_}
 use mathlib.Core.List.{List, [], _∷_}
 use mathlib.Core.Option.{Option, none, some}
@@ -22,8 +23,9 @@ use Rattle.tables.specs.Counted.{rowsFor, firstRows, zeroedRows, overRows}
 use Rattle.tables.specs.declared.Counts.{Counts}
 use Rattle.audited_meshes.specs.Folds.{every, distinct}
 use Rattle.audited_meshes.specs.Audit.{audit}
+use Rattle.refined_meshes.specs.declared.Edition.{Edition}
 use Rattle.refined_meshes.specs.State.{State, withPositions}
-use Rattle.refined_meshes.specs.Visits.{refinedRows}
+use Rattle.refined_meshes.specs.Settled.{settledRows}
 use Rattle.steps.specs.declared.Stepped.{Stepped}
 use Rattle.steps.specs.declared.Stepped.the-variants.{Refined, NotClosed, NotEachFaceOnce, NoRoom, NotFinite}
 use Rattle.steps.specs.Positions.{Placing, so-far, not-finite, placedAll}
@@ -69,14 +71,14 @@ madeOf s (so-far ps) = whole (withPositions ps s)
 madeOf s not-finite = notFinite
 
 -- the positions, once all faces are visited
-unfoldable pub placedRows : Mesh → Counts → List Float → State → Made
+unfoldable pub placedRows : Edition → Mesh → Counts → List Float → State → Made
 unfolding placedAll
-placedRows m c ps s = madeOf s (placedAll m c s ps)
+placedRows ed m c ps s = madeOf s (placedAll ed m c s ps)
 
--- the faces are visited in the order handed in, then the positions are put into their rows
-unfoldable pub made : Mesh → Counts → List ℕ → Mesh → Made
-unfolding placedRows refinedRows
-made m c order t = placedRows m c (t .positions) (refinedRows m (c .points) (c .edges) (c .faces) order t)
+-- the faces are visited in the order handed in and the rows settled, then the positions are put into their rows
+unfoldable pub made : Edition → Mesh → Counts → List ℕ → Mesh → Made
+unfolding placedRows settledRows
+made ed m c order t = placedRows ed m c (t .positions) (settledRows ed m (c .points) (c .edges) (c .faces) order t)
 
 pub record StepOutcome : Type 0 where
   pub answer : Stepped
@@ -106,14 +108,14 @@ tested m c order t =
     testedIf (audit m (c .points) (c .edges) (c .faces)) (eachFaceOnce (c .faces) order) (roomFor (refinedCounts c) m t) (refinedCounts c)
 
 -- the step, by the answer of its tests
-unfoldable pub stepBy : Stepped → Mesh → Counts → List ℕ → Mesh → StepOutcome
+unfoldable pub stepBy : Edition → Stepped → Mesh → Counts → List ℕ → Mesh → StepOutcome
 unfolding ended made firstRows
-stepBy (Refined c') m c order t = ended m c' t (made (firstRows c m) c order (firstRows c' t))
-stepBy NotClosed m c order t = stepRefusal NotClosed m t
-stepBy NotEachFaceOnce m c order t = stepRefusal NotEachFaceOnce m t
-stepBy NoRoom m c order t = stepRefusal NoRoom m t
-stepBy NotFinite m c order t = stepRefusal NotFinite m t
+stepBy ed (Refined c') m c order t = ended m c' t (made ed (firstRows c m) c order (firstRows c' t))
+stepBy ed NotClosed m c order t = stepRefusal NotClosed m t
+stepBy ed NotEachFaceOnce m c order t = stepRefusal NotEachFaceOnce m t
+stepBy ed NoRoom m c order t = stepRefusal NoRoom m t
+stepBy ed NotFinite m c order t = stepRefusal NotFinite m t
 
-unfoldable pub step : Mesh → Counts → List ℕ → Mesh → StepOutcome
+unfoldable pub step : Edition → Mesh → Counts → List ℕ → Mesh → StepOutcome
 unfolding audit eachFaceOnce roomFor stepBy
-step m c order t = stepBy (tested m c order t) m c order t
+step ed m c order t = stepBy ed (tested m c order t) m c order t

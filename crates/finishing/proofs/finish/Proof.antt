@@ -21,7 +21,8 @@ commit-requires c κs =
     let a = c40 .before .before .before .args in
     let p = c40 .before .before .before .pre in
     let v = c16 .before .before .before .before .before .make-from-rows in
-    let t : Mesh = meshOf (a .newpositions .now) (a .newpoints .now) (a .newedges .now) (a .newintervals .now) (a .newfaces .now) in
+    let t : Mesh = meshOf (a .newpositions .now) (a .newpoints .now) (a .newedges .now) (a .newintervals .now)
+    (a .newfaces .now) in
     let t₁ : Mesh = meshOf (v .last .1 .1 .1 .1 .1 .1 .1 .1 .0) (v .last .1 .1 .1 .1 .1 .1 .1 .1 .1 .0)
     (v .last .1 .1 .1 .1 .1 .1 .1 .1 .1 .1 .0) (v .last .1 .1 .1 .1 .1 .1 .1 .1 .1 .1 .1 .0)
     (v .last .1 .1 .1 .1 .1 .1 .1 .1 .1 .1 .1 .1 .0) in (
@@ -47,13 +48,34 @@ same-length-5 : tie.Need-same-length-5
 same-length-5 c = search needs
 
 same-length-6 : tie.Need-same-length-6
-same-length-6 c = search needs
+same-length-6 c =
+    let c8 = c .before .before .before .before .before .before .before .before in
+    let c16 = c8 .before .before .before .before .before .before .before .before in
+    let c24 = c16 .before .before .before .before .before .before .before .before in
+    let c32 = c24 .before .before .before .before .before .before .before .before in
+    let c40 = c32 .before .before .before .before .before .before .before .before in
+    let commit = c16 .before .before .before .before .commit in
+    commit .kept .1 .0 ∙ c40 .before .before .make-from-rows .kept .1 .1 .1 .1 .1 .1 .1 .1 .0
 
 same-length-7 : tie.Need-same-length-7
-same-length-7 c = search needs
+same-length-7 c =
+    let c8 = c .before .before .before .before .before .before .before .before in
+    let c16 = c8 .before .before .before .before .before .before .before .before in
+    let c24 = c16 .before .before .before .before .before .before .before .before in
+    let c32 = c24 .before .before .before .before .before .before .before .before in
+    let c40 = c32 .before .before .before .before .before .before .before .before in
+    let commit = c16 .before .before .before .before .commit in
+    commit .kept .1 .1 .0 ∙ c40 .before .before .make-from-rows .kept .1 .1 .1 .1 .1 .1 .1 .1 .1 .0
 
 same-length-8 : tie.Need-same-length-8
-same-length-8 c = search needs
+same-length-8 c =
+    let c8 = c .before .before .before .before .before .before .before .before in
+    let c16 = c8 .before .before .before .before .before .before .before .before in
+    let c24 = c16 .before .before .before .before .before .before .before .before in
+    let c32 = c24 .before .before .before .before .before .before .before .before in
+    let c40 = c32 .before .before .before .before .before .before .before .before in
+    let commit = c16 .before .before .before .before .commit in
+    commit .kept .1 .1 .1 .0 ∙ c40 .before .before .make-from-rows .kept .1 .1 .1 .1 .1 .1 .1 .1 .1 .1 .0
 
 same-length-9 : tie.Need-same-length-9
 same-length-9 c =
@@ -90,7 +112,8 @@ returns c =
     let if1 = c24 .before .before .before .before .before .before .before .if1 in
     let commit = c16 .before .before .before .before .commit in
     let m : Mesh = meshOf (a .positions .now) (a .points .now) (a .edges .now) (a .intervals .now) (a .faces .now) in
-    let t : Mesh = meshOf (a .newpositions .now) (a .newpoints .now) (a .newedges .now) (a .newintervals .now) (a .newfaces .now) in
+    let t : Mesh = meshOf (a .newpositions .now) (a .newpoints .now) (a .newedges .now) (a .newintervals .now)
+    (a .newfaces .now) in
     let t₁ : Mesh = meshOf (v .last .1 .1 .1 .1 .1 .1 .1 .1 .0) (v .last .1 .1 .1 .1 .1 .1 .1 .1 .1 .0)
     (v .last .1 .1 .1 .1 .1 .1 .1 .1 .1 .1 .0) (v .last .1 .1 .1 .1 .1 .1 .1 .1 .1 .1 .1 .0)
     (v .last .1 .1 .1 .1 .1 .1 .1 .1 .1 .1 .1 .1 .0) in
@@ -106,7 +129,8 @@ zero-rows-requires c κs =
     let a = c32 .before .before .before .before .before .before .args in
     let p = c32 .before .before .before .before .before .before .pre in
     let v = c16 .make-from-rows in
-    let t : Mesh = meshOf (a .newpositions .now) (a .newpoints .now) (a .newedges .now) (a .newintervals .now) (a .newfaces .now) in
+    let t : Mesh = meshOf (a .newpositions .now) (a .newpoints .now) (a .newedges .now) (a .newintervals .now)
+    (a .newfaces .now) in
     let t₁ : Mesh = meshOf (v .last .1 .1 .1 .1 .1 .1 .1 .1 .0) (v .last .1 .1 .1 .1 .1 .1 .1 .1 .1 .0)
     (v .last .1 .1 .1 .1 .1 .1 .1 .1 .1 .1 .0) (v .last .1 .1 .1 .1 .1 .1 .1 .1 .1 .1 .1 .0)
     (v .last .1 .1 .1 .1 .1 .1 .1 .1 .1 .1 .1 .1 .0) in
@@ -157,7 +181,8 @@ returns-2 c =
     let p = c48 .before .pre in
     let v = c24 .before .before .before .make-from-rows in
     let m : Mesh = meshOf (a .positions .now) (a .points .now) (a .edges .now) (a .intervals .now) (a .faces .now) in
-    let t : Mesh = meshOf (a .newpositions .now) (a .newpoints .now) (a .newedges .now) (a .newintervals .now) (a .newfaces .now) in
+    let t : Mesh = meshOf (a .newpositions .now) (a .newpoints .now) (a .newedges .now) (a .newintervals .now)
+    (a .newfaces .now) in
     let t₁ : Mesh = meshOf (v .last .1 .1 .1 .1 .1 .1 .1 .1 .0) (v .last .1 .1 .1 .1 .1 .1 .1 .1 .1 .0)
     (v .last .1 .1 .1 .1 .1 .1 .1 .1 .1 .1 .0) (v .last .1 .1 .1 .1 .1 .1 .1 .1 .1 .1 .1 .0)
     (v .last .1 .1 .1 .1 .1 .1 .1 .1 .1 .1 .1 .1 .0) in

@@ -1,36 +1,60 @@
--- make meets its contract: the visits make the rows, and the rules find in them what they ask.
 use Prim.Native.Nat.{_≤_, _*_, _+_}
 use native.Mathlib.Omega.{arith}
 use lib.ListN.{length}
-use borrow.Author.Needs.{needs}
-use Rattle.making.proofs.Laws.{old-rows-hold, new-rows-hold, visits-fit, faces-fit, edges-fit, points-fit, made-of-parts}
+use Rattle.making.proofs.Laws.{old-rows-hold, new-rows-hold, visits-fit, sides-fit, faces-fit, edges-fit, points-fit, made-of-parts}
 use Rattle.splitting.specs.Scratch.{tablesOf}
 use Rattle.refined_meshes.specs.State.{State}
 use Rattle.tables.specs.Mesh.{Mesh, meshOf}
+use borrow.Author.Needs.{needs}
 use Rattle.making.proofs.make.Statement.{statement}
 use Rattle.making.proofs.make.Tie as tie
+use Rattle.making.proofs.make.Reads as reads
+use Rattle.making.proofs.make.Lts as lts
+use Rattle.placing.proofs.place_all.Reads as place-all-reads
+use Rattle.settling.proofs.settle_joins.Reads as settle-joins-reads
+use Rattle.visiting.proofs.refined_rows.Reads as refined-rows-reads
 
+-- src/lib.rt:49:5
 refined-rows-requires : tie.Need-refined-rows-requires
 refined-rows-requires c κs =
     let c8 = c .before .before .before .before .before .before .before .before in
     let a = c8 .before .before .before .before .before .before .before .args in
     let pre = c8 .before .before .before .before .before .before .before .pre in
     let m : Mesh = meshOf (a .positions .now) (a .points .now) (a .edges .now) (a .intervals .now) (a .faces .now) in
-    let t : Mesh = meshOf (a .newpositions .now) (a .newpoints .now) (a .newedges .now) (a .newintervals .now) (a .newfaces .now) in (
+    let t : Mesh = meshOf (a .newpositions .now) (a .newpoints .now) (a .newedges .now) (a .newintervals .now)
+    (a .newfaces .now) in (
       old-rows-hold m (a .counts) (a .order .now) t (pre),
       (new-rows-hold m (a .counts) (a .order .now) t (pre), visits-fit m (a .counts) (a .order .now) t (pre)),
     )
 
+-- src/lib.rt:61:5
+settle-joins-requires : tie.Need-settle-joins-requires
+settle-joins-requires c κs =
+    let c8 = c .before .before .before .before .before .before .before .before in
+    let c16 = c8 .before .before .before .before .before .before .before .before in
+    let c24 = c16 .before .before .before .before .before .before .before .before in
+    let a = c24 .before .before .args in
+    let v = c8 .before .before .refined-rows in
+    let m : Mesh = meshOf (a .positions .now) (a .points .now) (a .edges .now) (a .intervals .now) (a .faces .now) in
+    let t : Mesh = meshOf (a .newpositions .now) (a .newpoints .now) (a .newedges .now) (a .newintervals .now)
+    (a .newfaces .now) in
+    let s : State = tablesOf (v .last .1 .1 .1 .1 .0) (v .last .1 .1 .1 .1 .1 .0) (v .last .1 .1 .1 .1 .1 .1 .0)
+    (v .last .1 .1 .1 .1 .1 .1 .1 .0) (v .result) in
+    sides-fit m (a .counts) (a .order .now) t (c24 .before .before .pre) s
+    (v .ensures (a .positions .now) (a .newpositions .now))
+
+-- src/lib.rt:69:5
 place-all-requires : tie.Need-place-all-requires
 place-all-requires c κs =
     let c8 = c .before .before .before .before .before .before .before .before in
     let c16 = c8 .before .before .before .before .before .before .before .before in
     let c24 = c16 .before .before .before .before .before .before .before .before in
-    let a = c24 .before .before .before .args in
-    let pre = c24 .before .before .before .pre in
-    let v = c8 .before .before .before .refined-rows in
+    let a = c24 .before .before .before .before .before .before .before .before .args in
+    let pre = c24 .before .before .before .before .before .before .before .before .pre in
+    let v = c16 .refined-rows in
     let m : Mesh = meshOf (a .positions .now) (a .points .now) (a .edges .now) (a .intervals .now) (a .faces .now) in
-    let t : Mesh = meshOf (a .newpositions .now) (a .newpoints .now) (a .newedges .now) (a .newintervals .now) (a .newfaces .now) in
+    let t : Mesh = meshOf (a .newpositions .now) (a .newpoints .now) (a .newedges .now) (a .newintervals .now)
+    (a .newfaces .now) in
     let s : State = tablesOf (v .last .1 .1 .1 .1 .0) (v .last .1 .1 .1 .1 .1 .0) (v .last .1 .1 .1 .1 .1 .1 .0)
     (v .last .1 .1 .1 .1 .1 .1 .1 .0) (v .result) in
     let same = v .ensures (a .positions .now) (a .newpositions .now) in
@@ -38,8 +62,8 @@ place-all-requires c κs =
     let edges-there : a .counts .edges * 8 ≤ length (s .edges) = rw (v .kept .1 .1 .1 .1 .1 .0) (held .edges) in
     let faces-there : a .counts .faces * 5 ≤ length (s .faces) = rw (v .kept .1 .1 .1 .1 .1 .1 .1 .0) (held .faces) in
     let room = pre .points-room in
-    let places-there : (a .counts .points + a .counts .edges + a .counts .faces) * 3 ≤ length (a .newpositions .now) = omega
-    (arith, room) in (
+    let places-there : (a .counts .points + a .counts .edges + a .counts .faces) * 3 ≤ length (a .newpositions .now) =
+    omega (arith, room) in (
       faces-fit m (a .counts) (a .order .now) t (pre) s same edges-there faces-there (a .newpositions .now) places-there,
       (
         edges-fit m (a .counts) (a .order .now) t (pre) s same edges-there faces-there (a .newpositions .now) places-there,
@@ -47,30 +71,55 @@ place-all-requires c κs =
       ),
     )
 
+-- src/lib.rt:23:1
+same-length : tie.Need-same-length
+same-length c = search needs
+
+-- src/lib.rt:23:1
+same-length-2 : tie.Need-same-length-2
+same-length-2 c = search needs
+
+-- src/lib.rt:23:1
+same-length-3 : tie.Need-same-length-3
+same-length-3 c = search needs
+
+-- src/lib.rt:23:1
+same-length-4 : tie.Need-same-length-4
+same-length-4 c = search needs
+
+-- src/lib.rt:23:1
+same-length-5 : tie.Need-same-length-5
+same-length-5 c = search needs
+
+-- src/lib.rt:23:1
 returns : tie.Need-returns
 returns c =
     let c8 = c .before .before .before .before .before .before .before .before in
     let c16 = c8 .before .before .before .before .before .before .before .before in
     let c24 = c16 .before .before .before .before .before .before .before .before in
-    let a = c24 .before .before .before .before .before .before .args in
-    let v = c8 .before .before .before .before .before .before .refined-rows in
+    let c32 = c24 .before .before .before .before .before .before .before .before in
+    let a = c32 .before .before .before .args in
+    let v = c16 .before .before .before .refined-rows in
     let place-all = c .before .before .place-all in
     let m : Mesh = meshOf (a .positions .now) (a .points .now) (a .edges .now) (a .intervals .now) (a .faces .now) in
-    let t : Mesh = meshOf (a .newpositions .now) (a .newpoints .now) (a .newedges .now) (a .newintervals .now) (a .newfaces .now) in
+    let t : Mesh = meshOf (a .newpositions .now) (a .newpoints .now) (a .newedges .now) (a .newintervals .now)
+    (a .newfaces .now) in
     let s : State = tablesOf (v .last .1 .1 .1 .1 .0) (v .last .1 .1 .1 .1 .1 .0) (v .last .1 .1 .1 .1 .1 .1 .0)
     (v .last .1 .1 .1 .1 .1 .1 .1 .0) (v .result) in
-    made-of-parts m (a .counts) (a .order .now) t s (place-all .result) (place-all .last .1 .1 .1 .1 .1 .1 .1 .1 .0)
-    (v .ensures (a .positions .now) (a .newpositions .now)) (place-all .ensures)
+    made-of-parts (a .edition) m (a .counts) (a .order .now) t s _ (place-all .result)
+    (place-all .last .1 .1 .1 .1 .1 .1 .1 .1 .0) (v .ensures (a .positions .now) (a .newpositions .now))
+    (c8 .settle-joins .ensures) (place-all .ensures)
 
 pub make-spec : {M : Type 1} → statement M
 make-spec =
     tie.close
     (tie.spec
     refined-rows-requires
+    settle-joins-requires
     place-all-requires
-    (λ c. search needs)
-    (λ c. search needs)
-    (λ c. search needs)
-    (λ c. search needs)
-    (λ c. search needs)
+    same-length
+    same-length-2
+    same-length-3
+    same-length-4
+    same-length-5
     returns)

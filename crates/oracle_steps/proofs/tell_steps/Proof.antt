@@ -8,7 +8,7 @@ use Rattle.oracle_steps.proofs.tell_steps.Statement.{statement}
 use Rattle.oracle_steps.proofs.tell_steps.Tie as tie
 
 abbrev Inv-loop : tie.InvT-loop
-Inv-loop bytes head more steps told stage₀ at₀ k₀ stage at k = (k ≤ steps) × (steps ≤ 8) × (at ≤ more + 4411 * k)
+Inv-loop bytes head more steps told stage₀ at₀ k₀ stage at k = (k ≤ steps) × (steps ≤ 8) × (at ≤ more + 4422 * k)
 
 abbrev μ-loop : tie.MeasureT-loop
 μ-loop bytes head more steps told stage₀ at₀ k₀ stage at k = steps - k

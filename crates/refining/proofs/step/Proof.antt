@@ -1,13 +1,14 @@
 -- step meets its contract: the first ground is answered with everything untouched, else the step is made.
 use Rattle.refining.proofs.Laws.{passed, refused}
 use Rattle.tables.specs.Mesh.{Mesh, meshOf}
-use mathlib.Core.Path.{sym, _∙_, subst}
+use mathlib.Core.Path.{sym, _∙_, ap, subst}
 use mathlib.Core.List.{[], _∷_}
 use mathlib.Core.Logic.{inl, inr}
 use native.Mathlib.Omega.{arith}
 use types.Run.{OneOf}
 use denote.Enum.Declared.{tagOf}
 use Rattle.steps.specs.declared.Stepped.{Stepped}
+use Rattle.steps.specs.Step.{stepNumbers}
 use Rattle.steps.proofs.Stepped.{the-type}
 use borrow.Author.Needs.{needs}
 use Rattle.refining.proofs.step.Statement.{statement}
@@ -63,11 +64,10 @@ returns c =
     let a = c16 .before .before .before .before .before .before .before .args in
     let slice-known4 = c16 .before .before .before .slice-known4 in
     let m : Mesh = meshOf (a .positions .now) (a .points .now) (a .edges .now) (a .intervals .now) (a .faces .now) in
-    let t : Mesh = meshOf (a .newpositions .now) (a .newpoints .now) (a .newedges .now) (a .newintervals .now) (a .newfaces .now) in (
-      refused m (a .counts) (a .order .now) t (c .before .first-ground .result) (c .before .first-ground .ensures)
-          (λ c' e. not-one (subst (λ (x : Stepped). OneOf (1 ∷ 2 ∷ 3 ∷ 4 ∷ []) (tagOf the-type x)) e (c .match .keys2))),
-      λ e l. slice-known4 .given e,
-    )
+    let t : Mesh = meshOf (a .newpositions .now) (a .newpoints .now) (a .newedges .now) (a .newintervals .now) (a .newfaces .now) in
+    let outcome = refused (a .edition) m (a .counts) (a .order .now) t (c .before .first-ground .result) (c .before .first-ground .ensures)
+    (λ c' e. not-one (subst (λ (x : Stepped). OneOf (1 ∷ 2 ∷ 3 ∷ 4 ∷ []) (tagOf the-type x)) e (c .match .keys2))) in
+    (outcome, (λ e l. slice-known4 .given e, ap (λ o. stepNumbers (o .answer)) outcome))
 
 finish-requires : tie.Need-finish-requires
 finish-requires c κs =
@@ -80,7 +80,7 @@ finish-requires c κs =
     let ground = c8 .before .before .before .ground in
     let m : Mesh = meshOf (a .positions .now) (a .points .now) (a .edges .now) (a .intervals .now) (a .faces .now) in
     let t : Mesh = meshOf (a .newpositions .now) (a .newpoints .now) (a .newedges .now) (a .newintervals .now) (a .newfaces .now) in
-    passed m (a .counts) (a .order .now) t _ (sym (ground .given .1) ∙ first-ground .ensures)
+    passed (a .edition) m (a .counts) (a .order .now) t _ (sym (ground .given .1) ∙ first-ground .ensures)
 
 same-length-11 : tie.Need-same-length-11
 same-length-11 c = search needs
@@ -122,7 +122,7 @@ returns-2 c =
     let c48 = c40 .before .before .before .before .before .before .before .before in
     let slice-known4 = c48 .before .before .before .before .slice-known4 in
     let finish = c16 .before .before .before .before .finish in
-    (finish .ensures, λ e l. slice-known4 .given e)
+    (finish .ensures, (λ e l. slice-known4 .given e, ap (λ o. stepNumbers (o .answer)) (finish .ensures)))
 
 pub step-spec : {M : Type 1} → statement M
 step-spec =

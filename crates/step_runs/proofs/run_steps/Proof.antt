@@ -10,20 +10,20 @@ use Rattle.step_runs.proofs.run_steps.Statement.{statement}
 use Rattle.step_runs.proofs.run_steps.Tie as tie
 
 abbrev Inv-loop : tie.InvT-loop
-Inv-loop positions₀ points₀ edges₀ intervals₀ faces₀ orders lengths newpositions₀ newpoints₀ newedges₀ newintervals₀ newfaces₀ c₀ accepted₀
+Inv-loop positions₀ points₀ edges₀ intervals₀ faces₀ orders lengths newpositions₀ newpoints₀ newedges₀ newintervals₀ newfaces₀ edition c₀ accepted₀
     at₀ i₀ positions points edges intervals faces newpositions newpoints newedges newintervals newfaces c accepted at i =
-    Going (meshOf positions₀ points₀ edges₀ intervals₀ faces₀) c₀ (meshOf newpositions₀ newpoints₀ newedges₀ newintervals₀ newfaces₀) orders lengths
+    Going edition (meshOf positions₀ points₀ edges₀ intervals₀ faces₀) c₀ (meshOf newpositions₀ newpoints₀ newedges₀ newintervals₀ newfaces₀) orders lengths
     (meshOf positions points edges intervals faces) c (meshOf newpositions newpoints newedges newintervals newfaces) accepted at i
 
 abbrev μ-loop : tie.MeasureT-loop
-μ-loop positions₀ points₀ edges₀ intervals₀ faces₀ orders lengths newpositions₀ newpoints₀ newedges₀ newintervals₀ newfaces₀ c₀ accepted₀
+μ-loop positions₀ points₀ edges₀ intervals₀ faces₀ orders lengths newpositions₀ newpoints₀ newedges₀ newintervals₀ newfaces₀ edition c₀ accepted₀
     at₀ i₀ positions points edges intervals faces newpositions newpoints newedges newintervals newfaces c accepted at i = length lengths - i
 
 loop-holds : tie.Need-loop-holds Inv-loop μ-loop
 loop-holds c =
     let c8 = c .before .before .before .before .before .before .before .before in
     let a = c8 .before .before .before .before .args in
-    going-start (meshOf (a .positions .now) (a .points .now) (a .edges .now) (a .intervals .now) (a .faces .now))
+    going-start (a .edition) (meshOf (a .positions .now) (a .points .now) (a .edges .now) (a .intervals .now) (a .faces .now))
     (a .counts)
     (meshOf (a .newpositions .now) (a .newpoints .now) (a .newedges .now) (a .newintervals .now) (a .newfaces .now))
     (a .orders .now) (a .lengths .now)
@@ -128,7 +128,7 @@ loop-again c =
     let index = c32 .before .before .before .index in
     let step = c16 .before .before .before .before .before .before .step in
     let k = step .kept in
-    going-turn (meshOf (a .positions .now) (a .points .now) (a .edges .now) (a .intervals .now) (a .faces .now))
+    going-turn (a .edition) (meshOf (a .positions .now) (a .points .now) (a .edges .now) (a .intervals .now) (a .faces .now))
     (a .counts)
     (meshOf (a .newpositions .now) (a .newpoints .now) (a .newedges .now) (a .newintervals .now) (a .newfaces .now))
     (a .orders .now) (a .lengths .now) (loop .inv) (loop-test .taken) (index .ensures)
@@ -178,7 +178,7 @@ returns c =
     let c8 = c .before .before .before .before .before .before .before .before in
     let a = c8 .before .before .before .before .before .before .args in
     let known = c8 .before .before .slice-known4 in (
-      going-end (meshOf (a .positions .now) (a .points .now) (a .edges .now) (a .intervals .now) (a .faces .now))
+      going-end (a .edition) (meshOf (a .positions .now) (a .points .now) (a .edges .now) (a .intervals .now) (a .faces .now))
           (a .counts)
           (meshOf (a .newpositions .now) (a .newpoints .now) (a .newedges .now) (a .newintervals .now) (a .newfaces .now))
           (a .orders .now) (a .lengths .now) (c .before .loop .inv) (c .loop-test .left),
