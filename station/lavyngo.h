@@ -75,7 +75,7 @@ enum lavyngo_answer {
 };
 
 /* The version of this header: 1 for document 01, and one more for each request of document 02 that is in it. */
-#define LAVYNGO_VERSION 7
+#define LAVYNGO_VERSION 8
 
 /* The version of the library that is linked. A station asks once whether it is that of the header. */
 uint32_t lavyngo_version(void);
@@ -161,7 +161,8 @@ uint32_t lavyngo_step(
 
 /* The same step by the published position rule of 1998 (document 02, section 5): m of equation 15 weighs at old points where
    lavyngo_step weighs edge points, and a joining edge gets a quarter of the sum of the two whole intervals as they stood before the
-   step. Parameters, answers and what is left are those of lavyngo_step; steps of the two kinds may follow each other. */
+   step; start edges of points do not go by the visiting order (sections 6 and 7). Parameters, answers and what is left are those of
+   lavyngo_step; steps of the two kinds may follow each other. */
 uint32_t lavyngo_step_published(
     double *positions, size_t positions_length, uint32_t *points, size_t points_length,
     uint32_t *edges, size_t edges_length, double *intervals, size_t intervals_length,
@@ -312,6 +313,7 @@ static inline const char *lavyngo_ground_words(uint32_t answer) {
     case LAVYNGO_FACE_SIZE: return "a face of fewer than 3 or more than 64 points";
     case LAVYNGO_OUT_OF_RANGE: return "a listed point that is no point";
     case LAVYNGO_POINT_TWICE: return "a point twice in a face";
+    case LAVYNGO_FIRST_POINT: return "the first point of a side is not the point listed last before it";
     case LAVYNGO_NON_RECTANGULAR_FACE: return "the intervals of opposite sides of a face do not sum up alike";
     case LAVYNGO_EDGE_TRIPLE_FACE: return "an edge that has two faces already";
     case LAVYNGO_SAME_WAY: return "the second face of an edge runs the same way as the first";

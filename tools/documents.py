@@ -19,7 +19,7 @@ STATED = """
     built_meshes/Connects built_meshes/LentContent closed_meshes/Refinement closed_meshes/Renumbering crossings/Claims
     filed_pieces/Pieces filed_pieces/TextTwo handover_outputs/Claims handover_outputs/Output listings/Claims listings/Handing
     mesh_printing/Claims outcomes/Outcomes refine_outputs/Bytes refine_outputs/Claims refine_outputs/Output refined_meshes/Refines
-    runs/Runs station/Station station_steps/Told step_runs/Claims
+    refined_meshes/SplitStarts runs/Runs station/Station station_steps/Told step_runs/Claims
     steps/FirstGround steps/LentScratch steps/OneStep steps/Step text_meshes/Claims text_meshes/TextBuilding
 """.split()
 

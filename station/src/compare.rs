@@ -4,10 +4,10 @@
 use crate::grounds::{self, CEILINGS};
 use crate::library::{self, Counts, Edition, Tables};
 use crate::lists::Lists;
-use crate::names::{self, Names, Register};
+use crate::names::{self, Names, Register, Share};
 use crate::random::Random;
 use crate::rust::Mesh;
-use crate::{depths, listings, numbers, shapes, spoil};
+use crate::{agreement, depths, listings, numbers, shapes, spoil};
 use oracle::text::Version;
 use std::collections::BTreeMap;
 
@@ -33,6 +33,8 @@ pub struct Case {
     pub steps: Vec<How>,
     /// Whether a second run in other orders and editions is held against the first, under the names.
     pub two_runs: bool,
+    /// How many steps two runs of the second edition make that must agree in full.
+    pub agreeing: usize,
 }
 
 /// What was compared.
@@ -54,6 +56,7 @@ pub struct Tally {
     pub records: u64,
     pub runs_under_names: u64,
     pub records_under_names: u64,
+    pub agreed: agreement::Agreed,
     pub largest_face: usize,
     /// How often the depth finder gave each answer.
     pub depths: depths::Answers,
@@ -89,6 +92,7 @@ impl Case {
             scrambled: random.once_in(3),
             steps,
             two_runs: random.once_in(4),
+            agreeing: if random.once_in(3) { random.between(1, 4) } else { 0 },
         }
     }
 }
@@ -310,7 +314,8 @@ fn second_run(
         let none = || stage(String::from("a row has no name"));
         let one = names.0.after(&mut register, k as u32, &stages[k - 1], counts, other).ok_or_else(none)?;
         let two = names.1.after(&mut register, k as u32, &mesh, counts, &tables).ok_or_else(none)?;
-        names::shared(after, (other, &one), (&tables, &two), same_numbers).map_err(stage)?;
+        let share = if same_numbers { Share::Positions } else { Share::Structure };
+        names::shared(after, (other, &one), (&tables, &two), share).map_err(stage)?;
         tally.records_under_names += after.records();
         names = (one, two);
         mesh = tables.first(after);
@@ -328,7 +333,7 @@ pub fn largest(tally: &mut Tally) -> Result<(), String> {
     shape.scramble(&mut random);
     let lists = numbers::ordinary(&mut random, &shape);
     let steps = vec![How { edition: Edition::First, numbered: true }, How { edition: Edition::Second, numbered: false }];
-    let case = Case { lists, seed: 1, spare: 1, short: None, scrambled: false, steps, two_runs: false };
+    let case = Case { lists, seed: 1, spare: 1, short: None, scrambled: false, steps, two_runs: false, agreeing: 0 };
     let Some((tables, counts)) = build(&case, tally)? else {
         return Err(String::from("the largest mesh is not built"));
     };
@@ -389,8 +394,15 @@ pub fn check(case: &Case, tally: &mut Tally, tamper: Option<Tamper>) -> Result<(
         return Ok(());
     }
     let stages = steps(case, &mesh, counts, rust, &mut random, tally, tamper)?;
-    match stages {
-        Some(stages) if case.two_runs => second_run(case, &stages, counts, &mut random, tally),
-        _ => Ok(()),
+    if let Some(stages) = stages
+        && case.two_runs
+    {
+        second_run(case, &stages, counts, &mut random, tally)?;
     }
+    // As many steps as leave no more than some thousands of faces.
+    let fit = (0..case.agreeing).take_while(|&k| (2 * counts.edges) << (2 * k) <= 4096).count();
+    if fit == 0 {
+        return Ok(());
+    }
+    agreement::check(&mut random, &mesh, counts, fit, &mut tally.agreed)
 }

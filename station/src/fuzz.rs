@@ -247,7 +247,7 @@ fn case(random: &mut Random, fuzzed: &mut Fuzzed) -> Result<(), String> {
     let lists = any_lists(random);
     let short = random.once_in(8).then(|| (random.below(5), random.between(1, 9)));
     let case = Case {
-        lists, seed: 0, spare: random.below(9), short, scrambled: false, steps: Vec::new(), two_runs: false,
+        lists, seed: 0, spare: random.below(9), short, scrambled: false, steps: Vec::new(), two_runs: false, agreeing: 0,
     };
     let mut tally = Tally::default();
     compare::build(&case, &mut tally)?;

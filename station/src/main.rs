@@ -9,6 +9,7 @@
 //!     station stack                      the stack that each function takes
 //!     station tampered                   the same with a bit changed in what the library leaves: it must be found
 
+mod agreement;
 mod bench;
 mod compare;
 mod depths;
@@ -55,6 +56,7 @@ fn show(number: u64, seed: u64, case: &Case, what: &str) {
     let order = |how: &How| if how.numbered { "numbered order" } else { "another order" };
     let steps: Vec<String> = case.steps.iter().map(|how| format!("{:?} edition in {}", how.edition, order(how))).collect();
     println!("steps: {}; scrambled: {}; two runs: {}", steps.join(", "), case.scrambled, case.two_runs);
+    println!("steps of two runs that must agree in full: {}", case.agreeing);
     println!("elements to spare in each table: {}; too few in a table: {:?}", case.spare, case.short);
     match case.lists.text() {
         Some(text) => print!("the smallest text that was found to show it:\n{text}"),
@@ -88,6 +90,11 @@ fn compare(meshes: u64, seed: u64) -> ExitCode {
             println!(
                 "{} second runs in other orders and editions, {} records compared under the names",
                 t.runs_under_names, t.records_under_names
+            );
+            println!(
+                "{} pairs of runs of the second edition agreed in full, {} records, after {} steps with their rows numbered \
+                 differently; both answered: {}",
+                t.agreed.runs, t.agreed.records, t.agreed.renumbered, listed(&t.agreed.answers)
             );
             println!("the depth finder answered: {}", listed(&t.depths));
             println!("listings written and read were answered: {}", listed(&t.listings));

@@ -96,9 +96,20 @@ fn turned(mut items: Vec<(u32, u32)>) -> Vec<(u32, u32)> {
     items
 }
 
-/// Whether two meshes of these counts are shared in document 01's sense: points in their valence, edges in all eight
-/// words, faces in their borders and corners; and, if asked, positions bit for bit. Else the row that differs.
-pub fn shared(counts: Counts, a: (&Tables, &Names), b: (&Tables, &Names), positions: bool) -> Result<(), String> {
+/// How much two meshes are to share under the names.
+#[derive(Clone, Copy, PartialEq, Eq, PartialOrd, Ord)]
+pub enum Share {
+    /// Document 01's sense: points in their valence, edges in all eight words, faces in their borders and corners.
+    Structure,
+    /// Positions too, bit for bit.
+    Positions,
+    /// Document 02's full agreement: intervals, marks and start edges too.
+    Everything,
+}
+
+/// Whether two meshes of these counts share so much. Else the row that differs.
+pub fn shared(counts: Counts, a: (&Tables, &Names), b: (&Tables, &Names), share: Share) -> Result<(), String> {
+    let everything = share == Share::Everything;
     let twice = || String::from("two rows have one name");
     let point_rows = rows(&b.1.points).ok_or_else(twice)?;
     let edge_rows = rows(&b.1.edges).ok_or_else(twice)?;
@@ -109,7 +120,11 @@ pub fn shared(counts: Counts, a: (&Tables, &Names), b: (&Tables, &Names), positi
     for p in 0..counts.points {
         let &q = point_rows.get(&a.1.points[p]).ok_or_else(|| lost("point", p))?;
         let bits = |t: &Tables, row: usize| [0, 1, 2].map(|k| t.positions[3 * row + k].to_bits());
-        if one.valence(p) != two.valence(q) || positions && bits(a.0, p) != bits(b.0, q) {
+        let start = |r: &Rows, n: &Names, row: usize| (n.edges[r.point_start(row) as usize], r.mark(row));
+        if one.valence(p) != two.valence(q)
+            || share >= Share::Positions && bits(a.0, p) != bits(b.0, q)
+            || everything && start(&one, a.1, p) != start(&two, b.1, q)
+        {
             return Err(differs("point", p, q));
         }
     }
@@ -120,7 +135,9 @@ pub fn shared(counts: Counts, a: (&Tables, &Names), b: (&Tables, &Names), positi
     };
     for e in 0..counts.edges {
         let &o = edge_rows.get(&a.1.edges[e]).ok_or_else(|| lost("edge", e))?;
-        if edge_names(&one, a.1, e) != edge_names(&two, b.1, o) {
+        if edge_names(&one, a.1, e) != edge_names(&two, b.1, o)
+            || everything && a.0.intervals[e].to_bits() != b.0.intervals[o].to_bits()
+        {
             return Err(differs("edge", e, o));
         }
     }
@@ -132,7 +149,8 @@ pub fn shared(counts: Counts, a: (&Tables, &Names), b: (&Tables, &Names), positi
     };
     for f in 0..counts.faces {
         let &g = face_rows.get(&a.1.faces[f]).ok_or_else(|| lost("face", f))?;
-        if face_names(&one, a.1, f) != face_names(&two, b.1, g) {
+        let start = |r: &Rows, n: &Names, row: usize| n.edges[r.face_start(row) as usize];
+        if face_names(&one, a.1, f) != face_names(&two, b.1, g) || everything && start(&one, a.1, f) != start(&two, b.1, g) {
             return Err(differs("face", f, g));
         }
     }

@@ -78,6 +78,9 @@ fn smaller(case: &Case) -> Vec<Case> {
     if case.two_runs {
         tries.push(Case { two_runs: false, ..case.clone() });
     }
+    if case.agreeing > 0 {
+        tries.push(Case { agreeing: case.agreeing - 1, ..case.clone() });
+    }
     if case.spare > 0 {
         tries.push(Case { spare: 0, ..case.clone() });
     }
@@ -125,7 +128,7 @@ fn size(case: &Case) -> usize {
     let noughts = lists.coordinates.iter().filter(|x| x.to_bits() == 0).count();
     let ones = lists.intervals.iter().filter(|&&d| d == 1.0).count();
     1000 * (lists.listed.len() + lists.faces() + lists.points()) - noughts - ones + lists.intervals.len()
-        + 100 * usize::from(lists.firsts.is_some()) + 10 * case.steps.len() + case.spare + usize::from(case.scrambled) + usize::from(case.two_runs)
+        + 100 * usize::from(lists.firsts.is_some()) + 10 * case.steps.len() + case.spare + usize::from(case.scrambled) + usize::from(case.two_runs) + case.agreeing
         + case.steps.iter().map(|how| usize::from(!how.numbered) + usize::from(how.edition == Edition::Second)).sum::<usize>()
 }
 

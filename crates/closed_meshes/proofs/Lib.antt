@@ -12,6 +12,7 @@ pub mod Sums
 pub mod Counts
 pub mod Names
 pub mod RefinementLifts
+pub mod Starts
 pub mod Runs
 pub mod SharedIsAll
 pub mod TwoRuns

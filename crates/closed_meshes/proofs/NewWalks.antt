@@ -76,17 +76,17 @@ module _ {P E F : Type 0} (m : MeshOver P E F) (c : Closed m) where
 
   pub pointDart' : NewPoint P E F → Dart (NewEdge E)
   pointDart' (old p) = start-half (c .pointDart p)
-  pointDart' (mid e) = rgt (org e)
+  pointDart' (mid e) = lft (dst e)
   pointDart' (facePoint f) = outward (c .faceDart f)
 
   pointRank : Dart (NewEdge E) → ℕ
   pointRank (lft (org e)) = c .about-points .rank (lft e)
-  pointRank (lft (dst e)) = 2
+  pointRank (lft (dst e)) = 0
   pointRank (lft (join d)) = c .about-faces .rank d
-  pointRank (rgt (org e)) = 0
+  pointRank (rgt (org e)) = 2
   pointRank (rgt (dst e)) = c .about-points .rank (rgt e)
-  pointRank (rgt (join (lft e))) = 3
-  pointRank (rgt (join (rgt e))) = 1
+  pointRank (rgt (join (lft e))) = 1
+  pointRank (rgt (join (rgt e))) = 3
 
   pointRank-start-half : (d : Dart E) → pointRank (start-half d) ≡ c .about-points .rank d
   unfolding pointRank
@@ -142,8 +142,8 @@ module _ {P E F : Type 0} (m : MeshOver P E F) (c : Closed m) where
   rank-turn' (rgt (org e)) h = refl
   rank-turn' (rgt (dst e)) h =
       ap pointRank (turn-start-half (rgt e)) ∙ pointRank-start-half (flip (c .prev (rgt e))) ∙ c .about-points .rank-step (rgt e) h
-  rank-turn' (rgt (join (lft e))) h = absurd (omega arith)
-  rank-turn' (rgt (join (rgt e))) h = refl
+  rank-turn' (rgt (join (lft e))) h = refl
+  rank-turn' (rgt (join (rgt e))) h = absurd (omega arith)
 
   turn-last' :
       (x : Dart (NewEdge E)) → suc (pointRank x) ≡ refined m c .valence (first (refined m c) x) →
@@ -154,8 +154,8 @@ module _ {P E F : Type 0} (m : MeshOver P E F) (c : Closed m) where
   turn-last' (lft (join d)) h = ap outward (c .about-faces .step-last d h)
   turn-last' (rgt (org e)) h = absurd (omega arith)
   turn-last' (rgt (dst e)) h = turn-start-half (rgt e) ∙ ap start-half (c .about-points .step-last (rgt e) h)
-  turn-last' (rgt (join (lft e))) h = refl
-  turn-last' (rgt (join (rgt e))) h = absurd (omega arith)
+  turn-last' (rgt (join (lft e))) h = absurd (omega arith)
+  turn-last' (rgt (join (rgt e))) h = refl
 
   pub edge-pointDart' : (p : NewPoint P E F) → edge (pointDart' p) ≡ refined m c .start p
   unfolding pointDart'

@@ -32,7 +32,7 @@ module _ {P E F : Type 0} where
     new-point (mid e) = rw (a .edge e)
     new-point (facePoint f) = rw (a .face f)
 
-    new-edge :
+    pub new-edge :
         (x : NewEdge (s .Edge)) →
         newEdgeName k (s' .mesh) (s' .names) (lifted (s .closed) (s' .closed) (a .isomorphism) .edges .to x)
         ≡ newEdgeName k (s .mesh) (s .names) x
@@ -44,7 +44,7 @@ module _ {P E F : Type 0} where
         (ap (s' .names .face) (face-to (a .isomorphism) d) ∙ a .face _)
         (ap (s' .names .edge) (edge-mapDart (a .isomorphism .edges .to) d) ∙ a .edge _)
 
-    new-face :
+    pub new-face :
         (d : Dart (s .Edge)) →
         newFaceName k (s' .mesh) (s' .names) (lifted (s .closed) (s' .closed) (a .isomorphism) .faces .to d)
         ≡ newFaceName k (s .mesh) (s .names) d
@@ -60,7 +60,7 @@ module _ {P E F : Type 0} where
   matching-given m c c' = record { isomorphism = isomorphism-refl m; point = λ p. refl; edge = λ e. refl; face = λ f. refl }
 
   -- One step of each keeps the match, whatever the numberings.
-  matching-step : (k : ℕ) (s s' t t' : Stage P E F) → Matching s s' → NamedStep k s t → NamedStep k s' t' → Matching t t'
+  unfoldable pub matching-step : (k : ℕ) (s s' t t' : Stage P E F) → Matching s s' → NamedStep k s t → NamedStep k s' t' → Matching t t'
   unfolding isomorphism-sym isomorphism-trans
   matching-step k s s' t t' a b b' =
       record {

@@ -49,7 +49,7 @@ pub record EdgeRow (P E F : Type 0) : Type 0 where
 module _ {P E F : Type 0} (m : MeshOver P E F) (c : Closed m) where
   abbrev pub pointRow : NewPoint P E F → PointRow (NewEdge E)
   pointRow (old p) = record { valence = m .valence p; start = firstHalf (c .pointDart p) }
-  pointRow (mid e) = record { valence = 4; start = org e }
+  pointRow (mid e) = record { valence = 4; start = dst e }
   pointRow (facePoint f) = record { valence = c .size f; start = join (c .faceDart f) }
 
   abbrev pub edgeRow : NewEdge E → EdgeRow (NewPoint P E F) (NewEdge E) (Dart E)

@@ -2,6 +2,7 @@
 --     Injective g           no two values of g are the same
 --     Bijection A B         a one-to-one correspondence of A and B
 --     Isomorphism m m'      points, edges and faces correspond, and each field of a row but its start edge with them
+--     KeepsStarts i         the isomorphism i keeps start edges too, of points and of faces
 --     Touching m            the start edge of each point touches it, and the start edge of each face borders it
 --     CarriesOver           the claim: closed carries over any isomorphism, with any start edges that touch
 --     Row n                 the rows of a table of n rows: the numbers below n
@@ -35,6 +36,10 @@ pub record Isomorphism {P E F P' E' F' : Type 0} (m : MeshOver P E F) (m' : Mesh
   pub rightCw : (e : E) → m' .rightCw (edges .to e) ≡ edges .to (m .rightCw e)
   pub rightAcw : (e : E) → m' .rightAcw (edges .to e) ≡ edges .to (m .rightAcw e)
   pub corner : (f : F) (k : Place) → m' .corner (faces .to f) k ≡ Option·map (points .to) (m .corner f k)
+
+pub record KeepsStarts {P E F P' E' F' : Type 0} {m : MeshOver P E F} {m' : MeshOver P' E' F'} (i : Isomorphism m m') : Type 0 where
+  pub start : (p : P) → m' .start (i .points .to p) ≡ i .edges .to (m .start p)
+  pub faceStart : (f : F) → m' .faceStart (i .faces .to f) ≡ i .edges .to (m .faceStart f)
 
 pub record Touching {P E F : Type 0} (m : MeshOver P E F) : Type 0 where
   pub start : (p : P) → (d : Dart E) × (edge d ≡ m .start p) × (first m d ≡ p)

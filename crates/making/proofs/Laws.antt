@@ -1,35 +1,37 @@
 -- What the position rules ask of the tables holds of the rows that the visits make, and the parts of making put together.
 -- Assumes nothing.
-use mathlib.Core.Path.{_≡_, refl, sym, _∙_, ap}
+use mathlib.Core.Path.{_≡_, refl, sym, _∙_, ap, ap₂}
 use mathlib.Core.Bool.{Bool, true, false}
 use mathlib.Core.List.{List, []}
 use Prim.Native.Nat.{ℕ, _+_, _*_, _≤_, _<_}
 use native.Mathlib.Omega.{arith}
 use lib.ListN.{length, getD}
 use lib.Ieee.{Float}
-use Rattle.tables.specs.Mesh.{Mesh, none, dest, corner, meshOf}
+use Rattle.tables.specs.Mesh.{Mesh, none, start, dest, corner, meshOf}
 use Rattle.tables.specs.declared.Counts.{Counts}
 use Rattle.audited_meshes.specs.Audited.{Audited}
 use Rattle.audited_meshes.specs.Rows.{HoldsClosed}
 use Rattle.audited_meshes.proofs.Audited.{audit-is-audited}
 use Rattle.audited_meshes.proofs.Holds.{audit-is-closed}
 use Rattle.closed_meshes.specs.Refinement.{mid, facePoint}
-use Rattle.closed_meshes.specs.Renumbering.{Row}
 use Rattle.tables.specs.Layout.{leftAcwWord, rightCwWord}
 use Rattle.tables.specs.Parts.{edgeTables, faceTables}
 use Rattle.visiting.specs.Visiting.{RowsThere, EachVisitFits}
 use Rattle.visiting.proofs.Fitting.{holds-of-closed, holds-of-rows, fits-of-closed}
 use Rattle.refined_meshes.specs.declared.Edition.{Edition}
 use Rattle.refined_meshes.specs.declared.Edition.the-variants.{First, Second}
-use Rattle.refined_meshes.specs.State.{State, withPositions, copied}
+use Rattle.refined_meshes.specs.State.{State, stateOf, withPositions, copied}
 use Rattle.refined_meshes.specs.Fits.{RoomFor}
 use Rattle.refined_meshes.specs.Refines.{Refines}
 use Rattle.refined_meshes.specs.Visits.{refinedRows}
+use Rattle.refined_meshes.specs.Starts.{settledStarts, pointsIn}
 use Rattle.refined_meshes.specs.Settled.{neighbourAt, intervalsIn, settled, settledRows}
 use Rattle.refined_meshes.proofs.Refines.{first-refines}
 use Rattle.refined_meshes.proofs.Fits.{all-taken}
-use Rattle.refined_meshes.proofs.Settled.{joins-below}
-use Rattle.settling.specs.Settling.{SideFits, SidesFit, edgeRowsOf}
+use Rattle.refined_meshes.proofs.Starts.{joins-below}
+use Rattle.settling_starts.specs.Fits.{HalfFits, StartsFit}
+use Rattle.steps.proofs.SameRefinement.{faces-fewer}
+use Rattle.settling.specs.Settling.{SidesFit, edgeRowsOf}
 use Rattle.position_rules.specs.Fits.{EdgesFit, NewPointsFit}
 use Rattle.position_rules.proofs.Audited.{edges-fit as rows-fit, face-point-fits, edge-point-fits, old-point-fits}
 use Rattle.placing.specs.Placing.{came, FacePointsFit, EdgePointsFit, OldPointsFit, refinedTables}
@@ -84,8 +86,10 @@ module _ (m : Mesh) (c : Counts) (order : List ℕ) (t : Mesh) (ready : Ready m 
       room : RoomFor (c .points) (c .edges) (c .faces) rowsMade
       room = all-taken m (c .points) (c .edges) (c .faces) holds order (ready .once) t (ready .points-room) (ready .edges-room) (ready .faces-room) .room
 
-      joins : (e : Row (c .edges)) → (neighbourAt (rowsMade .edges) leftAcwWord (e .0) < 4 * c .edges) × (neighbourAt (rowsMade .edges) rightCwWord (e .0) < 4 * c .edges)
-      joins = joins-below m (holds .stands) (holds .closed) order rowsMade [] (refines []) (room .intervals-room)
+      joins :
+          (e : ℕ) → e < c .edges
+          → (neighbourAt (rowsMade .edges) leftAcwWord e < 4 * c .edges) × (neighbourAt (rowsMade .edges) rightCwWord e < 4 * c .edges)
+      joins = joins-below m (holds .stands) (holds .closed) order rowsMade [] (refines [])
 
       sides : SidesFit (m .edges) (m .intervals) (c .edges) (rowsMade .edges) (rowsMade .intervals)
       sides =
@@ -99,7 +103,7 @@ module _ (m : Mesh) (c : Counts) (order : List ℕ) (t : Mesh) (ready : Ready m 
                   new-rows = omega (arith, room .edges-room);
                   next-there = λ e l. omega (arith, fit .leftAcw-below e l, fit .numbers);
                   prev-there = λ e l. omega (arith, fit .leftCw-below e l, fit .numbers);
-                  join-there = λ e l. omega (arith, joins (e, l) .0, room .intervals-room);
+                  join-there = λ e l. omega (arith, joins e l .0, room .intervals-room);
                 };
             right =
                 record {
@@ -110,7 +114,56 @@ module _ (m : Mesh) (c : Counts) (order : List ℕ) (t : Mesh) (ready : Ready m 
                   new-rows = omega (arith, room .edges-room);
                   next-there = λ e l. omega (arith, fit .rightAcw-below e l, fit .numbers);
                   prev-there = λ e l. omega (arith, fit .rightCw-below e l, fit .numbers);
-                  join-there = λ e l. omega (arith, joins (e, l) .1, room .intervals-room);
+                  join-there = λ e l. omega (arith, joins e l .1, room .intervals-room);
+                };
+          }
+
+  -- What the settling of start edges asks: the start edges in the mesh, and the rows of halves, midpoints and face points.
+  pub starts-fit : (s : State) → s ≡ rowsMade → StartsFit (m .points) (m .edges) (m .faces) c (s .edges) (s .faces) (s .points)
+  starts-fit s same = rw same starts
+    where
+      fit : EdgesFit (m .edges) (m .intervals) (c .edges)
+      fit = rows-fit m (c .points) (c .edges) (c .faces) audited
+
+      room : RoomFor (c .points) (c .edges) (c .faces) rowsMade
+      room = all-taken m (c .points) (c .edges) (c .faces) holds order (ready .once) t (ready .points-room) (ready .edges-room) (ready .faces-room) .room
+
+      half : (e : ℕ) → e < c .edges → HalfFits (rowsMade .edges) e
+      half e l =
+          record {
+            row = omega (arith, room .edges-room);
+            join = omega (arith, joins-below m (holds .stands) (holds .closed) order rowsMade [] (refines []) e l .0, room .edges-room);
+          }
+
+      starts : StartsFit (m .points) (m .edges) (m .faces) c (rowsMade .edges) (rowsMade .faces) (rowsMade .points)
+      starts =
+          let r = refines [] in
+          record {
+            olds =
+                record {
+                  rows = omega (arith, room .points-room);
+                  olds = λ p l.
+                      record {
+                        point-row = omega (arith, audited .points-fit);
+                        edge-row = omega (arith, audited .start-in-range p l, fit .words);
+                        half = half (start m p) (audited .start-in-range p l);
+                      };
+                };
+            mids =
+                record {
+                  halves = half;
+                  rows = λ e l. omega (arith, r .mid-row (e, l), r .numbering .points .to (mid (e, l)) .1, room .points-room);
+                };
+            centres =
+                record {
+                  centres = λ f l.
+                      record {
+                        face-row = omega (arith, audited .faces-fit);
+                        edge-row = omega (arith, audited .faceStart-in-range f l, fit .words);
+                        new-row = omega (arith, audited .faceStart-in-range f l, room .edges-room);
+                      };
+                  new-faces = omega (arith, faces-fewer r, room .faces-room);
+                  rows = λ f l. omega (arith, r .centre-row (f, l), r .numbering .points .to (facePoint (f, l)) .1, room .points-room);
                 };
           }
 
@@ -165,46 +218,45 @@ module _ (m : Mesh) (c : Counts) (order : List ℕ) (t : Mesh) (ready : Ready m 
           place-there = λ p l. omega arith;
         }
 
--- The visits made the rows s, the intervals js were settled, and the loops over the points came so far.
-pub made-of-parts : (ed : Edition) (m : Mesh) (c : Counts) (order : List ℕ) (t : Mesh) (s : State) (js : List Float) (r : Bool) (ps : List Float)
+-- The visits made the rows s, the intervals js and the points qs were settled, and the loops over the points came so far.
+pub made-of-parts : (ed : Edition) (m : Mesh) (c : Counts) (order : List ℕ) (t : Mesh) (s : State) (js : List Float) (qs : List ℕ) (r : Bool) (ps : List Float)
     → s ≡ refinedRows m (c .points) (c .edges) (c .faces) order t
     → js ≡ intervalsIn ed (edgeTables (m .edges) (m .intervals)) (c .edges) (edgeRowsOf (s .edges) (s .intervals))
+    → qs ≡ pointsIn ed (meshOf [] (m .points) (m .edges) [] (m .faces)) (c .points) (c .edges) (c .faces) (stateOf (s .points) (s .edges) [] (s .faces) 0 0 0)
     → placedAll ed m c (refinedTables (s .edges) (s .faces)) (t .positions) ≡ came r ps
-    → made ed m c order t ≡ madeAs r (meshOf ps (s .points) (s .edges) js (s .faces))
-unfolding made placedRows placedAll settledRows settled
-made-of-parts ed m c order t s js r ps e i p =
-    ap (λ (q : State). madeOf (settled ed m (c .edges) q) (placedAll ed m c (settled ed m (c .edges) q) (t .positions))) (sym e)
-    ∙ ap (madeOf (settled ed m (c .edges) s)) (placed-same ed ∙ p)
-    ∙ ap (λ (x : List Float). madeOf (record {
-      points = s .points;
-      edges = s .edges;
-      intervals = x;
-      faces = s .faces;
-      pointsTaken = s .pointsTaken;
-      edgesTaken = s .edgesTaken;
-      facesTaken = s .facesTaken;
-    }) (came r ps)) (settled-same ed ∙ sym i)
+    → made ed m c order t ≡ madeAs r (meshOf ps qs (s .edges) js (s .faces))
+unfolding made placedRows placedAll settledRows settled settledStarts
+made-of-parts ed m c order t s js qs r ps e i k p =
+    ap (λ (q : State). madeOf (settledIn ed q) (placedAll ed m c (settledIn ed q) (t .positions))) (sym e)
+    ∙ ap (madeOf (settledIn ed s)) (placed-same ed ∙ p)
+    ∙ ap₂ (λ (x : List Float) (y : List ℕ). madeOf (rowsWith x y) (came r ps)) (settled-same ed ∙ sym i) (starts-same ed ∙ sym k)
     ∙ last r
   where
+    settledIn : Edition → State → State
+    settledIn x q = settled x m (c .points) (c .edges) (c .faces) q
+
+    -- the rows with these intervals and points
+    rowsWith : List Float → List ℕ → State
+    rowsWith x y = stateOf y (s .edges) x (s .faces) (s .pointsTaken) (s .edgesTaken) (s .facesTaken)
+
     -- The rules look at the tables of edges and faces alone,
-    placed-same : (k : Edition) → placedAll k m c (settled k m (c .edges) s) (t .positions) ≡ placedAll k m c (refinedTables (s .edges) (s .faces)) (t .positions)
+    placed-same : (x : Edition) → placedAll x m c (settledIn x s) (t .positions) ≡ placedAll x m c (refinedTables (s .edges) (s .faces)) (t .positions)
     placed-same First = refl
     placed-same Second = refl
 
-    -- and settling at those of edges and intervals.
-    settled-same : (k : Edition)
-        → intervalsIn k m (c .edges) s ≡ intervalsIn k (edgeTables (m .edges) (m .intervals)) (c .edges) (edgeRowsOf (s .edges) (s .intervals))
+    -- and settling at those of edges and intervals,
+    settled-same : (x : Edition)
+        → intervalsIn x m (c .edges) s ≡ intervalsIn x (edgeTables (m .edges) (m .intervals)) (c .edges) (edgeRowsOf (s .edges) (s .intervals))
     settled-same First = refl
     settled-same Second = refl
 
-    last : (r : Bool) → madeOf (record {
-      points = s .points;
-      edges = s .edges;
-      intervals = js;
-      faces = s .faces;
-      pointsTaken = s .pointsTaken;
-      edgesTaken = s .edgesTaken;
-      facesTaken = s .facesTaken;
-    }) (came r ps) ≡ madeAs r (meshOf ps (s .points) (s .edges) js (s .faces))
+    -- or of points, edges and faces.
+    starts-same : (x : Edition)
+        → pointsIn x m (c .points) (c .edges) (c .faces) s
+        ≡ pointsIn x (meshOf [] (m .points) (m .edges) [] (m .faces)) (c .points) (c .edges) (c .faces) (stateOf (s .points) (s .edges) [] (s .faces) 0 0 0)
+    starts-same First = refl
+    starts-same Second = refl
+
+    last : (x : Bool) → madeOf (rowsWith js qs) (came x ps) ≡ madeAs x (meshOf ps qs (s .edges) js (s .faces))
     last true = refl
     last false = refl

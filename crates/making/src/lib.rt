@@ -12,6 +12,7 @@ ghost use Rattle.making.specs.Making.{Ready, madeAs};
 use placing::place_all;
 use refined_meshes::Edition;
 use settling::settle_joins;
+use settling_starts::settle_starts;
 use tables::Counts;
 use tables::EDGE_WIDTH;
 use tables::FACE_WIDTH;
@@ -64,6 +65,16 @@ fn make(
         counts.edges,
         newedges,
         newintervals,
+        edition,
+    );
+    settle_starts(
+        points,
+        edges,
+        faces,
+        counts,
+        newedges,
+        newfaces,
+        newpoints,
         edition,
     );
     place_all(

@@ -18,6 +18,8 @@ pub mod Runs
 pub mod Renumbered
 pub mod Refines
 pub mod Fits
+pub mod Starts
+pub mod SplitStarts
 pub mod Settled
 pub mod Laws
 pub mod Records

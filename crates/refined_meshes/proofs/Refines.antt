@@ -341,7 +341,7 @@ module _
           destination-interval = λ e. unfold ends endsAt in ap (λ w. w .interval) (ends-final m stands c by-turns s h (dst e));
           join-interval = λ d. joined d ∙ joint-is d;
           old-start = λ p. starts p (h .content .old-point p .start-found);
-          mid-start = λ e. unfold pointOf midAt in ap (λ w. w .start) (h .content .middle e (past e));
+          mid-start = λ e. unfold pointOf midAt edgeNo in ap (λ w. w .start) (h .content .middle e (past e));
           centre-start = λ f. centred f ∙ ap (λ d. edgeNo c by-turns (join d)) (last f);
           face-start = λ d. unfold faceOf faceAt in ap (λ w. w .start) (done d .new-face);
         }

@@ -2,13 +2,12 @@
 -- left it. Assumes nothing.
 --     length-settled            the table of intervals stays as long
 --     settled-edges             what the tables held before shows in no row that is settled
---     joins-below               the joining edges beside the row of an old edge are rows
 --     settled-refines           where the visits made the first edition's refinement, what is settled is the refinement of the edition
 --     visits-refine             the claim of `specs/Refines.antt`
 use mathlib.Core.Path.{_≡_, refl, sym, _∙_, ap, ap₂}
-use mathlib.Core.List.{List}
+use mathlib.Core.List.{List, []}
 use mathlib.Core.Logic.{_≢_}
-use Prim.Native.Nat.{ℕ, zero, suc, _*_, _≤_, _<_}
+use Prim.Native.Nat.{ℕ, zero, suc, _+_, _*_, _≤_, _<_}
 use native.Mathlib.Omega.{arith}
 use native.Mathlib.Decide.{ℕ-discrete}
 use lib.ListN.{length, getD, set, length-set}
@@ -16,13 +15,14 @@ use lib.Seq.{getD-set-same, getD-set-other}
 use lib.Ieee.{Float, nan}
 use Rattle.t_spline.specs.declared.TnurccEdge.{TnurccEdge}
 use Rattle.tables.specs.Layout.{leftCwWord, leftAcwWord, rightCwWord, rightAcwWord}
-use Rattle.tables.specs.Mesh.{Mesh, interval, leftAcw, rightCw}
-use Rattle.closed_meshes.specs.Mesh.{MeshOver, Dart, lft, rgt, edge, acw, cw}
+use Rattle.tables.specs.Mesh.{Mesh, start, mark, interval, leftAcw, rightCw}
+use Rattle.closed_meshes.specs.Mesh.{MeshOver, Dart, lft, rgt, edge, first, face}
 use Rattle.closed_meshes.specs.Closed.{Closed}
-use Rattle.closed_meshes.specs.Refinement.{NewEdge, org, dst, join}
-use Rattle.closed_meshes.specs.Renumbering.{Row}
+use Rattle.closed_meshes.specs.Refinement.{NewPoint, old, mid, facePoint, NewEdge, org, dst, join, refined}
+use Rattle.closed_meshes.specs.Renumbering.{Isomorphism, Touching, Row}
 use Rattle.closed_meshes.proofs.Counting.{row-path}
-use Rattle.closed_meshes.proofs.Isomorphisms.{to-injective}
+use Rattle.closed_meshes.proofs.Isomorphisms.{to-injective, onto, dartTo, edge-mapDart, first-to, touching-of-closed}
+use Rattle.closed_meshes.proofs.Refinement.{stays-closed}
 use Rattle.audited_meshes.specs.Rows.{Stands}
 use Rattle.refined_meshes.specs.declared.Edition.{Edition}
 use Rattle.refined_meshes.specs.declared.Edition.the-variants.{First, Second}
@@ -34,6 +34,7 @@ use Rattle.refined_meshes.specs.Refines.{Refines, VisitsRefine}
 use Rattle.refined_meshes.proofs.Turns.{turns-view, turns-other, turns-same}
 use Rattle.refined_meshes.proofs.Refines.{first-refines}
 use Rattle.refined_meshes.proofs.Fits.{all-taken}
+use Rattle.refined_meshes.proofs.Starts.{left-joining, right-joining, kept-word, starts-stand}
 
 -- ---- one side
 
@@ -147,15 +148,15 @@ module _
           «knot_interval» = d;
         }
 
-    pub settled-edges : (ed : Edition) (e : ℕ) → e < 4 * ne → edgeOf (settled ed m ne s') e ≡ edgeOf (settled ed m ne s) e
+    pub settled-edges : (ed : Edition) (np nf e : ℕ) → e < 4 * ne → edgeOf (settled ed m np ne nf s') e ≡ edgeOf (settled ed m np ne nf s) e
     unfolding settled withInterval
-    settled-edges ed e l = ap₂ withInterval (same e l) (intervals-alike ed e l)
+    settled-edges ed np nf e l = ap₂ withInterval (same e l) (intervals-alike ed e l)
 
 -- ---- the refinement
 
 module _
     (m : Mesh) {np ne nf : ℕ} {t : MeshOver (Row np) (Row ne) (Row nf)} (stands : Stands m t) (c : Closed t) (order : List ℕ) (s : State) (ps : List Float)
-    (r : Refines First m t c order (withPositions ps s)) (room : 4 * ne ≤ length (s .intervals))
+    (r : Refines First m t c order (withPositions ps s)) (room : 4 * ne ≤ length (s .intervals)) (point-room : (np + ne + nf) * 3 ≤ length (s .points))
   where
     row : NewEdge (Row ne) → ℕ
     row x = r .numbering .edges .to x .0
@@ -168,24 +169,14 @@ module _
     unfolding row
     row-injective x y e = to-injective (r .numbering .edges) x y (row-path _ _ e)
 
-    -- The joining edges beside the row of an old edge
+    -- the joining edges beside the row of an old edge
     left-join : (e : Row ne) → neighbourAt (s .edges) leftAcwWord (e .0) ≡ row (join (lft e))
     unfolding row
-    left-join e =
-        ap (leftAcw (withPositions ps s)) (sym (r .origin-row e))
-        ∙ r .stands .leftAcw-stands (r .numbering .edges .to (org e))
-        ∙ ap (λ x. x .0) (r .numbering .leftAcw (org e))
+    left-join e = left-joining m stands c order s ps r e
 
     right-join : (e : Row ne) → neighbourAt (s .edges) rightCwWord (e .0) ≡ row (join (rgt e))
     unfolding row
-    right-join e =
-        ap (rightCw (withPositions ps s)) (sym (r .origin-row e))
-        ∙ r .stands .rightCw-stands (r .numbering .edges .to (org e))
-        ∙ ap (λ x. x .0) (r .numbering .rightCw (org e))
-
-    -- are rows of the refined mesh.
-    pub joins-below : (e : Row ne) → (neighbourAt (s .edges) leftAcwWord (e .0) < 4 * ne) × (neighbourAt (s .edges) rightCwWord (e .0) < 4 * ne)
-    joins-below e = (rw (left-join e) (row-below (join (lft e))), rw (right-join e) (row-below (join (rgt e))))
+    right-join e = right-joining m stands c order s ps r e
 
     abbrev lefts : List Float
     lefts = settledSide (m .edges) (m .intervals) (s .edges) leftAcwWord leftAcwWord leftCwWord ne (s .intervals)
@@ -255,13 +246,81 @@ module _
         ∙ ap₂ (λ a b. quarter (interval m a) (interval m b)) (stands .rightAcw-stands e ∙ ap (λ x. x .0) (sym (c .edge-next (rgt e))))
         (stands .rightCw-stands e ∙ ap (λ x. x .0) (sym (c .edge-prev (rgt e))))
 
-    -- The words of points, edges and faces stand as they stood.
-    words-stand : (ed : Edition) → Stands (withPositions ps (settled ed m ne s)) (r .mesh)
-    unfolding settled
-    words-stand ed =
+    -- The refined mesh with the start edges of the refinement on kinds.
+    abbrev settled-mesh : MeshOver (Row (np + ne + nf)) (Row (4 * ne)) (Row (2 * ne))
+    settled-mesh =
         record {
-          valence-stands = r .stands .valence-stands;
-          start-stands = r .stands .start-stands;
+          valence = r .mesh .valence;
+          start = λ p. r .numbering .edges .to (refined t c .start (r .numbering .points .from p));
+          origin = r .mesh .origin;
+          dest = r .mesh .dest;
+          left = r .mesh .left;
+          right = r .mesh .right;
+          leftCw = r .mesh .leftCw;
+          leftAcw = r .mesh .leftAcw;
+          rightCw = r .mesh .rightCw;
+          rightAcw = r .mesh .rightAcw;
+          faceStart = r .mesh .faceStart;
+          corner = r .mesh .corner;
+        }
+
+    settled-numbering : Isomorphism (refined t c) settled-mesh
+    settled-numbering =
+        let i = r .numbering in
+        record {
+          points = i .points;
+          edges = i .edges;
+          faces = i .faces;
+          valence = i .valence;
+          origin = i .origin;
+          dest = i .dest;
+          left = i .left;
+          right = i .right;
+          leftCw = i .leftCw;
+          leftAcw = i .leftAcw;
+          rightCw = i .rightCw;
+          rightAcw = i .rightAcw;
+          corner = i .corner;
+        }
+
+    -- Its start edges touch, as those of the refinement on kinds do.
+    settled-touching : Touching settled-mesh
+    unfolding settled-numbering
+    settled-touching =
+        let at = touching-of-closed (stays-closed _ _ _ t c) in
+        let i = settled-numbering in
+        record {
+          start =
+              onto (i .points) (λ p. (d : Dart (Row (4 * ne))) × (edge d ≡ settled-mesh .start p) × (first settled-mesh d ≡ p)) λ x. (
+                dartTo i (at .start x .0),
+                edge-mapDart (i .edges .to) (at .start x .0) ∙ ap (i .edges .to) (at .start x .1 ∙ ap (refined t c .start) (sym (i .points .from-to x))),
+                first-to i (at .start x .0) ∙ ap (i .points .to) (at .start x .2),
+              );
+          faceStart = λ f. let z = r .touching .faceStart f in (z .0, z .1, same-face (z .0) ∙ z .2);
+        }
+      where
+        same-face : (d : Dart (Row (4 * ne))) → face settled-mesh d ≡ face (r .mesh) d
+        same-face (lft e) = refl
+        same-face (rgt e) = refl
+
+    -- the row of a new point, and its start edge
+    start-of :
+        (x : NewPoint (Row np) (Row ne) (Row nf))
+        → start (withPositions ps (settled Second m np ne nf s)) (r .numbering .points .to x .0) ≡ r .numbering .edges .to (refined t c .start x) .0
+    unfolding settled
+    start-of x = starts-stand m stands c order s ps r point-room x
+
+    -- The words of points, edges and faces stand as they stood, but for start edges.
+    words-stand : Stands (withPositions ps (settled Second m np ne nf s)) settled-mesh
+    unfolding settled
+    words-stand =
+        let w = withPositions [] s in
+        record {
+          valence-stands = λ p. kept-word m w np ne nf (s .points) (p .0 * 3) (λ i q. omega arith) ∙ r .stands .valence-stands p;
+          start-stands =
+              λ p.
+              ap (λ (q : Row (np + ne + nf)). start (withPositions ps (settled Second m np ne nf s)) (q .0)) (sym (r .numbering .points .to-from p))
+              ∙ start-of (r .numbering .points .from p);
           origin-stands = r .stands .origin-stands;
           dest-stands = r .stands .dest-stands;
           leftFace-stands = r .stands .leftFace-stands;
@@ -274,23 +333,26 @@ module _
           corner-stands = r .stands .corner-stands;
         }
 
-    pub settled-refines : (ed : Edition) → Refines ed m t c order (withPositions ps (settled ed m ne s))
-    unfolding settled row
-    settled-refines First = r
-    settled-refines Second =
+    mark-kept : (p : ℕ) → mark (withPositions ps (settled Second m np ne nf s)) p ≡ mark (withPositions ps s) p
+    unfolding settled
+    mark-kept p = kept-word m (withPositions [] s) np ne nf (s .points) (p * 3 + 2) (λ i q. omega arith)
+
+    settled-second : Refines Second m t c order (withPositions ps (settled Second m np ne nf s))
+    unfolding settled row settled-numbering
+    settled-second =
         record {
-          mesh = r .mesh;
-          stands = words-stand Second;
-          numbering = r .numbering;
-          touching = r .touching;
+          mesh = settled-mesh;
+          stands = words-stand;
+          numbering = settled-numbering;
+          touching = settled-touching;
           old-row = r .old-row;
           origin-row = r .origin-row;
           first-row = r .first-row;
           mid-row = r .mid-row;
           centre-row = r .centre-row;
-          old-mark = r .old-mark;
-          mid-mark = r .mid-mark;
-          centre-mark = r .centre-mark;
+          old-mark = λ p. mark-kept (p .0) ∙ r .old-mark p;
+          mid-mark = λ e. mark-kept (r .numbering .points .to (mid e) .0) ∙ r .mid-mark e;
+          centre-mark = λ f. mark-kept (r .numbering .points .to (facePoint f) .0) ∙ r .centre-mark f;
           origin-interval =
               λ e.
               ap (λ k. getD both k nan) (sym (r .origin-row e))
@@ -300,14 +362,19 @@ module _
           destination-interval =
               λ e. half-stays (dst e) (λ d q. let z : _≡_ {A = ℕ} 0 1 = cc in omega arith) ∙ r .destination-interval e;
           join-interval = quartered;
-          old-start = r .old-start;
-          mid-start = r .mid-start;
-          centre-start = r .centre-start;
+          old-start = λ p. ap (start (withPositions ps (settled Second m np ne nf s))) (sym (r .old-row p)) ∙ start-of (old p);
+          mid-start = λ e. start-of (mid e);
+          centre-start = λ f. start-of (facePoint f);
           face-start = r .face-start;
         }
+
+    pub settled-refines : (ed : Edition) → Refines ed m t c order (withPositions ps (settled ed m np ne nf s))
+    unfolding settled
+    settled-refines First = r
+    settled-refines Second = settled-second
 
 pub visits-refine : VisitsRefine
 unfolding settledRows
 visits-refine ed m np ne nf h order once u pr er fr ps =
     settled-refines m (h .stands) (h .closed) order (refinedRows m np ne nf order u) ps (first-refines m np ne nf h order once u pr er fr ps)
-    (all-taken m np ne nf h order once u pr er fr .room .intervals-room) ed
+    (all-taken m np ne nf h order once u pr er fr .room .intervals-room) (all-taken m np ne nf h order once u pr er fr .room .points-room) ed

@@ -3,7 +3,9 @@ pub mod State
 pub mod Split
 pub mod Ring
 pub mod Visits
+pub mod Starts
 pub mod Settled
 pub mod Order
 pub mod Refines
+pub mod SplitStarts
 pub mod Fits

@@ -1,5 +1,6 @@
 -- What is settled in the scratch tables once all faces are visited. The first edition leaves all as the visits left it. In the second "a
--- joining edge gets a quarter of the sum of the two whole intervals as they stood before the step" (document 02, §5).
+-- joining edge gets a quarter of the sum of the two whole intervals as they stood before the step" (document 02, §5), and start edges of
+-- points are fixed (`specs/Starts.antt`).
 -- After the visits the row of an old edge is its origin half, and its LeftAcw and its RightCw are the joining edges on its left and on its
 -- right. The next and the previous interval of the perimeter on a side stand at the edge's neighbours in the mesh before the step: es and
 -- is are that mesh's tables of edges and intervals, es' is the refined mesh's table of edges.
@@ -9,7 +10,7 @@
 --                              intervals at the words next and prev
 --     settledIntervals ..      the same for both sides
 --     intervalsIn ed m ne s    the intervals in the edition ed, of the rows s that the visits left
---     settled ed m ne s        the rows s settled in the edition ed
+--     settled ed m .. s        the rows s settled in the edition ed
 --     settledRows ed ..        the rows of the refined mesh in the edition ed: the visits, and then what is settled
 use mathlib.Core.List.{List}
 use Prim.Native.Nat.{ℕ, _+_, _*_}
@@ -22,6 +23,7 @@ use Rattle.refined_meshes.specs.declared.Edition.the-variants.{First, Se
 use Rattle.refined_meshes.specs.Turns.{turns}
 use Rattle.refined_meshes.specs.State.{State, stateOf}
 use Rattle.refined_meshes.specs.Visits.{refinedRows}
+use Rattle.refined_meshes.specs.Starts.{pointsIn}
 
 abbrev pub neighbourAt : List ℕ → ℕ → ℕ → ℕ
 neighbourAt es w e = getD es (e * edgeWidth + w) 0
@@ -43,9 +45,9 @@ abbrev pub intervalsIn : Edition → Mesh → ℕ → State → List Float
 intervalsIn First m ne s = s .intervals
 intervalsIn Second m ne s = settledIntervals (m .edges) (m .intervals) (s .edges) ne (s .intervals)
 
-unfoldable pub settled : Edition → Mesh → ℕ → State → State
-settled ed m ne s =
-    stateOf (s .points) (s .edges) (intervalsIn ed m ne s) (s .faces) (s .pointsTaken) (s .edgesTaken) (s .facesTaken)
+unfoldable pub settled : Edition → Mesh → ℕ → ℕ → ℕ → State → State
+settled ed m np ne nf s =
+    stateOf (pointsIn ed m np ne nf s) (s .edges) (intervalsIn ed m ne s) (s .faces) (s .pointsTaken) (s .edgesTaken) (s .facesTaken)
 
 unfoldable pub settledRows : Edition → Mesh → ℕ → ℕ → ℕ → List ℕ → Mesh → State
-settledRows ed m np ne nf order t = settled ed m ne (refinedRows m np ne nf order t)
+settledRows ed m np ne nf order t = settled ed m np ne nf (refinedRows m np ne nf order t)

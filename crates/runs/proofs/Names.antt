@@ -54,7 +54,7 @@ module _
     corner-there d k = r .refines .stands .corner-stands _ k ∙ ap cornerWord (r .refines .numbering .corner d k)
 
     -- Every corner of a new face is a point.
-    refined-points-first : PointsFirst m' (r .refines .mesh)
+    pub refined-points-first : PointsFirst m' (r .refines .mesh)
     refined-points-first =
         onto (r .refines .numbering .faces)
         (λ f. (k : Place) → r .refines .mesh .corner f k ≡ none → refinedCounts c .points ≤ corner m' (f .0) (place k)) go
@@ -95,7 +95,7 @@ module _
           (corner-there d place2 ∙ r .refines .old-row (first (n .holds .mesh) d))
 
       -- Names by the rules make a step.
-      pub step-of-names : NamedStep k (stage n) (stage n')
+      unfoldable pub step-of-names : NamedStep k (stage n) (stage n')
       unfolding isomorphism-trans reading point edge-no face-no
       step-of-names =
           record {

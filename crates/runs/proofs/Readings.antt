@@ -71,7 +71,7 @@ module _ {first c : Counts} {m m' : Mesh} (s : SameRows c m m') (n : NamedMesh f
       reading m' (n .holds .mesh) (n' .holds .mesh) (stands-same s (n .holds .stands)) (n' .holds .stands) points-first-same
       (n' .corner-is-point)
 
-  pub matching-same : SameNames n n' → Matching (stage n) (stage n')
+  unfoldable pub matching-same : SameNames n n' → Matching (stage n) (stage n')
   unfolding reading-same
   matching-same a =
       record {

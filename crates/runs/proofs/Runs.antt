@@ -35,7 +35,7 @@ use Rattle.runs.proofs.Naming.{same-names-refl, same-names-sym, same-na
 use Rattle.runs.proofs.Positions.{Positions, afterOne, positions}
 
 -- Matches compose.
-matching-trans :
+unfoldable pub matching-trans :
     {P E F : Type 0} {s s' s'' : Stage P E F} → Matching s s' → Matching s' s'' → Matching s s''
 unfolding isomorphism-trans
 matching-trans a b =
@@ -47,7 +47,7 @@ matching-trans a b =
     }
 
 -- The same tables have the same rows.
-same-rows-refl : (c : Counts) (m : Mesh) → SameRows c m m
+pub same-rows-refl : (c : Counts) (m : Mesh) → SameRows c m m
 same-rows-refl c m =
     record { positions = λ i h. refl; points = λ i h. refl; edges = λ i h. refl; intervals = λ i h. refl; faces = λ i h. refl }
 
@@ -95,7 +95,7 @@ module _ {c : Counts} {m : Mesh} (numbers : Binary64 c m) {hs : List Handed} (n 
       (n .given) (reached-end .run)))
 
 -- In the first mesh a row's name is its number, in both runs.
-same-givens :
+pub same-givens :
     {c : Counts} {a b : Mesh} {hsA hsB : List Handed} (n : NamedRun c a hsA) (n' : NamedRun c b hsB) →
     SameNames (n .begun) (n' .begun)
 same-givens n n' =
@@ -237,7 +237,7 @@ settled-run c m hs numbers n n' =
     same-names-trans (same-names-sym s) s'
 
 -- Two runs in any orders.
-two-runs :
+pub two-runs :
     (c : Counts) (a b : Mesh) → HoldsClosed a (c .points) (c .edges) (c .faces) → Binary64 c a → firstRows c a ≡ firstRows c b →
     (hsA hsB : List Handed) → TwoRuns c a b hsA hsB
 two-runs c a b h na e hsA hsB =

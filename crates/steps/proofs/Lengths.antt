@@ -22,6 +22,7 @@ use Rattle.refined_meshes.specs.Split.{splitEdge, splitIf, splitWhole, originHa
 use Rattle.refined_meshes.specs.Ring.{Ring, putJoin, putFirst, putSecond, putNewFace, putFacePoint}
 use Rattle.refined_meshes.specs.Visits.{splitAll, putRing, visitAlong, visit, visits, refinedRows}
 use Rattle.refined_meshes.specs.Settled.{settled, settledRows}
+use Rattle.refined_meshes.proofs.Starts.{length-starts}
 use Rattle.refined_meshes.proofs.Settled.{length-settled}
 use Rattle.steps.specs.Positions.{so-far, placedAll}
 use Rattle.steps.specs.Step.{refinedCounts}
@@ -134,9 +135,10 @@ long-visit m np ne f s =
     as-long-trans (long-take 1 0 0 s)
     (as-long-trans (long-turns _ (λ i s. long-splitWhole np _ s) (passed (faceWalk m ne f)) _) (long-ring m _ _))
 
-long-settled : (ed : Edition) (m : Mesh) (ne : ℕ) (s : State) → AsLong s (settled ed m ne s)
+long-settled : (ed : Edition) (m : Mesh) (np ne nf : ℕ) (s : State) → AsLong s (settled ed m np ne nf s)
 unfolding settled
-long-settled ed m ne s = record { points = refl; edges = refl; intervals = length-settled ed m ne s; faces = refl }
+long-settled ed m np ne nf s =
+    record { points = length-starts ed m np ne nf s; edges = refl; intervals = length-settled ed m ne s; faces = refl }
 
 -- The tables after all visits, and settled, are as long as the scratch tables, where a copy of the mesh has room.
 module _ (ed : Edition) (m : Mesh) (np ne nf : ℕ) (order : List ℕ) (t : Mesh) where
@@ -146,7 +148,7 @@ module _ (ed : Edition) (m : Mesh) (np ne nf : ℕ) (order : List ℕ) (t : Mesh
 
   pub long-settledRows : AsLong (copied m np ne nf t) (settledRows ed m np ne nf order t)
   unfolding settledRows
-  long-settledRows = as-long-trans long-refinedRows (long-settled ed m ne (refinedRows m np ne nf order t))
+  long-settledRows = as-long-trans long-refinedRows (long-settled ed m np ne nf (refinedRows m np ne nf order t))
 
 module _
     (ed : Edition) (m : Mesh) (c : Counts) (held : Room c m) (audited : Audited m (c .points) (c .edges) (c .faces)) (few : c .faces ≤ none) (fewer : c .faces ≤ 2 * c .edges)

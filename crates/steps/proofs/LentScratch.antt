@@ -3,7 +3,7 @@
 --     made-alike              what is made in two scratch tables is the same
 --     lent-scratch            the claim of `specs/LentScratch.antt`
 use mathlib.Core.Path.{_≡_, refl, sym, _∙_, ap, subst}
-use mathlib.Core.List.{List}
+use mathlib.Core.List.{List, []}
 use mathlib.Core.Logic.{inl, inr}
 use Prim.Native.Nat.{ℕ, zero, suc, _+_, _*_, _≤_, _<_}
 use native.Mathlib.Omega.{arith}
@@ -25,8 +25,9 @@ use Rattle.refined_meshes.specs.Visits.{refinedRows}
 use Rattle.refined_meshes.specs.Settled.{settled, settledRows}
 use Rattle.refined_meshes.specs.Refines.{Refines}
 use Rattle.refined_meshes.proofs.Words.{pointOf, faceOf}
-use Rattle.refined_meshes.proofs.Refines.{visited-points, visited-edges, visited-faces}
+use Rattle.refined_meshes.proofs.Refines.{first-refines, visited-points, visited-edges, visited-faces}
 use Rattle.refined_meshes.proofs.Fits.{all-taken}
+use Rattle.refined_meshes.proofs.Starts.{settled-points, joins-below}
 use Rattle.refined_meshes.proofs.Settled.{settled-edges, visits-refine}
 use Rattle.steps.specs.declared.Stepped.{Stepped}
 use Rattle.steps.specs.declared.Stepped.the-variants.{Refined, NotClosed, NotEachFaceOnce, NoRoom, NotFinite}
@@ -72,11 +73,21 @@ module _
         (point-rows ed m c h order t (t .positions) (refines t x (t .positions))) ed (t .positions) (omega (arith, x .positions)) qs e
 
     points-same : (p : ℕ) → p < refinedCounts c .points → pointOf s' p ≡ pointOf s p
-    unfolding settledRows settled refinedRows pointOf
+    unfolding settledRows refinedRows
     points-same =
         let r = room-of-exact x in
         let r' = room-of-exact x' in
-        visited-points m (c .points) (c .edges) (c .faces) h order once t t' (points-fit r) (edges-fit r) (faces-fit r) (points-fit r') (edges-fit r') (faces-fit r')
+        let taken = all-taken m (c .points) (c .edges) (c .faces) h order once t (points-fit r) (edges-fit r) (faces-fit r) in
+        let taken' = all-taken m (c .points) (c .edges) (c .faces) h order once t' (points-fit r') (edges-fit r') (faces-fit r') in
+        let visited = first-refines m (c .points) (c .edges) (c .faces) h order once t (points-fit r) (edges-fit r) (faces-fit r) [] in
+        settled-points m (c .points) (c .edges) (c .faces) (refinedRows m (c .points) (c .edges) (c .faces) order t)
+        (refinedRows m (c .points) (c .edges) (c .faces) order t') (taken .room .points-room) (taken' .room .points-room)
+        (visited-points m (c .points) (c .edges) (c .faces) h order once t t' (points-fit r) (edges-fit r) (faces-fit r) (points-fit r') (edges-fit r') (faces-fit r'))
+        (visited-edges m (c .points) (c .edges) (c .faces) h order once t t' (points-fit r) (edges-fit r) (faces-fit r) (points-fit r') (edges-fit r') (faces-fit r'))
+        (visited-faces m (c .points) (c .edges) (c .faces) h order once t t' (points-fit r) (edges-fit r) (faces-fit r) (points-fit r') (edges-fit r') (faces-fit r'))
+        (faces-fewer visited)
+        (λ e l. joins-below m (h .stands) (h .closed) order (refinedRows m (c .points) (c .edges) (c .faces) order t) [] visited e l .0)
+        (audited .start-in-range) (audited .faceStart-in-range) ed
 
     edges-same : (e : ℕ) → e < refinedCounts c .edges → edgeAt (s' .edges) (s' .intervals) e ≡ edgeAt (s .edges) (s .intervals) e
     unfolding settledRows refinedRows
@@ -88,7 +99,7 @@ module _
         settled-edges m (c .edges) (refinedRows m (c .points) (c .edges) (c .faces) order t) (refinedRows m (c .points) (c .edges) (c .faces) order t')
         (taken .room .intervals-room) (taken' .room .intervals-room)
         (visited-edges m (c .points) (c .edges) (c .faces) h order once t t' (points-fit r) (edges-fit r) (faces-fit r) (points-fit r') (edges-fit r') (faces-fit r'))
-        ed
+        ed (c .points) (c .faces)
 
     faces-same : (f : ℕ) → f < refinedCounts c .faces → faceOf s' f ≡ faceOf s f
     unfolding settledRows settled refinedRows faceOf

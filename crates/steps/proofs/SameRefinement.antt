@@ -13,7 +13,7 @@ use Rattle.closed_meshes.specs.Closed.{Closed}
 use Rattle.closed_meshes.specs.Refinement.{mid, facePoint, dst, join}
 use Rattle.closed_meshes.specs.Renumbering.{Row}
 use Rattle.refined_meshes.specs.declared.Edition.{Edition}
-use Rattle.refined_meshes.specs.Refines.{StartOfOld, Refines}
+use Rattle.refined_meshes.specs.Refines.{OldStart, Refines}
 use Rattle.steps.specs.Step.{refinedCounts}
 use Rattle.steps.proofs.Rows.{SameRows, stands-same}
 
@@ -53,7 +53,7 @@ module _
             join-interval = λ x. let i = r .numbering .edges .to (join x) in s .intervals (i .0) (i .1) ∙ r .join-interval x;
             old-start =
                 λ p.
-                subst (StartOfOld t (λ e. r .numbering .edges .to (dst e) .0) p (start m (p .0)))
+                subst (OldStart ed t d (λ x. r .numbering .edges .to x .0) p (start m (p .0)))
                 (sym (s .points (p .0 * 3 + 1) (omega (arith, p .1)))) (r .old-start p);
             mid-start = λ e. let p = r .numbering .points .to (mid e) in s .points (p .0 * 3 + 1) (omega (arith, p .1)) ∙ r .mid-start e;
             centre-start =

@@ -1,7 +1,7 @@
 use Prim.Native.Nat.{_≤_, _*_, _+_}
 use native.Mathlib.Omega.{arith}
 use lib.ListN.{length}
-use Rattle.making.proofs.Laws.{old-rows-hold, new-rows-hold, visits-fit, sides-fit, faces-fit, edges-fit, points-fit, made-of-parts}
+use Rattle.making.proofs.Laws.{old-rows-hold, new-rows-hold, visits-fit, sides-fit, starts-fit, faces-fit, edges-fit, points-fit, made-of-parts}
 use Rattle.splitting.specs.Scratch.{tablesOf}
 use Rattle.refined_meshes.specs.State.{State}
 use Rattle.tables.specs.Mesh.{Mesh, meshOf}
@@ -12,9 +12,10 @@ use Rattle.making.proofs.make.Reads as reads
 use Rattle.making.proofs.make.Lts as lts
 use Rattle.placing.proofs.place_all.Reads as place-all-reads
 use Rattle.settling.proofs.settle_joins.Reads as settle-joins-reads
+use Rattle.settling_starts.proofs.settle_starts.Reads as settle-starts-reads
 use Rattle.visiting.proofs.refined_rows.Reads as refined-rows-reads
 
--- src/lib.rt:49:5
+-- src/lib.rt:50:5
 refined-rows-requires : tie.Need-refined-rows-requires
 refined-rows-requires c κs =
     let c8 = c .before .before .before .before .before .before .before .before in
@@ -27,7 +28,7 @@ refined-rows-requires c κs =
       (new-rows-hold m (a .counts) (a .order .now) t (pre), visits-fit m (a .counts) (a .order .now) t (pre)),
     )
 
--- src/lib.rt:61:5
+-- src/lib.rt:62:5
 settle-joins-requires : tie.Need-settle-joins-requires
 settle-joins-requires c κs =
     let c8 = c .before .before .before .before .before .before .before .before in
@@ -43,15 +44,32 @@ settle-joins-requires c κs =
     sides-fit m (a .counts) (a .order .now) t (c24 .before .before .pre) s
     (v .ensures (a .positions .now) (a .newpositions .now))
 
--- src/lib.rt:69:5
-place-all-requires : tie.Need-place-all-requires
-place-all-requires c κs =
+-- src/lib.rt:70:5
+settle-starts-requires : tie.Need-settle-starts-requires
+settle-starts-requires c κs =
     let c8 = c .before .before .before .before .before .before .before .before in
     let c16 = c8 .before .before .before .before .before .before .before .before in
     let c24 = c16 .before .before .before .before .before .before .before .before in
     let a = c24 .before .before .before .before .before .before .before .before .args in
     let pre = c24 .before .before .before .before .before .before .before .before .pre in
     let v = c16 .refined-rows in
+    let m : Mesh = meshOf (a .positions .now) (a .points .now) (a .edges .now) (a .intervals .now) (a .faces .now) in
+    let t : Mesh = meshOf (a .newpositions .now) (a .newpoints .now) (a .newedges .now) (a .newintervals .now)
+    (a .newfaces .now) in
+    let s : State = tablesOf (v .last .1 .1 .1 .1 .0) (v .last .1 .1 .1 .1 .1 .0) (v .last .1 .1 .1 .1 .1 .1 .0)
+    (v .last .1 .1 .1 .1 .1 .1 .1 .0) (v .result) in
+    starts-fit m (a .counts) (a .order .now) t (pre) s (v .ensures (a .positions .now) (a .newpositions .now))
+
+-- src/lib.rt:80:5
+place-all-requires : tie.Need-place-all-requires
+place-all-requires c κs =
+    let c8 = c .before .before .before .before .before .before .before .before in
+    let c16 = c8 .before .before .before .before .before .before .before .before in
+    let c24 = c16 .before .before .before .before .before .before .before .before in
+    let c32 = c24 .before .before .before .before .before .before .before .before in
+    let a = c32 .before .before .before .before .before .before .args in
+    let pre = c32 .before .before .before .before .before .before .pre in
+    let v = c16 .before .before .before .before .before .before .refined-rows in
     let m : Mesh = meshOf (a .positions .now) (a .points .now) (a .edges .now) (a .intervals .now) (a .faces .now) in
     let t : Mesh = meshOf (a .newpositions .now) (a .newpoints .now) (a .newedges .now) (a .newintervals .now)
     (a .newfaces .now) in
@@ -71,44 +89,46 @@ place-all-requires c κs =
       ),
     )
 
--- src/lib.rt:23:1
+-- src/lib.rt:24:1
 same-length : tie.Need-same-length
 same-length c = search needs
 
--- src/lib.rt:23:1
+-- src/lib.rt:24:1
 same-length-2 : tie.Need-same-length-2
 same-length-2 c = search needs
 
--- src/lib.rt:23:1
+-- src/lib.rt:24:1
 same-length-3 : tie.Need-same-length-3
 same-length-3 c = search needs
 
--- src/lib.rt:23:1
+-- src/lib.rt:24:1
 same-length-4 : tie.Need-same-length-4
 same-length-4 c = search needs
 
--- src/lib.rt:23:1
+-- src/lib.rt:24:1
 same-length-5 : tie.Need-same-length-5
 same-length-5 c = search needs
 
--- src/lib.rt:23:1
+-- src/lib.rt:24:1
 returns : tie.Need-returns
 returns c =
     let c8 = c .before .before .before .before .before .before .before .before in
     let c16 = c8 .before .before .before .before .before .before .before .before in
     let c24 = c16 .before .before .before .before .before .before .before .before in
     let c32 = c24 .before .before .before .before .before .before .before .before in
-    let a = c32 .before .before .before .args in
-    let v = c16 .before .before .before .refined-rows in
+    let c40 = c32 .before .before .before .before .before .before .before .before in
+    let a = c40 .before .args in
+    let v = c24 .before .refined-rows in
+    let settle-joins = c8 .before .before .before .before .before .before .settle-joins in
     let place-all = c .before .before .place-all in
     let m : Mesh = meshOf (a .positions .now) (a .points .now) (a .edges .now) (a .intervals .now) (a .faces .now) in
     let t : Mesh = meshOf (a .newpositions .now) (a .newpoints .now) (a .newedges .now) (a .newintervals .now)
     (a .newfaces .now) in
     let s : State = tablesOf (v .last .1 .1 .1 .1 .0) (v .last .1 .1 .1 .1 .1 .0) (v .last .1 .1 .1 .1 .1 .1 .0)
     (v .last .1 .1 .1 .1 .1 .1 .1 .0) (v .result) in
-    made-of-parts (a .edition) m (a .counts) (a .order .now) t s _ (place-all .result)
+    made-of-parts (a .edition) m (a .counts) (a .order .now) t s _ _ (place-all .result)
     (place-all .last .1 .1 .1 .1 .1 .1 .1 .1 .0) (v .ensures (a .positions .now) (a .newpositions .now))
-    (c8 .settle-joins .ensures) (place-all .ensures)
+    (settle-joins .ensures) (c8 .settle-starts .ensures) (place-all .ensures)
 
 pub make-spec : {M : Type 1} → statement M
 make-spec =
@@ -116,6 +136,7 @@ make-spec =
     (tie.spec
     refined-rows-requires
     settle-joins-requires
+    settle-starts-requires
     place-all-requires
     same-length
     same-length-2
