@@ -19,4 +19,4 @@ if python3 "$here/divisions.py" "$out/remainder.o" twice >"$out/remainder.out"; 
     echo "divisions: the remainder in a C function is not found"
     exit 1
 fi
-python3 "$here/divisions.py" "$library" lavyngo_step lavyngo_build
+python3 "$here/divisions.py" "$library" lavyngo_step lavyngo_step_published lavyngo_build lavyngo_build_2

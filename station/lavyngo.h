@@ -75,7 +75,7 @@ enum lavyngo_answer {
 };
 
 /* The version of this header: 1 for document 01, and one more for each request of document 02 that is in it. */
-#define LAVYNGO_VERSION 8
+#define LAVYNGO_VERSION 9
 
 /* The version of the library that is linked. A station asks once whether it is that of the header. */
 uint32_t lavyngo_version(void);

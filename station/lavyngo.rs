@@ -12,7 +12,7 @@ pub const EDGE: usize = 8;
 pub const FACE: usize = 5;
 
 /// The version of this module, and of the header.
-pub const VERSION: u32 = 8;
+pub const VERSION: u32 = 9;
 
 /// The version of the library that is linked.
 pub fn version() -> u32 {

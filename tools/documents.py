@@ -17,9 +17,9 @@ ROOT = Path(__file__).resolve().parent.parent
 STATED = """
     audited_meshes/Audit audited_meshes/Claims building_tests/Lent built_meshes/Building built_meshes/Builds built_meshes/Claims
     built_meshes/Connects built_meshes/LentContent closed_meshes/Refinement closed_meshes/Renumbering crossings/Claims
-    filed_pieces/Pieces filed_pieces/TextTwo handover_outputs/Claims handover_outputs/Output listings/Claims listings/Handing
+    filed_pieces/Pieces filed_pieces/TextTwo full_agreement/Agreement handover_outputs/Claims handover_outputs/Output listings/Claims listings/Handing
     mesh_printing/Claims outcomes/Outcomes refine_outputs/Bytes refine_outputs/Claims refine_outputs/Output refined_meshes/Refines
-    refined_meshes/SplitStarts runs/Runs station/Station station_steps/Told step_runs/Claims
+    refined_meshes/SplitStarts renumbered_meshes/Claims runs/Runs station/Station station_steps/Told step_runs/Claims
     steps/FirstGround steps/LentScratch steps/OneStep steps/Step text_meshes/Claims text_meshes/TextBuilding
 """.split()
 
@@ -42,7 +42,10 @@ ABOUT = {
     "refined_meshes": "the visits of a refinement, and what the second edition settles after them",
     "position_rules": "the position rules",
     "steps": "the step",
+    "walks": "walks about faces and points, borders, the edge to a neighbour",
+    "renumbered_meshes": "meshes that are one but for the numbers of their rows",
     "runs": "demand 3",
+    "full_agreement": "full agreement of visiting orders",
     "step_runs": "a list of steps as a function makes it",
     "outcomes": "demand 1",
     "mesh_answers": "the lines of an answer",

@@ -39,7 +39,7 @@ use text_building::build_text;
 
 // The version of the library: 1 for document 01, and one more for each request of document 02 that is in it. LAVYNGO_VERSION in the
 // header is the same number.
-pub const LIBRARY_VERSION: u32 = 8;
+pub const LIBRARY_VERSION: u32 = 9;
 
 // Builds a mesh from lists of version 1 in the lent tables. The counts are written if it is accepted.
 #[no_mangle]

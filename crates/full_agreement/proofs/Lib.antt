@@ -1,0 +1,6 @@
+pub mod OnKinds
+pub mod Agreement
+pub mod SecondStarts
+pub mod Answers
+pub mod Theorem
+pub mod Cases
