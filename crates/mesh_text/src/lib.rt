@@ -8,7 +8,7 @@ ghost use Prim.Native.Nat.{_≤_};
 ghost use lib.ListN.{length};
 ghost use Rattle.mesh_lines.specs.Parts.{stored};
 ghost use Rattle.mesh_text.specs.Text.{headForm, ends, text};
-ghost use Rattle.mesh_text.specs.Reading.{within, ReadOutcome, readInto};
+ghost use Rattle.mesh_text.specs.Reading.{within, ReadOutcome, readInto, readingNumbers};
 ghost use Rattle.mesh_text.specs.Lists.{coordinates, firsts, listedPoints, intervals};
 ghost use Rattle.mesh_text.specs.Parts.{lengthWords, headOf, totalOf, AtTotal};
 use built_meshes::Version;
@@ -150,10 +150,14 @@ pub fn read_text(
     ps: &mut [u32],
     ds: &mut [f64],
 ) -> Reading
-    ensures { λ r. ⌜ _≡_ {A = ReadOutcome}
+    ensures outcome { λ r. ⌜ _≡_ {A = ReadOutcome}
         (record { reading = r; lists = record { coordinates = now (xs .exit); lengths = now (ls .exit); firsts = now (qs .exit); listed = now (ps .exit); intervals = now (ds .exit) } })
         (readInto (now (s .entry)) limits
         (record { coordinates = now (xs .entry); lengths = now (ls .entry); firsts = now (qs .entry); listed = now (ps .entry); intervals = now (ds .entry) })) ⌝ }
+    ensures told { λ r. ⌜ readingNumbers r
+        ≡ readingNumbers (readInto (now (s .entry)) limits
+        (record { coordinates = now (xs .entry); lengths = now (ls .entry); firsts = now (qs .entry); listed = now (ps .entry); intervals = now (ds .entry) })
+        .reading) ⌝ }
 {
     let Total::Of(version, points, faces, listed) = sizes(s) else {
         return Reading::NotText;

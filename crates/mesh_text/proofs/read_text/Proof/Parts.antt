@@ -13,7 +13,7 @@ use borrow.Author.Tests.{leb-true}
 use Rattle.text_numbers.specs.Form.{Parsed, parsed, unparsed}
 use Rattle.mesh_lines.specs.Grammar.{Side, flat, sideCount, sidePoints}
 use Rattle.mesh_text.specs.Text.{TextMesh, text}
-use Rattle.mesh_text.specs.Reading.{counts, TextLists, within, readInto}
+use Rattle.mesh_text.specs.Reading.{counts, TextLists, within, ReadOutcome, readInto, readingNumbers}
 use Rattle.mesh_text.specs.Lists.{coordinates, lengths, firsts, listedPoints, intervals}
 use Rattle.mesh_lines.specs.Parts.{lengthWord, stored}
 use Rattle.mesh_text.specs.Parts.{lengthWords, totalOf, AtTotal}
@@ -103,3 +103,7 @@ module _ (s : List ℕ) (limits : Sizes) (l : TextLists) {r : Total} (er : r ≡
           reading = Reading.Read v (record { points = p; faces = f; listed = c });
           lists = record { coordinates = ex″ i; lengths = el″ i; firsts = eq″ i; listed = ep″ i; intervals = ed″ i };
         })
+
+-- an outcome, and its answer in the documents' numbers
+pub promised : {o p : ReadOutcome} → o ≡ p → (o ≡ p) × (readingNumbers (o .reading) ≡ readingNumbers (p .reading))
+promised e = (e, ap (λ (o : ReadOutcome). readingNumbers (o .reading)) e)
