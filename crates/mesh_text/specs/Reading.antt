@@ -3,7 +3,8 @@
 --     TextLists                    the five lent lists
 --     within c limits xs ls ps ds qs  the counts are within the limits and the rooms of the lists
 --     readInto s limits l          the answer, and the lists after it
-use mathlib.Core.List.{List}
+--     readingNumbers a             the numbers of an answer: points, faces and listed points, or that of the ground
+use mathlib.Core.List.{List, [], _∷_}
 use mathlib.Core.Bool.{Bool, _&&_, cond}
 use Prim.Native.Nat.{ℕ, _*_}
 use lib.ListN.{length}
@@ -46,6 +47,11 @@ within c limits xs ls ps ds qs =
 pub record ReadOutcome : Type 0 where
   pub reading : Reading
   pub lists : TextLists
+
+abbrev pub readingNumbers : Reading → List ℕ
+readingNumbers (Reading.Read v c) = c .points ∷ c .faces ∷ c .listed ∷ []
+readingNumbers Reading.NotText = 1 ∷ []
+readingNumbers Reading.OverLimits = 2 ∷ []
 
 -- the form of the whole text is tested before anything is counted; a text that is not read leaves the lists as they are
 unfoldable pub readInto : List ℕ → Sizes → TextLists → ReadOutcome

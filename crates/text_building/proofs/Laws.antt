@@ -3,6 +3,7 @@
 --     not-text, over-limits  what is answered where the reader finds no text, or one that is over the limits
 --     fits                   the lists hold what was read
 --     first-entries          the first entries of the lists are the lists of the text
+--     promised               an outcome, and its answer in the documents' numbers
 use mathlib.Core.Path.{_≡_, refl, sym, ap, _∙_}
 use mathlib.Core.Bool.{Bool, true, false}
 use mathlib.Core.List.{List}
@@ -31,7 +32,7 @@ use Rattle.built_meshes.proofs.Begin.{counts-is}
 use Rattle.building_tests.specs.Lent.{listsIn, limitsOf}
 use Rattle.building_tests.specs.declared.Bounds.{Bounds}
 use Rattle.building_tests.specs.declared.Bounds.the-variants.{General, Refine}
-use Rattle.text_meshes.specs.TextBuilding.{tooLong, listsOf, told, TextOutcome, toldOutcome, ofForm, buildTextIf, buildText}
+use Rattle.text_meshes.specs.TextBuilding.{tooLong, listsOf, told, textNumbers, TextOutcome, toldOutcome, ofForm, buildTextIf, buildText}
 use Rattle.text_meshes.specs.declared.TextBuilt.{TextBuilt}
 use Rattle.text_meshes.specs.declared.TextBuilt.the-variants.{NotText, Refused}
 
@@ -210,3 +211,7 @@ module _ (b : Bounds) (s : List ℕ) (m : Mesh) {t : Bool} (e : t ≡ tooLong b 
   pub not-too-long : t ≡ false → {o : TextOutcome} → o ≡ buildTextIf false b s m → o ≡ buildText b s m
   unfolding buildText
   not-too-long h eo = rw (sym e ∙ h) eo
+
+-- an outcome, and its answer in the documents' numbers
+pub promised : {o p : TextOutcome} → o ≡ p → (o ≡ p) × (textNumbers (o .answer) ≡ textNumbers (p .answer))
+promised e = (e, ap (λ (o : TextOutcome). textNumbers (o .answer)) e)

@@ -13,7 +13,7 @@ ghost use Rattle.tables.specs.Mesh.{meshOf};
 ghost use Rattle.building_tests.specs.Lent.{listsIn, limitsOf};
 ghost use Rattle.built_meshes.specs.Lists.{generalLimits};
 ghost use Rattle.built_meshes.specs.Building.{build};
-ghost use Rattle.text_meshes.specs.TextBuilding.{TextOutcome, toldOutcome, buildTextIf, buildText};
+ghost use Rattle.text_meshes.specs.TextBuilding.{TextOutcome, toldOutcome, buildTextIf, buildText, textNumbers};
 use building::build;
 use building_tests::Bounds;
 use building_tests::MOST_FACES;
@@ -147,11 +147,15 @@ pub fn build_text(
     intervals: &mut [f64],
     faces: &mut [u32],
 ) -> TextBuilt
-    ensures { λ r. ⌜
+    ensures outcome { λ r. ⌜
         _≡_ {A = TextOutcome}
         (record { answer = r; tables = meshOf (now (positions .exit)) (now (points .exit)) (now (edges .exit)) (now (intervals .exit)) (now (faces .exit)) })
         (buildText bounds (now (text .entry))
         (meshOf (now (positions .entry)) (now (points .entry)) (now (edges .entry)) (now (intervals .entry)) (now (faces .entry)))) ⌝ }
+    ensures told { λ r. ⌜
+        textNumbers r
+        ≡ textNumbers (buildText bounds (now (text .entry))
+        (meshOf (now (positions .entry)) (now (points .entry)) (now (edges .entry)) (now (intervals .entry)) (now (faces .entry))) .answer) ⌝ }
 {
     if is_too_long(bounds, text.len()) {
         return TextBuilt::Refused(Ground::OverCounts);

@@ -21,7 +21,7 @@ write-built-requires c κs =
     let build-text = c16 .before .before .before .build-text in (
       few (args .text .now)
           (meshOf (args .positions .now) (args .points .now) (args .edges .now) (args .intervals .now) (args .faces .now))
-          (build-text .ensures) (c .before .before .before .before .before .before .before .counts .given .1),
+          (build-text .ensures .0) (c .before .before .before .before .before .before .before .counts .given .1),
       pre,
     )
 
@@ -73,7 +73,7 @@ returns c =
     let write-built = c8 .before .before .before .before .write-built in
     written-built (args .text .now)
     (meshOf (args .positions .now) (args .points .now) (args .edges .now) (args .intervals .now) (args .faces .now))
-    (c32 .build-text .ensures) (counts .given .1) (write-built .ensures)
+    (c32 .build-text .ensures .0) (counts .given .1) (write-built .ensures)
 
 same-length-7 : tie.Need-same-length-7
 same-length-7 c = search needs
@@ -101,7 +101,7 @@ returns-2 c =
     let args = c24 .before .before .before .before .before .args in
     written-not-text (args .text .now)
     (meshOf (args .positions .now) (args .points .now) (args .edges .now) (args .intervals .now) (args .faces .now))
-    (c16 .build-text .ensures) (c .before .before .before .before .enum-told .given .1)
+    (c16 .build-text .ensures .0) (c .before .before .before .before .enum-told .given .1)
     (c .before .before .write-refused .ensures)
 
 same-length-13 : tie.Need-same-length-13
@@ -130,7 +130,7 @@ returns-3 c =
     let args = c24 .before .before .before .before .before .before .before .args in
     written-refused (args .text .now)
     (meshOf (args .positions .now) (args .points .now) (args .edges .now) (args .intervals .now) (args .faces .now))
-    (c16 .before .before .build-text .ensures) (c .before .before .before .before .before .before .g .given .1)
+    (c16 .before .before .build-text .ensures .0) (c .before .before .before .before .before .before .g .given .1)
     (c .before .before .before .ground-number .ensures) (c .before .before .write-refused2 .ensures)
 
 pub write-output-spec : {M : Type 1} → statement M

@@ -31,7 +31,7 @@ returns c =
     let c16 = c8 .before .before .before .before .before .before .before .before in
     let args = c16 .before .before .before .before .before .before .before .before .args in
     let build-text = c8 .before .before .before .before .build-text in
-    text-told (args .counts .now) (build-text .ensures) (c .tell-text-built .ensures .0)
+    text-told (args .counts .now) (build-text .ensures .0) (c .tell-text-built .ensures .0)
     (c .tell-text-built .ensures .1)
 
 pub lavyngo-build-text-spec : {M : Type 1} → statement M

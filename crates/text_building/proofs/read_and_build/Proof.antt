@@ -25,7 +25,7 @@ build-first-requires c κs =
       intervals = args .beside .now;
     })
     (meshOf (args .positions .now) (args .points .now) (args .edges .now) (args .intervals .now) (args .faces .now))
-    (most .ensures) (read-text .ensures) (version .given .1) in
+    (most .ensures) (read-text .ensures .0) (version .given .1) in
     (h .coordinates, (h .lengths, (h .listed, (h .intervals, h .firsts))))
 
 same-length : tie.Need-same-length
@@ -89,7 +89,7 @@ returns c =
       intervals = args .beside .now;
     })
     (meshOf (args .positions .now) (args .points .now) (args .edges .now) (args .intervals .now) (args .faces .now))
-    (most .ensures) (read-text .ensures) (version .given .1) _ (c8 .before .before .build-first .ensures)
+    (most .ensures) (read-text .ensures .0) (version .given .1) _ (c8 .before .before .build-first .ensures)
 
 returns-2 : tie.Need-returns-2
 returns-2 c =
@@ -108,7 +108,7 @@ returns-2 c =
       intervals = args .beside .now;
     })
     (meshOf (args .positions .now) (args .points .now) (args .edges .now) (args .intervals .now) (args .faces .now))
-    (most .ensures) (read-text .ensures) (c .enum-told .given .1)
+    (most .ensures) (read-text .ensures .0) (c .enum-told .given .1)
 
 returns-3 : tie.Need-returns-3
 returns-3 c =
@@ -128,7 +128,7 @@ returns-3 c =
       intervals = args .beside .now;
     })
     (meshOf (args .positions .now) (args .points .now) (args .edges .now) (args .intervals .now) (args .faces .now))
-    (most .ensures) (read-text .ensures) (pre .0) (pre .1 .0) (pre .1 .1 .0) (pre .1 .1 .1 .0) (pre .1 .1 .1 .1)
+    (most .ensures) (read-text .ensures .0) (pre .0) (pre .1 .0) (pre .1 .1 .0) (pre .1 .1 .1 .0) (pre .1 .1 .1 .1)
     (c .enum-told2 .given .1)
 
 pub read-and-build-spec : {M : Type 1} → statement M
