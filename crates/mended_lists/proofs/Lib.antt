@@ -1,0 +1,10 @@
+pub mod InTurn
+pub mod Parts
+pub mod Edges
+pub mod Reversal
+pub mod Choices
+pub mod Theorem
+pub mod Again
+pub mod Passed
+pub mod Sides
+pub mod Cases
