@@ -48,7 +48,7 @@ same-back a b e = edge-is b a .1 (go (edge-is a b .0 e))
 
 -- ---- one face
 
-unfit : (g : Ground) → Unfit g ≡ Fit → ⊥
+pub unfit : (g : Ground) → Unfit g ≡ Fit → ⊥
 unfit g h = let z : _≡_ {A = ℕ} 0 1 = cc in omega arith
 
 fit-edges : (v : Verdict) (e : Bool) → thenEdges v e ≡ Fit → (v ≡ Fit) × (e ≡ true)
@@ -97,7 +97,7 @@ module _ (l : Lists) where
       go (no e) before = before (omega arith)
 
   module _ (passed : facesMend l (placesOf l) (facesOf l) ≡ Fit) where
-    face-passed :
+    pub face-passed :
         (f : ℕ) → f < facesOf l →
         (forgiven (faceVerdict l (pointsOf l) f (offset l f)) ≡ Fit) × (edgesMend (placesOf l) (offset l f) (size l f) ≡ true)
     unfolding faceMends
@@ -106,11 +106,11 @@ module _ (l : Lists) where
         (faces-passed (facesOf l) passed f b)
 
     -- 10 and 12
-    at-least-three : (f : ℕ) → f < facesOf l → 3 ≤ size l f
+    pub at-least-three : (f : ℕ) → f < facesOf l → 3 ≤ size l f
     at-least-three f b =
         and-is (leb-is 3 (size l f)) (leb-is (size l f) longestPerimeter) .0 (face-tests f (face-passed f b .0) .0) .0
 
-    points-differ : (f i j : ℕ) → f < facesOf l → i < size l f → j < i → pointOf l f i ≢ pointOf l f j
+    pub points-differ : (f i j : ℕ) → f < facesOf l → i < size l f → j < i → pointOf l f i ≢ pointOf l f j
     unfolding noPointTwice
     points-differ f i j b c d =
         not-is (eqb-is (pointOf l f i) (pointOf l f j)) .0
@@ -161,7 +161,7 @@ module _ (l : Lists) (p q : ℕ) where
   on-below : (k : ℕ) → OnEdge l p q k → k < length (placesOf l)
   on-below k o = rw (o .number) at (number-below l (o .face) (o .place) (between-place l (o .face) (o .place) p q (o .between)))
 
-  on-same : (j k : ℕ) → OnEdge l p q j → OnEdge l p q k → sameEdge (placeAt (placesOf l) j) (placeAt (placesOf l) k) ≡ true
+  pub on-same : (j k : ℕ) → OnEdge l p q j → OnEdge l p q k → sameEdge (placeAt (placesOf l) j) (placeAt (placesOf l) k) ≡ true
   on-same j k a b =
       rw (on-at j a, on-at k b) (between-edge l (a .face) (a .place) (b .face) (b .place) p q (a .between) (b .between))
 
@@ -175,7 +175,7 @@ module _ (l : Lists) (p q : ℕ) where
         number = u .number;
       }
 
-  on-mate : (j k : ℕ) → OnEdge l p q k → mate (placesOf l) k ≡ suc j → OnEdge l p q j
+  pub on-mate : (j k : ℕ) → OnEdge l p q k → mate (placesOf l) k ≡ suc j → OnEdge l p q j
   on-mate j k b e =
       let m = mate-last (placesOf l) k j e in on-also j k b (omega (arith, m .in-range, on-below k b)) (m .passes)
 
@@ -298,7 +298,7 @@ module _ (l : Lists) (shared : edgesShared (placesOf l) ≡ true) where
 -- ---- the answer
 
 module _ (c : Sizes) (l : Lists) where
-  mended-parts :
+  pub mended-parts :
       (mending c l ≡ Mended) ⊎ (mending c l ≡ Twisted) →
       (facesMend l (placesOf l) (facesOf l) ≡ Fit) × (edgesShared (placesOf l) ≡ true) × (mending c l ≡ cond (twisted l) Twisted Mended)
   unfolding mending mendingIf
