@@ -198,3 +198,9 @@ turning-all c ss fs ls ss' fs' ls' is is' a f e s cs =
   where
     all : (g : ℕ) → g < length ss / 4 → ltb g f ≡ true
     all g x = lt-ltb g f (omega arith)
+
+pub fitting-with :
+    (cs cs' : List Float) (ss fs ls : List ℕ) (is : List Float) → Fitting (listsIn Two cs ss fs ls is) → Fitting (listsIn Two cs' ss fs ls is)
+unfolding offset
+fitting-with cs cs' ss fs ls is fit =
+    record { sides = fit .sides; firsts = fit .firsts; listed = fit .listed; intervals = fit .intervals }

@@ -17,129 +17,8 @@ abbrev μ-loop : tie.MeasureT-loop
 loop-holds : tie.Need-loop-holds Inv-loop μ-loop
 loop-holds c = reversing-none 0 (c .args .a) (c .args .n) (c .args .words .now)
 
-sub-j : tie.Need-sub-j Inv-loop μ-loop
-sub-j c =
-    omega (
-      arith,
-      c .loop-test .taken,
-      c .before .loop .inv .same-length,
-      c .before .before .pre .0,
-      c .before .before .pre .1,
-    )
-
-sub-j-2 : tie.Need-sub-j-2 Inv-loop μ-loop
-sub-j-2 c =
-    omega (
-      arith,
-      c .loop-test .taken,
-      c .before .loop .inv .same-length,
-      c .before .before .pre .0,
-      c .before .before .pre .1,
-    )
-
-add-word : tie.Need-add-word Inv-loop μ-loop
-add-word c =
-    omega (
-      arith,
-      c .loop-test .taken,
-      c .before .loop .inv .same-length,
-      c .before .before .pre .0,
-      c .before .before .pre .1,
-    )
-
-mul-word : tie.Need-mul-word Inv-loop μ-loop
-mul-word c =
-    omega (
-      arith,
-      c .loop-test .taken,
-      c .before .loop .inv .same-length,
-      c .before .before .pre .0,
-      c .before .before .pre .1,
-    )
-
-slice-read-word : tie.Need-slice-read-word Inv-loop μ-loop
-slice-read-word c =
-    omega (
-      arith,
-      c .before .loop-test .taken,
-      c .before .before .loop .inv .same-length,
-      c .before .before .before .pre .0,
-      c .before .before .before .pre .1,
-    )
-
-add-words : tie.Need-add-words Inv-loop μ-loop
-add-words c =
-    omega (
-      arith,
-      c .before .loop-test .taken,
-      c .before .before .loop .inv .same-length,
-      c .before .before .before .pre .0,
-      c .before .before .before .pre .1,
-    )
-
-mul-words : tie.Need-mul-words Inv-loop μ-loop
-mul-words c =
-    omega (
-      arith,
-      c .before .loop-test .taken,
-      c .before .before .loop .inv .same-length,
-      c .before .before .before .pre .0,
-      c .before .before .before .pre .1,
-    )
-
-slice-read-words : tie.Need-slice-read-words Inv-loop μ-loop
-slice-read-words c =
-    let pre = c .before .before .before .before .pre in
-    omega
-    (arith, c .before .before .loop-test .taken, c .before .before .before .loop .inv .same-length, pre .0, pre .1)
-
-add-words-2 : tie.Need-add-words-2 Inv-loop μ-loop
-add-words-2 c =
-    let pre = c .before .before .before .before .pre in
-    omega
-    (arith, c .before .before .loop-test .taken, c .before .before .before .loop .inv .same-length, pre .0, pre .1)
-
-mul-words-2 : tie.Need-mul-words-2 Inv-loop μ-loop
-mul-words-2 c =
-    let pre = c .before .before .before .before .pre in
-    omega
-    (arith, c .before .before .loop-test .taken, c .before .before .before .loop .inv .same-length, pre .0, pre .1)
-
-slice-write-words : tie.Need-slice-write-words Inv-loop μ-loop
-slice-write-words c =
-    let pre = c .before .before .before .before .pre in
-    omega
-    (arith, c .before .before .loop-test .taken, c .before .before .before .loop .inv .same-length, pre .0, pre .1)
-
-add-words-3 : tie.Need-add-words-3 Inv-loop μ-loop
-add-words-3 c =
-    let pre = c .before .before .before .before .pre in
-    omega
-    (arith, c .before .before .loop-test .taken, c .before .before .before .loop .inv .same-length, pre .0, pre .1)
-
-mul-words-3 : tie.Need-mul-words-3 Inv-loop μ-loop
-mul-words-3 c =
-    let pre = c .before .before .before .before .pre in
-    omega
-    (arith, c .before .before .loop-test .taken, c .before .before .before .loop .inv .same-length, pre .0, pre .1)
-
 slice-write-words-2 : tie.Need-slice-write-words-2 Inv-loop μ-loop
-slice-write-words-2 c =
-    let pre = c .before .before .before .before .pre in
-    rw length-set (omega
-    (arith, c .before .before .loop-test .taken, c .before .before .before .loop .inv .same-length, pre .0, pre .1))
-
-add-i : tie.Need-add-i Inv-loop μ-loop
-add-i c =
-    let pre = c .before .before .before .before .pre in
-    omega
-    (arith, c .before .before .loop-test .taken, c .before .before .before .loop .inv .same-length, pre .0, pre .1)
-
-loop-less : tie.Need-loop-less Inv-loop μ-loop
-loop-less c =
-    let pre = c .before .before .before .before .pre in
-    omega
-    (arith, c .before .before .loop-test .taken, c .before .before .before .loop .inv .same-length, pre .0, pre .1)
+slice-write-words-2 c = rw length-set (omega arith)
 
 loop-again : tie.Need-loop-again Inv-loop μ-loop
 loop-again c =
@@ -164,22 +43,22 @@ reverse-words-spec =
     Inv-loop
     μ-loop
     loop-holds
-    sub-j
-    sub-j-2
-    add-word
-    mul-word
-    slice-read-word
-    add-words
-    mul-words
-    slice-read-words
-    add-words-2
-    mul-words-2
-    slice-write-words
-    add-words-3
-    mul-words-3
+    (λ c. omega arith)
+    (λ c. omega arith)
+    (λ c. omega arith)
+    (λ c. omega arith)
+    (λ c. omega arith)
+    (λ c. omega arith)
+    (λ c. omega arith)
+    (λ c. omega arith)
+    (λ c. omega arith)
+    (λ c. omega arith)
+    (λ c. omega arith)
+    (λ c. omega arith)
+    (λ c. omega arith)
     slice-write-words-2
-    add-i
-    loop-less
+    (λ c. omega arith)
+    (λ c. omega arith)
     loop-again
     same-length
     returns)

@@ -15,39 +15,6 @@ returns c =
     (listsIn Two [] (args .sides .now) (args .firsts .now) (args .listed .now) (args .beside .now))
     (not-true (args .turned) (c .if1 .taken))
 
-mul-b : tie.Need-mul-b
-mul-b c = search needs
-
-all-but-last-requires : tie.Need-all-but-last-requires
-all-but-last-requires c κs = search needs
-
-reverse-words-requires : tie.Need-reverse-words-requires
-reverse-words-requires c κs = search needs
-
-add-reverse-words : tie.Need-add-reverse-words
-add-reverse-words c = search needs
-
-reverse-words-requires-2 : tie.Need-reverse-words-requires-2
-reverse-words-requires-2 c κs = search needs
-
-reverse-words-requires-3 : tie.Need-reverse-words-requires-3
-reverse-words-requires-3 c κs = search needs
-
-reverse-numbers-requires : tie.Need-reverse-numbers-requires
-reverse-numbers-requires c κs = search needs
-
-same-length : tie.Need-same-length
-same-length c = search needs
-
-same-length-2 : tie.Need-same-length-2
-same-length-2 c = search needs
-
-same-length-3 : tie.Need-same-length-3
-same-length-3 c = search needs
-
-same-length-4 : tie.Need-same-length-4
-same-length-4 c = search needs
-
 returns-2 : tie.Need-returns-2
 returns-2 c =
     let c8 = c .before .before .before .before .before .before .before .before in
@@ -69,15 +36,15 @@ turn-face-spec =
     tie.close
     (tie.spec
     returns
-    mul-b
-    all-but-last-requires
-    reverse-words-requires
-    add-reverse-words
-    reverse-words-requires-2
-    reverse-words-requires-3
-    reverse-numbers-requires
-    same-length
-    same-length-2
-    same-length-3
-    same-length-4
+    (λ c. search needs)
+    (λ c κs. search needs)
+    (λ c κs. search needs)
+    (λ c. search needs)
+    (λ c κs. search needs)
+    (λ c κs. search needs)
+    (λ c κs. search needs)
+    (λ c. search needs)
+    (λ c. search needs)
+    (λ c. search needs)
+    (λ c. search needs)
     returns-2)

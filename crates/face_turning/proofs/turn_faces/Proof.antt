@@ -47,12 +47,12 @@ turn-face-requires c κs =
           points-within (chosen (args .turned .now))
               (listsIn Two [] (args .sides .now) (args .firsts .now) (args .listed .now) (args .beside .now))
               (listsIn Two [] (loop .sides) (loop .firsts) (loop .listed) (loop .beside)) (loop .a) (loop .f) (face-size .result)
-              (loop .inv) (loop-test .taken) (face-size .ensures),
+              (loop .inv) (omega (arith, loop-test .taken)) (face-size .ensures),
           (
             intervals-within (chosen (args .turned .now))
                 (listsIn Two [] (args .sides .now) (args .firsts .now) (args .listed .now) (args .beside .now))
                 (listsIn Two [] (loop .sides) (loop .firsts) (loop .listed) (loop .beside)) (loop .a) (loop .f) (face-size .result)
-                (loop .inv) (loop-test .taken) (face-size .ensures),
+                (loop .inv) (omega (arith, loop-test .taken)) (face-size .ensures),
             (
               omega (arith, loop .inv .turned .sides-length, pre .1 .0),
               (
@@ -81,7 +81,7 @@ add-a c =
       points-within (chosen (args .turned .now))
           (listsIn Two [] (args .sides .now) (args .firsts .now) (args .listed .now) (args .beside .now))
           (listsIn Two [] (loop .sides) (loop .firsts) (loop .listed) (loop .beside)) (loop .a) (loop .f) (face-size .result)
-          (loop .inv) (c16 .loop-test .taken) (face-size .ensures),
+          (loop .inv) (omega (arith, c16 .loop-test .taken)) (face-size .ensures),
       loop .inv .turned .listed-length,
       pre .0 .listed,
       pre .1 .1 .1,
@@ -111,7 +111,7 @@ loop-again c =
     turning-more (chosen (args .turned .now))
     (listsIn Two [] (args .sides .now) (args .firsts .now) (args .listed .now) (args .beside .now))
     (listsIn Two [] (loop .sides) (loop .firsts) (loop .listed) (loop .beside)) (loop .a) (loop .f) (face-size .result)
-    (loop .inv) (c16 .loop-test .taken) (face-size .ensures)
+    (loop .inv) (omega (arith, c16 .loop-test .taken)) (face-size .ensures)
     (listsIn Two [] (turn-face .last .0) (turn-face .last .1 .0) (turn-face .last .1 .1 .0)
     (turn-face .last .1 .1 .1 .0)) refl refl (turn-face .kept .0) (turn-face .kept .1 .0) (turn-face .kept .1 .1 .0)
     (turn-face .kept .1 .1 .1 .0) (turn-face .ensures)
