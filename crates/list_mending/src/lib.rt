@@ -27,7 +27,7 @@ use mending::pair_faces;
 use tables::POSITION_WIDTH;
 
 // Finds the faces to turn, as many as `turned` has room for, and says whether no choice works.
-fn turn_faces(listed: &[u32], faces: &[u32], mates: &[u32], turned: &mut [bool]) -> bool
+fn choose_turns(listed: &[u32], faces: &[u32], mates: &[u32], turned: &mut [bool]) -> bool
     requires { ⌜ length (now turned) ≤ 4096 ⌝ }
     requires { ⌜ MatesFit (now listed) (now faces) (now mates) (length (now turned)) ⌝ }
     ensures { λ r. ⌜ Chosen (now (listed .entry)) (now (faces .entry)) (now (mates .entry)) (now (turned .exit)) r ⌝ }
@@ -72,7 +72,7 @@ fn mend_places(
     match pair_faces(sides, firsts, listed, beside, tos, mates, np) {
         Verdict::Unfit(g) => Mending::Refused(g),
         Verdict::Fit => {
-            if turn_faces(listed, faces, mates, turned) {
+            if choose_turns(listed, faces, mates, turned) {
                 return Mending::Twisted;
             }
             Mending::Mended

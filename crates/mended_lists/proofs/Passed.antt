@@ -54,7 +54,8 @@ unfit g h = let z : _≡_ {A = ℕ} 0 1 = cc in omega arith
 pub fit-edges : (v : Verdict) (e : Bool) → thenEdges v e ≡ Fit → (v ≡ Fit) × (e ≡ true)
 fit-edges Fit true h = (refl, refl)
 fit-edges Fit false h = absurd (unfit EdgeTripleFace h)
-fit-edges (Unfit g) e h = absurd (unfit g h)
+fit-edges (Unfit g) true h = let z : _≡_ {A = ℕ} 0 1 = cc in absurd (omega arith)
+fit-edges (Unfit g) false h = let z : _≡_ {A = ℕ} 0 1 = cc in absurd (omega arith)
 
 fit-face : (v w : Verdict) → thenFace v w ≡ Fit → (v ≡ Fit) × (w ≡ Fit)
 fit-face Fit w h = (refl, h)

@@ -38,8 +38,8 @@ enum-known-g c = search needs
 enum-told : tie.Need-enum-told
 enum-told c = search needs
 
-turn-faces-requires : tie.Need-turn-faces-requires
-turn-faces-requires c κs =
+choose-turns-requires : tie.Need-choose-turns-requires
+choose-turns-requires c κs =
     let c8 = c .before .before .before .before .before .before .before .before in
     let c16 = c8 .before .before .before .before .before .before .before .before in
     let c24 = c16 .before .before .before .before .before .before .before .before in
@@ -79,7 +79,7 @@ returns c =
     let pre = c24 .before .before .before .before .before .before .pre in
     let spread = c16 .before .before .spread in
     let pairs = c8 .before .before .before .pair-faces in
-    let turn = c .before .before .before .turn-faces in
+    let turn = c .before .before .before .choose-turns in
     let fit = fitted (args .coordinates .now) (args .sides .now) (args .firsts .now) (args .listed .now)
     (args .beside .now) (pre .0) in
     let room = pre .1 in
@@ -128,7 +128,7 @@ returns-3 c =
     let pre = c24 .before .before .before .before .before .before .pre in
     let spread = c16 .before .before .spread in
     let pairs = c8 .before .before .before .pair-faces in
-    let turn = c .before .before .before .turn-faces in
+    let turn = c .before .before .before .choose-turns in
     let fit = fitted (args .coordinates .now) (args .sides .now) (args .firsts .now) (args .listed .now)
     (args .beside .now) (pre .0) in
     let room = pre .1 in
@@ -147,7 +147,7 @@ mend-places-spec =
     pair-faces-requires
     enum-known-g
     enum-told
-    turn-faces-requires
+    choose-turns-requires
     same-length
     same-length-2
     same-length-3

@@ -1,4 +1,4 @@
--- turn_faces meets its contract: the choice, with as many local elements as there are faces.
+-- choose_turns meets its contract: the choice, with as many local elements as there are faces.
 use mathlib.Core.Path.{_≡_, sym, _∙_}
 use native.Mathlib.Omega.{arith}
 use mathlib.Core.Bool.{false}
@@ -7,8 +7,8 @@ use lib.ListN.{length}
 use Rattle.face_choices.proofs.Laws.{mates-fit-like}
 use Rattle.list_mending.proofs.Laws.{length-cut}
 use borrow.Author.Needs.{needs}
-use Rattle.list_mending.proofs.turn_faces.Statement.{statement}
-use Rattle.list_mending.proofs.turn_faces.Tie as tie
+use Rattle.list_mending.proofs.choose_turns.Statement.{statement}
+use Rattle.list_mending.proofs.choose_turns.Tie as tie
 
 array-borrow-prefix-ups : tie.Need-array-borrow-prefix-ups
 array-borrow-prefix-ups c = search needs
@@ -48,8 +48,8 @@ same-length c = search needs
 returns : tie.Need-returns
 returns c = search needs
 
-pub turn-faces-spec : {M : Type 1} → statement M
-turn-faces-spec =
+pub choose-turns-spec : {M : Type 1} → statement M
+choose-turns-spec =
     tie.close
     (tie.spec
     array-borrow-prefix-ups
