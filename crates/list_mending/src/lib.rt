@@ -28,7 +28,7 @@ use tables::POSITION_WIDTH;
 
 // Finds the faces to turn, as many as `turned` has room for, and says whether no choice works.
 fn choose_turns(listed: &[u32], faces: &[u32], mates: &[u32], turned: &mut [bool]) -> bool
-    requires { ⌜ length (now turned) ≤ 4096 ⌝ }
+    requires { ⌜ length (now turned) ≤ generalLimits .faces ⌝ }
     requires { ⌜ MatesFit (now listed) (now faces) (now mates) (length (now turned)) ⌝ }
     ensures { λ r. ⌜ Chosen (now (listed .entry)) (now (faces .entry)) (now (mates .entry)) (now (turned .exit)) r ⌝ }
 {
@@ -89,7 +89,7 @@ fn mend_counted(
     beside: &[f64],
     turned: &mut [bool],
 ) -> Mending
-    requires { ⌜ length (now turned) ≡ 4096 ⌝ }
+    requires { ⌜ length (now turned) ≡ generalLimits .faces ⌝ }
     requires { ⌜ countsFit generalLimits (listsIn Two (now coordinates) (now sides) (now firsts) (now listed) (now beside)) ≡ true ⌝ }
     ensures { λ r. ⌜
         r ≡ mendingIf true true
@@ -127,7 +127,7 @@ pub fn find_turns(
     beside: &[f64],
     turned: &mut [bool],
 ) -> Mending
-    requires { ⌜ length (now turned) ≡ 4096 ⌝ }
+    requires { ⌜ length (now turned) ≡ generalLimits .faces ⌝ }
     ensures { λ r. ⌜
         r ≡ mending generalLimits
         (listsIn Two (now (coordinates .entry)) (now (sides .entry)) (now (firsts .entry)) (now (listed .entry)) (now (beside .entry))) ⌝ }
