@@ -3,3 +3,6 @@ pub mod Sides
 pub mod Faces
 pub mod Turned
 pub mod Printed
+pub mod Past
+pub mod Outcome
+pub mod Theorem
