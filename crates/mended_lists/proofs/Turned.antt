@@ -1,4 +1,5 @@
--- Lists that meet no ground before 44 meet none when faces are turned, and are mended if the turned ones run opposite ways. Assumes nothing.
+-- Lists that meet no ground before 44 meet none when faces are turned, and are mended if neighbours then run opposite ways. Assumes
+-- nothing.
 --     sides-sum                 the side lengths of the first faces make up their listed points
 --     interval-from             an interval of turned lists is one of the lists
 --     turned-tests              the tests of a face that is turned
@@ -22,7 +23,8 @@ use Rattle.built_meshes.specs.Grounds.{lists, over-counts, unfit-number}
 use Rattle.built_meshes.specs.declared.Version.{Version}
 use Rattle.built_meshes.specs.declared.Version.the-variants.{One, Two}
 use Rattle.built_meshes.specs.declared.Ground.the-variants.{OverCounts, UnfitNumber}
-use Rattle.built_meshes.proofs.Begin.{Counted, counts-is, counts-fail, counted-fits, Numbered, numbers-is, numbers-fail, numbered-fits, sides-listed}
+use Rattle.built_meshes.proofs.Begin.{Counted, counts-is, counts-fail, counted-fits, Numbered, numbers-is, numbers-fail, numbered-fits}
+use Rattle.built_meshes.proofs.Begin.{sides-listed}
 use Rattle.built_meshes.proofs.Before.{Tests, Triple}
 use Rattle.mended_lists.specs.declared.Mending.the-variants.{Mended, Twisted}
 use Rattle.mended_lists.specs.Reversal.{turnedPoint, turnedInterval, Choice, reversed}

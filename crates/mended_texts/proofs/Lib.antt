@@ -6,3 +6,4 @@ pub mod Printed
 pub mod Past
 pub mod Outcome
 pub mod Theorem
+pub mod Cases

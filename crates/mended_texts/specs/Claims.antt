@@ -2,7 +2,7 @@
 --     Says s t                the text s is of the form, and says t
 --     SaysTwo s t             so it does, and it is of version 2
 --     TurnedRight t c         with the faces of the choice c turned, all neighbours in t run opposite ways
---     MendedText s t c        what is left of the text s, which says t: t with the faces of the choice c turned, and no other choice is such
+--     MendedText s t c        what is left of the text s, which said t: t with the faces of the choice c turned, and of no other choice
 --     Same-bytes              the number of bytes stays
 --     Refusals-leave          every refusal leaves the text as it is
 --     Not-text-exactly        1 exactly if the text is not of the form or of version 1
