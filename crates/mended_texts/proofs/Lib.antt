@@ -1,0 +1,5 @@
+pub mod Flat
+pub mod Sides
+pub mod Faces
+pub mod Turned
+pub mod Printed
