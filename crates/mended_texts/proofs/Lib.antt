@@ -3,3 +3,7 @@ pub mod Sides
 pub mod Faces
 pub mod Turned
 pub mod Printed
+pub mod Past
+pub mod Outcome
+pub mod Kept
+pub mod Theorem
