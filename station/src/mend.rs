@@ -225,6 +225,14 @@ fn turned(random: &mut Random, lists: &Lists) -> Lists {
     reversed(lists, &choice)
 }
 
+/// Another digit in the place of one: mostly the text is still of the form.
+fn change_digit(random: &mut Random, text: &mut [u8]) {
+    let digits: Vec<usize> = (0..text.len()).filter(|&at| text[at].is_ascii_digit()).collect();
+    if !digits.is_empty() {
+        text[random.of(&digits)] = random.of(b"0123456789");
+    }
+}
+
 /// A mesh with faces turned, now and then spoilt, or of version 1; then its text damaged; then any bytes.
 fn case(random: &mut Random, mended: &mut Mended) -> Result<(), String> {
     let version = if random.once_in(30) { Version::One } else { Version::Two };
@@ -243,7 +251,7 @@ fn case(random: &mut Random, mended: &mut Mended) -> Result<(), String> {
         build(random, lists, mended)?;
     }
     let mut damaged = text;
-    spoil::text(random, &mut damaged);
+    if random.once_in(2) { change_digit(random, &mut damaged) } else { spoil::text(random, &mut damaged) }
     check(&damaged, mended)?;
     let length = random.below(90);
     let any: Vec<u8> = if random.once_in(2) {
