@@ -4,7 +4,7 @@ use crate::library::{self, Counts, Edition, Tables};
 use crate::lists::Lists;
 use crate::listings;
 use crate::memory;
-use crate::mend;
+use crate::mender;
 use crate::random::Random;
 use crate::rust::Mesh;
 use crate::shapes::{self, Shape};
@@ -138,7 +138,7 @@ fn mending(samples: &[Sample]) {
         let mut random = Random::new(faces as u64);
         let version_2 = Lists { firsts: Some(Vec::new()), ..lists.clone() }.fitted();
         let choice: Vec<bool> = (0..faces).map(|f| f > 0 && random.once_in(2)).collect();
-        let text = mend::reversed(&version_2, &choice).text().expect("the sample has a text").into_bytes();
+        let text = mender::reversed(&version_2, &choice).text().expect("the sample has a text").into_bytes();
         let wanted = version_2.text().expect("the sample has a text").into_bytes();
         let runs = (200_000 / faces).clamp(9, 500);
         let mended = least(runs, || text.clone(), |text| assert_eq!(library::mend_text(text), 0, "the sample is mended"));

@@ -1,14 +1,14 @@
-//! The mender (document 02, section 8) against all choices of faces, tried one by one in plain Rust that follows the document's
-//! words; its grounds; and what building makes of a mended text.
+//! The mender (document 02, section 8) against all choices of faces, tried one by one; its grounds; and what building makes of a
+//! mended text.
 
 use crate::compare::{self, Case, How, Tally};
 use crate::library::{self, Edition};
 use crate::lists::Lists;
 use crate::random::Random;
+use crate::mender::{self, Shared, reversed, shown, turned, works};
 use crate::shapes::{self, Shape};
 use crate::{grounds, numbers, spoil};
-use oracle::text::{Side, Version};
-use std::collections::{BTreeMap, HashMap};
+use oracle::text::Version;
 
 /// Up to so many faces all choices are tried.
 const TRIED: usize = 12;
@@ -17,55 +17,12 @@ const TRIED: usize = 12;
 #[derive(Default)]
 pub struct Mended {
     pub texts: u64,
-    pub answers: BTreeMap<u32, u64>,
+    pub answers: mender::Answers,
     /// Meshes of which all choices were tried.
     pub tried: u64,
     /// Faces that were turned.
     pub faces: u64,
     pub tally: Tally,
-}
-
-/// A side backwards, from its last point to its first one. Each interval stays on its pair of points.
-fn backwards((first, entries): &Side) -> Side {
-    let mut points = vec![*first];
-    points.extend(entries.iter().map(|entry| entry.0));
-    let pairs = (0..entries.len()).rev().map(|k| (points[k], entries[k].1)).collect();
-    (points[entries.len()], pairs)
-}
-
-/// The lists with these faces reversed: the sides in opposite order, each side backwards.
-pub fn reversed(lists: &Lists, choice: &[bool]) -> Lists {
-    let mut mesh = lists.mesh().expect("lists whose lengths agree");
-    for (face, _) in mesh.faces.iter_mut().zip(choice).filter(|(_, turned)| **turned) {
-        *face = [3, 2, 1, 0].map(|k: usize| backwards(&face[k]));
-    }
-    Lists::of_mesh(&mesh)
-}
-
-/// The two faces of an edge, and whether they run along it the same way.
-struct Shared {
-    faces: [usize; 2],
-    same_way: bool,
-}
-
-/// The edges of lists of which each edge has two faces.
-fn edges(lists: &Lists) -> Vec<Shared> {
-    let mut met: HashMap<(u32, u32), Vec<(usize, u32)>> = HashMap::new();
-    for (face, (begin, n)) in lists.places().into_iter().enumerate() {
-        let border = &lists.listed[begin..begin + n];
-        for i in 0..n {
-            let (p, q) = (border[i], border[(i + 1) % n]);
-            met.entry((p.min(q), p.max(q))).or_default().push((face, p));
-        }
-    }
-    met.into_values()
-        .map(|two| Shared { faces: [two[0].0, two[1].0], same_way: two[0].1 == two[1].1 })
-        .collect()
-}
-
-/// Whether all neighbours run opposite ways once the faces of a choice are reversed.
-fn works(edges: &[Shared], choice: &[bool]) -> bool {
-    edges.iter().all(|edge| edge.same_way == (choice[edge.faces[0]] != choice[edge.faces[1]]))
 }
 
 /// The lowest-numbered face of the part of each face, parts being faces joined through shared edges.
@@ -96,83 +53,26 @@ fn by_trying(edges: &[Shared], faces: usize) -> Result<Option<Vec<bool>>, String
     Ok(those.first().map(|choice| (*choice).clone()))
 }
 
-/// The choice, found by going from face to face: each neighbour is turned as the edge demands.
-fn by_walking(edges: &[Shared], faces: usize) -> Option<Vec<bool>> {
-    let mut beside: Vec<Vec<(usize, bool)>> = vec![Vec::new(); faces];
-    for Shared { faces: [f, g], same_way } in edges {
-        beside[*f].push((*g, *same_way));
-        beside[*g].push((*f, *same_way));
-    }
-    let mut choice: Vec<Option<bool>> = vec![None; faces];
-    for first in 0..faces {
-        if choice[first].is_some() {
-            continue;
-        }
-        choice[first] = Some(false);
-        let mut waiting = vec![first];
-        while let Some(face) = waiting.pop() {
-            for &(next, same_way) in &beside[face] {
-                if choice[next].is_none() {
-                    choice[next] = choice[face].map(|turned| turned != same_way);
-                    waiting.push(next);
-                }
-            }
-        }
-    }
-    let choice: Vec<bool> = choice.into_iter().map(|turned| turned == Some(true)).collect();
-    works(edges, &choice).then_some(choice)
-}
-
-/// What the mender is to answer to lists: the choice, or its ground.
-fn expected(lists: &Lists, mended: &mut Mended) -> Result<Result<Vec<bool>, u32>, String> {
-    let ground = grounds::mending(lists);
-    if ground != 0 {
-        return Ok(Err(ground));
-    }
-    let (edges, faces) = (edges(lists), lists.faces());
-    let choice = by_walking(&edges, faces);
-    if faces <= TRIED {
-        mended.tried += 1;
-        demand(by_trying(&edges, faces)? == choice, || String::from("trying all choices finds another than walking"))?;
-    }
-    Ok(choice.ok_or(44))
-}
-
 fn demand(holds: bool, what: impl FnOnce() -> String) -> Result<(), String> {
     if holds { Ok(()) } else { Err(what()) }
 }
 
-/// The beginning of a text, for a message.
-fn shown(text: &[u8]) -> String {
-    String::from_utf8_lossy(&text[..text.len().min(4000)]).into_owned()
-}
-
-/// A text of any bytes through the mender: the answer, and every byte of the text. The mended lists, if there are some.
+/// A text of any bytes through the mender. Of few faces, all choices are tried. The mended lists, if there are some.
 fn check(text: &[u8], mended: &mut Mended) -> Result<Option<Lists>, String> {
     let lists = oracle::text::read(text).map(|mesh| Lists::of_mesh(&mesh));
-    let expected = match &lists {
-        None => Err(1),
-        Some(lists) => expected(lists, mended)?,
-    };
-    let mut left = text.to_vec();
-    let answer = library::mend_text(&mut left);
-    let number = expected.as_ref().err().copied().unwrap_or(0);
-    demand(answer == number, || format!("the mender answers {answer}, document 02 says {number}, to the text\n{}", shown(text)))?;
+    if let Some(lists) = &lists
+        && lists.faces() <= TRIED
+        && grounds::mending(lists) == 0
+    {
+        let (edges, faces) = (mender::edges(lists), lists.faces());
+        let same = by_trying(&edges, faces)? == mender::by_walking(&edges, faces);
+        demand(same, || format!("trying all choices finds another than walking, of the text\n{}", shown(text)))?;
+        mended.tried += 1;
+    }
+    let made = mender::through(text, lists.as_ref(), &mut mended.answers)?;
     mended.texts += 1;
-    *mended.answers.entry(answer).or_default() += 1;
-    let (Ok(choice), Some(lists)) = (expected, lists) else {
-        demand(left == text, || format!("the mender answers {answer} and changes the text\n{}", shown(text)))?;
-        return Ok(None);
-    };
-    let wanted = reversed(&lists, &choice);
-    let wanted_text = wanted.text().unwrap_or_default().into_bytes();
-    demand(left == wanted_text, || format!("mended:\n{}\nexpected:\n{}", shown(&left), shown(&wanted_text)))?;
-    demand(choice.contains(&true) || left == text, || format!("a text that needs nothing is changed\n{}", shown(text)))?;
-    let mut twice = left.clone();
-    let again = library::mend_text(&mut twice);
-    demand(again == 0 && twice == left, || format!("a mended text is answered {again}, or changed\n{}", shown(text)))?;
-    mended.faces += choice.iter().filter(|turned| **turned).count() as u64;
-    Ok(Some(wanted))
+    mended.faces += made.as_ref().map_or(0, |made| made.turned) as u64;
+    Ok(made.map(|made| made.lists))
 }
 
 /// The mended lists and their text built, and the mesh compared with the Rust's. 14, 15 and 20 are met no more.
@@ -208,21 +108,6 @@ fn shape(random: &mut Random) -> Shape {
         2 => shapes::together(&[shapes::tetrahedron(), shapes::pillow(3), shapes::tetrahedron()]),
         _ => two_sided(random),
     }
-}
-
-/// Faces turned at random: as a rule about half of them, now and then none, one or all.
-fn turned(random: &mut Random, lists: &Lists) -> Lists {
-    let one = random.below(lists.faces().max(1));
-    let how = random.below(8);
-    let choice: Vec<bool> = (0..lists.faces())
-        .map(|f| match how {
-            0 => false,
-            1 => true,
-            2 => f == one,
-            _ => random.once_in(2),
-        })
-        .collect();
-    reversed(lists, &choice)
 }
 
 /// Another digit in the place of one: mostly the text is still of the form.

@@ -48,13 +48,14 @@ same-back a b e = edge-is b a .1 (go (edge-is a b .0 e))
 
 -- ---- one face
 
-unfit : (g : Ground) → Unfit g ≡ Fit → ⊥
+pub unfit : (g : Ground) → Unfit g ≡ Fit → ⊥
 unfit g h = let z : _≡_ {A = ℕ} 0 1 = cc in omega arith
 
-fit-edges : (v : Verdict) (e : Bool) → thenEdges v e ≡ Fit → (v ≡ Fit) × (e ≡ true)
+pub fit-edges : (v : Verdict) (e : Bool) → thenEdges v e ≡ Fit → (v ≡ Fit) × (e ≡ true)
 fit-edges Fit true h = (refl, refl)
 fit-edges Fit false h = absurd (unfit EdgeTripleFace h)
-fit-edges (Unfit g) e h = absurd (unfit g h)
+fit-edges (Unfit g) true h = let z : _≡_ {A = ℕ} 0 1 = cc in absurd (omega arith)
+fit-edges (Unfit g) false h = let z : _≡_ {A = ℕ} 0 1 = cc in absurd (omega arith)
 
 fit-face : (v w : Verdict) → thenFace v w ≡ Fit → (v ≡ Fit) × (w ≡ Fit)
 fit-face Fit w h = (refl, h)
@@ -97,7 +98,7 @@ module _ (l : Lists) where
       go (no e) before = before (omega arith)
 
   module _ (passed : facesMend l (placesOf l) (facesOf l) ≡ Fit) where
-    face-passed :
+    pub face-passed :
         (f : ℕ) → f < facesOf l →
         (forgiven (faceVerdict l (pointsOf l) f (offset l f)) ≡ Fit) × (edgesMend (placesOf l) (offset l f) (size l f) ≡ true)
     unfolding faceMends
@@ -106,11 +107,11 @@ module _ (l : Lists) where
         (faces-passed (facesOf l) passed f b)
 
     -- 10 and 12
-    at-least-three : (f : ℕ) → f < facesOf l → 3 ≤ size l f
+    pub at-least-three : (f : ℕ) → f < facesOf l → 3 ≤ size l f
     at-least-three f b =
         and-is (leb-is 3 (size l f)) (leb-is (size l f) longestPerimeter) .0 (face-tests f (face-passed f b .0) .0) .0
 
-    points-differ : (f i j : ℕ) → f < facesOf l → i < size l f → j < i → pointOf l f i ≢ pointOf l f j
+    pub points-differ : (f i j : ℕ) → f < facesOf l → i < size l f → j < i → pointOf l f i ≢ pointOf l f j
     unfolding noPointTwice
     points-differ f i j b c d =
         not-is (eqb-is (pointOf l f i) (pointOf l f j)) .0
@@ -158,14 +159,14 @@ module _ (l : Lists) (p q : ℕ) where
   on-at : (k : ℕ) (o : OnEdge l p q k) → placeAt (placesOf l) k ≡ placeOf l (o .face) (o .place)
   on-at k o = rw (← (o .number)) (places-at l (o .face) (o .place) (between-place l (o .face) (o .place) p q (o .between)))
 
-  on-below : (k : ℕ) → OnEdge l p q k → k < length (placesOf l)
+  pub on-below : (k : ℕ) → OnEdge l p q k → k < length (placesOf l)
   on-below k o = rw (o .number) at (number-below l (o .face) (o .place) (between-place l (o .face) (o .place) p q (o .between)))
 
-  on-same : (j k : ℕ) → OnEdge l p q j → OnEdge l p q k → sameEdge (placeAt (placesOf l) j) (placeAt (placesOf l) k) ≡ true
+  pub on-same : (j k : ℕ) → OnEdge l p q j → OnEdge l p q k → sameEdge (placeAt (placesOf l) j) (placeAt (placesOf l) k) ≡ true
   on-same j k a b =
       rw (on-at j a, on-at k b) (between-edge l (a .face) (a .place) (b .face) (b .place) p q (a .between) (b .between))
 
-  on-also : (j k : ℕ) → OnEdge l p q k → j < length (placesOf l) → sameEdge (placeAt (placesOf l) j) (placeAt (placesOf l) k) ≡ true → OnEdge l p q j
+  pub on-also : (j k : ℕ) → OnEdge l p q k → j < length (placesOf l) → sameEdge (placeAt (placesOf l) j) (placeAt (placesOf l) k) ≡ true → OnEdge l p q j
   on-also j k b h e =
       let u : Numbered l j = numbered l j h in
       record {
@@ -175,12 +176,12 @@ module _ (l : Lists) (p q : ℕ) where
         number = u .number;
       }
 
-  on-mate : (j k : ℕ) → OnEdge l p q k → mate (placesOf l) k ≡ suc j → OnEdge l p q j
+  pub on-mate : (j k : ℕ) → OnEdge l p q k → mate (placesOf l) k ≡ suc j → OnEdge l p q j
   on-mate j k b e =
       let m = mate-last (placesOf l) k j e in on-also j k b (omega (arith, m .in-range, on-below k b)) (m .passes)
 
   -- the last of three is the third
-  three : (i j k : ℕ) → i < j → j < k → OnEdge l p q i → OnEdge l p q j → OnEdge l p q k → third (placesOf l) k ≡ true
+  pub three : (i j k : ℕ) → i < j → j < k → OnEdge l p q i → OnEdge l p q j → OnEdge l p q k → third (placesOf l) k ≡ true
   three i j k x y a b c = go (mate-found (placesOf l) k j y (on-same j k b c))
     where
       go : (m : ℕ) × (mate (placesOf l) k ≡ suc m) × (j ≤ m) → third (placesOf l) k ≡ true
@@ -254,7 +255,7 @@ module _ (l : Lists) (shared : edgesShared (placesOf l) ≡ true) where
           (sym (not-lone k b)
           ∙ and-is (eqb-is (mate (placesOf l) k) 0) (eqb-is (follower (placesOf l) (length (placesOf l)) k) 0) .1 (d, e)))
 
-  passed-paired : Paired l
+  pub passed-paired : Paired l
   unfolding follower
   passed-paired f i p q r =
       go (mate-or-follower (offset l f + i) (number-below l f i (r .is-place)))
@@ -298,7 +299,7 @@ module _ (l : Lists) (shared : edgesShared (placesOf l) ≡ true) where
 -- ---- the answer
 
 module _ (c : Sizes) (l : Lists) where
-  mended-parts :
+  pub mended-parts :
       (mending c l ≡ Mended) ⊎ (mending c l ≡ Twisted) →
       (facesMend l (placesOf l) (facesOf l) ≡ Fit) × (edgesShared (placesOf l) ≡ true) × (mending c l ≡ cond (twisted l) Twisted Mended)
   unfolding mending mendingIf
