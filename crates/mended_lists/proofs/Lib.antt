@@ -1,0 +1,13 @@
+pub mod InTurn
+pub mod Parts
+pub mod Edges
+pub mod Reversal
+pub mod Choices
+pub mod Theorem
+pub mod Again
+pub mod Passed
+pub mod Checks
+pub mod Grounds
+pub mod Sides
+pub mod Turned
+pub mod Cases
