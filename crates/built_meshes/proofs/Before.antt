@@ -4,6 +4,7 @@
 --     none-before             so none is
 --     first-lists, first-face, first-edge, first-whole     a ground that is met after what passed is met first
 --     nothing-met             where all passes, nothing is met
+--     same-ground             grounds at checks of which none is before the other are one
 --     first-once              two grounds that are met first are one
 use mathlib.Core.Path.{_≡_, refl, sym, _∙_, ap, subst}
 use mathlib.Core.Bool.{true, cond}
@@ -47,7 +48,7 @@ pub tests-of : (l : Lists) (f n : ℕ) → FaceSound l f → Agrees l f → Test
 tests-of l f n s r =
     record { sizes = λ h. (s .at-least-3, s .at-most-64); ranges = λ h. s .in-range; once = λ h. s .distinct; firsts = λ h. r .0; sums = λ h. r .1 }
 
-tests-fewer : (l : Lists) (f k n : ℕ) → k ≤ n → Tests l f n → Tests l f k
+pub tests-fewer : (l : Lists) (f k n : ℕ) → k ≤ n → Tests l f n → Tests l f k
 tests-fewer l f k n le t =
     record {
       sizes = λ h. t .sizes (omega arith);
@@ -389,9 +390,9 @@ same-number whole g (face f) h a b = absurd (b (inl (omega arith)))
 same-number whole g (edge f i) h a b = absurd (b (inl (omega arith)))
 same-number whole g whole h a b = neither _ _ (λ z. a (inr (refl, inl z))) (λ z. b (inr (refl, inl z)))
 
+pub same-ground : (w : Where) (g : Ground) (w' : Where) (h : Ground) → ¬ Less (turnOf w g) (turnOf w' h) → ¬ Less (turnOf w' h) (turnOf w g) → g ≡ h
+same-ground w g w' h a b = sym (ground-of-number g) ∙ ap groundOf (same-number w g w' h a b) ∙ ground-of-number h
+
 -- Two grounds that are met first are one.
 pub first-once : (c : Sizes) (l : Lists) (m : Mesh) (w : Where) (g : Ground) (w' : Where) (h : Ground) → First-met c l m w g → First-met c l m w' h → g ≡ h
-first-once c l m w g w' h a b =
-    sym (ground-of-number g)
-    ∙ ap groundOf (same-number w g w' h (λ z. b .none-before w g z (a .met)) (λ z. a .none-before w' h z (b .met)))
-    ∙ ground-of-number h
+first-once c l m w g w' h a b = same-ground w g w' h (λ z. b .none-before w g z (a .met)) (λ z. a .none-before w' h z (b .met))

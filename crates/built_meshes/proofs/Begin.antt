@@ -1,5 +1,6 @@
 -- What the grounds 2, 3 and 4 say, and the tables in which the faces begin: their counted rows are zero. Assumes nothing.
 --     counts-is, numbers-is, rows-is     the three tests, and what holds where one fails
+--     sides-listed                       past 2, the sides of all faces are the listed points
 --     ready                              the zeroed tables are ready
 --     faces-none                         no face is in
 use mathlib.Core.Path.{_≡_, refl, sym, _∙_, ap, subst}
@@ -203,6 +204,12 @@ sumTo-fours (suc n) g = ap (λ k. sumTo k g) (four n) ∙ sums (sumTo-fours n g)
         let e3 : g (n * 4 + 3) ≡ g (suc (suc (suc (n * 4)))) = ap g (omega arith) in
         omega arith
 
+pub sides-listed : (c : Sizes) (l : Lists) → Counted c l → offset l (facesOf l) ≡ length (l .listed)
+unfolding offset
+sides-listed c l h =
+    sym (sumTo-fours (facesOf l) (λ k. getD (l .sides) k 0))
+    ∙ ap (λ k. sumTo k (λ k. getD (l .sides) k 0)) (let z : facesOf l * 4 ≡ length (l .sides) = omega (arith, h .faces-whole) in z) ∙ h .sum-alike
+
 -- ---- zeroed tables
 
 pub getD-zeroed : {A : Type 0} (n i : ℕ) (z d : A) (xs : List A) → i < n → getD (zeroed n z xs) i d ≡ z
@@ -212,10 +219,7 @@ getD-zeroed n i z d xs h =
 
 module _ (c : Sizes) (l : Lists) (m : Mesh) (counted' : Counted c l) (numbered : Numbered l) (roomy : Roomy l m) (few : c .faces ≤ none) where
   pub listed-all : offset l (facesOf l) ≡ length (l .listed)
-  unfolding offset
-  listed-all =
-      sym (sumTo-fours (facesOf l) (λ k. getD (l .sides) k 0))
-      ∙ ap (λ k. sumTo k (λ k. getD (l .sides) k 0)) (let z : facesOf l * 4 ≡ length (l .sides) = omega (arith, counted' .faces-whole) in z) ∙ counted' .sum-alike
+  listed-all = sides-listed c l counted'
 
   points-fit : pointsOf l * 3 ≤ length (m .points)
   points-fit = omega (arith, roomy .points-enough)

@@ -1,5 +1,5 @@
 // The mender's grounds face by face (document 02, §8): 10, 11, 12, 43 as in building, then 14 for the edges of the face.
-// Not here: grounds 2, 3, 20 and 44 (`mending`), the search of an edge (`shared_edges`).
+// Not here: ground 20 (`mending`), grounds 2, 3 and 44 (`list_mending`), the search of an edge (`shared_edges`).
 // Contract: `enter_faces`. Definitions: `Mending` of `mended_lists`; `specs/Shown.antt`. Laws: `proofs/Laws.antt`.
 ghost use mathlib.Core.Path.{_≡_};
 ghost use mathlib.Core.Bool.{not};

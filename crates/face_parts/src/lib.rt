@@ -1,7 +1,7 @@
 // The parts of a mesh, kept in two lists: for each face a face of its part that is not above it, and whether the two are turned
 // differently. A search halves its way, so that few faces are passed.
-// Not here: which faces share an edge (`shared_edges`).
-// Contract: `choose`. Definitions: `Parts` of `mended_lists`; `specs/Kept.antt`. Laws: `proofs/Laws.antt`.
+// Not here: which faces share an edge (`shared_edges`), the choice of faces (`face_choices`).
+// Contracts: `find`, `join`. Definitions: `Parts` of `mended_lists`; `specs/Kept.antt`. Laws: `proofs/Laws.antt`.
 ghost use mathlib.Core.Path.{_≡_};
 ghost use mathlib.Core.Bool.{Bool, false, _||_};
 ghost use mathlib.Core.List.{List};

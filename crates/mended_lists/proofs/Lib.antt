@@ -6,5 +6,7 @@ pub mod Choices
 pub mod Theorem
 pub mod Again
 pub mod Passed
+pub mod Checks
+pub mod Grounds
 pub mod Sides
 pub mod Cases

@@ -48,13 +48,14 @@ same-back a b e = edge-is b a .1 (go (edge-is a b .0 e))
 
 -- ---- one face
 
-unfit : (g : Ground) → Unfit g ≡ Fit → ⊥
+pub unfit : (g : Ground) → Unfit g ≡ Fit → ⊥
 unfit g h = let z : _≡_ {A = ℕ} 0 1 = cc in omega arith
 
-fit-edges : (v : Verdict) (e : Bool) → thenEdges v e ≡ Fit → (v ≡ Fit) × (e ≡ true)
+pub fit-edges : (v : Verdict) (e : Bool) → thenEdges v e ≡ Fit → (v ≡ Fit) × (e ≡ true)
 fit-edges Fit true h = (refl, refl)
 fit-edges Fit false h = absurd (unfit EdgeTripleFace h)
-fit-edges (Unfit g) e h = absurd (unfit g h)
+fit-edges (Unfit g) true h = let z : _≡_ {A = ℕ} 0 1 = cc in absurd (omega arith)
+fit-edges (Unfit g) false h = let z : _≡_ {A = ℕ} 0 1 = cc in absurd (omega arith)
 
 fit-face : (v w : Verdict) → thenFace v w ≡ Fit → (v ≡ Fit) × (w ≡ Fit)
 fit-face Fit w h = (refl, h)
@@ -158,14 +159,14 @@ module _ (l : Lists) (p q : ℕ) where
   on-at : (k : ℕ) (o : OnEdge l p q k) → placeAt (placesOf l) k ≡ placeOf l (o .face) (o .place)
   on-at k o = rw (← (o .number)) (places-at l (o .face) (o .place) (between-place l (o .face) (o .place) p q (o .between)))
 
-  on-below : (k : ℕ) → OnEdge l p q k → k < length (placesOf l)
+  pub on-below : (k : ℕ) → OnEdge l p q k → k < length (placesOf l)
   on-below k o = rw (o .number) at (number-below l (o .face) (o .place) (between-place l (o .face) (o .place) p q (o .between)))
 
-  on-same : (j k : ℕ) → OnEdge l p q j → OnEdge l p q k → sameEdge (placeAt (placesOf l) j) (placeAt (placesOf l) k) ≡ true
+  pub on-same : (j k : ℕ) → OnEdge l p q j → OnEdge l p q k → sameEdge (placeAt (placesOf l) j) (placeAt (placesOf l) k) ≡ true
   on-same j k a b =
       rw (on-at j a, on-at k b) (between-edge l (a .face) (a .place) (b .face) (b .place) p q (a .between) (b .between))
 
-  on-also : (j k : ℕ) → OnEdge l p q k → j < length (placesOf l) → sameEdge (placeAt (placesOf l) j) (placeAt (placesOf l) k) ≡ true → OnEdge l p q j
+  pub on-also : (j k : ℕ) → OnEdge l p q k → j < length (placesOf l) → sameEdge (placeAt (placesOf l) j) (placeAt (placesOf l) k) ≡ true → OnEdge l p q j
   on-also j k b h e =
       let u : Numbered l j = numbered l j h in
       record {
@@ -175,12 +176,12 @@ module _ (l : Lists) (p q : ℕ) where
         number = u .number;
       }
 
-  on-mate : (j k : ℕ) → OnEdge l p q k → mate (placesOf l) k ≡ suc j → OnEdge l p q j
+  pub on-mate : (j k : ℕ) → OnEdge l p q k → mate (placesOf l) k ≡ suc j → OnEdge l p q j
   on-mate j k b e =
       let m = mate-last (placesOf l) k j e in on-also j k b (omega (arith, m .in-range, on-below k b)) (m .passes)
 
   -- the last of three is the third
-  three : (i j k : ℕ) → i < j → j < k → OnEdge l p q i → OnEdge l p q j → OnEdge l p q k → third (placesOf l) k ≡ true
+  pub three : (i j k : ℕ) → i < j → j < k → OnEdge l p q i → OnEdge l p q j → OnEdge l p q k → third (placesOf l) k ≡ true
   three i j k x y a b c = go (mate-found (placesOf l) k j y (on-same j k b c))
     where
       go : (m : ℕ) × (mate (placesOf l) k ≡ suc m) × (j ≤ m) → third (placesOf l) k ≡ true
@@ -254,7 +255,7 @@ module _ (l : Lists) (shared : edgesShared (placesOf l) ≡ true) where
           (sym (not-lone k b)
           ∙ and-is (eqb-is (mate (placesOf l) k) 0) (eqb-is (follower (placesOf l) (length (placesOf l)) k) 0) .1 (d, e)))
 
-  passed-paired : Paired l
+  pub passed-paired : Paired l
   unfolding follower
   passed-paired f i p q r =
       go (mate-or-follower (offset l f + i) (number-below l f i (r .is-place)))

@@ -4,4 +4,5 @@ pub mod Edges
 pub mod Parts
 pub mod Mending
 pub mod Claims
+pub mod Grounds
 pub mod Pieces
