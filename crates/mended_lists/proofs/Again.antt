@@ -52,7 +52,7 @@ pub record Turned (c : Choice) (l m : Lists) : Type 0 where
       (f i : ℕ) → IsPlace l f i →
       getD (m .intervals) (offset l f + i) nan ≡ besideOf l f (cond (c f) (turnedInterval (size l f) i) i)
 
-reversed-is : (c : Choice) (l m : Lists) → Turned c l m → reversed c l ≡ m
+pub reversed-is : (c : Choice) (l m : Lists) → Turned c l m → reversed c l ≡ m
 unfolding reversed offset
 reversed-is c l m t =
     same-lists (l .version) (m .version) (l .coordinates) (m .coordinates)
