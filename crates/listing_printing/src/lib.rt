@@ -1,6 +1,6 @@
 // The lines of a handover listing (document 02, §1), written from the rows of the tables; and how long a listing is.
 // Not here: the whole listing and its grounds (`listing_writing`).
-// Contracts: `write_points`, `write_edges`, `write_faces`, `listing_length`. Definitions: `listings`, specs/Handing.antt; `specs/Fields.antt`.
+// Contracts: `wide`, `write_points`, `write_edges`, `write_faces`, `listing_length`. Definitions: `listings`, specs/Handing.antt; `specs/Fields.antt`.
 // Laws: `proofs/Laws.antt` (fields and lines one after another), `proofs/Lengths.antt` (how long they are).
 ghost use mathlib.Core.Path.{_≡_};
 ghost use mathlib.Core.Bool.{true};
@@ -26,7 +26,7 @@ use tables::POINT_WIDTH;
 use tables::POSITION_WIDTH;
 
 // A word of 32 bits as a number of 64.
-fn wide(w: u32) -> u64
+pub fn wide(w: u32) -> u64
     ensures { λ r. ⌜ r ≡ w ⌝ }
 {
     w as u64

@@ -26,7 +26,7 @@ use Rattle.listings.proofs.Parts.{all-to, numbers-count, length-flat, c
 use Rattle.listings.proofs.ReadBack.{length-upTo, finite-fit}
 
 module _ {A : Type 0} (f : ℕ → A) (d : A) where
-  getD-upTo : (n p : ℕ) → p < n → getD (upTo n f) p d ≡ f p
+  pub getD-upTo : (n p : ℕ) → p < n → getD (upTo n f) p d ≡ f p
   unfolding upTo
   getD-upTo zero p h = absurd (omega arith)
   getD-upTo (suc n) p h = go (ltb p n) refl (getD-upTo n p)
@@ -41,7 +41,7 @@ module _ {A : Type 0} (f : ℕ → A) (d : A) where
           let q : p ≡ n = omega arith in
           ap (λ i. getD (upTo n f ++ (f n ∷ [])) i d) q ∙ getD-at (upTo n f) (f n) [] d n (length-upTo f n) ∙ ap f (sym q)
 
-  upTo-all : (l : List A) → ((p : ℕ) → p < length l → f p ≡ getD l p d) → upTo (length l) f ≡ l
+  pub upTo-all : (l : List A) → ((p : ℕ) → p < length l → f p ≡ getD l p d) → upTo (length l) f ≡ l
   upTo-all l h =
       let e = length-upTo f (length l) in
       ext-getD d (upTo (length l) f) l e λ i k. let k′ : i < length l = omega arith in getD-upTo (length l) i k′ ∙ h i k′
@@ -104,7 +104,7 @@ bits-again (n ∷ ns) b f =
     let r = bits-again ns (b .1) (f .1) in
     λ i. e i ∷ r i
 
-all-at : {A : Type 0} (P : A → Type 0) (d : A) (l : List A) → All P l → (p : ℕ) → p < length l → P (getD l p d)
+pub all-at : {A : Type 0} (P : A → Type 0) (d : A) (l : List A) → All P l → (p : ℕ) → p < length l → P (getD l p d)
 all-at P d [] a p h = absurd (omega arith)
 all-at P d (x ∷ l) a zero h = a .0
 all-at P d (x ∷ l) a (suc p) h = all-at P d l (a .1) p (omega arith)

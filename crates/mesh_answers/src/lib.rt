@@ -1,6 +1,6 @@
 // The lines of an answer (document 01, "Mesh text"): `[mesh 8 12 6]`, `[step 26 48 24]`, `[at 0 H H H]`, `[refused N]`.
 // Not here: the reading of texts (`mesh_text`).
-// Contracts: `write`, `write_number`, `write_bits`, `write_mesh`, `write_step`, `write_at`, `write_refused`. Definitions: `specs/Lines.antt`. Laws for callers: `proofs/Laws.antt`.
+// Contracts: `write`, `write_decimal`, `write_number`, `write_bits`, `write_mesh`, `write_step`, `write_at`, `write_refused`. Definitions: `specs/Lines.antt`. Laws for callers: `proofs/Laws.antt`.
 ghost use mathlib.Core.Path.{_≡_};
 ghost use Prim.Native.Nat.{_+_, _≤_, _<_};
 ghost use lib.ListN.{length};
@@ -40,7 +40,7 @@ fn hex_byte(d: u64) -> u8
 }
 
 // Writes a number in at most k decimal digits, and answers the place after it.
-fn write_decimal(out: &mut [u8], at: usize, n: u64, k: usize) -> usize
+pub fn write_decimal(out: &mut [u8], at: usize, n: u64, k: usize) -> usize
     requires { ⌜ at + length (decimalDigits k n) ≤ length (now out) ⌝ }
     ensures { λ r. ⌜ Written (now (out .entry)) at (decimalDigits k n) r (now (out .exit)) ⌝ }
 {
