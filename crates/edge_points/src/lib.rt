@@ -2,16 +2,18 @@
 // equation 15's m, by the edition (document 02, §5).
 // Carries over the second loop of `global_subdivide` in t_nurcc/mod.rs, one edge at a time, each operation rounded in the Rust's order.
 // Not here: face points (`face_points`), old points (`old_points`), the rows of the new points (`placing`).
-// Contract: `weighted_point`. Definitions: `position_rules`, specs/EdgePoint.antt.
+// Contract: `weighted_point`. Definitions: `position_rules`, specs/EdgePoint.antt; what the code asks: specs/Sides.antt.
 ghost use mathlib.Core.Path.{_≡_};
 ghost use Prim.Native.Nat.{_+_, _*_, _≤_, _<_};
 ghost use lib.ListN.{length};
 ghost use Rattle.positions.specs.Position.{placedAt};
 ghost use Rattle.t_spline.specs.Edge.{connectionOf};
 ghost use Rattle.tables.specs.Layout.{positionWidth};
-ghost use Rattle.position_rules.specs.EdgePoint.{share, shares, neighbour, middle, edgeMiddle, edgeMiddleOf, blend, edgePoint, weightedPoint};
+ghost use Rattle.position_rules.specs.EdgePoint.{share, shares, neighbour, middle, edgeMiddle, edgeMiddleOf, blend, weightedPoint};
 ghost use Rattle.position_rules.specs.Places.{facePointAt};
 ghost use Rattle.position_rules.specs.Fits.{EdgeFits, MiddleFits, EdgePointFits, NeighboursFit};
+ghost use Rattle.tables.specs.Records.{edgeAt};
+ghost use Rattle.edge_points.specs.Sides.{SidesThere};
 use position_rules::Shares;
 use position_rules::intervals::three_terms;
 use position_rules::places::load_face_point;
@@ -101,36 +103,10 @@ fn blend(m: Position, a: Shares, left: Position, right: Position) -> Position
         .plus(right.times(a.right))
 }
 
-// The edge point of edge e, from the face points that stand in the new table of positions.
-fn edge_point(
-    positions: &[f64],
-    edges: &[u32],
-    intervals: &[f64],
-    newpositions: &[f64],
-    newfaces: &[u32],
-    e: usize,
-) -> Placed
-    requires { ⌜ EdgePointFits (now positions) (now edges) (now intervals) (now newpositions) (now newfaces) e ⌝ }
-    ensures { λ r. ⌜ r ≡ placedAt (edgePoint (now (positions .entry)) (now (edges .entry)) (now (intervals .entry)) (facePointAt (now (newpositions .entry)) (now (newfaces .entry))) e) ⌝ }
-{
-    let edge = load_edge(edges, intervals, e);
-    let m = edge_middle(
-        positions,
-        edges,
-        intervals,
-        index(edge.origin),
-        index(edge.dest),
-        e,
-    );
-    let left = load_face_point(newpositions, newfaces, index(edge.face_left));
-    let right = load_face_point(newpositions, newfaces, index(edge.face_right));
-    blend(m, shares(intervals, edge), left, right).placed()
-}
-
 // m of edge e.
-fn middle_point(positions: &[f64], edges: &[u32], intervals: &[f64], e: usize) -> Placed
+fn middle_point(positions: &[f64], edges: &[u32], intervals: &[f64], e: usize) -> Position
     requires { ⌜ MiddleFits (now positions) (now edges) (now intervals) e ⌝ }
-    ensures { λ r. ⌜ r ≡ placedAt (edgeMiddleOf (now (positions .entry)) (now (edges .entry)) (now (intervals .entry)) e) ⌝ }
+    ensures { λ r. ⌜ r ≡ edgeMiddleOf (now (positions .entry)) (now (edges .entry)) (now (intervals .entry)) e ⌝ }
 {
     let edge = load_edge(edges, intervals, e);
     edge_middle(
@@ -140,10 +116,32 @@ fn middle_point(positions: &[f64], edges: &[u32], intervals: &[f64], e: usize) -
         index(edge.origin),
         index(edge.dest),
         e,
-    ).placed()
+    )
 }
 
-// What weighs for edge e at old points: the edge point in the first edition, m in the second.
+// The edge point of edge e, from its m and the face points that stand in the new table of positions.
+fn edge_point(
+    edges: &[u32],
+    intervals: &[f64],
+    newpositions: &[f64],
+    newfaces: &[u32],
+    e: usize,
+    m: Position,
+) -> Position
+    requires { ⌜ SidesThere (now edges) (now intervals) (now newpositions) (now newfaces) e ⌝ }
+    ensures { λ r. ⌜
+        r ≡ blend m (shares (now (intervals .entry)) (edgeAt (now (edges .entry)) (now (intervals .entry)) e))
+        (facePointAt (now (newpositions .entry)) (now (newfaces .entry)) (edgeAt (now (edges .entry)) (now (intervals .entry)) e .«face_left»))
+        (facePointAt (now (newpositions .entry)) (now (newfaces .entry)) (edgeAt (now (edges .entry)) (now (intervals .entry)) e .«face_right»)) ⌝ }
+{
+    let edge = load_edge(edges, intervals, e);
+    let left = load_face_point(newpositions, newfaces, index(edge.face_left));
+    let right = load_face_point(newpositions, newfaces, index(edge.face_right));
+    blend(m, shares(intervals, edge), left, right)
+}
+
+// What weighs for edge e at old points: the edge point in the first edition, m in the second. Both start from m, so that its code stands
+// in the loop over the edges once.
 pub fn weighted_point(
     positions: &[f64],
     edges: &[u32],
@@ -158,8 +156,9 @@ pub fn weighted_point(
         r ≡ placedAt (weightedPoint edition (now (positions .entry)) (now (edges .entry)) (now (intervals .entry))
         (facePointAt (now (newpositions .entry)) (now (newfaces .entry))) e) ⌝ }
 {
+    let m = middle_point(positions, edges, intervals, e);
     match edition {
-        Edition::First => edge_point(positions, edges, intervals, newpositions, newfaces, e),
-        Edition::Second => middle_point(positions, edges, intervals, e),
+        Edition::First => edge_point(edges, intervals, newpositions, newfaces, e, m).placed(),
+        Edition::Second => m.placed(),
     }
 }

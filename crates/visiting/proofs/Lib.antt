@@ -1,4 +1,5 @@
 pub mod Laws
+pub mod Places
 pub mod Along
 pub mod Room
 pub mod Turning

@@ -224,6 +224,6 @@ module _ (oe ps es fs pe : List ℕ) (is : List Float) (np f n : ℕ) (taken : C
       }
 
 -- the halves at the places are rows of the table
-pub halves-rows : (es hs : List ℕ) (half : ℕ → ℕ) (n : ℕ) → n ≤ 64 → hs ≡ filled n half (replicate 64 0)
+pub halves-rows : (es hs lent : List ℕ) (half : ℕ → ℕ) (n : ℕ) → n ≤ 64 → length lent ≡ 64 → hs ≡ filled n half lent
     → ((i : ℕ) → i < n → half i * 8 + 8 ≤ length es) → Rows es hs n
-halves-rows es hs half n few is h i l = rw (is, getD-filled n half (replicate 64 0) 0 (rw length-replicate few) i l) (h i l)
+halves-rows es hs lent half n few long is h i l = rw (is, getD-filled n half lent 0 (rw long few) i l) (h i l)

@@ -2,9 +2,11 @@
 --     bare m                   the mesh m with its tables of edges and faces alone, which are all that a visit looks at
 --     RowsThere m np ne nf     the tables of m hold the rows of np points, ne edges and nf faces, positions aside
 --     Ceilings np ne nf        a mesh with these counts is below the ceilings of document 01 once it is refined
+--     PlacesLent hs gs ms      the arrays lent for what stands at the places of a perimeter have their length, whatever they hold
 --     RingFits oe pe rows ..   the ring with these rows, of the split perimeter pe, finds its rows and has room in the scratch tables
 --     AlongFits oe np f pe n s   the visit of the face f in s along the perimeter pe of n edges finds its rows and has room
 --     EachVisitFits ..         every visit in the order finds its rows and has room
+use mathlib.Core.Path.{_≡_}
 use mathlib.Core.List.{List}
 use Prim.Native.Nat.{ℕ, _+_, _-_, _*_, _≤_, _<_}
 use lib.ListN.{length, getD}
@@ -33,6 +35,11 @@ pub record Ceilings (np ne nf : ℕ) : Type 0 where
   pub points : np + ne + nf ≤ pointCeiling
   pub edges : 4 * ne ≤ edgeCeiling
   pub faces : 2 * ne ≤ faceCeiling
+
+pub record PlacesLent (hs gs ms : List ℕ) : Type 0 where
+  pub firsts : length hs ≡ longestPerimeter
+  pub seconds : length gs ≡ longestPerimeter
+  pub mids : length ms ≡ longestPerimeter
 
 pub record RingFits (oe pe : List ℕ) (rows : RingRows) (ps es : List ℕ) (is : List Float) (fs : List ℕ) : Type 0 where
   pub small : Small rows

@@ -8,7 +8,7 @@ ghost use mathlib.Core.List.{List, []};
 ghost use Prim.Native.Nat.{ℕ, _+_, _-_, _*_, _≤_, _<_};
 ghost use lib.ListN.{length};
 ghost use lib.Ieee.{Float};
-ghost use Rattle.tables.specs.Layout.{edgeWidth, faceWidth};
+ghost use Rattle.tables.specs.Layout.{edgeWidth, faceWidth, longestPerimeter};
 ghost use Rattle.tables.specs.declared.Counts.{Counts};
 ghost use Rattle.tables.specs.Parts.{faceTables};
 ghost use Rattle.refined_meshes.specs.Turns.{turns};
@@ -18,7 +18,7 @@ ghost use Rattle.refined_meshes.specs.Visits.{ringOf, putRing, visitAlong, visi
 ghost use Rattle.refined_meshes.specs.Fits.{VisitFits};
 ghost use Rattle.splitting.specs.Scratch.{tablesOf};
 ghost use Rattle.ring_places.specs.Rings.{ring, Small, Rows};
-ghost use Rattle.visiting.specs.Visiting.{RowsThere, Ceilings, RingFits, AlongFits, EachVisitFits};
+ghost use Rattle.visiting.specs.Visiting.{RowsThere, Ceilings, PlacesLent, RingFits, AlongFits, EachVisitFits};
 ghost use Rattle.tables.specs.Mesh.{meshOf};
 use ring_edges::put_firsts;
 use ring_edges::put_joins;
@@ -88,9 +88,13 @@ fn put_ring(
     newfaces: &mut [u32],
     perimeter: &[u32; LONGEST_PERIMETER],
     found: &[f64; LONGEST_PERIMETER],
+    firsts: &mut [u32; LONGEST_PERIMETER],
+    seconds: &mut [u32; LONGEST_PERIMETER],
+    mids: &mut [u32; LONGEST_PERIMETER],
     rows: RingRows,
 )
     requires { ⌜ RingFits (now edges) (now perimeter) rows (now newpoints) (now newedges) (now newintervals) (now newfaces) ⌝ }
+    requires { ⌜ PlacesLent (now firsts) (now seconds) (now mids) ⌝ }
     ensures { λ _. ⌜
         ((p : ℕ) →
         _≡_ {A = State}
@@ -102,32 +106,30 @@ fn put_ring(
         (record { points = p; edges = rows .joins; faces = rows .faces })))
         (tablesOf (now (newpoints .entry)) (now (newedges .entry)) (now (newintervals .entry)) (now (newfaces .entry))
         (record { points = p; edges = rows .joins; faces = rows .faces })))) ⌝ }
+    ensures { λ _. ⌜ PlacesLent (now (firsts .exit)) (now (seconds .exit)) (now (mids .exit)) ⌝ }
 {
-    let mut firsts = [0u32; LONGEST_PERIMETER];
-    let mut seconds = [0u32; LONGEST_PERIMETER];
-    let mut mids = [0u32; LONGEST_PERIMETER];
     put_places(
         edges,
         newedges,
         perimeter,
         rows.face,
         rows.size,
-        &mut firsts,
-        &mut seconds,
-        &mut mids,
+        firsts,
+        seconds,
+        mids,
     );
     put_ring_edges(
         edges,
         newedges,
         newintervals,
         perimeter,
-        &firsts,
-        &seconds,
-        &mids,
+        firsts,
+        seconds,
+        mids,
         found,
         rows,
     );
-    put_new_faces(edges, newfaces, perimeter, &firsts, &mids, rows);
+    put_new_faces(edges, newfaces, perimeter, firsts, mids, rows);
     put_face_point(newpoints, rows);
 }
 
@@ -143,16 +145,23 @@ fn visit_along(
     perimeter: &[u32; LONGEST_PERIMETER],
     n: usize,
     taken: Counts,
+    found: &mut [f64; LONGEST_PERIMETER],
+    firsts: &mut [u32; LONGEST_PERIMETER],
+    seconds: &mut [u32; LONGEST_PERIMETER],
+    mids: &mut [u32; LONGEST_PERIMETER],
 ) -> Counts
     requires { ⌜ AlongFits (now edges) np f (now perimeter) n (tablesOf (now newpoints) (now newedges) (now newintervals) (now newfaces) taken) ⌝ }
+    requires { ⌜ length (now found) ≡ longestPerimeter ⌝ }
+    requires { ⌜ PlacesLent (now firsts) (now seconds) (now mids) ⌝ }
     ensures { λ r. ⌜
         _≡_ {A = State}
         (tablesOf (now (newpoints .exit)) (now (newedges .exit)) (now (newintervals .exit)) (now (newfaces .exit)) r)
         (visitAlong (faceTables (now (edges .entry)) []) np f (now (perimeter .entry)) n
         (tablesOf (now (newpoints .entry)) (now (newedges .entry)) (now (newintervals .entry)) (now (newfaces .entry)) taken)) ⌝ }
+    ensures { λ _. ⌜ length (now (found .exit)) ≡ longestPerimeter ⌝ }
+    ensures { λ _. ⌜ PlacesLent (now (firsts .exit)) (now (seconds .exit)) (now (mids .exit)) ⌝ }
 {
-    let mut found = [0.0; LONGEST_PERIMETER];
-    put_found(newintervals, perimeter, n, &mut found);
+    put_found(newintervals, perimeter, n, found);
     let first = Counts {
         points: taken.points + 1,
         edges: taken.edges,
@@ -173,7 +182,10 @@ fn visit_along(
         newintervals,
         newfaces,
         perimeter,
-        &found,
+        found,
+        firsts,
+        seconds,
+        mids,
         rows,
     );
     Counts {
@@ -194,6 +206,10 @@ fn visit(
     old: Counts,
     f: usize,
     taken: Counts,
+    found: &mut [f64; LONGEST_PERIMETER],
+    firsts: &mut [u32; LONGEST_PERIMETER],
+    seconds: &mut [u32; LONGEST_PERIMETER],
+    mids: &mut [u32; LONGEST_PERIMETER],
 ) -> Counts
     requires { ⌜ Ceilings (old .points) (old .edges) (old .faces) ⌝ }
     requires { ⌜ old .edges * edgeWidth ≤ length (now edges) ⌝ }
@@ -201,11 +217,15 @@ fn visit(
     requires { ⌜
         VisitFits (faceTables (now edges) (now faces)) (old .points) (old .edges) (old .faces) f
         (tablesOf (now newpoints) (now newedges) (now newintervals) (now newfaces) taken) ⌝ }
+    requires { ⌜ length (now found) ≡ longestPerimeter ⌝ }
+    requires { ⌜ PlacesLent (now firsts) (now seconds) (now mids) ⌝ }
     ensures { λ r. ⌜
         _≡_ {A = State}
         (tablesOf (now (newpoints .exit)) (now (newedges .exit)) (now (newintervals .exit)) (now (newfaces .exit)) r)
         (visit (faceTables (now (edges .entry)) (now (faces .entry))) (old .points) (old .edges) f
         (tablesOf (now (newpoints .entry)) (now (newedges .entry)) (now (newintervals .entry)) (now (newfaces .entry)) taken)) ⌝ }
+    ensures { λ _. ⌜ length (now (found .exit)) ≡ longestPerimeter ⌝ }
+    ensures { λ _. ⌜ PlacesLent (now (firsts .exit)) (now (seconds .exit)) (now (mids .exit)) ⌝ }
 {
     let mut perimeter = [0u32; LONGEST_PERIMETER];
     let mut about = [0u32; LONGEST_BORDER];
@@ -223,10 +243,15 @@ fn visit(
         &perimeter,
         n,
         taken,
+        found,
+        firsts,
+        seconds,
+        mids,
     )
 }
 
-// Visits the faces in the order; answers the rows taken then.
+// Visits the faces in the order; answers the rows taken then. What stands at the places of a perimeter is held in arrays that all visits
+// share: each fills the first places of them, and reads no others.
 fn visits(
     edges: &[u32],
     faces: &[u32],
@@ -246,6 +271,10 @@ fn visits(
         (visits (faceTables (now (edges .entry)) (now (faces .entry))) (old .points) (old .edges) (old .faces) (now (order .entry))
         (tablesOf (now (newpoints .entry)) (now (newedges .entry)) (now (newintervals .entry)) (now (newfaces .entry)) old)) ⌝ }
 {
+    let mut found = [0.0; LONGEST_PERIMETER];
+    let mut firsts = [0u32; LONGEST_PERIMETER];
+    let mut seconds = [0u32; LONGEST_PERIMETER];
+    let mut mids = [0u32; LONGEST_PERIMETER];
     let mut taken = old;
     let mut i = 0;
     while i < old.faces {
@@ -260,6 +289,10 @@ fn visits(
             old,
             f,
             taken,
+            &mut found,
+            &mut firsts,
+            &mut seconds,
+            &mut mids,
         );
         i += 1;
     }
