@@ -58,6 +58,21 @@ other-entry f v hf hv =
     let vert : k / 2 % 4 ≡ v = rw half (omega arith) in
     entry k (omega arith) ∙ rw (odd, face, vert)
 
+own-number-small : (l : Links) → ownNumber l ≤ 4
+own-number-small (Both c d) = omega (arith, index-below c)
+own-number-small Mismatch = omega arith
+
+other-number-small : (l : Links) → otherNumber l ≤ 4
+other-number-small (Both c d) = omega (arith, index-below d)
+other-number-small Mismatch = omega arith
+
+-- the numbers of the table are small
+pub own-small : (f v : ℕ) → f < 4 → v < 4 → getD table (f * 8 + v * 2) 0 ≤ 4
+own-small f v hf hv = rw (own-entry f v hf hv) (own-number-small (linksOf f v))
+
+pub other-small : (f v : ℕ) → f < 4 → v < 4 → getD table (f * 8 + v * 2 + 1) 0 ≤ 4
+other-small f v hf hv = rw (other-entry f v hf hv) (other-number-small (linksOf f v))
+
 pub mismatch-of-number : (l : Links) → ownNumber l ≡ 4 → l ≡ Mismatch
 mismatch-of-number (Both c d) h = absurd (never (index-below c) h)
   where

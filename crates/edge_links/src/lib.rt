@@ -24,40 +24,41 @@ pub struct Pair {
 // The number in `LINKS` for a mismatch.
 const NO_LINK: usize = 4;
 
-// For each face state 0 to 3 and in it each vertex state 0 to 3: the first edge's link and the other's.
-const LINKS: [usize; 32] = [
-    TnurccConnection::LEFT_CW,
-    TnurccConnection::LEFT_ACW,
-    TnurccConnection::LEFT_ACW,
-    TnurccConnection::LEFT_CW,
-    NO_LINK,
-    NO_LINK,
-    NO_LINK,
-    NO_LINK,
-    TnurccConnection::RIGHT_ACW,
-    TnurccConnection::RIGHT_CW,
-    TnurccConnection::RIGHT_CW,
-    TnurccConnection::RIGHT_ACW,
-    NO_LINK,
-    NO_LINK,
-    NO_LINK,
-    NO_LINK,
-    NO_LINK,
-    NO_LINK,
-    NO_LINK,
-    NO_LINK,
-    TnurccConnection::LEFT_CW,
-    TnurccConnection::RIGHT_ACW,
-    TnurccConnection::LEFT_ACW,
-    TnurccConnection::RIGHT_CW,
-    NO_LINK,
-    NO_LINK,
-    NO_LINK,
-    NO_LINK,
-    TnurccConnection::RIGHT_ACW,
-    TnurccConnection::LEFT_CW,
-    TnurccConnection::RIGHT_CW,
-    TnurccConnection::LEFT_ACW,
+// For each face state 0 to 3 and in it each vertex state 0 to 3: the first edge's link and the other's. Bytes: a lookup makes the
+// table anew, and 32 bytes are made by a few stores.
+const LINKS: [u8; 32] = [
+    TnurccConnection::LEFT_CW as u8,
+    TnurccConnection::LEFT_ACW as u8,
+    TnurccConnection::LEFT_ACW as u8,
+    TnurccConnection::LEFT_CW as u8,
+    NO_LINK as u8,
+    NO_LINK as u8,
+    NO_LINK as u8,
+    NO_LINK as u8,
+    TnurccConnection::RIGHT_ACW as u8,
+    TnurccConnection::RIGHT_CW as u8,
+    TnurccConnection::RIGHT_CW as u8,
+    TnurccConnection::RIGHT_ACW as u8,
+    NO_LINK as u8,
+    NO_LINK as u8,
+    NO_LINK as u8,
+    NO_LINK as u8,
+    NO_LINK as u8,
+    NO_LINK as u8,
+    NO_LINK as u8,
+    NO_LINK as u8,
+    TnurccConnection::LEFT_CW as u8,
+    TnurccConnection::RIGHT_ACW as u8,
+    TnurccConnection::LEFT_ACW as u8,
+    TnurccConnection::RIGHT_CW as u8,
+    NO_LINK as u8,
+    NO_LINK as u8,
+    NO_LINK as u8,
+    NO_LINK as u8,
+    TnurccConnection::RIGHT_ACW as u8,
+    TnurccConnection::LEFT_CW as u8,
+    TnurccConnection::RIGHT_CW as u8,
+    TnurccConnection::LEFT_ACW as u8,
 ];
 
 // The links of a face state and a vertex state.
@@ -71,11 +72,11 @@ pub fn link_directions(face: usize, vert: usize) -> Links
         return Links::Mismatch;
     }
     let k = face * 8 + vert * 2;
-    let own = LINKS[k];
+    let own = LINKS[k] as usize;
     if own == NO_LINK {
         return Links::Mismatch;
     }
-    let other = LINKS[k + 1];
+    let other = LINKS[k + 1] as usize;
     Links::Both(
         TnurccConnection::from_usize(own),
         TnurccConnection::from_usize(other),

@@ -3,7 +3,7 @@ use mathlib.Core.Path.{_∙_, sym}
 use native.Mathlib.Omega.{arith}
 use borrow.Author.Needs.{needs}
 use Rattle.edge_links.specs.Connect.{linksOf}
-use Rattle.edge_links.proofs.LinkTable.{own-entry, other-entry, mismatch-of-number, both-of-numbers, links-face-past, links-vertex-past}
+use Rattle.edge_links.proofs.LinkTable.{own-entry, other-entry, own-small, other-small, mismatch-of-number, both-of-numbers, links-face-past, links-vertex-past}
 use Rattle.edge_links.proofs.link_directions.Statement.{statement}
 use Rattle.edge_links.proofs.link_directions.Tie as tie
 
@@ -12,6 +12,14 @@ returns c = sym (links-face-past _ _ (c .if1 .taken))
 
 returns-2 : tie.Need-returns-2
 returns-2 c = sym (links-vertex-past _ _ (c .if2 .taken))
+
+cast-own : tie.Need-cast-own
+cast-own c = omega (arith, own-small (c .before .before .args .face) (c .before .before .args .vert) (omega arith) (omega arith))
+
+cast-other : tie.Need-cast-other
+cast-other c =
+    let a = c .before .before .before .args in
+    omega (arith, other-small (a .face) (a .vert) (omega arith) (omega arith))
 
 returns-3 : tie.Need-returns-3
 returns-3 c = sym (mismatch-of-number _ (sym (own-entry _ _ (omega arith) (omega arith)) ∙ c .if3 .taken))
@@ -34,11 +42,11 @@ link-directions-spec =
     (λ c. search needs)
     (λ c. search needs)
     (λ c. search needs)
-    (λ c. search needs)
+    cast-own
     returns-3
     (λ c. search needs)
     (λ c. search needs)
-    (λ c. search needs)
+    cast-other
     (λ c κs. search needs)
     (λ c κs. search needs)
     returns-4)
