@@ -7,12 +7,14 @@ An answer of a proof file reaches a fact by a path from where it stands back to 
     bound(text)         the proof file with its long paths bound to names and its long lines broken
     recounted(..)       one declaration with its paths counted anew
     long_lines(text)    what of a proof file is not in the layout
+    wide_lines(text)    what of any other file is not
 
-Run by itself it says which proof files of the repository have a line of more than 200 characters, or an answer in which a path of
-more than eight steps stands twice.
+Run by itself it says which files of the crates have a line of more than 200 characters, and which proof files an answer in which a
+path of more than eight steps stands twice.
 """
 
 import re
+from pathlib import Path
 
 WIDTH = 120  # what a broken line is filled to
 WIDE = 130  # an answer with a wider line is laid out anew
@@ -614,14 +616,23 @@ def long_lines(text):
     return out
 
 
-if __name__ == "__main__":
-    # Says which proof files of the repository are not in the layout; exit status 1 if any is not.
-    from pathlib import Path
+def wide_lines(text):
+    """The lines of any other file that are too wide."""
+    return [f"{k + 1}: {len(l)} characters" for k, l in enumerate(text.split("\n")) if len(l) > HARD]
 
+
+def main():
+    """Say which files of the crates are not in the layout; exit status 1 if any is not."""
     root = Path(__file__).resolve().parent.parent
+    files = [p for end in ("rt", "antt", "edit") for p in root.glob(f"crates/*/**/*.{end}")]
     bad = 0
-    for p in sorted(root.glob("crates/*/proofs/**/*.antt")):
-        for l in long_lines(p.read_text()):
+    for p in sorted(files):
+        proof = p.suffix == ".antt" and "proofs" in p.parts
+        for l in (long_lines if proof else wide_lines)(p.read_text()):
             bad = 1
             print(f"{p.relative_to(root)}:{l}")
-    raise SystemExit(bad)
+    return bad
+
+
+if __name__ == "__main__":
+    raise SystemExit(main())

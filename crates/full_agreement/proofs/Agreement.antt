@@ -25,13 +25,15 @@ use Rattle.refined_meshes.specs.declared.Edition.the-variants.{Second}
 use Rattle.steps.specs.Step.{refinedCounts}
 use Rattle.steps.specs.OneStep.{Refinement}
 use Rattle.steps.proofs.Rows.{SameRows, same-firstRows, stands-same, fit-same, room-firstRows, room-of-holds, position-same}
+use Rattle.runs.specs.Lengths.{SameLengths}
 use Rattle.runs.specs.Runs.{Lent, lent, NamedMesh, stage, NewNames, SameNames}
+use Rattle.runs.proofs.Lengths.{lengths-refl, lengths-trans}
 use Rattle.runs.proofs.Names.{step-of-names, refined-points-first}
 use Rattle.runs.proofs.Readings.{PointsFirst, points-first-same, reading, reading-same, matching-same}
 use Rattle.runs.proofs.Naming.{same-names-sym}
 use Rattle.runs.proofs.Runs.{matching-trans, same-rows-refl}
 use Rattle.renumbered_meshes.specs.Renumbered.{Kept}
-use Rattle.full_agreement.specs.Agreement.{SameLengths, SameByName}
+use Rattle.full_agreement.specs.Agreement.{SameByName}
 use Rattle.full_agreement.proofs.OnKinds.{MarksKept, position-lifted, mark-lifted, interval-lifted}
 
 pub record Agreement {first : Counts} {l l' : Lent} (n : NamedMesh first l) (n' : NamedMesh first l') : Type 0 where
@@ -40,23 +42,6 @@ pub record Agreement {first : Counts} {l l' : Lent} (n : NamedMesh first l) (n' 
   pub matching : Matching (stage n) (stage n')
   pub kept : Kept (l .tables) (l' .tables) (matching .isomorphism)
   pub marks : MarksKept (l .tables) (l' .tables) (matching .isomorphism)
-
-pub lengths-refl : (m : Mesh) → SameLengths m m
-lengths-refl m = record { positions = refl; points = refl; edges = refl; intervals = refl; faces = refl }
-
-pub lengths-sym : {m m' : Mesh} → SameLengths m m' → SameLengths m' m
-lengths-sym a =
-    record { positions = sym (a .positions); points = sym (a .points); edges = sym (a .edges); intervals = sym (a .intervals); faces = sym (a .faces) }
-
-pub lengths-trans : {m m' m'' : Mesh} → SameLengths m m' → SameLengths m' m'' → SameLengths m m''
-lengths-trans a b =
-    record {
-      positions = a .positions ∙ b .positions;
-      points = a .points ∙ b .points;
-      edges = a .edges ∙ b .edges;
-      intervals = a .intervals ∙ b .intervals;
-      faces = a .faces ∙ b .faces;
-    }
 
 -- ---- readings of the same rows
 

@@ -29,9 +29,10 @@ use Rattle.steps.specs.Step.{refinedCounts, eachFaceOnce, withinCeilings, roomF
 use Rattle.steps.specs.OneStep.{AllFinite}
 use Rattle.steps.proofs.Grounds.{rooms-of-test, begun, step-is, step-made}
 use Rattle.steps.proofs.NotFinite.{not-finite-exactly}
+use Rattle.runs.specs.Lengths.{SameLengths}
 use Rattle.runs.specs.Runs.{Lent, Handed, outcome, NamedMesh}
 use Rattle.renumbered_meshes.specs.Renumbered.{Kept}
-use Rattle.full_agreement.specs.Agreement.{SameLengths, PairedStep}
+use Rattle.full_agreement.specs.Agreement.{PairedStep}
 use Rattle.full_agreement.proofs.OnKinds.{new-same}
 use Rattle.full_agreement.proofs.Agreement.{Agreement, kept-firstRows, stands-firstRows, fit-firstRows}
 

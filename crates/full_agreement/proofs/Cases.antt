@@ -33,9 +33,9 @@ use Rattle.position_rules.specs.EdgePoint.{shares, edgeMiddle, edgePoint}
 use Rattle.position_rules.specs.OldPoint.{radialEdge, edgeWeight, faceWeight, radialTerms, radialSum, oldPoint}
 use Rattle.steps.specs.declared.Stepped.the-variants.{Refined}
 use Rattle.steps.specs.Step.{eachFaceOnce, step}
+use Rattle.runs.proofs.Lengths.{lengths-refl}
 use Rattle.runs.specs.Runs.{Handed, outcome, lent}
-use Rattle.full_agreement.specs.Agreement.{SameLengths, PairedStep, Paired, noPair, onePair, Agreed}
-use Rattle.full_agreement.proofs.Agreement.{lengths-refl}
+use Rattle.full_agreement.specs.Agreement.{PairedStep, Paired, noPair, onePair, Agreed}
 use Rattle.full_agreement.proofs.Theorem.{theorem}
 
 -- the number with these bits

@@ -21,11 +21,13 @@ use Rattle.steps.specs.OneStep.{Refinement, Binary64}
 use Rattle.steps.proofs.Rows.{same-of-firstRows, room-firstRows, room-of-holds}
 use Rattle.steps.proofs.Grounds.{Taken, taken}
 use Rattle.steps.proofs.OneStep.{one-step}
+use Rattle.runs.specs.Lengths.{SameLengths}
 use Rattle.runs.specs.Runs.{Lent, Handed, outcome, after, oneMore, accepted, lent, NamedMesh, NewNames, SameNames, Renamed, Naming, done, further, NamedRun}
+use Rattle.runs.proofs.Lengths.{lengths-sym, lengths-trans}
 use Rattle.runs.proofs.Steps.{answered, same-names-of, after-refused, made-of, after-accepted, numbers-after}
 use Rattle.runs.proofs.Runs.{same-givens, two-runs}
-use Rattle.full_agreement.specs.Agreement.{SameLengths, PairedStep, Paired, noPair, onePair, SameAnswers, noAnswer, oneAnswer, FullAgreement}
-use Rattle.full_agreement.proofs.Agreement.{Agreement, lengths-sym, lengths-trans, agreement-rows, agreement-same, agreement-new, by-name}
+use Rattle.full_agreement.specs.Agreement.{PairedStep, Paired, noPair, onePair, SameAnswers, noAnswer, oneAnswer, FullAgreement}
+use Rattle.full_agreement.proofs.Agreement.{Agreement, agreement-rows, agreement-same, agreement-new, by-name}
 use Rattle.full_agreement.proofs.SecondStarts.{second-starts}
 use Rattle.full_agreement.proofs.Answers.{same-answer}
 

@@ -1,7 +1,6 @@
 -- Full agreement of visiting orders (document 02, §7): two runs of steps of the second edition from one accepted mesh, "equally many
 -- steps, any orders naming each face once", given "equal table and scratch lengths at each step". It is a single claim about whole lists
 -- of steps, refused steps included, beside `Demand3`.
---     SameLengths m m'             the five tables have the same lengths
 --     PairedStep l l' h h'         the next step of each run: of the second edition, in an order that names each face once at that
 --                                  moment, by scratch tables of the same lengths
 --     Paired l l' hs hs'           as many steps in both lists, each so
@@ -13,7 +12,6 @@
 use mathlib.Core.Path.{_≡_}
 use mathlib.Core.Bool.{true}
 use mathlib.Core.List.{List, [], _∷_}
-use lib.ListN.{length}
 use Rattle.tables.specs.Mesh.{Mesh, mark, interval}
 use Rattle.tables.specs.Records.{positionAt}
 use Rattle.tables.specs.Counted.{firstRows}
@@ -24,14 +22,8 @@ use Rattle.audited_meshes.specs.Audit.{audit}
 use Rattle.refined_meshes.specs.declared.Edition.the-variants.{Second}
 use Rattle.steps.specs.Step.{eachFaceOnce}
 use Rattle.steps.specs.OneStep.{Binary64}
+use Rattle.runs.specs.Lengths.{SameLengths}
 use Rattle.runs.specs.Runs.{Lent, Handed, outcome, after, accepted, lent, NamedMesh, stage, NamedRun, TwoRuns}
-
-pub record SameLengths (m m' : Mesh) : Type 0 where
-  pub positions : length (m .positions) ≡ length (m' .positions)
-  pub points : length (m .points) ≡ length (m' .points)
-  pub edges : length (m .edges) ≡ length (m' .edges)
-  pub intervals : length (m .intervals) ≡ length (m' .intervals)
-  pub faces : length (m .faces) ≡ length (m' .faces)
 
 pub record PairedStep (l l' : Lent) (h h' : Handed) : Type 0 where
   pub second-A : h .edition ≡ Second

@@ -44,6 +44,11 @@ use tables::Counts;
 
 mod heads;
 
+// The bytes of a label; those of a label, the 16 numbers of the head and byte 10.
+const LABEL_BYTES: usize = 32;
+
+pub const HEAD_BYTES: usize = 209;
+
 // The tables with a word of the points, edges or faces changed.
 fn spoilt(t: Tables, table: usize, place: usize, word: u32) -> Tables {
     let mut points = t.points;
@@ -148,18 +153,22 @@ fn tell_kind(bytes: &[u8], head: usize, text: &[u8], more: usize)
     }
 }
 
-// Tells of the record at a place, and gives the place of the next one.
-pub fn tell(bytes: &[u8], at: usize) -> usize
-    requires { ⌜ at + 209 ≤ length (now bytes) ⌝ }
-    requires { ⌜ length (now bytes) ≤ 8388608 ⌝ }
-    ensures { λ r. ⌜ r ≤ length (now (bytes .entry)) ⌝ }
+// How many bytes a record has, by its head.
+pub fn record_bytes(bytes: &[u8]) -> usize
+    ensures { λ r. ⌜ (209 ≤ r) × (r ≤ 120000000208) ⌝ }
 {
-    let head = at + 32;
-    io::write_all(STDOUT_FILENO, &bytes[at..head]);
+    HEAD_BYTES + field(bytes, LABEL_BYTES, 1) + field(bytes, LABEL_BYTES, 2) * 11
+}
+
+// Tells of a record.
+pub fn tell(bytes: &[u8])
+    requires { ⌜ 209 ≤ length (now bytes) ⌝ }
+    requires { ⌜ length (now bytes) ≤ 8388608 ⌝ }
+{
+    let head = LABEL_BYTES;
+    io::write_all(STDOUT_FILENO, &bytes[..head]);
     io::write_all(STDOUT_FILENO, b"\n");
-    let body = at + 209;
-    let n = least(field(bytes, head, 1), bytes.len() - body);
-    let more = body + n;
-    tell_kind(bytes, head, &bytes[body..more], more);
-    least(more + field(bytes, head, 2) * 11, bytes.len())
+    let n = least(field(bytes, head, 1), bytes.len() - HEAD_BYTES);
+    let more = HEAD_BYTES + n;
+    tell_kind(bytes, head, &bytes[HEAD_BYTES..more], more);
 }

@@ -3,34 +3,32 @@
 --     run-start, run-turn, run-end          the invariant `Running`
 --     going-start, going-turn, going-end    the same with the lengths of the tables
 use mathlib.Core.Path.{_≡_, refl, sym, ap, ap₂, _∙_}
-use mathlib.Core.Bool.{Bool, true, false, cond}
 use mathlib.Core.List.{List, [], _∷_}
-use Prim.Native.Nat.{ℕ, zero, suc, _+_, _-_, _≤_, _<_}
+use Prim.Native.Nat.{ℕ, zero, suc, _+_, _-_, _≤_, _<_, min}
 use native.Mathlib.Nat.{add-zero}
 use native.Mathlib.Omega.{arith}
-use lib.Dec.{leb}
+use native.Mathlib.Decide.{decLe}
 use lib.ListN.{length, getD, take, drop, length-drop}
 use lib.Seq.{drop-drop, drop-cons, take-all}
-use borrow.Author.Tests.{leb-true, leb-false}
 use Rattle.tables.specs.Mesh.{Mesh}
 use Rattle.tables.specs.declared.Counts.{Counts}
 use Rattle.refined_meshes.specs.declared.Edition.{Edition}
 use Rattle.steps.specs.declared.Stepped.{Stepped}
 use Rattle.steps.specs.declared.Stepped.the-variants.{Refined, NotClosed, NotEachFaceOnce, NoRoom, NotFinite}
 use Rattle.steps.specs.Step.{StepOutcome, step}
+use Rattle.runs.specs.Lengths.{SameLengths}
+use Rattle.runs.proofs.Lengths.{lengths-refl, lengths-trans}
 use Rattle.runs.specs.Runs.{Lent, countsAfter, oneMore, outcome, after, run, accepted, lent}
-use Rattle.step_runs.specs.Runs.{least, ordersOf, handing, handed, scratchAfter, RunOutcome, ran}
+use Rattle.step_runs.specs.Runs.{ordersOf, handing, handed, scratchAfter, RunOutcome, ran}
 
 -- ---- orders one behind the other
 
-take-least : (n : ℕ) (xs : List ℕ) → take (least n (length xs)) xs ≡ take n xs
-take-least n xs = go (leb n (length xs)) refl
+take-min : (n : ℕ) (xs : List ℕ) → take (min n (length xs)) xs ≡ take n xs
+take-min n xs = go (decLe n (length xs))
   where
-    go : (b : Bool) → leb n (length xs) ≡ b → take (cond b n (length xs)) xs ≡ take n xs
-    go true e = refl
-    go false e =
-        let l = leb-false n (length xs) e in
-        take-all (length xs) xs (omega arith) ∙ sym (take-all n xs (omega arith))
+    go : Dec (n ≤ length xs) → take (min n (length xs)) xs ≡ take n xs
+    go (yes l) = let e : min n (length xs) ≡ n = omega arith in ap (λ (k : ℕ). take k xs) e
+    go (no g) = take-all (min n (length xs)) xs (omega arith) ∙ sym (take-all n xs (omega arith))
 
 drop-past : (n : ℕ) (xs : List ℕ) → length xs ≤ n → drop n xs ≡ []
 drop-past n [] h = drop-none n
@@ -41,25 +39,16 @@ drop-past n [] h = drop-none n
 drop-past zero (x ∷ xs) h = absurd (omega arith)
 drop-past (suc n) (x ∷ xs) h = drop-past n xs (omega arith)
 
-drop-least : (n : ℕ) (xs : List ℕ) → drop (least n (length xs)) xs ≡ drop n xs
-drop-least n xs = go (leb n (length xs)) refl
+drop-min : (n : ℕ) (xs : List ℕ) → drop (min n (length xs)) xs ≡ drop n xs
+drop-min n xs = go (decLe n (length xs))
   where
-    go : (b : Bool) → leb n (length xs) ≡ b → drop (cond b n (length xs)) xs ≡ drop n xs
-    go true e = refl
-    go false e =
-        let l = leb-false n (length xs) e in
-        drop-past (length xs) xs (omega arith) ∙ sym (drop-past n xs (omega arith))
-
-pub least-below : (n k : ℕ) → least n k ≤ k
-least-below n k = go (leb n k) refl
-  where
-    go : (b : Bool) → leb n k ≡ b → cond b n k ≤ k
-    go true e = leb-true n k e
-    go false e = omega arith
+    go : Dec (n ≤ length xs) → drop (min n (length xs)) xs ≡ drop n xs
+    go (yes l) = let e : min n (length xs) ≡ n = omega arith in ap (λ (k : ℕ). drop k xs) e
+    go (no g) = drop-past (min n (length xs)) xs (omega arith) ∙ sym (drop-past n xs (omega arith))
 
 -- the end of the order of n entries from the place `at` on
 abbrev endAt : List ℕ → ℕ → ℕ → ℕ
-endAt os at n = at + least n (length os - at)
+endAt os at n = at + min n (length os - at)
 
 module _ (os : List ℕ) (at n : ℕ) where
   rest-long : length (drop at os) ≡ length os - at
@@ -67,16 +56,16 @@ module _ (os : List ℕ) (at n : ℕ) where
 
   part-is : take (endAt os at n - at) (drop at os) ≡ take n (drop at os)
   part-is =
-      let e : endAt os at n - at ≡ least n (length os - at) = omega arith in
-      ap (λ (k : ℕ). take k (drop at os)) (e ∙ ap (λ (k : ℕ). least n k) (sym rest-long)) ∙ take-least n (drop at os)
+      let e : endAt os at n - at ≡ min n (length os - at) = omega arith in
+      ap (λ (k : ℕ). take k (drop at os)) (e ∙ ap (λ (k : ℕ). min n k) (sym rest-long)) ∙ take-min n (drop at os)
 
   rest-is : drop (endAt os at n) os ≡ drop n (drop at os)
   rest-is =
-      sym (drop-drop (least n (length os - at)) at os) ∙ ap (λ (k : ℕ). drop (least n k) (drop at os)) (sym rest-long) ∙ drop-least n (drop at os)
+      sym (drop-drop (min n (length os - at)) at os) ∙ ap (λ (k : ℕ). drop (min n k) (drop at os)) (sym rest-long) ∙ drop-min n (drop at os)
 
 -- it is in the orders
-pub end-within : (os : List ℕ) (at n : ℕ) {r : ℕ} → at ≤ length os → r ≡ least n (length os - at) → at + r ≤ length os
-end-within os at n h e = let l = least-below n (length os - at) in omega (arith, e)
+pub end-within : (os : List ℕ) (at n : ℕ) {r : ℕ} → at ≤ length os → r ≡ min n (length os - at) → at + r ≤ length os
+end-within os at n h e = omega (arith, e)
 
 -- ---- the loop
 
@@ -133,7 +122,7 @@ module _ (ed : Edition) (l₀ : Lent) (t₀ : Mesh) (os ns : List ℕ) where
       unfolding run accepted handed scratchAfter
       run-turn o eo c ec k′ ek =
           let n = getD ns i 0 in
-          let low = least-below n (length os - at) in
+          let low : min n (length os - at) ≤ length os - at = omega arith in
           let w = h .within in
           let hd = handing ed order t in
           let r = rest (endAt os at n) (i + 1) in
@@ -168,23 +157,6 @@ module _ (ed : Edition) (l₀ : Lent) (t₀ : Mesh) (os ns : List ℕ) where
 
 -- ---- the loop with the lengths of the tables
 
-pub record SameLengths (m m₀ : Mesh) : Type 0 where
-  pub positions : length (m .positions) ≡ length (m₀ .positions)
-  pub points : length (m .points) ≡ length (m₀ .points)
-  pub edges : length (m .edges) ≡ length (m₀ .edges)
-  pub intervals : length (m .intervals) ≡ length (m₀ .intervals)
-  pub faces : length (m .faces) ≡ length (m₀ .faces)
-
-same-lengths : {m m′ m₀ : Mesh} → SameLengths m′ m → SameLengths m m₀ → SameLengths m′ m₀
-same-lengths a b =
-    record {
-      positions = a .positions ∙ b .positions;
-      points = a .points ∙ b .points;
-      edges = a .edges ∙ b .edges;
-      intervals = a .intervals ∙ b .intervals;
-      faces = a .faces ∙ b .faces;
-    }
-
 module _ (ed : Edition) (m₀ : Mesh) (c₀ : Counts) (t₀ : Mesh) (os ns : List ℕ) where
   pub record Going (m : Mesh) (c : Counts) (t : Mesh) (k at i : ℕ) : Type 0 where
     pub running : Running ed (lent m₀ c₀) t₀ os ns (lent m c) t k at i
@@ -195,24 +167,24 @@ module _ (ed : Edition) (m₀ : Mesh) (c₀ : Counts) (t₀ : Mesh) (os ns : Lis
   going-start =
       record {
         running = run-start ed (lent m₀ c₀) t₀ os ns;
-        same = record { positions = refl; points = refl; edges = refl; intervals = refl; faces = refl };
-        same-scratch = record { positions = refl; points = refl; edges = refl; intervals = refl; faces = refl };
+        same = lengths-refl m₀;
+        same-scratch = lengths-refl t₀;
       }
 
   module _ {m : Mesh} {c : Counts} {t : Mesh} {k at i : ℕ} (h : Going m c t k at i) where
-    pub going-turn : i < length ns → {n r : ℕ} → n ≡ getD ns i 0 → r ≡ least n (length os - at) → {a : Stepped} {m′ t′ : Mesh}
+    pub going-turn : i < length ns → {n r : ℕ} → n ≡ getD ns i 0 → r ≡ min n (length os - at) → {a : Stepped} {m′ t′ : Mesh}
         → record { answer = a; tables = m′; scratch = t′ } ≡ step ed m c (take (at + r - at) (drop at os)) t → SameLengths m′ m → SameLengths t′ t
         → {c′ : Counts} → c′ ≡ countsAfter a c → {k′ : ℕ} → k′ ≡ oneMore a k → Going m′ c′ t′ k′ (at + r) (i + 1)
     going-turn more {n} {r} en er {a} {m′} {t′} eo sm st {c′} ec {k′} ek =
-        let e : r ≡ least (getD ns i 0) (length os - at) = er ∙ ap (λ (v : ℕ). least v (length os - at)) en in
+        let e : r ≡ min (getD ns i 0) (length os - at) = er ∙ ap (λ (v : ℕ). min v (length os - at)) en in
         let o : StepOutcome = record { answer = a; tables = m′; scratch = t′ } in
         let eo′ : o ≡ step ed m c (take (endAt os at (getD ns i 0) - at) (drop at os)) t =
         eo ∙ ap (λ (v : ℕ). step ed m c (take (at + v - at) (drop at os)) t) e in
         let turned = run-turn ed (lent m₀ c₀) t₀ os ns (lent m c) t k at i (h .running) more o eo′ c′ ec k′ ek in
         record {
           running = rw e turned;
-          same = same-lengths sm (h .same);
-          same-scratch = same-lengths st (h .same-scratch);
+          same = lengths-trans sm (h .same);
+          same-scratch = lengths-trans st (h .same-scratch);
         }
 
     pub going-end : length ns ≤ i → record { left = lent m c; accepted = k; scratch = t } ≡ ran ed (lent m₀ c₀) t₀ (ordersOf os ns)

@@ -1,22 +1,16 @@
 -- A list of steps in the same tables, with orders that stand one behind the other.
---     least a b               the lesser of two numbers
 --     ordersOf os ns          the orders of the lengths ns that stand one behind the other in os; what is not there is cut off
 --     handed ed l t orders    what the steps, all of the edition ed, are handed: their orders, the first one the scratch t, each further
 --                             one the scratch that the step before it left
 --     scratchAfter ed l t orders  the scratch that the last one leaves
 --     RunOutcome              the tables and the counts afterwards, how many steps were accepted, the scratch tables afterwards
 --     ran ed l t orders       what these steps leave, of the tables and counts l and by the scratch t: a run of `runs`
-use mathlib.Core.Bool.{cond}
 use mathlib.Core.List.{List, [], _∷_}
 use Prim.Native.Nat.{ℕ}
-use lib.Dec.{leb}
 use lib.ListN.{take, drop}
 use Rattle.tables.specs.Mesh.{Mesh}
 use Rattle.refined_meshes.specs.declared.Edition.{Edition}
 use Rattle.runs.specs.Runs.{Lent, Handed, outcome, after, run, accepted}
-
-abbrev pub least : ℕ → ℕ → ℕ
-least a b = cond (leb a b) a b
 
 unfoldable pub ordersOf : List ℕ → List ℕ → List (List ℕ)
 ordersOf os [] = []

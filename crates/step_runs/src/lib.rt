@@ -5,11 +5,11 @@
 // Contract: `run_steps`. Definitions: `specs/Runs.antt`. Laws: `proofs/Runs.antt`.
 // Names: `newpositions`, `newpoints`, `newedges`, `newintervals` and `newfaces` are the scratch tables of positions, points, edges, intervals, faces.
 ghost use mathlib.Core.Path.{_≡_};
-ghost use Prim.Native.Nat.{_<_};
+ghost use Prim.Native.Nat.{_<_, min};
 ghost use Rattle.tables.specs.Mesh.{meshOf};
 ghost use Rattle.steps.specs.OneStep.{Binary64};
 ghost use Rattle.runs.specs.Runs.{countsAfter, oneMore, lent};
-ghost use Rattle.step_runs.specs.Runs.{least, RunOutcome, ordersOf, ran};
+ghost use Rattle.step_runs.specs.Runs.{RunOutcome, ordersOf, ran};
 use refined_meshes::Edition;
 use refining::step;
 use steps::Stepped;
@@ -23,13 +23,10 @@ pub struct Ran {
 }
 
 // The lesser of two numbers.
-fn lesser(a: usize, b: usize) -> usize
-    ensures { λ r. ⌜ r ≡ least a b ⌝ }
+fn least(a: usize, b: usize) -> usize
+    ensures { λ r. ⌜ r ≡ min a b ⌝ }
 {
-    if a <= b {
-        return a;
-    }
-    b
+    if a <= b { a } else { b }
 }
 
 // The counts after a step: those that it answers, or as they were where it is refused.
@@ -101,7 +98,7 @@ pub fn run_steps(
     let mut at = 0;
     let mut i = 0;
     while i < lengths.len() {
-        let end = at + lesser(index(lengths[i]), orders.len() - at);
+        let end = at + least(index(lengths[i]), orders.len() - at);
         let answer = step(
             positions,
             points,

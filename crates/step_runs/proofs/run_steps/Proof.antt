@@ -37,11 +37,11 @@ shared-slice-read-index c = search needs
 index-requires : tie.Need-index-requires Inv-loop μ-loop
 index-requires c κs = search needs
 
-sub-lesser : tie.Need-sub-lesser Inv-loop μ-loop
-sub-lesser c = c .before .before .before .loop .inv .running .within
+sub-least : tie.Need-sub-least Inv-loop μ-loop
+sub-least c = c .before .before .before .loop .inv .running .within
 
-lesser-requires : tie.Need-lesser-requires Inv-loop μ-loop
-lesser-requires c κs = search needs
+least-requires : tie.Need-least-requires Inv-loop μ-loop
+least-requires c κs = search needs
 
 add-end : tie.Need-add-end Inv-loop μ-loop
 add-end c =
@@ -49,7 +49,7 @@ add-end c =
     let c16 = c8 .before .before .before .before .before .before .before .before in
     let loop = c .before .before .before .before .loop in
     let w = end-within (c16 .before .args .orders .now) (loop .at) _ (loop .inv .running .within)
-    (c .lesser .ensures) in
+    (c .least .ensures) in
     omega (arith, w)
 
 mul-step : tie.Need-mul-step Inv-loop μ-loop
@@ -68,7 +68,7 @@ part-step-end c =
     let args = c16 .before .before .before .before .before .before .args in
     let loop = c8 .before .loop in
     end-within (args .orders .now) (loop .at) _ (loop .inv .running .within)
-    (c .before .before .before .before .before .lesser .ensures)
+    (c .before .before .before .before .before .least .ensures)
 
 step-requires : tie.Need-step-requires Inv-loop μ-loop
 step-requires c κs = search needs
@@ -132,7 +132,7 @@ loop-again c =
     (a .counts)
     (meshOf (a .newpositions .now) (a .newpoints .now) (a .newedges .now) (a .newintervals .now) (a .newfaces .now))
     (a .orders .now) (a .lengths .now) (loop .inv) (loop-test .taken) (index .ensures)
-    (c32 .before .before .lesser .ensures) (step .ensures .0)
+    (c32 .before .before .least .ensures) (step .ensures .0)
     (record
     { positions = k .0; points = k .1 .0; edges = k .1 .1 .0; intervals = k .1 .1 .1 .0; faces = k .1 .1 .1 .1 .0 })
     (record {
@@ -195,8 +195,8 @@ run-steps-spec =
     mul-index
     shared-slice-read-index
     index-requires
-    sub-lesser
-    lesser-requires
+    sub-least
+    least-requires
     add-end
     mul-step
     sub-step
