@@ -102,7 +102,7 @@ edges-after v e g a = rw a
 -- ---- the lists show the places
 
 module _ (ss ls ts : List ℕ) (shown : TosShown ss ls ts) (all : offset (lists [] ss [] []) (length ss / 4) ≡ length ls) where
-  from-shown : (j : ℕ) → j < length ls → getD ls j 0 ≡ placeAt (placesOf (lists [] ss ls [])) j .from
+  pub from-shown : (j : ℕ) → j < length ls → getD ls j 0 ≡ placeAt (placesOf (lists [] ss ls [])) j .from
   from-shown j b =
       let u : Numbered (lists [] ss ls []) j =
       numbered (lists [] ss ls []) j
@@ -122,7 +122,7 @@ module _ (ss ls ts : List ℕ) (shown : TosShown ss ls ts) (all : offset (lists 
       (λ j. sameEdge (placeAt (placesOf (lists [] ss ls [])) j) (placeAt (placesOf (lists [] ss ls [])) k)) k
       (λ i c. joins-shown i k (omega arith) b)
 
-  third-shown : (k : ℕ) → k < length ls → thirdAt ls ts k ≡ third (placesOf (lists [] ss ls [])) k
+  pub third-shown : (k : ℕ) → k < length ls → thirdAt ls ts k ≡ third (placesOf (lists [] ss ls [])) k
   unfolding third
   third-shown k b = go (mateAt ls ts k) (mate-shown k b) (mate-below-at k)
     where

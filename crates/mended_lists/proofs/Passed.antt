@@ -150,22 +150,22 @@ pub record OnEdge (l : Lists) (p q k : ℕ) : Type 0 where
   pub between : Between l face place p q
   pub number : offset l face + place ≡ k
 
-third-is : (ps : List Place) (k m n : ℕ) → mate ps k ≡ suc m → mate ps m ≡ suc n → third ps k ≡ true
+pub third-is : (ps : List Place) (k m n : ℕ) → mate ps k ≡ suc m → mate ps m ≡ suc n → third ps k ≡ true
 unfolding third
 third-is ps k m n e h = rw (e, h) (ap not (eqb-false (suc n) 0 (λ z. omega arith)))
 
 module _ (l : Lists) (p q : ℕ) where
-  on-at : (k : ℕ) (o : OnEdge l p q k) → placeAt (placesOf l) k ≡ placeOf l (o .face) (o .place)
+  pub on-at : (k : ℕ) (o : OnEdge l p q k) → placeAt (placesOf l) k ≡ placeOf l (o .face) (o .place)
   on-at k o = rw (← (o .number)) (places-at l (o .face) (o .place) (between-place l (o .face) (o .place) p q (o .between)))
 
-  on-below : (k : ℕ) → OnEdge l p q k → k < length (placesOf l)
+  pub on-below : (k : ℕ) → OnEdge l p q k → k < length (placesOf l)
   on-below k o = rw (o .number) at (number-below l (o .face) (o .place) (between-place l (o .face) (o .place) p q (o .between)))
 
-  on-same : (j k : ℕ) → OnEdge l p q j → OnEdge l p q k → sameEdge (placeAt (placesOf l) j) (placeAt (placesOf l) k) ≡ true
+  pub on-same : (j k : ℕ) → OnEdge l p q j → OnEdge l p q k → sameEdge (placeAt (placesOf l) j) (placeAt (placesOf l) k) ≡ true
   on-same j k a b =
       rw (on-at j a, on-at k b) (between-edge l (a .face) (a .place) (b .face) (b .place) p q (a .between) (b .between))
 
-  on-also : (j k : ℕ) → OnEdge l p q k → j < length (placesOf l) → sameEdge (placeAt (placesOf l) j) (placeAt (placesOf l) k) ≡ true → OnEdge l p q j
+  pub on-also : (j k : ℕ) → OnEdge l p q k → j < length (placesOf l) → sameEdge (placeAt (placesOf l) j) (placeAt (placesOf l) k) ≡ true → OnEdge l p q j
   on-also j k b h e =
       let u : Numbered l j = numbered l j h in
       record {
@@ -175,12 +175,12 @@ module _ (l : Lists) (p q : ℕ) where
         number = u .number;
       }
 
-  on-mate : (j k : ℕ) → OnEdge l p q k → mate (placesOf l) k ≡ suc j → OnEdge l p q j
+  pub on-mate : (j k : ℕ) → OnEdge l p q k → mate (placesOf l) k ≡ suc j → OnEdge l p q j
   on-mate j k b e =
       let m = mate-last (placesOf l) k j e in on-also j k b (omega (arith, m .in-range, on-below k b)) (m .passes)
 
   -- the last of three is the third
-  three : (i j k : ℕ) → i < j → j < k → OnEdge l p q i → OnEdge l p q j → OnEdge l p q k → third (placesOf l) k ≡ true
+  pub three : (i j k : ℕ) → i < j → j < k → OnEdge l p q i → OnEdge l p q j → OnEdge l p q k → third (placesOf l) k ≡ true
   three i j k x y a b c = go (mate-found (placesOf l) k j y (on-same j k b c))
     where
       go : (m : ℕ) × (mate (placesOf l) k ≡ suc m) × (j ≤ m) → third (placesOf l) k ≡ true
