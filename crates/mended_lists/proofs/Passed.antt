@@ -37,7 +37,7 @@ use Rattle.mended_lists.proofs.Theorem.{twisted-exactly, found}
 
 -- ---- one edge, told from either place
 
-same-back : (a b : Place) → sameEdge a b ≡ true → sameEdge b a ≡ true
+pub same-back : (a b : Place) → sameEdge a b ≡ true → sameEdge b a ≡ true
 same-back a b e = edge-is b a .1 (go (edge-is a b .0 e))
   where
     go :
@@ -254,7 +254,7 @@ module _ (l : Lists) (shared : edgesShared (placesOf l) ≡ true) where
           (sym (not-lone k b)
           ∙ and-is (eqb-is (mate (placesOf l) k) 0) (eqb-is (follower (placesOf l) (length (placesOf l)) k) 0) .1 (d, e)))
 
-  passed-paired : Paired l
+  pub passed-paired : Paired l
   unfolding follower
   passed-paired f i p q r =
       go (mate-or-follower (offset l f + i) (number-below l f i (r .is-place)))
