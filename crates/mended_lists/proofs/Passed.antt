@@ -37,7 +37,7 @@ use Rattle.mended_lists.proofs.Theorem.{twisted-exactly, found}
 
 -- ---- one edge, told from either place
 
-same-back : (a b : Place) → sameEdge a b ≡ true → sameEdge b a ≡ true
+pub same-back : (a b : Place) → sameEdge a b ≡ true → sameEdge b a ≡ true
 same-back a b e = edge-is b a .1 (go (edge-is a b .0 e))
   where
     go :
@@ -151,12 +151,12 @@ pub record OnEdge (l : Lists) (p q k : ℕ) : Type 0 where
   pub between : Between l face place p q
   pub number : offset l face + place ≡ k
 
-third-is : (ps : List Place) (k m n : ℕ) → mate ps k ≡ suc m → mate ps m ≡ suc n → third ps k ≡ true
+pub third-is : (ps : List Place) (k m n : ℕ) → mate ps k ≡ suc m → mate ps m ≡ suc n → third ps k ≡ true
 unfolding third
 third-is ps k m n e h = rw (e, h) (ap not (eqb-false (suc n) 0 (λ z. omega arith)))
 
 module _ (l : Lists) (p q : ℕ) where
-  on-at : (k : ℕ) (o : OnEdge l p q k) → placeAt (placesOf l) k ≡ placeOf l (o .face) (o .place)
+  pub on-at : (k : ℕ) (o : OnEdge l p q k) → placeAt (placesOf l) k ≡ placeOf l (o .face) (o .place)
   on-at k o = rw (← (o .number)) (places-at l (o .face) (o .place) (between-place l (o .face) (o .place) p q (o .between)))
 
   pub on-below : (k : ℕ) → OnEdge l p q k → k < length (placesOf l)
