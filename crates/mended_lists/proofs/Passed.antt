@@ -98,7 +98,7 @@ module _ (l : Lists) where
       go (no e) before = before (omega arith)
 
   module _ (passed : facesMend l (placesOf l) (facesOf l) ≡ Fit) where
-    face-passed :
+    pub face-passed :
         (f : ℕ) → f < facesOf l →
         (forgiven (faceVerdict l (pointsOf l) f (offset l f)) ≡ Fit) × (edgesMend (placesOf l) (offset l f) (size l f) ≡ true)
     unfolding faceMends
@@ -107,11 +107,11 @@ module _ (l : Lists) where
         (faces-passed (facesOf l) passed f b)
 
     -- 10 and 12
-    at-least-three : (f : ℕ) → f < facesOf l → 3 ≤ size l f
+    pub at-least-three : (f : ℕ) → f < facesOf l → 3 ≤ size l f
     at-least-three f b =
         and-is (leb-is 3 (size l f)) (leb-is (size l f) longestPerimeter) .0 (face-tests f (face-passed f b .0) .0) .0
 
-    points-differ : (f i j : ℕ) → f < facesOf l → i < size l f → j < i → pointOf l f i ≢ pointOf l f j
+    pub points-differ : (f i j : ℕ) → f < facesOf l → i < size l f → j < i → pointOf l f i ≢ pointOf l f j
     unfolding noPointTwice
     points-differ f i j b c d =
         not-is (eqb-is (pointOf l f i) (pointOf l f j)) .0
@@ -299,7 +299,7 @@ module _ (l : Lists) (shared : edgesShared (placesOf l) ≡ true) where
 -- ---- the answer
 
 module _ (c : Sizes) (l : Lists) where
-  mended-parts :
+  pub mended-parts :
       (mending c l ≡ Mended) ⊎ (mending c l ≡ Twisted) →
       (facesMend l (placesOf l) (facesOf l) ≡ Fit) × (edgesShared (placesOf l) ≡ true) × (mending c l ≡ cond (twisted l) Twisted Mended)
   unfolding mending mendingIf

@@ -77,7 +77,7 @@ last-turned n (suc s) a b = go (ℕ-discrete (suc s) n)
         let z : n - suc s ≡ suc (n - suc (suc s)) = omega arith in
         rw z (turned-other n (n - suc (suc s)) (λ q. omega arith) ∙ omega arith)
 
-last-below : (n s : ℕ) → s ≤ n → 0 < n → lastBefore n s < n
+pub last-below : (n s : ℕ) → s ≤ n → 0 < n → lastBefore n s < n
 last-below n zero a b = omega arith
 last-below n (suc s) a b = omega arith
 

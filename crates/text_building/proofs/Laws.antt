@@ -2,7 +2,9 @@
 --     too-long, not-too-long what is answered of a text that is too long, or is not
 --     not-text, over-limits  what is answered where the reader finds no text, or one that is over the limits
 --     fits                   the lists hold what was read
---     first-entries          the first entries of the lists are the lists of the text
+--     no-form, over-text     what the reader's refusals say of the text
+--     first-lists            the first entries of the lists are the lists of the text
+--     first-entries          so building from them is building from the text
 --     promised               an outcome, and its answer in the documents' numbers
 use mathlib.Core.Path.{_≡_, refl, sym, ap, _∙_}
 use mathlib.Core.Bool.{Bool, true, false}
@@ -23,7 +25,7 @@ use Rattle.tables.specs.declared.Sizes.{Sizes}
 use Rattle.mesh_text.specs.declared.Reading.{Reading}
 use Rattle.mesh_text.specs.declared.Reading.the-variants as Reading
 use Rattle.mesh_text.proofs.Read.{ReadText, read-means, length-coordinates, length-lengths, length-firsts, length-intervals}
-use Rattle.built_meshes.specs.Lists.{countsFit}
+use Rattle.built_meshes.specs.Lists.{Lists, countsFit}
 use Rattle.built_meshes.specs.Building.{build, BuildOutcome as ListsOutcome}
 use Rattle.built_meshes.specs.declared.Version.{Version}
 use Rattle.built_meshes.specs.declared.Ground.the-variants.{OverCounts}
@@ -103,12 +105,12 @@ same-told {a} {r} {m} e h =
     let f : (x : ListsOutcome) → TextOutcome = toldOutcome in
     (λ i. record { answer = e i; tables = m }) ∙ ap f h
 
-module _ (b : Bounds) (s : List ℕ) (l : TextLists) (m : Mesh) {r : Reading} {l′ : TextLists} {limits : Sizes} (eb : limits ≡ limitsOf b)
+module _ (b : Bounds) (s : List ℕ) (l : TextLists) {r : Reading} {l′ : TextLists} {limits : Sizes} (eb : limits ≡ limitsOf b)
     (e : record { reading = r; lists = l′ } ≡ readInto s limits l) where
   answered : r ≡ readInto s (limitsOf b) l .reading
   answered = ap (λ (x : ReadOutcome). x .reading) e ∙ ap (λ (v : Sizes). readInto s v l .reading) eb
 
-  no-form : r ≡ Reading.NotText → text s ≡ unparsed
+  pub no-form : r ≡ Reading.NotText → text s ≡ unparsed
   unfolding readInto
   no-form h = go (text s) refl
     where
@@ -125,26 +127,23 @@ module _ (b : Bounds) (s : List ℕ) (l : TextLists) (m : Mesh) {r : Reading} {l
       go (parsed t n) et = test t n et _ refl
       go unparsed et = refl
 
-  pub not-text : r ≡ Reading.NotText → record { answer = NotText; tables = m } ≡ buildTextIf false b s m
-  unfolding buildTextIf
-  not-text h = rw (no-form h)
-
+  -- what a text over the limits says
   module _ (rx : 12288 ≤ length (l .coordinates)) (rl : 16384 ≤ length (l .lengths)) (rp : 16384 ≤ length (l .listed)) (rd : 16384 ≤ length (l .intervals))
       (rq : 16384 ≤ length (l .firsts)) where
-    pub over-limits : r ≡ Reading.OverLimits → record { answer = Refused OverCounts; tables = m } ≡ buildTextIf false b s m
-    unfolding readInto buildTextIf
-    over-limits h = go (text s) refl
+    pub over-text : r ≡ Reading.OverLimits → (t : TextMesh) × (n : ℕ) × (text s ≡ parsed t n) × (countsFit (limitsOf b) (listsOf t) ≡ false)
+    unfolding readInto
+    over-text h = go (text s) refl
       where
         test : (t : TextMesh) (n : ℕ) → text s ≡ parsed t n → (w : Bool)
             → within (counts t) (limitsOf b) (length (l .coordinates)) (length (l .lengths)) (length (l .listed)) (length (l .intervals)) (length (l .firsts)) ≡ w
-            → record { answer = Refused OverCounts; tables = m } ≡ ofForm b m (text s)
+            → (t : TextMesh) × (n : ℕ) × (text s ≡ parsed t n) × (countsFit (limitsOf b) (listsOf t) ≡ false)
         test t n et true ew =
             let e′ = rw (et, ew) at answered in
             let z : _≡_ {A = ℕ} 0 1 = cc in
             absurd (omega arith)
-        test t n et false ew = rw (et, over-counts b s t n et _ _ _ _ _ rx rl rp rd rq ew)
+        test t n et false ew = (t, n, et, over-counts b s t n et _ _ _ _ _ rx rl rp rd rq ew)
 
-        go : (x : Parsed TextMesh) → text s ≡ x → record { answer = Refused OverCounts; tables = m } ≡ ofForm b m (text s)
+        go : (x : Parsed TextMesh) → text s ≡ x → (t : TextMesh) × (n : ℕ) × (text s ≡ parsed t n) × (countsFit (limitsOf b) (listsOf t) ≡ false)
         go (parsed t n) et = test t n et _ refl
         go unparsed et =
             let e′ = rw et at answered in
@@ -152,7 +151,7 @@ module _ (b : Bounds) (s : List ℕ) (l : TextLists) (m : Mesh) {r : Reading} {l
             absurd (omega arith)
 
   module _ {v : Version} {c : Sizes} (ec : r ≡ Reading.Read v c) where
-    means : ReadText s (limitsOf b) l v c
+    pub means : ReadText s (limitsOf b) l v c
     means = read-means s (limitsOf b) l v c (sym answered ∙ ec)
 
     read-lists : l′ ≡ withText (means .what) l
@@ -178,12 +177,11 @@ module _ (b : Bounds) (s : List ℕ) (l : TextLists) (m : Mesh) {r : Reading} {l
           firsts = omega (arith, h .firsts);
         })
 
-    pub first-entries : (o : TextOutcome) → o ≡ toldOutcome (build (limitsOf b)
-        (listsIn v (take (3 * c .points) (l′ .coordinates)) (take (4 * c .faces) (l′ .lengths)) (take (4 * c .faces) (l′ .firsts))
-        (take (c .listed) (l′ .listed)) (take (c .listed) (l′ .intervals))) m)
-        → o ≡ buildTextIf false b s m
-    unfolding buildTextIf
-    first-entries o eo =
+    -- the first entries of the lists are those of the text
+    pub first-lists :
+        listsIn v (take (3 * c .points) (l′ .coordinates)) (take (4 * c .faces) (l′ .lengths)) (take (4 * c .faces) (l′ .firsts))
+        (take (c .listed) (l′ .listed)) (take (c .listed) (l′ .intervals)) ≡ listsOf (means .what)
+    first-lists =
         let x = means in
         let t = x .what in
         let h = before in
@@ -201,7 +199,28 @@ module _ (b : Bounds) (s : List ℕ) (l : TextLists) (m : Mesh) {r : Reading} {l
         let tv = sym (x .versioned) in
         let tp = ap (λ (v : TextLists). take (c .listed) (v .listed)) el ∙ take-sets (l .listed) (listedPoints t) (c .listed) (omega arith) (h .listed) in
         let td = ap (λ (v : TextLists). take (c .listed) (v .intervals)) el ∙ take-sets (l .intervals) (intervals t) (c .listed) (omega arith) (h .intervals) in
-        rw (x .form) (eo ∙ λ i. toldOutcome (build (limitsOf b) (listsIn (tv i) (tc i) (tl i) (tq i) (tp i) (td i)) m))
+        λ i. listsIn (tv i) (tc i) (tl i) (tq i) (tp i) (td i)
+
+module _ (b : Bounds) (s : List ℕ) (l : TextLists) (m : Mesh) {r : Reading} {l′ : TextLists} {limits : Sizes} (eb : limits ≡ limitsOf b)
+    (e : record { reading = r; lists = l′ } ≡ readInto s limits l) where
+  pub not-text : r ≡ Reading.NotText → record { answer = NotText; tables = m } ≡ buildTextIf false b s m
+  unfolding buildTextIf
+  not-text h = rw (no-form b s l eb e h)
+
+  module _ (rx : 12288 ≤ length (l .coordinates)) (rl : 16384 ≤ length (l .lengths)) (rp : 16384 ≤ length (l .listed)) (rd : 16384 ≤ length (l .intervals))
+      (rq : 16384 ≤ length (l .firsts)) where
+    pub over-limits : r ≡ Reading.OverLimits → record { answer = Refused OverCounts; tables = m } ≡ buildTextIf false b s m
+    unfolding buildTextIf
+    over-limits h = let (t, n, et, ec) = over-text b s l eb e rx rl rp rd rq h in rw (et, ec)
+
+  module _ {v : Version} {c : Sizes} (ec : r ≡ Reading.Read v c) where
+    pub first-entries : (o : TextOutcome) → o ≡ toldOutcome (build (limitsOf b)
+        (listsIn v (take (3 * c .points) (l′ .coordinates)) (take (4 * c .faces) (l′ .lengths)) (take (4 * c .faces) (l′ .firsts))
+        (take (c .listed) (l′ .listed)) (take (c .listed) (l′ .intervals))) m)
+        → o ≡ buildTextIf false b s m
+    unfolding buildTextIf
+    first-entries o eo =
+        rw (means b s l eb e ec .form) (eo ∙ ap (λ (x : Lists). toldOutcome (build (limitsOf b) x m)) (first-lists b s l eb e ec))
 
 module _ (b : Bounds) (s : List ℕ) (m : Mesh) {t : Bool} (e : t ≡ tooLong b (length s)) where
   pub too-long : t ≡ true → record { answer = Refused OverCounts; tables = m } ≡ buildText b s m

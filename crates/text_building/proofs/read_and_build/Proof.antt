@@ -24,7 +24,6 @@ build-first-requires c κs =
       listed = args .listed .now;
       intervals = args .beside .now;
     })
-    (meshOf (args .positions .now) (args .points .now) (args .edges .now) (args .intervals .now) (args .faces .now))
     (most .ensures) (read-text .ensures .0) (version .given .1) in
     (h .coordinates, (h .lengths, (h .listed, (h .intervals, h .firsts))))
 
