@@ -1,7 +1,9 @@
 -- The mender refuses by the first ground that is met, and answers 44 where none is. Assumes nothing.
 --     FaceCame, face-came       the verdict on a face, and why
 --     FacesCame, faces-came     that on all faces
+--     faces-pass                the tests that each face has passed where none is refused
 --     Came, came                the answer
+--     none-answer, answer-none  no ground is met exactly if the lists are mended or the answer is 44
 use mathlib.Core.Path.{_≡_, refl, sym, _∙_, ap, subst}
 use mathlib.Core.Bool.{Bool, true, false, not, cond, false≢true}
 use mathlib.Core.Logic.{_⊎_, inl, inr, _≢_, _↔_}
@@ -40,7 +42,7 @@ use Rattle.mended_lists.proofs.Checks.{third-triple, triple-third, lone
 use Rattle.mended_lists.proofs.Passed.{unfit, mended-exactly}
 
 -- no tables: no ground of the mender asks for them
-abbrev noTables : Mesh
+abbrev pub noTables : Mesh
 noTables = meshOf [] [] [] [] []
 
 -- ---- one face
@@ -68,9 +70,9 @@ not-false false e = sym e
 
 module _ (c : Sizes) (l : Lists) where
   -- face f passes 10, 11, 12 and 43, and its first n edges pass 14
-  record Passes (f n : ℕ) : Type 0 where
-    tests : Tests l f 13
-    edges : (i : ℕ) → i < n → i < size l f → ¬ Triple l f i
+  pub record Passes (f n : ℕ) : Type 0 where
+    pub tests : Tests l f 13
+    pub edges : (i : ℕ) → i < n → i < size l f → ¬ Triple l f i
 
   data FaceCame (f : ℕ) : Verdict → Type 0 where
     passes : Passes f (size l f) → FaceCame f Fit
@@ -142,6 +144,13 @@ module _ (c : Sizes) (l : Lists) where
       go : (v : Verdict) → FacesCame k v → FacesCame (suc k) (thenFace v (faceMends l (placesOf l) k))
       go v (all before) = this (faceMends l (placesOf l) k) before (face-came k (omega arith))
       go v (stopped f h before came) = stopped f (omega arith) before came
+
+  pub faces-pass : facesMend l (placesOf l) (facesOf l) ≡ Fit → (f : ℕ) → f < facesOf l → Passes f (size l f)
+  faces-pass e f b = go (facesMend l (placesOf l) (facesOf l)) (faces-came (facesOf l) (omega arith)) e
+    where
+      go : (v : Verdict) → FacesCame (facesOf l) v → v ≡ Fit → Passes f (size l f)
+      go v (all pass) e = pass f b
+      go v (stopped {g = g} f' h before at) e = absurd (unfit g e)
 
   -- ---- nothing is met before a turn
 
@@ -296,7 +305,7 @@ module _ (c : Sizes) (l : Lists) where
       itself-not (inr (e, inl h)) = omega arith
       itself-not (inr (e, inr (y, h))) = h
 
-      none-met : ¬ Lone-edge l → MeetsNone c l
+      pub none-met : ¬ Lone-edge l → MeetsNone c l
       none-met no-lone w g = none-before (3 ∷ []) (clear-whole (3 ∷ []) (λ h. no-lone)) w g (below w)
         where
           below : (w : Where) → Less (turnOf w g) (3 ∷ [])
@@ -389,7 +398,7 @@ first-ground c l g = (to (mending c l) (came c l), λ w. from (mending c l) (cam
     from r (passes-all none) w f = absurd (none w g (f .met))
 
 -- where no ground is met, the answer is 44 or the lists are mended
-none-answer : (c : Sizes) (l : Lists) → MeetsNone c l → (mending c l ≡ Mended) ⊎ (mending c l ≡ Twisted)
+pub none-answer : (c : Sizes) (l : Lists) → MeetsNone c l → (mending c l ≡ Mended) ⊎ (mending c l ≡ Twisted)
 none-answer c l none = go (mending c l) (came c l)
   where
     go : (r : Mending) → Came c l r → (r ≡ Mended) ⊎ (r ≡ Twisted)
@@ -400,7 +409,7 @@ none-answer c l none = go (mending c l) (came c l)
         this true = inr refl
         this false = inl refl
 
-answer-none : (c : Sizes) (l : Lists) → (mending c l ≡ Mended) ⊎ (mending c l ≡ Twisted) → MeetsNone c l
+pub answer-none : (c : Sizes) (l : Lists) → (mending c l ≡ Mended) ⊎ (mending c l ≡ Twisted) → MeetsNone c l
 answer-none c l e = go (mending c l) (came c l) e
   where
     go : (r : Mending) → Came c l r → (r ≡ Mended) ⊎ (r ≡ Twisted) → MeetsNone c l

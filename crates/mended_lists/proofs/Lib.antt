@@ -9,4 +9,5 @@ pub mod Passed
 pub mod Checks
 pub mod Grounds
 pub mod Sides
+pub mod Turned
 pub mod Cases

@@ -7,6 +7,8 @@
 --     First-ground           the claim: the mender refuses by a ground exactly if it is the first that is met
 --     Twisted-last           the claim: it answers 44 exactly if no ground is met and no choice works
 --     Else-mended            the claim: it mends exactly if no ground is met and a choice works
+--     Turned-meets-none      the claim: where no ground is met, none is with the faces of any choice turned
+--     Mends-again            the claim: so lists whose faces are turned by a choice that works are mended too
 use mathlib.Core.Path.{_≡_}
 use mathlib.Core.Bool.{Bool, true, false}
 use mathlib.Core.Logic.{_↔_}
@@ -20,7 +22,7 @@ use Rattle.built_meshes.specs.declared.Ground.{Ground}
 use Rattle.built_meshes.specs.declared.Ground.the-variants.{OverCounts, UnfitNumber, FewRows, FaceSize, OutOfRange, PointTwice}
 use Rattle.built_meshes.specs.declared.Ground.the-variants.{FirstPoint, NonRectangularFace, EdgeTripleFace, SameWay, MissingFace, NoEdge, MissedEdge}
 use Rattle.mended_lists.specs.declared.Mending.the-variants.{Mended, Refused, Twisted}
-use Rattle.mended_lists.specs.Reversal.{Choice}
+use Rattle.mended_lists.specs.Reversal.{Choice, reversed}
 use Rattle.mended_lists.specs.Mending.{mending}
 use Rattle.mended_lists.specs.Claims.{Works}
 
@@ -67,3 +69,9 @@ Twisted-last = (c : Sizes) (l : Lists) → (mending c l ≡ Twisted) ↔ (MeetsN
 
 abbrev pub Else-mended : Type 0
 Else-mended = (c : Sizes) (l : Lists) → (mending c l ≡ Mended) ↔ (MeetsNone c l × ((t : Choice) × Works l t))
+
+abbrev pub Turned-meets-none : Type 0
+Turned-meets-none = (c : Sizes) (l : Lists) (t : Choice) → MeetsNone c l → MeetsNone c (reversed t l)
+
+abbrev pub Mends-again : Type 0
+Mends-again = (c : Sizes) (l : Lists) (t : Choice) → MeetsNone c l → Works l t → mending c (reversed t l) ≡ Mended

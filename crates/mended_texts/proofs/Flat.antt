@@ -10,7 +10,7 @@ use lib.Seq.{getD-append-add}
 use Rattle.closed_meshes.specs.Renumbering.{sumTo}
 use Rattle.mesh_lines.specs.Grammar.{flat}
 
-pub sumTo-first : (n : ℕ) (s : ℕ → ℕ) → sumTo (suc n) s ≡ s 0 + sumTo n (λ k. s (suc k))
+sumTo-first : (n : ℕ) (s : ℕ → ℕ) → sumTo (suc n) s ≡ s 0 + sumTo n (λ k. s (suc k))
 unfolding sumTo
 sumTo-first zero s = omega arith
 sumTo-first (suc n) s = let r = sumTo-first n s in omega arith

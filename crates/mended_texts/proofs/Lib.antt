@@ -5,5 +5,5 @@ pub mod Turned
 pub mod Printed
 pub mod Past
 pub mod Outcome
-pub mod Kept
 pub mod Theorem
+pub mod Cases

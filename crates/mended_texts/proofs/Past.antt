@@ -9,14 +9,12 @@ use mathlib.Core.Path.{_≡_, refl, sym, ap, _∙_}
 use mathlib.Core.Bool.{Bool, true, false, not, cond}
 use mathlib.Core.Logic.{_⊎_, inl, inr}
 use mathlib.Core.List.{List, [], _∷_}
-use Prim.Native.Nat.{ℕ, zero, suc, _+_, _*_, _≤_, _<_}
+use Prim.Native.Nat.{ℕ, suc, _*_, _≤_, _<_}
 use native.Mathlib.Omega.{arith}
 use lib.ListN.{length, getD}
 use lib.Ieee.{Float, nan, inf, fin}
 use lib.Ieee.Scale.{finite}
 use Rattle.tables.specs.declared.Sizes.{Sizes}
-use Rattle.closed_meshes.specs.Renumbering.{sumTo}
-use Rattle.closed_meshes.proofs.Sums.{place-below, place-found}
 use Rattle.audited_meshes.specs.Folds.{every}
 use Rattle.audited_meshes.specs.Audit.{intervalFit}
 use Rattle.audited_meshes.proofs.Tests.{self-is, and-is, every-is}
@@ -24,7 +22,6 @@ use Rattle.mesh_lines.specs.Grammar.{Side}
 use Rattle.mesh_text.specs.Text.{TextMesh}
 use Rattle.built_meshes.specs.Lists.{Lists, pointsOf, facesOf, size, offset, countsFit, listedFit, generalLimits}
 use Rattle.built_meshes.specs.Faces.{sizeFit, listedInRange, noPointTwice, firstsFit, sumsFit, faceVerdict}
-use Rattle.built_meshes.specs.Places.{besideOf}
 use Rattle.built_meshes.specs.declared.Version.{Version}
 use Rattle.built_meshes.specs.declared.Version.the-variants.{Two}
 use Rattle.built_meshes.specs.declared.Verdict.{Verdict}
@@ -35,11 +32,10 @@ use Rattle.text_meshes.specs.TextBuilding.{listsOf}
 use Rattle.mesh_printing.specs.Printing.{FitText}
 use Rattle.mended_lists.specs.declared.Mending.{Mending}
 use Rattle.mended_lists.specs.declared.Mending.the-variants.{Mended, Refused, Twisted}
-use Rattle.mended_lists.specs.Reversal.{Choice, reversed, turnedInterval}
+use Rattle.mended_lists.specs.Reversal.{Choice, reversed}
 use Rattle.mended_lists.specs.Mending.{forgiven, mendingIf, mending}
 use Rattle.mended_lists.specs.Claims.{Fitting}
-use Rattle.mended_lists.proofs.InTurn.{length-inTurn}
-use Rattle.mended_lists.proofs.Again.{interval-at}
+use Rattle.mended_lists.proofs.Turned as turned
 use Rattle.mended_lists.proofs.Passed.{unfit, mended-parts, face-passed, at-least-three}
 use Rattle.mended_texts.specs.Turning.{turnedIf, turnedFaces, turnedText}
 use Rattle.mended_texts.proofs.Turned.{Four, faceOf, faces-count, sides-length, firsts-length, listed-length, beside-length, round-of-firsts}
@@ -111,25 +107,7 @@ finite-intervals l h k b = fit-finite (getD (l .intervals) k nan) (past-interval
 pub interval-from :
     (c : Choice) (l : Lists) → Fitting l → (k : ℕ) → k < length (reversed c l .intervals) →
     (j : ℕ) × (j < length (l .intervals)) × (getD (reversed c l .intervals) k nan ≡ getD (l .intervals) j nan)
-unfolding reversed offset
-interval-from c l fit k h =
-    go
-    (place-found (λ f. size l f) (facesOf l) k
-    (rw (length-inTurn (facesOf l) (λ f. size l f) (λ f i. besideOf l f (cond (c f) (turnedInterval (size l f) i) i))) at h))
-  where
-    within : (n i : ℕ) (t : Bool) → i < n → cond t (turnedInterval n i) i < n
-    within n i true h = omega arith
-    within n i false h = h
-
-    go :
-        (f : ℕ) × (f < facesOf l) × (i : ℕ) × (i < size l f) × (sumTo f (λ f. size l f) + i ≡ k) →
-        (j : ℕ) × (j < length (l .intervals)) × (getD (reversed c l .intervals) k nan ≡ getD (l .intervals) j nan)
-    go (f, a, i, b, q) = (
-      offset l f + cond (c f) (turnedInterval (size l f) i) i,
-      rw (fit .intervals)
-          (place-below (λ f. size l f) f (facesOf l) (cond (c f) (turnedInterval (size l f) i) i) a (within (size l f) i (c f) b)),
-      ap (λ (x : ℕ). getD (reversed c l .intervals) x nan) (sym q) ∙ interval-at c l f i (a, b),
-    )
+interval-from c l fit = turned.interval-from c l (fit .intervals)
 
 -- ---- texts
 

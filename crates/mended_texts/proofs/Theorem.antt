@@ -1,17 +1,23 @@
 -- The claims of `specs/Claims.antt`. Assumes nothing.
+--     once                    a text says one thing
+--     Came, came              what the mending of a text comes to
+--     whole                   a text that says t is the printing of t
+--     mended                  what is left of a text whose lists are mended
+--     none-turned             turning no face leaves a text
 use mathlib.Core.Path.{_≡_, refl, sym, ap, _∙_, subst}
 use mathlib.Core.Bool.{Bool, true, false, cond}
 use mathlib.Core.Logic.{_⊎_, inl, inr, _≢_, _↔_}
 use mathlib.Core.List.{List, [], _∷_}
-use Prim.Native.Nat.{ℕ, _<_}
+use Prim.Native.Nat.{ℕ, suc, _<_}
 use native.Mathlib.Omega.{arith}
 use lib.ListN.{length}
 use Rattle.tables.specs.Mesh.{Mesh}
 use Rattle.text_numbers.specs.Form.{Parsed, parsed, unparsed}
+use Rattle.mesh_lines.specs.Grammar.{Side}
+use Rattle.mesh_text.specs.Text.{TextMesh, text}
 use Rattle.built_meshes.specs.Lists.{Lists, facesOf, generalLimits}
-use Rattle.built_meshes.specs.Answers.{groundNumber}
+use Rattle.built_meshes.specs.Grounds.{Where, Holds}
 use Rattle.built_meshes.specs.Building.{build}
-use Rattle.built_meshes.specs.Grounds.{Holds}
 use Rattle.built_meshes.specs.declared.Version.{Version}
 use Rattle.built_meshes.specs.declared.Version.the-variants.{One, Two}
 use Rattle.built_meshes.specs.declared.Ground.{Ground}
@@ -19,378 +25,390 @@ use Rattle.built_meshes.specs.declared.Ground.the-variants.{OverCounts, EdgeTri
 use Rattle.built_meshes.proofs.Theorem.{refusals-hold}
 use Rattle.building_tests.specs.Lent.{limitsOf}
 use Rattle.building_tests.specs.declared.Bounds.{Bounds}
-use Rattle.mesh_lines.specs.Grammar.{Side}
-use Rattle.mesh_text.specs.Text.{TextMesh, text}
-use Rattle.mesh_printing.specs.Printing.{FitText, printed}
-use Rattle.mesh_printing.specs.Claims.{Printing}
-use Rattle.mesh_printing.proofs.Theorem.{text-exactly, not-text-exactly as no-printing}
-use Rattle.text_meshes.specs.TextBuilding.{tooLong, listsOf, buildText, TextOutcome}
-use Rattle.text_meshes.specs.Claims.{Stands-for}
-use Rattle.text_meshes.specs.declared.TextBuilt.{TextBuilt}
+use Rattle.text_meshes.specs.TextBuilding.{tooLong, listsOf, TextOutcome, buildTextIf, buildText}
 use Rattle.text_meshes.specs.declared.TextBuilt.the-variants as Built
 use Rattle.text_meshes.proofs.Theorem.{few-faces, told-refused, of-lists as built-of-lists}
+use Rattle.mesh_printing.specs.Printing.{printed, FitText}
+use Rattle.mesh_printing.proofs.Theorem.{text-exactly}
 use Rattle.mended_lists.specs.Reversal.{Choice, reversed}
 use Rattle.mended_lists.specs.Parts.{turns, twisted}
 use Rattle.mended_lists.specs.Mending.{mending}
-use Rattle.mended_lists.specs.Claims.{Sound, Paired, Opposite, Works, LowestStay}
 use Rattle.mended_lists.specs.declared.Mending.{Mending}
 use Rattle.mended_lists.specs.declared.Mending.the-variants as Lists
-use Rattle.mended_lists.proofs.Theorem.{found, only-one, lowest-stay}
-use Rattle.mended_lists.proofs.Again.{needs-nothing, then-built as lists-then-built}
-use Rattle.mended_lists.proofs.Passed.{passed, mended-exactly, mended-parts}
+use Rattle.mended_lists.specs.Claims.{Fitting, Sound, Opposite, Works}
+use Rattle.mended_lists.specs.Grounds.{MeetsFirst, MeetsNone}
+use Rattle.mended_lists.proofs.Theorem.{lowest-stay, only-one}
+use Rattle.mended_lists.proofs.Again.{reversed-none, then-built as lists-then-built}
+use Rattle.mended_lists.proofs.Passed.{passed, mended-parts, mended-exactly}
+use Rattle.mended_lists.proofs.Grounds.{first-ground, none-answer, answer-none, twisted-last, else-mended}
+use Rattle.mended_lists.proofs.Turned.{turned-meets-none}
 use Rattle.mended_texts.specs.Turning.{turnedFaces, turnedText}
-use Rattle.mended_texts.specs.Mending.{MendOutcome, told, mendText}
+use Rattle.mended_texts.specs.Mending.{MendOutcome, told, mendForm, mendText}
 use Rattle.mended_texts.specs.declared.TextMending.{TextMending}
 use Rattle.mended_texts.specs.declared.TextMending.the-variants.{Mended, NotText, Refused, Twisted}
-use Rattle.mended_texts.specs.Claims.{Mends, Looked-through, Not-text-exactly, Refused-exactly, Unchanged, As-many-bytes}
-use Rattle.mended_texts.specs.Claims.{Faces-turned, Lists-reversed, Run-opposite, Lowest-kept, Twisted-exactly, Only-choice}
-use Rattle.mended_texts.specs.Claims.{Nothing-needed, Mended-again, Then-built}
+use Rattle.mended_texts.specs.Claims.{Says, SaysTwo, TurnedRight, MendedText, Same-bytes, Refusals-leave, Not-text-exactly}
+use Rattle.mended_texts.specs.Claims.{Grounds-in-order, Twisted-text, Mended-text, Reversal-read, Unchanged, Twice, Then-built}
 use Rattle.mended_texts.proofs.Turned.{faces-count}
 use Rattle.mended_texts.proofs.Printed.{length-turned, fit-turned, four-of-fit}
 use Rattle.mended_texts.proofs.Past.{Past, text-fitting, text-turned, same-turned}
-use Rattle.mended_texts.proofs.Kept.{turned-mended}
-use Rattle.mended_texts.proofs.Outcome.{formless, first-version, of-lists}
+use Rattle.mended_texts.proofs.Outcome.{formless, of-lists, first-version}
 
--- ---- what comes of a text
+-- ---- what a text says
 
-pub data Came (s : List ℕ) : MendOutcome → Type 0 where
-  no-text : text s ≡ unparsed → Came s (record { answer = NotText; text = s })
-  of-one : (t : TextMesh) → Printing s t → t .version ≡ One → Came s (record { answer = NotText; text = s })
-  of-two : (t : TextMesh) (r : Mending) → Printing s t → t .version ≡ Two → mending generalLimits (listsOf t) ≡ r → Came s (told r s t)
+once : (s : List ℕ) (t u : TextMesh) → Says s t → Says s u → t ≡ u
+once s t u (n, e) (k, h) = same n k (sym e ∙ h)
+  where
+    same : (n k : ℕ) → parsed t n ≡ parsed u k → t ≡ u
+    same n k e = cc
 
-pub came : (s : List ℕ) → Came s (mendText s)
+-- the printing of what it says
+whole : (s : List ℕ) (t : TextMesh) → Says s t → FitText t × (s ≡ printed t)
+whole s t says = text-exactly s t .0 says
+
+printed-says : (t : TextMesh) → FitText t → Says (printed t) t
+printed-says t fit = text-exactly (printed t) t .1 (fit, refl)
+
+-- ---- what the mending comes to
+
+data Came (s : List ℕ) : MendOutcome → Type 0 where
+  no-form : text s ≡ unparsed → Came s (record { answer = NotText; text = s })
+  of-one : (t : TextMesh) → Says s t → t .version ≡ One → Came s (record { answer = NotText; text = s })
+  of-two : (t : TextMesh) → SaysTwo s t → Came s (told (mending generalLimits (listsOf t)) s t)
+
+came : (s : List ℕ) → Came s (mendText s)
 came s = go (text s) refl
   where
-    form : (t : TextMesh) (n : ℕ) → text s ≡ parsed t n → (v : Version) → t .version ≡ v → Came s (mendText s)
-    form t n e One v = subst (λ (o : MendOutcome). Came s o) (sym (first-version s t n e v)) (of-one t (text-exactly s t .0 (n, e)) v)
-    form t n e Two v =
-        subst (λ (o : MendOutcome). Came s o) (sym (of-lists s t n e v))
-        (of-two t (mending generalLimits (listsOf t)) (text-exactly s t .0 (n, e)) v refl)
+    version : (t : TextMesh) (n : ℕ) → text s ≡ parsed t n → (v : Version) → t .version ≡ v → Came s (mendText s)
+    version t n e One one = subst (Came s) (sym (first-version s t n e one)) (of-one t (n, e) one)
+    version t n e Two two = subst (Came s) (sym (of-lists s t n e two)) (of-two t ((n, e), two))
 
     go : (x : Parsed TextMesh) → text s ≡ x → Came s (mendText s)
-    go (parsed t n) e = form t n e (t .version) refl
-    go unparsed e = subst (λ (o : MendOutcome). Came s o) (sym (formless s e)) (no-text e)
+    go (parsed t n) e = version t n e (t .version) refl
+    go unparsed e = subst (Came s) (sym (formless s e)) (no-form e)
 
--- a text says one thing
-pub says-one : (s : List ℕ) (t u : TextMesh) → Printing s t → Printing s u → t ≡ u
-says-one s t u p q =
-    let (n, e) = text-exactly s t .1 p in
-    let (m, f) = text-exactly s u .1 q in
-    same n m (sym e ∙ f)
+-- the answer to a text of version 2 is that to its lists
+by-lists : (s : List ℕ) (t : TextMesh) → SaysTwo s t → mendText s ≡ told (mending generalLimits (listsOf t)) s t
+by-lists s t ((n, e), two) = of-lists s t n e two
+
+module _ (s : List ℕ) (t : TextMesh) where
+  told-mended : (r : Mending) → told r s t .answer ≡ Mended → r ≡ Lists.Mended
+  told-mended Lists.Mended e = refl
+  told-mended (Lists.Refused g) e = let z : _≡_ {A = ℕ} 0 1 = cc in absurd (omega arith)
+  told-mended Lists.Twisted e = let z : _≡_ {A = ℕ} 0 1 = cc in absurd (omega arith)
+
+  told-refused-by : (r : Mending) (g : Ground) → told r s t .answer ≡ Refused g → r ≡ Lists.Refused g
+  told-refused-by Lists.Mended g e = let z : _≡_ {A = ℕ} 0 1 = cc in absurd (omega arith)
+  told-refused-by (Lists.Refused h) g e = let z : h ≡ g = cc in ap Lists.Refused z
+  told-refused-by Lists.Twisted g e = let z : _≡_ {A = ℕ} 0 1 = cc in absurd (omega arith)
+
+  told-twisted : (r : Mending) → told r s t .answer ≡ Twisted → r ≡ Lists.Twisted
+  told-twisted Lists.Mended e = let z : _≡_ {A = ℕ} 0 1 = cc in absurd (omega arith)
+  told-twisted (Lists.Refused g) e = let z : _≡_ {A = ℕ} 0 1 = cc in absurd (omega arith)
+  told-twisted Lists.Twisted e = refl
+
+  told-text : (r : Mending) → told r s t .answer ≡ NotText → ⊥
+  told-text Lists.Mended e = let z : _≡_ {A = ℕ} 0 1 = cc in omega arith
+  told-text (Lists.Refused g) e = let z : _≡_ {A = ℕ} 0 1 = cc in omega arith
+  told-text Lists.Twisted e = let z : _≡_ {A = ℕ} 0 1 = cc in omega arith
+
+  told-left : (r : Mending) → told r s t .answer ≢ Mended → told r s t .text ≡ s
+  told-left Lists.Mended d = absurd (d refl)
+  told-left (Lists.Refused g) d = refl
+  told-left Lists.Twisted d = refl
+
+  told-length : s ≡ printed t → (r : Mending) → length (told r s t .text) ≡ length s
+  told-length e Lists.Mended = length-turned (turns (listsOf t)) t ∙ ap length (sym e)
+  told-length e (Lists.Refused g) = refl
+  told-length e Lists.Twisted = refl
+
+-- ---- claims of every text
+
+pub same-bytes : Same-bytes
+same-bytes s = go (mendText s) (came s)
   where
-    same : (n m : ℕ) → parsed t n ≡ parsed u m → t ≡ u
-    same n m e = cc
+    go : (o : MendOutcome) → Came s o → length (o .text) ≡ length s
+    go o (no-form e) = refl
+    go o (of-one t says one) = refl
+    go o (of-two t (says, two)) = told-length s t (whole s t says .1) (mending generalLimits (listsOf t))
 
-clash : (a b : TextMending) (n : TextMending → ℕ) → n a ≡ 0 → n b ≡ 1 → a ≡ b → ⊥
-clash a b n x y e = let z : _≡_ {A = ℕ} 0 1 = sym x ∙ ap n e ∙ y in omega arith
+pub refusals-leave : Refusals-leave
+refusals-leave s d = go (mendText s) (came s) d
+  where
+    go : (o : MendOutcome) → Came s o → o .answer ≢ Mended → o .text ≡ s
+    go o (no-form e) d = refl
+    go o (of-one t says one) d = refl
+    go o (of-two t says) d = told-left s t (mending generalLimits (listsOf t)) d
 
--- which answer it is
-abbrev isMended : TextMending → ℕ
-isMended Mended = 0
-isMended NotText = 1
-isMended (Refused g) = 1
-isMended Twisted = 1
-
-abbrev isNotText : TextMending → ℕ
-isNotText NotText = 0
-isNotText Mended = 1
-isNotText (Refused g) = 1
-isNotText Twisted = 1
-
-abbrev isTwisted : TextMending → ℕ
-isTwisted Twisted = 0
-isTwisted NotText = 1
-isTwisted (Refused g) = 1
-isTwisted Mended = 1
-
-abbrev isRefused : TextMending → ℕ
-isRefused (Refused g) = 0
-isRefused Twisted = 1
-isRefused NotText = 1
-isRefused Mended = 1
-
-told-mended : (r : Mending) (s : List ℕ) (t : TextMesh) → told r s t .answer ≡ Mended → r ≡ Lists.Mended
-told-mended Lists.Mended s t e = refl
-told-mended (Lists.Refused g) s t e = absurd (clash Mended (Refused g) isMended refl refl (sym e))
-told-mended Lists.Twisted s t e = absurd (clash Mended Twisted isMended refl refl (sym e))
-
-told-twisted : (r : Mending) (s : List ℕ) (t : TextMesh) → told r s t .answer ≡ Twisted → r ≡ Lists.Twisted
-told-twisted Lists.Mended s t e = absurd (clash Twisted Mended isTwisted refl refl (sym e))
-told-twisted (Lists.Refused g) s t e = absurd (clash Twisted (Refused g) isTwisted refl refl (sym e))
-told-twisted Lists.Twisted s t e = refl
-
-told-refusal : (r : Mending) (s : List ℕ) (t : TextMesh) (g : Ground) → told r s t .answer ≡ Refused g → r ≡ Lists.Refused g
-told-refusal Lists.Mended s t g e = absurd (clash (Refused g) Mended isRefused refl refl (sym e))
-told-refusal (Lists.Refused h) s t g e = let z : h ≡ g = cc in ap Lists.Refused z
-told-refusal Lists.Twisted s t g e = absurd (clash (Refused g) Twisted isRefused refl refl (sym e))
-
-told-not-text : (r : Mending) (s : List ℕ) (t : TextMesh) → told r s t .answer ≡ NotText → ⊥
-told-not-text Lists.Mended s t e = clash NotText Mended isNotText refl refl (sym e)
-told-not-text (Lists.Refused g) s t e = clash NotText (Refused g) isNotText refl refl (sym e)
-told-not-text Lists.Twisted s t e = clash NotText Twisted isNotText refl refl (sym e)
-
--- ---- a text of version 2, by its lists
-
-module _ (s : List ℕ) (t : TextMesh) (p : Printing s t) where
-  answered : t .version ≡ Two → mendText s ≡ told (mending generalLimits (listsOf t)) s t
-  answered two = let (n, e) = text-exactly s t .1 p in of-lists s t n e two
-
-  not-one : mendText s .answer ≢ NotText → t .version ≡ Two
-  not-one h = go (t .version) refl
-    where
-      go : (v : Version) → t .version ≡ v → v ≡ Two
-      go Two e = refl
-      go One e = let (n, x) = text-exactly s t .1 p in absurd (h (ap (λ (o : MendOutcome). o .answer) (first-version s t n x e)))
-
-  pub two-of : (mendText s .answer ≡ Mended) ⊎ (mendText s .answer ≡ Twisted) → t .version ≡ Two
-  two-of (inl a) = not-one (λ e. clash Mended NotText isMended refl refl (sym a ∙ e))
-  two-of (inr a) = not-one (λ e. clash Twisted NotText isTwisted refl refl (sym a ∙ e))
-
-  pub mended-of : mendText s .answer ≡ Mended → mending generalLimits (listsOf t) ≡ Lists.Mended
-  mended-of a =
-      told-mended (mending generalLimits (listsOf t)) s t (ap (λ (o : MendOutcome). o .answer) (sym (answered (two-of (inl a)))) ∙ a)
-
-  twisted-of : mendText s .answer ≡ Twisted → mending generalLimits (listsOf t) ≡ Lists.Twisted
-  twisted-of a =
-      told-twisted (mending generalLimits (listsOf t)) s t (ap (λ (o : MendOutcome). o .answer) (sym (answered (two-of (inr a)))) ∙ a)
-
-  pub past-of : (mendText s .answer ≡ Mended) ⊎ (mendText s .answer ≡ Twisted) → Past generalLimits (listsOf t)
-  past-of (inl a) = inl (mended-of a)
-  past-of (inr a) = inr (twisted-of a)
-
-  pub outcome-of : (r : Mending) → t .version ≡ Two → mending generalLimits (listsOf t) ≡ r → mendText s ≡ told r s t
-  outcome-of r two e = answered two ∙ ap (λ (x : Mending). told x s t) e
-
-  -- the lists of the text with a choice of faces turned
-  turned-lists :
-      (mendText s .answer ≡ Mended) ⊎ (mendText s .answer ≡ Twisted) → (c : Choice) → listsOf (turnedText c t) ≡ reversed c (listsOf t)
-  turned-lists a c = text-turned t (p .0) (two-of a) (past-of a) c
-
-  works-text :
-      (mendText s .answer ≡ Mended) ⊎ (mendText s .answer ≡ Twisted) → (c : Choice) → Opposite (listsOf (turnedText c t)) → Works (listsOf t) c
-  works-text a c h = subst (λ (l : Lists). Opposite l) (turned-lists a c) h
-
--- ---- the claims
+abbrev answerOf : MendOutcome → TextMending
+answerOf o = o .answer
 
 pub not-text-exactly : Not-text-exactly
 not-text-exactly s = (to (mendText s) (came s), from)
   where
-    to : (o : MendOutcome) → Came s o → o .answer ≡ NotText → (t : TextMesh) → Printing s t → t .version ≡ One
-    to o (no-text e) a t p = absurd (no-printing s .0 e t p)
-    to o (of-one u q v) a t p = ap (λ (x : TextMesh). x .version) (says-one s t u p q) ∙ v
-    to o (of-two u r q v e) a t p = absurd (told-not-text r s u a)
+    to : (o : MendOutcome) → Came s o → o .answer ≡ NotText → (text s ≡ unparsed) ⊎ ((t : TextMesh) × Says s t × (t .version ≡ One))
+    to o (no-form e) a = inl e
+    to o (of-one t says one) a = inr (t, says, one)
+    to o (of-two t says) a = absurd (told-text s t (mending generalLimits (listsOf t)) a)
 
-    from : ((t : TextMesh) → Printing s t → t .version ≡ One) → mendText s .answer ≡ NotText
-    from h = go (mendText s) (came s)
-      where
-        differ : One ≡ Two → ⊥
-        differ e = let z : _≡_ {A = ℕ} 0 1 = cc in omega arith
+    from : (text s ≡ unparsed) ⊎ ((t : TextMesh) × Says s t × (t .version ≡ One)) → mendText s .answer ≡ NotText
+    from (inl e) = ap answerOf (formless s e)
+    from (inr (t, (n, e), one)) = ap answerOf (first-version s t n e one)
 
-        go : (o : MendOutcome) → Came s o → o .answer ≡ NotText
-        go o (no-text e) = refl
-        go o (of-one u q v) = refl
-        go o (of-two u r q v e) = absurd (differ (sym (h u q) ∙ v))
+-- ---- a text whose answer is by its lists
 
-pub refused-exactly : Refused-exactly
-refused-exactly s g = (to (mendText s) (came s), from)
+-- an answer other than 1 is that to the lists of a text of version 2
+two-of : (s : List ℕ) → mendText s .answer ≢ NotText → (t : TextMesh) × SaysTwo s t
+two-of s d = go (mendText s) (came s) d
   where
+    go : (o : MendOutcome) → Came s o → o .answer ≢ NotText → (t : TextMesh) × SaysTwo s t
+    go o (no-form e) d = absurd (d refl)
+    go o (of-one t says one) d = absurd (d refl)
+    go o (of-two t says) d = (t, says)
+
+mended-two : (s : List ℕ) → mendText s .answer ≡ Mended → (t : TextMesh) × SaysTwo s t × (mending generalLimits (listsOf t) ≡ Lists.Mended)
+mended-two s a =
+    let (t, says) = two-of s (λ e. clash (sym a ∙ e)) in
+    (t, says, told-mended s t (mending generalLimits (listsOf t)) (sym (ap answerOf (by-lists s t says)) ∙ a))
+  where
+    clash : Mended ≡ NotText → ⊥
+    clash e = let z : _≡_ {A = ℕ} 0 1 = cc in omega arith
+
+pub grounds-in-order : Grounds-in-order
+grounds-in-order s g = (to, from)
+  where
+    clash : Refused g ≡ NotText → ⊥
+    clash e = let z : _≡_ {A = ℕ} 0 1 = cc in omega arith
+
+    to : mendText s .answer ≡ Refused g → (t : TextMesh) × SaysTwo s t × ((w : Where) × MeetsFirst generalLimits (listsOf t) w g)
+    to a =
+        let (t, says) = two-of s (λ e. clash (sym a ∙ e)) in (
+          t,
+          says,
+          first-ground generalLimits (listsOf t) g .0
+              (told-refused-by s t (mending generalLimits (listsOf t)) g (sym (ap answerOf (by-lists s t says)) ∙ a)),
+        )
+
+    from : (t : TextMesh) × SaysTwo s t × ((w : Where) × MeetsFirst generalLimits (listsOf t) w g) → mendText s .answer ≡ Refused g
+    from (t, says, first) =
+        ap answerOf (by-lists s t says)
+        ∙ ap (λ (r : Mending). told r s t .answer) (first-ground generalLimits (listsOf t) g .1 first)
+
+-- the lists of the text with the faces of a choice turned, where no ground is met
+turned-lists :
+    (s : List ℕ) (t : TextMesh) → SaysTwo s t → MeetsNone generalLimits (listsOf t) → (c : Choice) →
+    listsOf (turnedText c t) ≡ reversed c (listsOf t)
+turned-lists s t (says, two) none c = text-turned t (whole s t says .0) two (none-answer generalLimits (listsOf t) none) c
+
+right-works :
+    (s : List ℕ) (t : TextMesh) → SaysTwo s t → MeetsNone generalLimits (listsOf t) → (c : Choice) → TurnedRight t c → Works (listsOf t) c
+right-works s t says none c = subst Opposite (turned-lists s t says none c)
+
+works-right :
+    (s : List ℕ) (t : TextMesh) → SaysTwo s t → MeetsNone generalLimits (listsOf t) → (c : Choice) → Works (listsOf t) c → TurnedRight t c
+works-right s t says none c = subst Opposite (sym (turned-lists s t says none c))
+
+pub twisted-text : Twisted-text
+twisted-text s = (to, from)
+  where
+    clash : Twisted ≡ NotText → ⊥
+    clash e = let z : _≡_ {A = ℕ} 0 1 = cc in omega arith
+
     to :
-        (o : MendOutcome) → Came s o → o .answer ≡ Refused g →
-        (t : TextMesh) × Printing s t × (t .version ≡ Two) × (mending generalLimits (listsOf t) ≡ Lists.Refused g)
-    to o (no-text e) a = absurd (clash NotText (Refused g) isNotText refl refl a)
-    to o (of-one u q v) a = absurd (clash NotText (Refused g) isNotText refl refl a)
-    to o (of-two u r q v e) a = (u, q, v, e ∙ told-refusal r s u g a)
+        mendText s .answer ≡ Twisted →
+        (t : TextMesh) × SaysTwo s t × MeetsNone generalLimits (listsOf t) × ((c : Choice) → ¬ TurnedRight t c)
+    to a =
+        let (t, says) = two-of s (λ e. clash (sym a ∙ e)) in
+        let (none, not) =
+        twisted-last generalLimits (listsOf t) .0
+        (told-twisted s t (mending generalLimits (listsOf t)) (sym (ap answerOf (by-lists s t says)) ∙ a))
+        in
+        (t, says, none, λ c right. not c (right-works s t says none c right))
 
     from :
-        (t : TextMesh) × Printing s t × (t .version ≡ Two) × (mending generalLimits (listsOf t) ≡ Lists.Refused g) →
-        mendText s .answer ≡ Refused g
-    from (t, p, v, e) = ap (λ (o : MendOutcome). o .answer) (outcome-of s t p (Lists.Refused g) v e)
+        (t : TextMesh) × SaysTwo s t × MeetsNone generalLimits (listsOf t) × ((c : Choice) → ¬ TurnedRight t c) → mendText s .answer ≡ Twisted
+    from (t, says, none, not) =
+        ap answerOf (by-lists s t says)
+        ∙ ap (λ (r : Mending). told r s t .answer)
+        (twisted-last generalLimits (listsOf t) .1 (none, λ c works. not c (works-right s t says none c works)))
 
-pub unchanged : Unchanged
-unchanged s h = go (mendText s) (came s) h
+pub mended-text : Mended-text
+mended-text s = (to, from)
   where
-    by : (r : Mending) (t : TextMesh) → told r s t .answer ≢ Mended → told r s t .text ≡ s
-    by Lists.Mended t h = absurd (h refl)
-    by (Lists.Refused g) t h = refl
-    by Lists.Twisted t h = refl
+    to :
+        mendText s .answer ≡ Mended → (t : TextMesh) × SaysTwo s t × MeetsNone generalLimits (listsOf t) × ((c : Choice) × TurnedRight t c)
+    to a =
+        let (t, says, e) = mended-two s a in
+        let (none, (c, works)) = else-mended generalLimits (listsOf t) .0 e in
+        (t, says, none, (c, works-right s t says none c works))
 
-    go : (o : MendOutcome) → Came s o → o .answer ≢ Mended → o .text ≡ s
-    go o (no-text e) h = refl
-    go o (of-one u q v) h = refl
-    go o (of-two u r q v e) h = by r u h
+    from :
+        (t : TextMesh) × SaysTwo s t × MeetsNone generalLimits (listsOf t) × ((c : Choice) × TurnedRight t c) → mendText s .answer ≡ Mended
+    from (t, says, none, (c, right)) =
+        ap answerOf (by-lists s t says)
+        ∙ ap (λ (r : Mending). told r s t .answer)
+        (else-mended generalLimits (listsOf t) .1 (none, (c, right-works s t says none c right)))
 
-pub as-many-bytes : As-many-bytes
-as-many-bytes s = go (mendText s) (came s)
-  where
-    by : (r : Mending) (t : TextMesh) → Printing s t → length (told r s t .text) ≡ length s
-    by Lists.Mended t p = length-turned (turns (listsOf t)) t ∙ ap length (sym (p .1))
-    by (Lists.Refused g) t p = refl
-    by Lists.Twisted t p = refl
+-- ---- a mended text
 
-    go : (o : MendOutcome) → Came s o → length (o .text) ≡ length s
-    go o (no-text e) = refl
-    go o (of-one u q v) = refl
-    go o (of-two u r q v e) = by r u q
+module _ (s : List ℕ) (t : TextMesh) (says : SaysTwo s t) (e : mending generalLimits (listsOf t) ≡ Lists.Mended) where
+  past : Past generalLimits (listsOf t)
+  past = inl e
 
-pub faces-turned : Faces-turned
-faces-turned s t (p, a) = (
-  fit-turned (turns (listsOf t)) t (p .0),
-  ap (λ (o : MendOutcome). o .text) (outcome-of s t p Lists.Mended (two-of s t p (inl a)) (mended-of s t p a)),
-)
+  none-met : MeetsNone generalLimits (listsOf t)
+  none-met = answer-none generalLimits (listsOf t) past
 
-pub lists-reversed : Lists-reversed
-lists-reversed s t u (p, a) q =
-    ap listsOf (says-one (mendText s .text) u (turnedText (turns (listsOf t)) t) q (faces-turned s t (p, a)))
-    ∙ turned-lists s t p (inl a) (turns (listsOf t))
+  -- the text that is left
+  left : mendText s ≡ record { answer = Mended; text = printed (turnedText (turns (listsOf t)) t) }
+  left = by-lists s t says ∙ ap (λ (r : Mending). told r s t) e
 
-pub run-opposite : Run-opposite
-run-opposite s t u (p, a) q =
-    subst (λ (l : Lists). Opposite l) (sym (lists-reversed s t u (p, a) q))
-    (mended-exactly generalLimits (listsOf t) (past-of s t p (inl a)) .1 .0 (mended-of s t p a))
+  fit : FitText (turnedText (turns (listsOf t)) t)
+  fit = fit-turned (turns (listsOf t)) t (whole s t (says .0) .0)
 
-pub lowest-kept : Lowest-kept
-lowest-kept s t h = lowest-stay (listsOf t)
+  left-says : SaysTwo (printed (turnedText (turns (listsOf t)) t)) (turnedText (turns (listsOf t)) t)
+  left-says = (printed-says (turnedText (turns (listsOf t)) t) fit, says .1)
 
-pub twisted-exactly : Twisted-exactly
-twisted-exactly s t (p, a) = (
-  λ e c h. mended-exactly generalLimits (listsOf t) (past-of s t p a) .0 .0 (twisted-of s t p e) c (works-text s t p a c h),
-  λ h. ap (λ (o : MendOutcome). o .answer)
-      (outcome-of s t p Lists.Twisted (two-of s t p a)
-      (mended-exactly generalLimits (listsOf t) (past-of s t p a) .0 .1
-      (λ c w. h c (subst (λ (l : Lists). Opposite l) (sym (turned-lists s t p a c)) w)))),
-)
+  left-opposite : TurnedRight t (turns (listsOf t))
+  left-opposite =
+      works-right s t says none-met (turns (listsOf t)) (mended-exactly generalLimits (listsOf t) past .1 .0 e)
 
-pub only-choice : Only-choice
-only-choice s t c (p, a) h low =
-    faces-turned s t (p, a) .1
-    ∙ ap (λ (x : List (List Side)). printed (record { version = t .version; points = t .points; faces = x }))
-    (same-turned (turns (listsOf t)) c (t .faces) agree)
-  where
-    sound : Sound (listsOf t)
-    sound = passed generalLimits (listsOf t) (past-of s t p (inl a)) .0
+  mended : MendedText s t (turns (listsOf t))
+  mended =
+      record {
+        says =
+            subst (λ (o : MendOutcome). SaysTwo (o .text) (turnedText (turns (listsOf t)) t)) (sym left) left-says;
+        lists = turned-lists s t says none-met (turns (listsOf t));
+        opposite = left-opposite;
+        lowest-stay = lowest-stay (listsOf t);
+        only-one =
+            λ d right stay f b.
+            only-one (listsOf t) d (passed generalLimits (listsOf t) past .0) (right-works s t says none-met d right) stay f
+            (rw (faces-count t (four-of-fit t (whole s t (says .0) .0))) b);
+      }
 
-    agree : (f : ℕ) → f < length (t .faces) → turns (listsOf t) f ≡ c f
-    agree f b =
-        sym
-        (only-one (listsOf t) c sound (works-text s t p (inl a) c h) low f (rw (faces-count t (four-of-fit t (p .0))) b))
+  -- its lists meet no ground
+  left-none : MeetsNone generalLimits (listsOf (turnedText (turns (listsOf t)) t))
+  left-none =
+      subst (MeetsNone generalLimits) (sym (turned-lists s t says none-met (turns (listsOf t))))
+      (turned-meets-none generalLimits (listsOf t) (turns (listsOf t)) none-met)
+
+pub reversal-read : Reversal-read
+reversal-read s t says a =
+    let (u, two, e) = mended-two s a in
+    subst (λ (t : TextMesh). (c : Choice) × MendedText s t c) (once s u t (two .0) says) (turns (listsOf u), mended s u two e)
+
+-- ---- a text that needs nothing
 
 none-turned : (fs : List (List Side)) → turnedFaces (λ f. false) fs ≡ fs
 unfolding turnedFaces
 none-turned [] = refl
 none-turned (f ∷ fs) = ap (λ (x : List (List Side)). f ∷ x) (none-turned fs)
 
-pub nothing-needed : Nothing-needed
-nothing-needed s t (p, a) h =
-    outcome-of s t p Lists.Mended two mends
-    ∙ ap (λ (x : List ℕ). record { answer = Mended; text = x })
-    (ap (λ (x : List (List Side)). printed (record { version = t .version; points = t .points; faces = x }))
-    (same-turned (turns (listsOf t)) (λ f. false) (t .faces) stay ∙ none-turned (t .faces))
-    ∙ sym (p .1))
+needs-none : (l : Lists) → Fitting l → Sound l → Opposite l → (f : ℕ) → f < facesOf l → turns l f ≡ false
+needs-none l fit sound opposite f b =
+    sym
+    (only-one l (λ f. false) sound (rw (reversed-none (λ f. false) l fit (λ f a. refl)) opposite) (λ f a lowest. refl) f b)
+
+module _ (s : List ℕ) (t : TextMesh) (says : SaysTwo s t) (none : MeetsNone generalLimits (listsOf t)) (opposite : Opposite (listsOf t)) where
+  fit-text : FitText t
+  fit-text = whole s t (says .0) .0
+
+  answer : mending generalLimits (listsOf t) ≡ Lists.Mended
+  answer =
+      else-mended generalLimits (listsOf t) .1 (
+        none,
+        (λ f. false, rw (reversed-none (λ f. false) (listsOf t) (text-fitting t fit-text) (λ f a. refl)) opposite),
+      )
+
+  same-faces : turnedFaces (turns (listsOf t)) (t .faces) ≡ t .faces
+  same-faces =
+      same-turned (turns (listsOf t)) (λ f. false) (t .faces)
+      (λ f b.
+      needs-none (listsOf t) (text-fitting t fit-text) (passed generalLimits (listsOf t) (inl answer) .0) opposite f
+      (rw (faces-count t (four-of-fit t fit-text)) b))
+      ∙ none-turned (t .faces)
+
+  same-text : printed (turnedText (turns (listsOf t)) t) ≡ s
+  same-text =
+      ap (λ (fs : List (List Side)). printed (record { version = t .version; points = t .points; faces = fs })) same-faces
+      ∙ sym (whole s t (says .0) .1)
+
+  stays : mendText s ≡ record { answer = Mended; text = s }
+  stays = left s t says answer ∙ ap (λ (x : List ℕ). record { answer = Mended; text = x }) same-text
+
+pub unchanged : Unchanged
+unchanged s t says none opposite =
+    (ap answerOf (stays s t says none opposite), ap (λ (o : MendOutcome). o .text) (stays s t says none opposite))
+
+pub twice : Twice
+twice s = go (mendText s) (came s) refl
   where
-    two : t .version ≡ Two
-    two = two-of s t p a
+    again : (o : MendOutcome) → mendText s ≡ o → mendText (o .text) ≡ o → mendText (mendText s .text) ≡ mendText s
+    again o e h = rw e h
 
-    sound : Sound (listsOf t)
-    sound = passed generalLimits (listsOf t) (past-of s t p a) .0
+    by : (t : TextMesh) → SaysTwo s t → (r : Mending) → mending generalLimits (listsOf t) ≡ r → mendText (mendText s .text) ≡ mendText s
+    by t says Lists.Mended e =
+        again (record { answer = Mended; text = printed (turnedText (turns (listsOf t)) t) }) (left s t says e)
+        (stays (printed (turnedText (turns (listsOf t)) t)) (turnedText (turns (listsOf t)) t) (left-says s t says e) (left-none s t says e)
+        (left-opposite s t says e))
+    by t says (Lists.Refused g) e =
+        let h : mendText s ≡ record { answer = Refused g; text = s } = by-lists s t says ∙ ap (λ (r : Mending). told r s t) e in
+        again (record { answer = Refused g; text = s }) h h
+    by t says Lists.Twisted e =
+        let h : mendText s ≡ record { answer = Twisted; text = s } = by-lists s t says ∙ ap (λ (r : Mending). told r s t) e in
+        again (record { answer = Twisted; text = s }) h h
 
-    same : turnedText (λ f. false) t ≡ t
-    same = ap (λ (x : List (List Side)). record { version = t .version; points = t .points; faces = x }) (none-turned (t .faces))
-
-    works : Works (listsOf t) (λ f. false)
-    works = works-text s t p a (λ f. false) (subst (λ (u : TextMesh). Opposite (listsOf u)) (sym same) h)
-
-    mends : mending generalLimits (listsOf t) ≡ Lists.Mended
-    mends =
-        mended-parts generalLimits (listsOf t) (past-of s t p a) .2
-        ∙ ap (λ (b : Bool). cond b Lists.Twisted Lists.Mended) (needs-nothing (listsOf t) (text-fitting t (p .0)) sound h .0)
-
-    stay : (f : ℕ) → f < length (t .faces) → turns (listsOf t) f ≡ false
-    stay f b =
-        sym
-        (only-one (listsOf t) (λ f. false) sound works (λ f a lowest. refl) f (rw (faces-count t (four-of-fit t (p .0))) b))
+    go : (o : MendOutcome) → Came s o → mendText s ≡ o → mendText (mendText s .text) ≡ mendText s
+    go o (no-form e) h = again (record { answer = NotText; text = s }) h h
+    go o (of-one t says one) h = again (record { answer = NotText; text = s }) h h
+    go o (of-two t says) h = by t says (mending generalLimits (listsOf t)) refl
 
 -- ---- what building then makes of it
 
-module _ (s : List ℕ) (t : TextMesh) (mends : Mends s t) (b : Bounds) (m : Mesh) where
-  abbrev after : List ℕ
-  after = mendText s .text
-
-  abbrev l : Lists
-  l = listsOf t
-
-  past : Past generalLimits l
-  past = inl (mended-of s t (mends .0) (mends .1))
-
-  straight : twisted l ≡ false
-  straight = go (twisted l) (sym (mended-parts generalLimits l past .2) ∙ mended-of s t (mends .0) (mends .1))
+module _ (b : Bounds) (s : List ℕ) (m : Mesh) (t : TextMesh) (says : Says s t) where
+  refused-holds : (g : Ground) → buildText b s m .answer ≡ Built.Refused g → (g ≡ OverCounts) ⊎ Holds (limitsOf b) (listsOf t) m g
+  unfolding buildText buildTextIf
+  refused-holds g = go (tooLong b (length s)) refl
     where
-      differ : Lists.Twisted ≡ Lists.Mended → ⊥
-      differ e = let z : _≡_ {A = ℕ} 0 1 = cc in omega arith
+      go :
+          (x : Bool) → tooLong b (length s) ≡ x → buildText b s m .answer ≡ Built.Refused g →
+          (g ≡ OverCounts) ⊎ Holds (limitsOf b) (listsOf t) m g
+      go true e a = let z : Built.Refused OverCounts ≡ Built.Refused g = rw e at a in let y : g ≡ OverCounts = cc in inl y
+      go false e a =
+          inr
+          (refusals-hold (limitsOf b) (listsOf t) m (few-faces b) g
+          (told-refused (build (limitsOf b) (listsOf t) m .answer)
+          (sym (ap (λ (o : TextOutcome). o .answer) (built-of-lists b s m (record { short = e; place = says .0; form = says .1 }))) ∙ a))
+          .holds)
 
-      go : (x : Bool) → cond x Lists.Twisted Lists.Mended ≡ Lists.Mended → x ≡ false
-      go true e = absurd (differ e)
-      go false e = refl
-
-  -- a ground that the reversed lists do not meet is not answered
-  not-answered :
-      (g : Ground) → groundNumber g ≢ 2 → ¬ Holds (limitsOf b) (reversed (turns l) l) m g → buildText b after m .answer ≢ Built.Refused g
-  unfolding buildText
-  not-answered g other none e = go (tooLong b (length after)) refl
+module _ (s : List ℕ) (t : TextMesh) (says : SaysTwo s t) (e : mending generalLimits (listsOf t) ≡ Lists.Mended) (b : Bounds) (m : Mesh) where
+  straight : twisted (listsOf t) ≡ false
+  straight = which (twisted (listsOf t)) (sym e ∙ mended-parts generalLimits (listsOf t) (inl e) .2)
     where
-      said : Printing after (turnedText (turns l) t)
-      said = faces-turned s t mends
+      which : (x : Bool) → Lists.Mended ≡ cond x Lists.Twisted Lists.Mended → x ≡ false
+      which true h = let z : _≡_ {A = ℕ} 0 1 = cc in absurd (omega arith)
+      which false h = refl
 
-      same-ground : (h : Ground) → Built.Refused h ≡ Built.Refused g → h ≡ g
-      same-ground h q = cc
+  not-refused :
+      (g : Ground) → g ≢ OverCounts → ¬ Holds (limitsOf b) (reversed (turns (listsOf t)) (listsOf t)) m g →
+      buildText b (mendText s .text) m .answer ≢ Built.Refused g
+  not-refused g other not h =
+      go (refused-holds b (mendText s .text) m (turnedText (turns (listsOf t)) t) (mended s t says e .says .0) g h)
+    where
+      go : (g ≡ OverCounts) ⊎ Holds (limitsOf b) (listsOf (turnedText (turns (listsOf t)) t)) m g → ⊥
+      go (inl z) = other z
+      go (inr holds) = not (subst (λ (l : Lists). Holds (limitsOf b) l m g) (mended s t says e .lists) holds)
 
-      go : (x : Bool) → tooLong b (length after) ≡ x → ⊥
-      go true h =
-          let q : Built.Refused OverCounts ≡ Built.Refused g = rw h at e in
-          other (ap groundNumber (sym (same-ground OverCounts q)))
-      go false h =
-          let (n, f) = text-exactly after (turnedText (turns l) t) .1 said in
-          let at : Stands-for b after (turnedText (turns l) t) = record { short = h; place = n; form = f } in
-          let k = build (limitsOf b) (listsOf (turnedText (turns l) t)) m in
-          let held = refusals-hold (limitsOf b) (listsOf (turnedText (turns l) t)) m (few-faces b) g
-          (told-refused (k .answer) (sym (ap (λ (o : TextOutcome). o .answer) (built-of-lists b after m at)) ∙ e)) .holds in
-          none (subst (λ (x : Lists). Holds (limitsOf b) x m g) (lists-reversed s t (turnedText (turns l) t) mends said) held)
+  none-refused :
+      (buildText b (mendText s .text) m .answer ≢ Built.Refused EdgeTripleFace)
+      × (buildText b (mendText s .text) m .answer ≢ Built.Refused SameWay)
+      × (buildText b (mendText s .text) m .answer ≢ Built.Refused MissingFace)
+  none-refused =
+      let (sound, paired) = passed generalLimits (listsOf t) (inl e) in
+      let (third, same, missing) = lists-then-built (listsOf t) sound paired straight (limitsOf b) m in (
+        not-refused EdgeTripleFace (λ z. let y : _≡_ {A = ℕ} 0 1 = cc in omega arith) third,
+        not-refused SameWay (λ z. let y : _≡_ {A = ℕ} 0 1 = cc in omega arith) same,
+        not-refused MissingFace (λ z. let y : _≡_ {A = ℕ} 0 1 = cc in omega arith) missing,
+      )
 
 pub then-built : Then-built
-then-built s t mends b m =
-    let both = passed generalLimits (listsOf t) (past s t mends b m) in
-    let none = lists-then-built (listsOf t) (both .0) (both .1) (straight s t mends b m) (limitsOf b) m in (
-      not-answered s t mends b m EdgeTripleFace (λ e. omega arith) (none .0),
-      not-answered s t mends b m SameWay (λ e. omega arith) (none .1),
-      not-answered s t mends b m MissingFace (λ e. omega arith) (none .2),
-    )
-
--- ---- mending again
-
-pub mended-again : Mended-again
-mended-again s = go (mendText s) refl (came s)
-  where
-    turned : (t : TextMesh) → Mends s t → mendText (mendText s .text) ≡ mendText s
-    turned t (p, a) =
-        let c = turns (listsOf t) in
-        let said : Printing (mendText s .text) (turnedText c t) = faces-turned s t (p, a) in
-        let opposite : Opposite (listsOf (turnedText c t)) = run-opposite s t (turnedText c t) (p, a) said in
-        let answer = outcome-of (mendText s .text) (turnedText c t) said Lists.Mended (two-of s t p (inl a))
-        (turned-mended t (p .0) (two-of s t p (inl a)) (past-of s t p (inl a)) c opposite) in
-        nothing-needed (mendText s .text) (turnedText c t) (said, inl (ap (λ (o : MendOutcome). o .answer) answer)) opposite
-        ∙ same a
-      where
-        same : mendText s .answer ≡ Mended → record { answer = Mended; text = mendText s .text } ≡ mendText s
-        same e = ap (λ (r : TextMending). record { answer = r; text = mendText s .text }) (sym e)
-
-    stays : (r : TextMending) → mendText s ≡ record { answer = r; text = s } → mendText (mendText s .text) ≡ mendText s
-    stays r e = ap (λ (o : MendOutcome). mendText (o .text)) e
-
-    by : (r : Mending) (t : TextMesh) → Printing s t → mendText s ≡ told r s t → mendText (mendText s .text) ≡ mendText s
-    by Lists.Mended t p e = turned t (p, ap (λ (o : MendOutcome). o .answer) e)
-    by (Lists.Refused g) t p e = stays (Refused g) e
-    by Lists.Twisted t p e = stays Twisted e
-
-    go : (o : MendOutcome) → mendText s ≡ o → Came s o → mendText (mendText s .text) ≡ mendText s
-    go o e (no-text h) = stays NotText e
-    go o e (of-one u q v) = stays NotText e
-    go o e (of-two u r q v h) = by r u q e
+then-built s a b m = let (t, says, e) = mended-two s a in none-refused s t says e b m
