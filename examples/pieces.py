@@ -1,12 +1,12 @@
 #!/usr/bin/env python3
 """Makes the example texts of this folder but for the cube, which is document 01's.
 
-    examples/pieces.py            writes core.mesh, two-triangles.mesh and turned.mesh beside this script
+    examples/pieces.py            writes core.mesh, two-triangles.mesh, turned.mesh and clockwise.mesh beside this script
     examples/pieces.py --check    says whether they are up to date
 
 core.mesh is a piece of core: eight faces about it, in four rings from the depth 12.0 to 12.4, a flat lower end of one face and a
 broken upper end of four. two-triangles.mesh is the smallest closed mesh but for the empty one. turned.mesh is the core with one face listed the other
-way round, which is refused with 15.
+way round, which is refused with 15. clockwise.mesh is the core in version 2 with three faces turned round, which `mend` mends.
 """
 import pathlib
 import sys
@@ -65,9 +65,26 @@ def turned():
     return points, faces
 
 
-def text(points, faces):
-    """Mesh text 1. A side's first point is the one listed last before it, going round."""
-    lines = ["[mesh 1]"]
+def turned_round(face):
+    """A face with its sides in opposite order, each backwards, each interval on its pair of points (document 02, section 8)."""
+    points = [p for side in face for p, _ in side]
+    listed = list(zip(points[-2::-1] + points[-1:], [d for side in face for _, d in side][::-1]))
+    sides = []
+    for side in face[::-1]:
+        sides.append(listed[: len(side)])
+        listed = listed[len(side) :]
+    return sides
+
+
+def clockwise():
+    """The piece of core with three of its faces turned round."""
+    points, faces = core()
+    return points, [turned_round(face) if f in (3, 11, 32) else face for f, face in enumerate(faces)], 2
+
+
+def text(points, faces, version=1):
+    """A mesh text. A side's first point is the one listed last before it, going round."""
+    lines = ["[mesh %d]" % version]
     lines += ["[point %s]" % " ".join(map(digits, point)) for point in points]
     for face in faces:
         last = [listed for side in face for listed in side][-1][0]
@@ -80,7 +97,7 @@ def text(points, faces):
 
 
 def main(words):
-    pieces = {"core": core(), "two-triangles": two_triangles(), "turned": turned()}
+    pieces = {"core": core(), "two-triangles": two_triangles(), "turned": turned(), "clockwise": clockwise()}
     for name, piece in pieces.items():
         path = HERE / (name + ".mesh")
         if words != ["--check"]:

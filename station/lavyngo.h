@@ -1,5 +1,6 @@
 /* Lavyngo for stations: closed meshes of points, edges and faces in tables that the caller lends, built from lists or from
-   a text, audited, refined, asked for an edge at a depth, and handed over as a listing. The functions are those of
+   a text, audited, refined, asked for an edge at a depth, and handed over as a listing; and texts with faces turned round
+   mended. The functions are those of
    libstation.a (`rt staticlib station`), for x86-64 Linux.
 
    Link with: cc program.c target/staticlib/libstation.a
@@ -21,7 +22,7 @@
    No pointer may be NULL, also where its number of elements is 0; each must be aligned for its type. Tables that a function
    writes must not overlap each other or anything else that it is handed. Tables that it only reads may be the same.
    The functions keep nothing between calls and may be called from several threads with tables of their own. Nothing is
-   allocated; the deepest call takes less than 640 KiB of stack.
+   allocated; the deepest call takes less than 800 KiB of stack.
 
    POWER
    The promises are about calls that come back. After a call that was cut off, by lost power say, the tables that it may write
@@ -71,11 +72,13 @@ enum lavyngo_answer {
     LAVYNGO_NOT_LISTING = 40,         /* the text is not of the form of the handover listing, text 3 */
     /* the depth finder, which touches nothing; 42 comes before 30, 41 after it */
     LAVYNGO_NOWHERE = 41,             /* no edge crosses the depth */
-    LAVYNGO_NOT_FINITE_DEPTH = 42     /* the depth is not finite */
+    LAVYNGO_NOT_FINITE_DEPTH = 42,    /* the depth is not finite */
+    /* the mender, after 20; the text untouched */
+    LAVYNGO_TWISTED = 44              /* no choice of faces turned round makes all neighbours run opposite ways */
 };
 
 /* The version of this header: 1 for document 01, and one more for each request of document 02 that is in it. */
-#define LAVYNGO_VERSION 9
+#define LAVYNGO_VERSION 10
 
 /* The version of the library that is linked. A station asks once whether it is that of the header. */
 uint32_t lavyngo_version(void);
@@ -139,6 +142,15 @@ uint32_t lavyngo_build_text(
     double *positions, size_t positions_length, uint32_t *points, size_t points_length,
     uint32_t *edges, size_t edges_length, double *intervals, size_t intervals_length,
     uint32_t *faces, size_t faces_length, size_t counts[3]);
+
+/* Mends mesh text 2 in place where some faces are listed the other way round: it reverses whole faces, the sides in opposite
+   order, each side backwards, each interval staying on its pair of points, so that all neighbours run opposite ways. In every
+   part, which is faces joined through shared edges, the lowest-numbered face stays; with that there is one choice at most. The
+   text keeps its number of bytes, and a text that needs nothing is left as it is.
+   Answers 0, 1 (not of the form, or a text of version 1), 2 (over the limits of building), 3, face by face 10, 11, 12, 43 and 14
+   for its edges, whichever way the faces run; then 20, and 44 if no choice works: the first that holds in this order. Writes
+   nothing where the answer is not 0. Building a text that was mended can still meet 4, 13, 21 and 22. */
+uint32_t lavyngo_mend_text(uint8_t *text, size_t text_length);
 
 /* Whether tables of any content, with counts of any size, are a closed mesh: 0, or 30 if they are not. Writes nothing. */
 uint32_t lavyngo_audit(
@@ -327,6 +339,7 @@ static inline const char *lavyngo_ground_words(uint32_t answer) {
     case LAVYNGO_NOT_LISTING: return "the text is not of the form of a handover listing";
     case LAVYNGO_NOWHERE: return "no edge crosses the depth";
     case LAVYNGO_NOT_FINITE_DEPTH: return "the depth is not finite";
+    case LAVYNGO_TWISTED: return "no choice of faces turned round makes all neighbours run opposite ways";
     default: return "no answer of this library";
     }
 }

@@ -12,7 +12,7 @@ pub const EDGE: usize = 8;
 pub const FACE: usize = 5;
 
 /// The version of this module, and of the header.
-pub const VERSION: u32 = 9;
+pub const VERSION: u32 = 10;
 
 /// The version of the library that is linked.
 pub fn version() -> u32 {
@@ -221,6 +221,13 @@ impl Tables {
     }
 }
 
+/// Mends a text of version 2 in place: faces turned round so that all neighbours run opposite ways.
+pub fn mend_text(text: &mut [u8]) -> Result<(), Ground> {
+    // SAFETY: the pointer goes with its length.
+    let answer = unsafe { lavyngo_mend_text(text.as_mut_ptr(), text.len()) };
+    accepted(answer, [0; 3]).map(|_| ())
+}
+
 fn accepted(answer: u32, counts: [usize; 3]) -> Result<Counts, Ground> {
     if answer == 0 { Ok(Counts::of(counts)) } else { Err(Ground(answer)) }
 }
@@ -250,6 +257,7 @@ pub mod raw {
             edges: *mut u32, edges_length: usize, intervals: *mut f64, intervals_length: usize,
             faces: *mut u32, faces_length: usize, counts: *mut [usize; 3],
         ) -> u32;
+        pub fn lavyngo_mend_text(text: *mut u8, text_length: usize) -> u32;
         pub fn lavyngo_audit(
             positions: *const f64, positions_length: usize, points: *const u32, points_length: usize,
             edges: *const u32, edges_length: usize, intervals: *const f64, intervals_length: usize,

@@ -13,14 +13,16 @@ from pathlib import Path
 ROOT = Path(__file__).resolve().parent.parent
 
 # The files that state the claims, and those that the contracts of `build`, `build_text`, `audit`, `step`, `refine`, `find_depth`, `write_listing`, `read_listing`,
-# `handover` and of the functions for C cite.
+# `handover`, `mend_text`, `mend` and of the functions for C cite.
 STATED = """
     audited_meshes/Audit audited_meshes/Claims building_tests/Lent built_meshes/Building built_meshes/Builds built_meshes/Claims
     built_meshes/Connects built_meshes/LentContent closed_meshes/Refinement closed_meshes/Renumbering crossings/Claims
     filed_pieces/Pieces filed_pieces/TextTwo full_agreement/Agreement handover_outputs/Claims handover_outputs/Output listings/Claims listings/Handing
+    mend_outputs/Claims mend_outputs/Output mended_lists/Claims mended_texts/Claims
     mesh_printing/Claims outcomes/Outcomes refine_outputs/Bytes refine_outputs/Claims refine_outputs/Output refined_meshes/Refines
-    refined_meshes/SplitStarts renumbered_meshes/Claims runs/Runs station/Station station_steps/Told step_runs/Claims
+    refined_meshes/SplitStarts renumbered_meshes/Claims runs/Runs station/Station station_mending/Told station_steps/Told step_runs/Claims
     steps/FirstGround steps/LentScratch steps/OneStep steps/Step text_meshes/Claims text_meshes/TextBuilding
+    text_printing/Faces
 """.split()
 
 # What each crate's definitions are about, in the order of the table.
@@ -51,11 +53,16 @@ ABOUT = {
     "mesh_answers": "the lines of an answer",
     "listings": "the handover listing",
     "mesh_printing": "the printing of mesh texts 1 and 2",
+    "mended_lists": "faces of lists turned round, and the choice of faces",
+    "text_printing": "the faces of lists as a text says them",
+    "mended_texts": "faces of a text turned round, the mender of texts",
     "refine_outputs": "what the program `refine` writes",
     "handover_outputs": "what the program `handover` writes",
+    "mend_outputs": "what the program `mend` writes",
     "crossings": "depths that edges cross, the depth finder",
     "station_answers": "how an answer is told to a C caller",
     "station_steps": "what the C functions of the step answer and leave",
+    "station_mending": "what the C function of the mender answers and leaves",
     "station": "what the C functions answer and leave",
     "filed_pieces": "document 01's starred pieces, and pieces of mesh text 2",
 }

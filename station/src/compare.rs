@@ -7,7 +7,7 @@ use crate::lists::Lists;
 use crate::names::{self, Names, Register, Share};
 use crate::random::Random;
 use crate::rust::Mesh;
-use crate::{agreement, depths, listings, numbers, shapes, spoil};
+use crate::{agreement, depths, listings, mender, numbers, shapes, spoil};
 use oracle::text::Version;
 use std::collections::BTreeMap;
 
@@ -62,6 +62,8 @@ pub struct Tally {
     pub depths: depths::Answers,
     /// How often writing and reading a listing gave each answer.
     pub listings: listings::Answers,
+    /// How often the mender gave each answer.
+    pub mended: mender::Answers,
 }
 
 /// A change of what the library leaves, to see that it is found.
@@ -368,6 +370,7 @@ pub fn largest(tally: &mut Tally) -> Result<(), String> {
 /// All that is asked of a case. The error says what differs.
 pub fn check(case: &Case, tally: &mut Tally, tamper: Option<Tamper>) -> Result<(), String> {
     let built = build(case, tally).map_err(|what| format!("building: {what}"))?;
+    mender::check(&mut Random::new(case.seed ^ 0x3e4d), &case.lists, &mut tally.mended)?;
     let Some((tables, counts)) = built else {
         return refused(case, tally);
     };

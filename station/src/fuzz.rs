@@ -7,7 +7,7 @@ use crate::library::{self, Counts, Edition, Tables};
 use crate::lists::Lists;
 use crate::random::Random;
 use crate::rust::Mesh;
-use crate::{depths, listings, numbers, shapes, spoil};
+use crate::{depths, listings, mender, numbers, shapes, spoil};
 use std::collections::BTreeMap;
 
 #[derive(Default)]
@@ -23,6 +23,7 @@ pub struct Fuzzed {
     pub audits: [u64; 2],
     pub depths: depths::Answers,
     pub listings: listings::Answers,
+    pub mended: mender::Answers,
 }
 
 /// Any binary64, near ones more often than far ones.
@@ -218,6 +219,7 @@ fn text(random: &mut Random, fuzzed: &mut Fuzzed) -> Result<(), String> {
         spoil::text(random, &mut bytes);
     }
     let lists = oracle::text::read(&bytes).map(|mesh| Lists::of_mesh(&mesh));
+    mender::through(&bytes, lists.as_ref(), &mut fuzzed.mended)?;
     let listed = lists.clone().unwrap_or_default();
     let room = Counts { points: listed.points(), edges: listed.listed.len(), faces: listed.faces() };
     let mut tables = Tables::patterned(room, random.below(9));
@@ -251,6 +253,7 @@ fn case(random: &mut Random, fuzzed: &mut Fuzzed) -> Result<(), String> {
     };
     let mut tally = Tally::default();
     compare::build(&case, &mut tally)?;
+    mender::check(random, &case.lists, &mut fuzzed.mended)?;
     fuzzed.lists += 1;
     *fuzzed.building.entry(tally.refused.keys().next().copied().unwrap_or(0)).or_default() += 1;
 

@@ -148,6 +148,12 @@ pub fn build_text(text: &[u8], tables: &mut Tables, counts: &mut [usize; 3]) -> 
     }
 }
 
+/// Mends a text in place.
+pub fn mend_text(text: &mut [u8]) -> u32 {
+    // SAFETY: the pointer goes with its length.
+    unsafe { lavyngo_mend_text(text.as_mut_ptr(), text.len()) }
+}
+
 /// 0 for a closed mesh, else 30.
 pub fn audit(tables: &Tables, counts: [usize; 3]) -> u32 {
     let t = tables;

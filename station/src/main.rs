@@ -21,6 +21,7 @@ mod library;
 mod listings;
 mod lists;
 mod memory;
+mod mender;
 mod names;
 mod numbers;
 mod random;
@@ -98,6 +99,7 @@ fn compare(meshes: u64, seed: u64) -> ExitCode {
             );
             println!("the depth finder answered: {}", listed(&t.depths));
             println!("listings written and read were answered: {}", listed(&t.listings));
+            println!("the mender answered: {}", listed(&t.mended));
             println!("none differed");
             ExitCode::SUCCESS
         }
@@ -147,6 +149,7 @@ fn fuzz(cases: u64, seed: u64) -> ExitCode {
             println!("{} steps answered: {}", f.steps, listed(&f.answers));
             println!("the depth finder answered: {}", listed(&f.depths));
             println!("listings written and read were answered: {}", listed(&f.listings));
+            println!("the mender answered: {}", listed(&f.mended));
             println!("every answer is document 01's or 02's, every row as its ground promises");
             ExitCode::SUCCESS
         }

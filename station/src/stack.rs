@@ -6,7 +6,9 @@ use crate::lists::Lists;
 use crate::{listings, shapes};
 use std::process::{Command, Stdio};
 
-const CALLS: [&str; 9] = ["build", "build_2", "build_text", "audit", "step", "step_published", "find_depth", "write_listing", "read_listing"];
+const CALLS: [&str; 10] = [
+    "build", "build_2", "build_text", "mend_text", "audit", "step", "step_published", "find_depth", "write_listing", "read_listing",
+];
 
 /// The cube, so that the stack does not depend on what is worked on.
 fn cube() -> Lists {
@@ -25,6 +27,7 @@ pub fn call(name: &str, bytes: usize) {
     let lists = cube();
     let version_2 = Lists { firsts: Some(Vec::new()), ..lists.clone() }.fitted();
     let text = lists.text().expect("the cube has a text");
+    let mut scanned = version_2.text().expect("so has the cube of version 2").into_bytes();
     let room = Counts { points: 8, edges: 24, faces: 6 };
     let (mut tables, mut counts) = (Tables::with_rows(room), [0; 3]);
     assert_eq!(library::build(&lists, &mut tables, &mut counts), 0, "the cube is built");
@@ -38,6 +41,7 @@ pub fn call(name: &str, bytes: usize) {
         "build" => library::build(&lists, &mut tables, &mut counts),
         "build_2" => library::build(&version_2, &mut tables, &mut counts),
         "build_text" => library::build_text(text.as_bytes(), &mut tables, &mut counts),
+        "mend_text" => library::mend_text(&mut scanned),
         "audit" => library::audit(&refined, counts),
         "step" => library::step(Edition::First, &mut refined, &mut counts, &[0, 1, 2, 3, 4, 5], &mut scratch),
         "step_published" => library::step(Edition::Second, &mut refined, &mut counts, &[0, 1, 2, 3, 4, 5], &mut scratch),

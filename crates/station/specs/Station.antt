@@ -44,4 +44,4 @@ abbrev pub found : List ℕ → Crossing → Finding
 found xs r = record { answer = crossings.numberOf r; edge = edgeAfter xs r }
 
 abbrev pub libraryVersion : ℕ
-libraryVersion = 9
+libraryVersion = 10

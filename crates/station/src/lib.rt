@@ -1,10 +1,12 @@
-// The library for stations: building, the audit, the step, the depth finder and the handover listing as C functions on pointers
-// and lengths (station/lavyngo.h declares them). Every answer is document 01's number or document 02's: 0 for what is accepted, else
-// that of the ground. Counts stand in an array of three that the caller lends: points, edges, faces.
-// Not here: what the functions do (`building`, `text_building`, `audit`, `refining`, `depth_finder`, `listing_writing`,
-// `listing_reading`), how an answer is told (`station_answers`, `station_steps`, `station_listings`).
-// Contracts: `lavyngo_build`, `lavyngo_build_2`, `lavyngo_build_text`, `lavyngo_audit`, `lavyngo_step`, `lavyngo_step_published`,
-// `lavyngo_find_depth`, `lavyngo_write_listing`, `lavyngo_read_listing`, `lavyngo_version`. Definitions: `specs/Station.antt`. Laws: `proofs/Laws.antt`.
+// The library for stations: building, the mender of texts, the audit, the step, the depth finder and the handover listing as C
+// functions on pointers and lengths (station/lavyngo.h declares them). Every answer is document 01's number or document 02's: 0 for
+// what is accepted, else that of the ground. Counts stand in an array of three that the caller lends: points, edges, faces.
+// Not here: what the functions do (`building`, `text_building`, `text_mending`, `audit`, `refining`, `depth_finder`,
+// `listing_writing`, `listing_reading`), how an answer is told (`station_answers`, `station_mending`, `station_steps`,
+// `station_listings`).
+// Contracts: `lavyngo_build`, `lavyngo_build_2`, `lavyngo_build_text`, `lavyngo_mend_text`, `lavyngo_audit`, `lavyngo_step`,
+// `lavyngo_step_published`, `lavyngo_find_depth`, `lavyngo_write_listing`, `lavyngo_read_listing`, `lavyngo_version`.
+// Definitions: `specs/Station.antt`. Laws: `proofs/Laws.antt`.
 ghost use mathlib.Core.Path.{_≡_};
 ghost use Rattle.built_meshes.specs.Building.{build};
 ghost use Rattle.built_meshes.specs.Lists.{generalLimits};
@@ -17,6 +19,8 @@ ghost use Rattle.refined_meshes.specs.declared.Edition.the-variants.{First, Sec
 ghost use Rattle.steps.specs.Step.{step};
 ghost use Rattle.steps.specs.OneStep.{Binary64};
 ghost use Rattle.station.specs.Station.{BuildingTold, built, textBuilt, audited, Finding, found, libraryVersion};
+ghost use Rattle.mended_texts.specs.Mending.{mendText};
+ghost use Rattle.station_mending.specs.Told.{MendingTold, mended};
 ghost use Rattle.station_steps.specs.Told.{StepTold, stepped};
 ghost use Rattle.crossings.specs.Crossings.{find};
 ghost use Rattle.station_answers.specs.Answers.{countsIn};
@@ -34,12 +38,13 @@ use station_answers::tell_crossing;
 use station_answers::tell_text_built;
 use station_listings::read_listing_told;
 use station_listings::write_listing_told;
+use station_mending::mend_text_told;
 use station_steps::step_told;
 use text_building::build_text;
 
 // The version of the library: 1 for document 01, and one more for each request of document 02 that is in it. LAVYNGO_VERSION in the
 // header is the same number.
-pub const LIBRARY_VERSION: u32 = 9;
+pub const LIBRARY_VERSION: u32 = 10;
 
 // Builds a mesh from lists of version 1 in the lent tables. The counts are written if it is accepted.
 #[no_mangle]
@@ -148,6 +153,15 @@ pub extern "C" fn lavyngo_build_text(
         faces,
     );
     tell_text_built(counts, answer)
+}
+
+// Mends a text of version 2 in place: whole faces are turned round so that all neighbours run opposite ways.
+#[no_mangle]
+pub extern "C" fn lavyngo_mend_text(text: &mut [u8]) -> u32
+    ensures { λ r. ⌜
+        _≡_ {A = MendingTold} (record { answer = r; text = now (text .exit) }) (mended (mendText (now (text .entry)))) ⌝ }
+{
+    mend_text_told(text)
 }
 
 // Whether the tables are a closed mesh with these counts: 0, or 30 if they are not.
