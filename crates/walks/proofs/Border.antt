@@ -1,5 +1,10 @@
 -- The loop of `lay_border`, over plain variables. The walk about face f of the mesh m, along the edges below ne, has passed n edges
--- and come to e; es and ps are the arrays, which began as es₀ and ps₀. Then the border in arrays of 0. Assumes nothing.
+-- and come to e; es and ps are the arrays, which began as es₀ and ps₀. Assumes nothing.
+--     border-start, border-more                  before the first edge, and one edge more
+--     border-last, border-lost, border-out       what is laid where the walk ends: back at its start, on an edge that it may not pass,
+--                                                with no edge left
+--     border-of-laid, cleared                    laid into arrays of 0 it is the border, which is 0 where the walk is lost
+--     laid-passed, laid-edge, laid-point         for callers: what was answered, and what stands at the first places
 use mathlib.Core.Path.{_≡_, refl, sym, _∙_, ap, subst}
 use mathlib.Core.Bool.{Bool, _&&_}
 use mathlib.Core.List.{List, [], _∷_, _++_, map}
