@@ -14,10 +14,12 @@ use Rattle.audited_meshes.specs.Folds.{every, distinct}
 use Rattle.audited_meshes.specs.Walks.{Walk, back, lost, passed, firstPoint, faceWalk}
 use Rattle.audited_meshes.specs.Quick.{faceFit, faceBack}
 use Rattle.walks.specs.declared.FaceBorder.{FaceBorder}
-use Rattle.walks.specs.Border.{borderOf, border}
+use Rattle.walks.specs.Border.{borderOf, border, BorderLaid}
 use Rattle.walks.specs.Steps.{passedBy}
+use Rattle.walks.specs.declared.Passed.{Passed}
 use Rattle.walks.specs.declared.Passed.the-variants as Passed
-use Rattle.walks.proofs.Laws.{border-point, border-walk, border-passed, passed-back, passed-lost, getD-map}
+use Rattle.walks.proofs.Laws.{border-point, border-walk, passed-back, passed-lost, getD-map}
+use Rattle.walks.proofs.Border.{laid-point}
 use Rattle.walks.proofs.Back.{faceWalk-within}
 use Rattle.audit_tests.specs.Parts.{differAt, faceSize, facesWalked}
 use Rattle.audit_tests.proofs.Laws.{and-false, every-none, every-more, every-stop, every-all, every-cong, sumTo-none, sumTo-more, sumTo-stop, sumTo-all}
@@ -69,19 +71,16 @@ unfolding faceBack
 walk-size m f (back es) l = rw (le-leb 3 (length es) l) (ap (λ (d : Bool). cond d (length es) 0) (sym (apart-border m f es)))
 walk-size m f lost l = absurd (omega arith)
 
-module _ (m : Mesh) (ne f : ℕ) (b : FaceBorder) (e : b ≡ border m ne f) where
-  by-walk : b ≡ borderOf m f (faceWalk m ne f)
-  by-walk = e ∙ border-walk m ne f
+module _ (m : Mesh) (ne f : ℕ) (answer : Passed) (xs qs xs₀ qs₀ : List ℕ) (h : BorderLaid m ne f answer xs qs xs₀ qs₀) where
+  passed-is : passedBy (faceWalk m ne f) ≡ answer
+  passed-is = sym (h .answered)
 
-  passed-is : passedBy (faceWalk m ne f) ≡ b .passed
-  passed-is = sym (ap (λ (x : FaceBorder). x .passed) e ∙ border-passed m ne f)
-
-  pub size-lost : b .passed ≡ Passed.Lost → 0 ≡ faceSize m ne f
-  size-lost h =
-      let z = passed-lost (faceWalk m ne f) (passed-is ∙ h) in
+  pub size-lost : answer ≡ Passed.Lost → 0 ≡ faceSize m ne f
+  size-lost e =
+      let z = passed-lost (faceWalk m ne f) (passed-is ∙ e) in
       sym (walk-short m f (faceWalk m ne f) (omega arith))
 
-  module _ {n : ℕ} (came : b .passed ≡ Passed.Back n) where
+  module _ {n : ℕ} (came : answer ≡ Passed.Back n) where
     count : passed (faceWalk m ne f) ≡ n
     count = passed-back (faceWalk m ne f) (passed-is ∙ came)
 
@@ -91,12 +90,19 @@ module _ (m : Mesh) (ne f : ℕ) (b : FaceBorder) (e : b ≡ border m ne f) wher
     pub size-short : n < 3 → 0 ≡ faceSize m ne f
     size-short l = sym (walk-short m f (faceWalk m ne f) (rw count l))
 
-    pub size-is : 3 ≤ n → (d : Bool) → d ≡ allApart (b .points) n → cond d n 0 ≡ faceSize m ne f
+    -- the points in the array are those of the border, as far as they are looked at
+    apart-laid : allApart qs n ≡ allApart (border m ne f .points) n
+    apart-laid = every-cong n _ _ (λ i l. every-cong i _ _ (λ j k. ap₂ (λ (a b : ℕ). not (eqb a b)) (same i l) (same j (omega arith))))
+      where
+        same : (i : ℕ) → i < n → getD qs i 0 ≡ getD (border m ne f .points) i 0
+        same i l = laid-point m ne f answer xs qs xs₀ qs₀ h came i (omega arith)
+
+    pub size-is : 3 ≤ n → (d : Bool) → d ≡ allApart qs n → cond d n 0 ≡ faceSize m ne f
     size-is l d q =
         sym (walk-size m f (faceWalk m ne f) (rw count l)
-        ∙ ap (λ (x : FaceBorder). cond (allApart (x .points) (passed (faceWalk m ne f))) (passed (faceWalk m ne f)) 0) (sym by-walk)
-        ∙ ap (λ (k : ℕ). cond (allApart (b .points) k) k 0) count
-        ∙ ap (λ (t : Bool). cond t n 0) (sym q))
+        ∙ ap (λ (x : FaceBorder). cond (allApart (x .points) (passed (faceWalk m ne f))) (passed (faceWalk m ne f)) 0) (sym (border-walk m ne f))
+        ∙ ap (λ (k : ℕ). cond (allApart (border m ne f .points) k) k 0) count
+        ∙ ap (λ (t : Bool). cond t n 0) (sym (q ∙ apart-laid)))
 
 -- ---- the sizes of faces in turn
 

@@ -6,7 +6,7 @@ ghost use mathlib.Core.List.{[]};
 ghost use Prim.Native.Nat.{_+_, _*_, _≤_};
 ghost use lib.Dec.{eqb, ltb};
 ghost use lib.ListN.{length};
-ghost use Rattle.tables.specs.Layout.{edgeWidth, faceWidth, longestPerimeter};
+ghost use Rattle.tables.specs.Layout.{edgeWidth, faceWidth, longestPerimeter, longestBorder};
 ghost use Rattle.tables.specs.Mesh.{none};
 ghost use Rattle.audited_meshes.specs.Folds.{every};
 ghost use Rattle.audited_meshes.specs.Quick.{faceFit};
@@ -22,7 +22,7 @@ use tables::SECOND_CORNER_WORD;
 use tables::THIRD_CORNER_WORD;
 use tables::index;
 use walks::Passed;
-use walks::t_nurcc_face::put_border;
+use walks::t_nurcc_face::lay_border;
 
 // Whether a corner is a point number or the none mark.
 fn corner_fit(word: u32, np: usize) -> bool
@@ -101,35 +101,47 @@ fn are_distinct(points: &[u32; LONGEST_BORDER], n: usize) -> bool
     true
 }
 
-// The number of edges of face f; 0 if its walk does not come back, passes fewer than 3 edges or a point twice.
-fn face_size(edges: &[u32], faces: &[u32], ne: usize, f: usize) -> usize
+// The number of edges of face f; 0 if its walk does not come back, passes fewer than 3 edges or a point twice. The border of the face is
+// laid into the lent arrays, which may hold anything before.
+fn face_size(
+    edges: &[u32],
+    faces: &[u32],
+    ne: usize,
+    f: usize,
+    perimeter: &mut [u32; LONGEST_PERIMETER],
+    points: &mut [u32; LONGEST_BORDER],
+) -> usize
     requires { ⌜ ne * edgeWidth ≤ length (now edges) ⌝ }
     requires { ⌜ f * faceWidth + faceWidth ≤ length (now faces) ⌝ }
+    requires { ⌜ length (now perimeter) ≡ longestPerimeter ⌝ }
+    requires { ⌜ length (now points) ≡ longestBorder ⌝ }
     ensures { λ r. ⌜ r ≡ faceSize (faceTables (now (edges .entry)) (now (faces .entry))) ne f ⌝ }
+    ensures { λ _. ⌜ length (now (perimeter .exit)) ≡ longestPerimeter ⌝ }
+    ensures { λ _. ⌜ length (now (points .exit)) ≡ longestBorder ⌝ }
 {
-    let mut perimeter = [0u32; LONGEST_PERIMETER];
-    let mut points = [0u32; LONGEST_BORDER];
-    let Passed::Back(n) = put_border(edges, faces, ne, f, &mut perimeter, &mut points) else {
+    let Passed::Back(n) = lay_border(edges, faces, ne, f, perimeter, points) else {
         return 0;
     };
     if n < 3 {
         return 0;
     }
-    if are_distinct(&points, n) { n } else { 0 }
+    if are_distinct(points, n) { n } else { 0 }
 }
 
 // Whether the walk about each of the first nf faces comes back and passes no point twice, and their sizes add up to a total. The
-// sum stops where it is past the total.
+// sum stops where it is past the total. One pair of arrays holds the border of each face in its turn.
 pub fn face_walks_fit(edges: &[u32], faces: &[u32], ne: usize, nf: usize, total: usize) -> bool
     requires { ⌜ ne * edgeWidth ≤ length (now edges) ⌝ }
     requires { ⌜ nf * faceWidth ≤ length (now faces) ⌝ }
     requires { ⌜ total * 4 ≤ 18446744073709551615 ⌝ }
     ensures { λ r. ⌜ r ≡ facesWalked (faceTables (now (edges .entry)) (now (faces .entry))) ne nf total ⌝ }
 {
+    let mut perimeter = [0u32; LONGEST_PERIMETER];
+    let mut points = [0u32; LONGEST_BORDER];
     let mut sum = 0;
     let mut f = 0;
     while f < nf {
-        let n = face_size(edges, faces, ne, f);
+        let n = face_size(edges, faces, ne, f, &mut perimeter, &mut points);
         if n == 0 {
             return false;
         }

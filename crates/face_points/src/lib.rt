@@ -5,9 +5,9 @@
 // for the terms that the code keeps from one window to the next.
 ghost use mathlib.Core.Path.{_≡_};
 ghost use Prim.Native.Nat.{_+_, _<_};
-ghost use lib.ListN.{getD};
+ghost use lib.ListN.{length, getD};
 ghost use Rattle.perimeters.specs.Places.{around};
-ghost use Rattle.tables.specs.Layout.{longestPerimeter};
+ghost use Rattle.tables.specs.Layout.{longestPerimeter, longestBorder};
 ghost use Rattle.positions.specs.Position.{placedAt};
 ghost use Rattle.position_rules.specs.FacePoint.{windowSum, facePointIn};
 ghost use Rattle.tables.specs.Parts.{withoutPoints};
@@ -24,7 +24,7 @@ use tables::LONGEST_BORDER;
 use tables::LONGEST_PERIMETER;
 use tables::index;
 use walks::Passed;
-use walks::t_nurcc_face::put_border;
+use walks::t_nurcc_face::lay_border;
 
 // The interval of an edge, and those after two steps anticlockwise and two steps clockwise about one of its points.
 struct Terms {
@@ -107,7 +107,8 @@ fn window_sum(
     s
 }
 
-// The face point of face f, by the walk about it along the edges below ne.
+// The face point of face f, by the walk about it along the edges below ne. The border of the face is laid into the lent arrays, which may
+// hold anything before.
 pub fn face_point(
     positions: &[f64],
     edges: &[u32],
@@ -115,15 +116,19 @@ pub fn face_point(
     faces: &[u32],
     ne: usize,
     f: usize,
+    perimeter: &mut [u32; LONGEST_PERIMETER],
+    points: &mut [u32; LONGEST_BORDER],
 ) -> Placed
     requires { ⌜ FacePointFits (now positions) (now edges) (now intervals) (now faces) ne f ⌝ }
+    requires { ⌜ length (now perimeter) ≡ longestPerimeter ⌝ }
+    requires { ⌜ length (now points) ≡ longestBorder ⌝ }
     ensures { λ r. ⌜ r ≡ placedAt (facePointIn (withoutPoints (now (positions .entry)) (now (edges .entry)) (now (intervals .entry)) (now (faces .entry))) ne f) ⌝ }
+    ensures { λ _. ⌜ length (now (perimeter .exit)) ≡ longestPerimeter ⌝ }
+    ensures { λ _. ⌜ length (now (points .exit)) ≡ longestBorder ⌝ }
 {
-    let mut perimeter = [0u32; LONGEST_PERIMETER];
-    let mut points = [0u32; LONGEST_BORDER];
-    let Passed::Back(n) = put_border(edges, faces, ne, f, &mut perimeter, &mut points) else {
+    let Passed::Back(n) = lay_border(edges, faces, ne, f, perimeter, points) else {
         return Placed::NotFinite;
     };
-    let s = window_sum(positions, edges, intervals, &points, &perimeter, n);
+    let s = window_sum(positions, edges, intervals, points, perimeter, n);
     s.sum.over(s.weight).placed()
 }

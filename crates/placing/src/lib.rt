@@ -29,9 +29,12 @@ use tables::DEST_WORD;
 use tables::EDGE_WIDTH;
 use tables::FACE_WIDTH;
 use tables::FIRST_CORNER_WORD;
+use tables::LONGEST_BORDER;
+use tables::LONGEST_PERIMETER;
 use tables::index;
 
-// Puts the face points of the first nf faces into their rows, and says whether all are finite.
+// Puts the face points of the first nf faces into their rows, and says whether all are finite. One pair of arrays holds the border of each
+// face in its turn.
 fn place_face_points(
     positions: &[f64],
     edges: &[u32],
@@ -49,9 +52,20 @@ fn place_face_points(
         (so-far (now (newpositions .entry)))
         ≡ came r (now (newpositions .exit)) ⌝ }
 {
+    let mut perimeter = [0u32; LONGEST_PERIMETER];
+    let mut points = [0u32; LONGEST_BORDER];
     let mut f = 0;
     while f < nf {
-        let Placed::At(x, y, z) = face_point(positions, edges, intervals, faces, ne, f) else {
+        let Placed::At(x, y, z) = face_point(
+            positions,
+            edges,
+            intervals,
+            faces,
+            ne,
+            f,
+            &mut perimeter,
+            &mut points,
+        ) else {
             return false;
         };
         store_position(

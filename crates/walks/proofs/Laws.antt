@@ -1,5 +1,7 @@
 -- The laws of borders. Assumes nothing.
---     padded-set, getD-padded                    one more element is stored, one is read
+--     getD-padded                                an element of a padded list
+--     laid-set, getD-laid, length-laid           one more element is laid into a list, one is read, and how long the list is
+--     laid-zeros                                 a list laid into one of 0 is padded
 --     length-again, getD-again, getD-again-more  the points followed by the first k again: how many, the points, the first again
 --     four-again                                 what stands after the first four were stored behind the last
 --     border-walk, border-point, border-point-again                  the border by the walk, and its points by their places where it comes back
@@ -10,25 +12,49 @@ use Prim.Native.Nat.{ℕ, zero, suc, _+_, _-_, _<_, _≤_}
 use native.Mathlib.Nat.{le-of-suc-le-suc}
 use native.Mathlib.Omega.{arith}
 use native.Mathlib.Decide.{decLt}
-use lib.ListN.{length, getD, set, replicate, length-append, List·getD-append, length-map}
-use lib.Seq.{set-append-seam, getD-at}
+use lib.ListN.{length, getD, set, drop, replicate, length-append, length-drop, List·getD-append, length-map}
+use lib.Seq.{set-append-seam, getD-at, drop-cons}
 use Rattle.tables.specs.Mesh.{Mesh}
 use Rattle.audited_meshes.specs.Walks.{Walk, back, lost, passed, firstPoint, faceWalk}
-use Rattle.walks.specs.Border.{padded, borderOf, border}
+use Rattle.walks.specs.Border.{padded, laid, borderOf, border}
 use Rattle.walks.specs.Steps.{passedBy}
 use Rattle.walks.specs.declared.Passed.the-variants as Passed
 use Rattle.audited_meshes.specs.Folds.{again}
 
-less-one : (k n : ℕ) → n < k → k - n ≡ suc (k - suc n)
-less-one k n l = omega arith
+one-more : (n : ℕ) → suc n ≡ n + 1
+one-more n = omega arith
 
-fewer : (k n : ℕ) → k - suc n ≡ k - (n + 1)
-fewer k n = omega arith
+pub laid-set : (xs ys : List ℕ) (v : ℕ) → length xs < length ys → set (laid xs ys) (length xs) v ≡ laid (xs ++ v ∷ []) ys
+unfolding laid
+laid-set xs ys v l =
+    rw (drop-cons ys (length xs) 0 l, set-append-seam, length-append, append-assoc)
+    (ap (λ (j : ℕ). xs ++ v ∷ drop j ys) (one-more (length xs)))
 
-pub padded-set : (k : ℕ) (xs : List ℕ) (v : ℕ) → length xs < k → set (padded k xs) (length xs) v ≡ padded k (xs ++ v ∷ [])
-unfolding padded
-padded-set k xs v l =
-    rw (less-one k (length xs) l, set-append-seam, length-append, append-assoc) (ap (λ (j : ℕ). xs ++ v ∷ replicate j 0) (fewer k (length xs)))
+pub getD-laid : (xs ys : List ℕ) (i : ℕ) → i < length xs → getD (laid xs ys) i 0 ≡ getD xs i 0
+unfolding laid
+getD-laid xs ys i l = List·getD-append xs (drop (length xs) ys) 0 i l
+
+pub length-laid : (xs ys : List ℕ) → length xs ≤ length ys → length (laid xs ys) ≡ length ys
+unfolding laid
+length-laid xs ys l = length-append xs (drop (length xs) ys) ∙ rw length-drop (omega arith)
+
+zeros-dropped : (i k : ℕ) → _≡_ {A = List ℕ} (drop i (replicate k 0)) (replicate (k - i) 0)
+zeros-dropped zero k = ap (λ (j : ℕ). replicate {A = ℕ} j 0) (none-less k)
+  where
+    none-less : (k : ℕ) → k ≡ k - 0
+    none-less k = omega arith
+zeros-dropped (suc i) zero = ap (λ (j : ℕ). replicate {A = ℕ} j 0) (none-left i)
+  where
+    none-left : (i : ℕ) → 0 ≡ 0 - suc i
+    none-left i = omega arith
+zeros-dropped (suc i) (suc k) = zeros-dropped i k ∙ ap (λ (j : ℕ). replicate {A = ℕ} j 0) (both-less k i)
+  where
+    both-less : (k i : ℕ) → k - i ≡ suc k - suc i
+    both-less k i = omega arith
+
+pub laid-zeros : (k : ℕ) (xs : List ℕ) → laid xs (replicate k 0) ≡ padded k xs
+unfolding laid padded
+laid-zeros k xs = ap (λ (t : List ℕ). xs ++ t) (zeros-dropped (length xs) k)
 
 getD-replicate : (j i : ℕ) → _≡_ {A = ℕ} (getD (replicate j 0) i 0) 0
 getD-replicate zero i = refl
@@ -49,12 +75,13 @@ unfolding again
 length-again zero ps = omega arith
 length-again (suc k) ps = length-append (again k ps) (getD (again k ps) k 0 ∷ []) ∙ omega (arith, length-again k ps)
 
--- one point more is stored behind the last
-pub padded-again : (k : ℕ) (ps : List ℕ) → length ps + k < 68
-    → set (padded 68 (again k ps)) (length ps + k) (getD (padded 68 (again k ps)) k 0) ≡ padded 68 (again (suc k) ps)
+-- one point more is laid behind the last
+pub laid-again : (k : ℕ) (ps qs : List ℕ) → 0 < length ps → length ps + k < length qs
+    → set (laid (again k ps) qs) (length ps + k) (getD (laid (again k ps) qs) k 0) ≡ laid (again (suc k) ps) qs
 unfolding again
-padded-again k ps l =
-    rw (getD-padded 68 (again k ps) k, sym (length-again k ps)) (padded-set 68 (again k ps) (getD (again k ps) k 0) (omega (arith, length-again k ps)))
+laid-again k ps qs some l =
+    rw (getD-laid (again k ps) qs k (omega (arith, length-again k ps)), sym (length-again k ps))
+    (laid-set (again k ps) qs (getD (again k ps) k 0) (omega (arith, length-again k ps)))
 
 pub getD-again : (k : ℕ) (ps : List ℕ) (i : ℕ) → i < length ps → getD (again k ps) i 0 ≡ getD ps i 0
 unfolding again
@@ -81,21 +108,21 @@ getD-again-more (suc k) ps j h l = go (decLt j k) (getD-again-more k ps j h)
         let same : j ≡ k = omega arith in
         subst (λ i. getD (again (suc k) ps) (length ps + i) 0 ≡ getD (again (suc k) ps) i 0) (sym same) (last ∙ sym (longer k (omega arith)))
 
--- the first four are stored behind the last, one after the other
-module _ (ps : List ℕ) (n : ℕ) (h : n ≤ 64) (q : length ps ≡ n) where
-  once-more : (k i : ℕ) → k < 4 → n + k ≡ i → set (padded 68 (again k ps)) i (getD (padded 68 (again k ps)) k 0) ≡ padded 68 (again (suc k) ps)
+-- the first four are laid behind the last, one after the other
+module _ (ps qs : List ℕ) (n : ℕ) (h : n ≤ 64) (some : 0 < n) (q : length ps ≡ n) (long : length qs ≡ 68) where
+  once-more : (k i : ℕ) → k < 4 → n + k ≡ i → set (laid (again k ps) qs) i (getD (laid (again k ps) qs) k 0) ≡ laid (again (suc k) ps) qs
   once-more k i l e =
-      subst (λ j. set (padded 68 (again k ps)) j (getD (padded 68 (again k ps)) k 0) ≡ padded 68 (again (suc k) ps))
-      (ap (λ (j : ℕ). j + k) q ∙ e) (padded-again k ps (omega arith))
+      subst (λ j. set (laid (again k ps) qs) j (getD (laid (again k ps) qs) k 0) ≡ laid (again (suc k) ps) qs)
+      (ap (λ (j : ℕ). j + k) q ∙ e) (laid-again k ps qs (omega arith) (omega arith))
 
-  pub four-again : (a b c d e : List ℕ) → a ≡ padded 68 ps
+  pub four-again : (a b c d e : List ℕ) → a ≡ laid ps qs
       → b ≡ set a n (getD a 0 0) → c ≡ set b (n + 1) (getD b 1 0) → d ≡ set c (n + 2) (getD c 2 0) → e ≡ set d (n + 3) (getD d 3 0)
-      → e ≡ padded 68 (again 4 ps)
+      → e ≡ laid (again 4 ps) qs
   unfolding again
   four-again a b c d e ha hb hc hd he =
-      let pb : b ≡ padded 68 (again 1 ps) = hb ∙ rw ha (once-more 0 n (omega arith) (omega arith)) in
-      let pc : c ≡ padded 68 (again 2 ps) = hc ∙ rw pb (once-more 1 (n + 1) (omega arith) (omega arith)) in
-      let pd : d ≡ padded 68 (again 3 ps) = hd ∙ rw pc (once-more 2 (n + 2) (omega arith) (omega arith)) in
+      let pb : b ≡ laid (again 1 ps) qs = hb ∙ rw ha (once-more 0 n (omega arith) (omega arith)) in
+      let pc : c ≡ laid (again 2 ps) qs = hc ∙ rw pb (once-more 1 (n + 1) (omega arith) (omega arith)) in
+      let pd : d ≡ laid (again 3 ps) qs = hd ∙ rw pc (once-more 2 (n + 2) (omega arith) (omega arith)) in
       he ∙ rw pd (once-more 3 (n + 3) (omega arith) (omega arith))
 
 pub border-walk : (m : Mesh) (ne f : ℕ) → border m ne f ≡ borderOf m f (faceWalk m ne f)

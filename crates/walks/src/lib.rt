@@ -2,7 +2,7 @@
 // Carries over t_nurcc_iter.rs, t_nurcc_control_point.rs and t_nurcc_face.rs. A walk that leaves the rows, loses its face or
 // point, or does not meet its start within its bound is lost, and says so.
 // Not here: whether the mesh is closed (`audit`).
-// Definitions: `specs/Steps.antt`, `specs/Border.antt`. Laws for callers: `proofs/Laws.antt`.
+// Definitions: `specs/Steps.antt`, `specs/Border.antt`. Laws for callers: `proofs/Laws.antt`; `proofs/Border.antt` for borders laid into arrays.
 use tables::LONGEST_BORDER;
 use tables::LONGEST_PERIMETER;
 

@@ -1,91 +1,39 @@
--- put_border meets its contract. The invariant: the walk has passed the edges and points that stand in the arrays; the measure is
--- what is left of 64.
-use mathlib.Core.Path.{sym, _∙_, ap}
-use Prim.Native.Nat.{_-_}
+-- put_border meets its contract: the border is laid into arrays of 0, which are made 0 again where the walk is lost.
+use mathlib.Core.Path.{sym, _∙_}
+use Prim.Native.Nat.{ℕ}
+use lib.ListN.{length-replicate}
 use borrow.Author.Needs.{needs}
-use Rattle.walks.specs.Steps.{faceStep}
 use Rattle.tables.specs.Parts.{faceTables}
-use Rattle.walks.specs.Border.{padded}
-use Rattle.walks.proofs.Border.{Bordering, border-start, border-more, border-last, border-lost, border-out, cleared}
+use Rattle.walks.proofs.Border.{border-of-laid, cleared}
 use Rattle.walks.proofs.t_nurcc_face.put_border.Statement.{statement}
 use Rattle.walks.proofs.t_nurcc_face.put_border.Tie as tie
 
-abbrev Inv-loop : tie.InvT-loop
-Inv-loop edges faces ne f perimeter₀ points₀ start n₀ e₀ perimeter points n e = Bordering (faceTables edges faces) ne f perimeter points n e
+lay-border-requires : tie.Need-lay-border-requires
+lay-border-requires c κs =
+    let pre = c .before .before .before .before .pre in
+    (pre .0, (pre .1 .0, (rw (pre .1 .1 .0) (length-replicate {A = ℕ} 64 0), rw (pre .1 .1 .1) (length-replicate {A = ℕ} 68 0))))
 
-abbrev μ-loop : tie.MeasureT-loop
-μ-loop edges faces ne f perimeter₀ points₀ start n₀ e₀ perimeter points n e = 64 - n
-
-loop-holds : tie.Need-loop-holds Inv-loop μ-loop
-unfolding padded
-loop-holds c =
-    let a = c .before .before .before .args in
-    border-start (faceTables (a .edges .now) (a .faces .now)) (a .ne) (a .f) _ _
-    (c .before .before .before .pre .1 .1 .0) (c .before .before .before .pre .1 .1 .1)
-
-returns : tie.Need-returns Inv-loop μ-loop
+returns : tie.Need-returns
 returns c =
-    let c8 = c .before .before .before .before .before .before .before .before in
-    let a = c8 .before .before .before .before .args in
-    let lost = sym (c .before .before .before .enum-told .given .1)
-    ∙ c .before .before .before .before .before .face-step .ensures
-    ∙ ap (faceStep (a .edges .now) (a .ne) (a .f))
-    (c .before .before .before .before .before .before .index .ensures) in
+    let a = c .before .before .before .before .before .before .before .before .before .before .args in
     cleared (faceTables (a .edges .now) (a .faces .now)) (a .ne) (a .f) _ _ (c .clear .ensures .0)
-    (c .clear .ensures .1) (border-lost (faceTables (a .edges .now) (a .faces .now)) (a .ne) (a .f) _ _ _ _
-    (c8 .loop .inv) lost (c .before .before .before .before .before .before .before .loop-test .taken))
+    (c .clear .ensures .1) (sym (c .before .before .before .enum-told .given .1)
+    ∙ c .before .before .before .before .before .lay-border .ensures .answered)
 
-returns-2 : tie.Need-returns-2 Inv-loop μ-loop
+returns-2 : tie.Need-returns-2
 returns-2 c =
-    let c8 = c .before .before .before .before .before .before .before .before in
-    let a = c8 .before .before .before .before .before .args in
-    let to = sym (c .before .before .before .before .point .given .1)
-    ∙ c .before .before .before .before .before .before .face-step .ensures
-    ∙ ap (faceStep (a .edges .now) (a .ne) (a .f))
-    (c .before .before .before .before .before .before .before .index .ensures) in
-    border-last (faceTables (a .edges .now) (a .faces .now)) (a .ne) (a .f) _ _ _ _ (c8 .before .loop .inv) _ _ to
-    (c8 .loop-test .taken) _ (c .before .before .if1 .taken) (c .put-first-four .ensures)
-
-loop-again : tie.Need-loop-again Inv-loop μ-loop
-loop-again c =
-    let a = c .before .before .before .before .before .before .before .before .before .before .before .args in
-    let to = sym (c .before .before .point .given .1) ∙ c .before .before .before .before .face-step .ensures
-    ∙ ap (faceStep (a .edges .now) (a .ne) (a .f)) (c .before .before .before .before .before .index .ensures) in
-    border-more (faceTables (a .edges .now) (a .faces .now)) (a .ne) (a .f) _ _ _ _
-    (c .before .before .before .before .before .before .before .loop .inv) _ _ to
-    (c .before .before .before .before .before .before .loop-test .taken) (c .if1 .left)
-
-returns-3 : tie.Need-returns-3 Inv-loop μ-loop
-returns-3 c =
     let a = c .before .before .before .before .before .before .before .before .args in
-    cleared (faceTables (a .edges .now) (a .faces .now)) (a .ne) (a .f) _ _ (c .clear2 .ensures .0)
-    (c .clear2 .ensures .1) (border-out (faceTables (a .edges .now) (a .faces .now)) (a .ne) (a .f) _ _ _ _
-    (c .before .before .before .before .loop .inv) (search needs))
+    let pre = c .before .before .before .before .before .before .before .before .pre in
+    border-of-laid (faceTables (a .edges .now) (a .faces .now)) (a .ne) (a .f) _ _ _ _ _
+    (c .before .before .before .lay-border .ensures) (pre .1 .1 .0) (pre .1 .1 .1) (c .before .n .given .1)
 
 pub put-border-spec : {M : Type 1} → statement M
 put-border-spec =
     tie.close
     (tie.spec
-    Inv-loop
-    μ-loop
-    (λ c. search needs)
-    (λ c. search needs)
-    (λ c. search needs)
-    loop-holds
-    (λ c κs. search needs)
-    (λ c κs. search needs)
+    lay-border-requires
     (λ c. search needs)
     (λ c. search needs)
     (λ c κs. search needs)
     returns
-    (λ c. search needs)
-    (λ c. search needs)
-    (λ c. search needs)
-    (λ c. search needs)
-    (λ c. search needs)
-    (λ c κs. search needs)
-    returns-2
-    (λ c. search needs)
-    loop-again
-    (λ c κs. search needs)
-    returns-3)
+    returns-2)

@@ -7,8 +7,9 @@ use Rattle.walks.proofs.t_nurcc_face.put_first_four.Tie as tie
 
 returns : tie.Need-returns
 returns c =
-    λ ps q e. four-again ps (c .before .before .before .before .args .n) (c .before .before .before .before .pre) q _ _
-    _ _ _ e refl refl refl refl
+    let args = c .before .before .before .before .args in
+    let pre = c .before .before .before .before .pre in
+    λ ps qs q long e. four-again ps qs (args .n) (pre .0) (pre .1) q long _ _ _ _ _ e refl refl refl refl
 
 pub put-first-four-spec : {M : Type 1} → statement M
 put-first-four-spec =

@@ -1,0 +1,89 @@
+-- The border of a face in lent arrays, as the face point takes it: xs are its edges, qs its points. Assumes nothing.
+--     laid-never-lost         the walk comes back
+--     laid-edges-fit          its edges are there
+--     laid-points-fit         its points are there, the first four again too
+--     facePoint-of-laid       the sum over the windows of that border gives the face point
+use mathlib.Core.Path.{_≡_, refl, sym, _∙_, ap, fun-ext}
+use mathlib.Core.List.{List}
+use Prim.Native.Nat.{ℕ, _+_, _<_}
+use native.Mathlib.Omega.{arith}
+use lib.ListN.{getD}
+use lib.Ieee.{Float}
+use Rattle.perimeters.specs.Places.{around}
+use Rattle.perimeters.proofs.Laws.{around-below}
+use Rattle.tables.specs.Parts.{faceTables, withoutPoints}
+use Rattle.tables.specs.Records.{positionAt}
+use Rattle.walks.specs.Border.{border, BorderLaid}
+use Rattle.walks.specs.declared.FaceBorder.{FaceBorder}
+use Rattle.walks.specs.declared.Passed.{Passed}
+use Rattle.walks.specs.declared.Passed.the-variants as Passed
+use Rattle.walks.proofs.Border.{laid-passed, laid-edge, laid-point}
+use Rattle.refined_meshes.proofs.Turns.{turns-cong}
+use Rattle.position_rules.specs.declared.WeightedSum.{WeightedSum}
+use Rattle.position_rules.specs.Sums.{withTerm}
+use Rattle.position_rules.specs.FacePoint.{noWindows, windowWeight, windowSum, overWeight, facePointIn}
+use Rattle.position_rules.specs.Fits.{BorderFits, PointsFit, FacePointFits}
+use Rattle.position_rules.proofs.FacePoint.{never-lost, border-edges-fit, border-points-fit, facePoint-of-border}
+
+-- the sum over the windows looks at the first n + 4 points alone
+windowSum-points : (ps : List Float) (es : List ℕ) (is : List Float) (pt pt' ed : ℕ → ℕ) (n : ℕ)
+    → ((j : ℕ) → j < n + 4 → pt j ≡ pt' j) → windowSum ps es is pt ed n ≡ windowSum ps es is pt' ed n
+unfolding windowSum windowWeight
+windowSum-points ps es is pt pt' ed n same =
+    turns-cong n (λ i s. withTerm s (positionAt ps (pt (i + 2))) (windowWeight es is pt ed i))
+    (λ i s. withTerm s (positionAt ps (pt' (i + 2))) (windowWeight es is pt' ed i))
+    (λ i s l. rw (
+      same i (omega arith),
+      same (i + 1) (omega arith),
+      same (i + 2) (omega arith),
+      same (i + 3) (omega arith),
+      same (i + 4) (omega arith),
+    ))
+    noWindows
+
+module _ (ps : List Float) (es : List ℕ) (is : List Float) (fs : List ℕ) (ne f : ℕ) (h : FacePointFits ps es is fs ne f)
+    (answer : Passed) (xs qs xs₀ qs₀ : List ℕ) (laid : BorderLaid (faceTables es fs) ne f answer xs qs xs₀ qs₀) where
+  abbrev B : FaceBorder
+  B = border (faceTables es fs) ne f
+
+  passed-is : answer ≡ B .passed
+  passed-is = laid-passed (faceTables es fs) ne f answer xs qs xs₀ qs₀ laid
+
+  pub laid-never-lost : answer ≡ Passed.Lost → ⊥
+  laid-never-lost l = never-lost ps es is fs ne f h B refl (sym passed-is ∙ l)
+
+  module _ {n : ℕ} (came : answer ≡ Passed.Back n) where
+    back-is : B .passed ≡ Passed.Back n
+    back-is = sym passed-is ∙ came
+
+    edge-is : (i : ℕ) → i < n → getD xs i 0 ≡ getD (B .edges) i 0
+    edge-is = laid-edge (faceTables es fs) ne f answer xs qs xs₀ qs₀ laid came
+
+    point-is : (i : ℕ) → i < n + 4 → getD qs i 0 ≡ getD (B .points) i 0
+    point-is = laid-point (faceTables es fs) ne f answer xs qs xs₀ qs₀ laid came
+
+    fits : BorderFits es is (B .edges) n
+    fits = border-edges-fit ps es is fs ne f h B refl back-is
+
+    pub laid-edges-fit : BorderFits es is xs n
+    laid-edges-fit = record {
+      rows = fits .rows;
+      fit = fits .fit;
+      at-least-3 = fits .at-least-3;
+      at-most-64 = fits .at-most-64;
+      edges-below = λ j l. rw (edge-is j l) (fits .edges-below j l);
+    }
+
+    pub laid-points-fit : PointsFit ps qs n
+    laid-points-fit = record {
+      points-there = λ j l. rw (point-is j l) (border-points-fit ps es is fs ne f h B refl back-is .points-there j l);
+    }
+
+    pub facePoint-of-laid : (s : WeightedSum) → s ≡ windowSum ps es is (λ j. getD qs j 0) (λ j. getD xs (around n j) 0) n
+        → overWeight s ≡ facePointIn (withoutPoints ps es is fs) ne f
+    facePoint-of-laid s q =
+        let some : 0 < n = omega (arith, fits .at-least-3) in
+        facePoint-of-border ps es is fs ne f h B s refl back-is
+        (q
+        ∙ ap (λ (ed : ℕ → ℕ). windowSum ps es is (λ j. getD qs j 0) ed n) (fun-ext (λ j. edge-is (around n j) (around-below n j some)))
+        ∙ windowSum-points ps es is (λ j. getD qs j 0) (λ j. getD (B .points) j 0) (λ j. getD (B .edges) (around n j) 0) n point-is)
