@@ -8,7 +8,8 @@ use lib.Dec.{eqb, leb}
 use borrow.Author.Tests.{le-leb, lt-leb}
 use Rattle.tables.specs.Mesh.{Mesh, valence, start, origin, dest}
 use Rattle.audited_meshes.specs.Walks.{touches, acwOfPoint}
-use Rattle.audited_meshes.specs.Quick.{free, alone, aloneAt, oneEdge}
+use Rattle.audited_meshes.specs.Quick.{free, alone, aloneAt}
+use Rattle.dense_points.specs.Sole.{sparseAlone, sparseOne}
 use Rattle.audited_meshes.proofs.Tests.{and-is, ltb-is, self-is}
 
 module _ (m : Mesh) (ne e p q : ℕ) where
@@ -53,14 +54,12 @@ module _ (m : Mesh) (ne e p q : ℕ) where
 
 -- seen from the end of smaller valence
 module _ (m : Mesh) (ne e p q : ℕ) (a : p ≡ origin m e) (b : q ≡ dest m e) where
-  pub from-origin : valence m p ≤ valence m q → aloneAt m ne e p q ≡ oneEdge m ne e
-  unfolding oneEdge
+  pub from-origin : valence m p ≤ valence m q → sparseAlone m ne e p q ≡ sparseOne m ne e
   from-origin l =
       let t : leb (valence m (origin m e)) (valence m (dest m e)) ≡ true = rw (sym a, sym b) (le-leb (valence m p) (valence m q) l) in
       rw (t, a, b)
 
-  pub from-dest : valence m q < valence m p → aloneAt m ne e q p ≡ oneEdge m ne e
-  unfolding oneEdge
+  pub from-dest : valence m q < valence m p → sparseAlone m ne e q p ≡ sparseOne m ne e
   from-dest l =
       let t : leb (valence m (origin m e)) (valence m (dest m e)) ≡ false = rw (sym a, sym b) (lt-leb (valence m p) (valence m q) l) in
       rw (t, a, b)

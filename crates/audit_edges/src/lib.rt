@@ -1,5 +1,6 @@
 // The tests of the audit about edges: the test of one row and the loops over the rows.
-// Not here: the audit made of them (`audit`). Definitions: `Parts` of `audit_tests`, `Quick` of `audited_meshes`.
+// Not here: second edges at points with many (`dense_points`), the audit made of them (`audit`).
+// Definitions: `Parts` of `audit_tests`, `Quick` of `audited_meshes`, `Sole` of `dense_points`.
 ghost use mathlib.Core.Path.{_≡_};
 ghost use mathlib.Core.Bool.{_&&_};
 ghost use mathlib.Core.List.{[]};
@@ -11,8 +12,12 @@ ghost use Rattle.tables.specs.Mesh.{origin, dest, leftCw, leftAcw, rightCw, rig
 ghost use Rattle.audited_meshes.specs.Folds.{every};
 ghost use Rattle.audited_meshes.specs.Audit.{edgeInRange, linked, acwLinks};
 ghost use Rattle.audited_meshes.specs.Quick.{edgeFit, free, aloneAt, oneEdge};
+ghost use Rattle.audited_meshes.specs.Audited.{PointWalked};
 ghost use Rattle.audit_tests.specs.Parts.{linksBack};
+ghost use Rattle.dense_points.specs.Sole.{Ends, sparseAlone, sparseOne};
 ghost use Rattle.tables.specs.Parts.{faceTables, pointTables, edgeTables};
+use dense_points::DENSE;
+use dense_points::dense_points_sole;
 use intervals::interval_fits;
 use tables::DEST_WORD;
 use tables::EDGE_WIDTH;
@@ -214,37 +219,64 @@ fn is_free(edges: &[u32], ne: usize, e: usize, q: usize, i: usize) -> bool
     !touches(edges, q, i)
 }
 
-// Whether no other edge joins the two ends of edge e, seen from the end of smaller valence.
-fn is_one_edge(points: &[u32], edges: &[u32], np: usize, ne: usize, e: usize) -> bool
+// Whether point p has many edges, or none but e touches point q.
+fn is_sparse_alone(points: &[u32], edges: &[u32], ne: usize, e: usize, p: usize, q: usize) -> bool
+    requires { ⌜ p * pointWidth + pointWidth ≤ length (now points) ⌝ }
+    requires { ⌜ ne * edgeWidth ≤ length (now edges) ⌝ }
+    ensures { λ r. ⌜ r ≡ sparseAlone (pointTables (now (points .entry)) (now (edges .entry))) ne e p q ⌝ }
+{
+    if DENSE < points[p * POINT_WIDTH] {
+        return true;
+    }
+    is_alone(points, edges, ne, e, p, q)
+}
+
+// Whether both ends of edge e have many edges, or no other edge joins them, seen from the end of smaller valence.
+fn is_sparse_one(points: &[u32], edges: &[u32], np: usize, ne: usize, e: usize) -> bool
     requires { ⌜ np * pointWidth ≤ length (now points) ⌝ }
     requires { ⌜ ne * edgeWidth ≤ length (now edges) ⌝ }
     requires { ⌜ e < ne ⌝ }
     requires { ⌜ origin (faceTables (now edges) []) e < np ⌝ }
     requires { ⌜ dest (faceTables (now edges) []) e < np ⌝ }
-    ensures { λ r. ⌜ r ≡ oneEdge (pointTables (now (points .entry)) (now (edges .entry))) ne e ⌝ }
+    ensures { λ r. ⌜ r ≡ sparseOne (pointTables (now (points .entry)) (now (edges .entry))) ne e ⌝ }
 {
     let b = e * EDGE_WIDTH;
     let p = index(edges[b]);
     let q = index(edges[b + DEST_WORD]);
     if points[p * POINT_WIDTH] <= points[q * POINT_WIDTH] {
-        return is_alone(points, edges, ne, e, p, q);
+        return is_sparse_alone(points, edges, ne, e, p, q);
     }
-    is_alone(points, edges, ne, e, q, p)
+    is_sparse_alone(points, edges, ne, e, q, p)
 }
 
-// Whether no two of the first ne edges join the same two points.
-pub fn are_one_edges(points: &[u32], edges: &[u32], np: usize, ne: usize) -> bool
+// The same of the first ne edges.
+fn are_sparse_ones(points: &[u32], edges: &[u32], np: usize, ne: usize) -> bool
     requires { ⌜ np * pointWidth ≤ length (now points) ⌝ }
     requires { ⌜ ne * edgeWidth ≤ length (now edges) ⌝ }
-    requires { ⌜ ((e : ℕ) → e < ne → (origin (faceTables (now edges) []) e < np) × (dest (faceTables (now edges) []) e < np)) ⌝ }
-    ensures { λ r. ⌜ r ≡ every ne (λ e. oneEdge (pointTables (now (points .entry)) (now (edges .entry))) ne e) ⌝ }
+    requires { ⌜ Ends (faceTables (now edges) []) np ne ⌝ }
+    ensures { λ r. ⌜ r ≡ every ne (λ e. sparseOne (pointTables (now (points .entry)) (now (edges .entry))) ne e) ⌝ }
 {
     let mut e = 0;
     while e < ne {
-        if !is_one_edge(points, edges, np, ne, e) {
+        if !is_sparse_one(points, edges, np, ne, e) {
             return false;
         }
         e += 1;
     }
     true
+}
+
+// Whether no two of the first ne edges join the same two points, where the walks about the points pass all their edges. A second
+// edge is looked for about an end with few edges, else by one walk about each point with many (`dense_points`).
+pub fn are_one_edges(points: &[u32], edges: &[u32], np: usize, ne: usize) -> bool
+    requires { ⌜ np * pointWidth ≤ length (now points) ⌝ }
+    requires { ⌜ ne * edgeWidth ≤ length (now edges) ⌝ }
+    requires { ⌜ Ends (faceTables (now edges) []) np ne ⌝ }
+    requires { ⌜ ((p : ℕ) → p < np → PointWalked (pointTables (now points) (now edges)) ne p) ⌝ }
+    ensures { λ r. ⌜ r ≡ every ne (λ e. oneEdge (pointTables (now (points .entry)) (now (edges .entry))) ne e) ⌝ }
+{
+    if !are_sparse_ones(points, edges, np, ne) {
+        return false;
+    }
+    dense_points_sole(points, edges, np, ne)
 }

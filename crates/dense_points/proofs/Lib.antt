@@ -1,0 +1,4 @@
+pub mod Joins
+pub mod Walking
+pub mod Walked
+pub mod OneEdges
