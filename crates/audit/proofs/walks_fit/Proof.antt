@@ -4,8 +4,8 @@ use mathlib.Core.Path.{sym, _∙_}
 use borrow.Author.Tests.{not-true, not-false}
 use borrow.Author.Needs.{needs}
 use Rattle.tables.specs.Parts.{pointTables}
-use Rattle.dense_points.proofs.OneEdges.{ends-with-points}
-use Rattle.dense_points.proofs.Walked.{walked-of-tests}
+use Rattle.sole_edges.proofs.OneEdges.{ends-with-points}
+use Rattle.sole_edges.proofs.Walked.{walked-of-tests}
 use Rattle.audit.proofs.Whole.{walks-valences, walks-faces, walks-points, walks-edges}
 use Rattle.audit.proofs.walks_fit.Statement.{statement}
 use Rattle.audit.proofs.walks_fit.Tie as tie

@@ -1,4 +1,0 @@
-pub mod Joins
-pub mod Walking
-pub mod Walked
-pub mod OneEdges
