@@ -1,27 +1,32 @@
 -- The whole audit from its parts. Assumes nothing.
 --     counts-rows       counts that fit have their words in the tables
---     ends-below        the ends of edges that pass their test are points
+--     ends-passed       the ends of edges that pass their test are points, and differ
+--     valence-passed    a point that passes its test has two edges at least
 --     rows-points .., walks-valences .., audit-counts ..      the parts of the tests in turn; the audit is made of the test of the
 --                       counts, of the rows and of the walks
 use mathlib.Core.Path.{_≡_, refl, sym, _∙_, ap, ap₂}
-use mathlib.Core.Bool.{Bool, true, false, not, _&&_, cond}
+use mathlib.Core.Bool.{Bool, true, false, not, _&&_, _||_, cond}
 use mathlib.Core.List.{List, []}
+use mathlib.Core.Logic.{_≢_}
 use Prim.Native.Nat.{ℕ, zero, suc, _*_, _<_, _≤_}
 use native.Mathlib.Omega.{arith}
-use lib.Dec.{eqb, leb}
+use lib.Dec.{eqb, ltb, leb}
 use lib.ListN.{length}
 use lib.Ieee.{Float}
+use lib.Ieee.Scale.{finite}
 use Rattle.closed_meshes.specs.Renumbering.{sumTo}
 use Rattle.tables.specs.Counted.{countsOf, rowsFor}
-use Rattle.tables.specs.Mesh.{Mesh, valence, start, origin, dest, leftFace, rightFace, interval, meshOf}
+use Rattle.tables.specs.Mesh.{Mesh, x, y, z, valence, start, mark, origin, dest, leftFace, rightFace, interval, meshOf}
 use Rattle.audited_meshes.specs.Folds.{every}
 use Rattle.audited_meshes.specs.Walks.{Walk, back, lost, passed, acwOfPoint, faceWalk, pointWalk}
 use Rattle.audited_meshes.specs.Audit.{edgeInRange, intervalFit, linked, audit}
+use Rattle.audited_meshes.specs.Audited.{EdgeInRange}
 use Rattle.audited_meshes.specs.Quick.{pointFit, edgeFit, faceFit, faceBack, free, alone, aloneAt, oneEdge, quick}
-use Rattle.audited_meshes.proofs.Tests.{and-is, every-is, self-is}
+use Rattle.audited_meshes.proofs.Tests.{and-is, not-is, eqb-is, leb-is, every-is, self-is}
 use Rattle.audited_meshes.proofs.Audited.{rowsFor-is, edgeInRange-is}
 use Rattle.audited_meshes.proofs.Quick.{quick-is-audit}
 use Rattle.tables.specs.Parts.{faceTables, pointTables, positionTables, edgeTables}
+use Rattle.sole_edges.specs.Sole.{Ends}
 use Rattle.audit.specs.Parts.{rowsFit, walksFit}
 use Rattle.audit_tests.specs.Parts.{walkFits, facesWalked}
 use Rattle.audit_tests.proofs.Laws.{every-cong, first-of-three, second-of-three, third-of-three, first-of-four, second-of-four, third-of-four, fourth-of-four}
@@ -175,16 +180,34 @@ module _ (xs : List Float) (ps es : List ℕ) (is : List Float) (fs : List ℕ) 
     pub audit-walks : rowsFor (countsOf np ne nf) whole-mesh ≡ true → rowsFit xs ps es is fs np ne nf ≡ true → walksFit ps es fs np ne nf ≡ audit whole-mesh np ne nf
     audit-walks h k = third-of-three (rowsFor (countsOf np ne nf) whole-mesh) (rowsFit xs ps es is fs np ne nf) (walksFit ps es fs np ne nf) h k ∙ whole np ne nf
 
-  pub ends-below : (np ne nf : ℕ) → rowsFit xs ps es is fs np ne nf ≡ true
-      → (e : ℕ) → e < ne → (origin (faceTables es []) e < np) × (dest (faceTables es []) e < np)
+  -- what the tests of single rows say of one edge and of one point
+  edge-passed : (np ne nf : ℕ) → rowsFit xs ps es is fs np ne nf ≡ true → (e : ℕ) → e < ne
+      → EdgeInRange (edgeTables es is) np ne nf e × (origin (faceTables es []) e ≢ dest (faceTables es []) e)
   unfolding rowsFit edgeFit
-  ends-below np ne nf h e l =
+  edge-passed np ne nf h e l =
       let m : Mesh = edgeTables es is in
       let edges : every ne (λ e. edgeFit m np ne nf e) ≡ true =
       and-is (and-is (self-is (every np (λ p. pointFit (positionTables xs ps) ne p))) (self-is (every ne (λ e. edgeFit m np ne nf e))))
       (self-is (every nf (λ f. faceFit (faceTables [] fs) np ne f))) .0 h .0 .1 in
       let edge : edgeFit m np ne nf e ≡ true = every-is ne (λ k. self-is (edgeFit m np ne nf k)) .0 edges e l in
-      let r = edgeInRange-is m np ne nf e .0
-      (and-is (and-is (and-is (and-is (self-is (edgeInRange m np ne nf e)) (self-is (intervalFit (interval m e))))
-      (self-is (not (eqb (origin m e) (dest m e))))) (self-is (not (eqb (leftFace m e) (rightFace m e))))) (self-is (linked m e)) .0 edge .0 .0 .0 .0) in
-      (r .origin-in-range, r .dest-in-range)
+      let parts = and-is (and-is (and-is (and-is (edgeInRange-is m np ne nf e) (self-is (intervalFit (interval m e))))
+      (not-is (eqb-is (origin m e) (dest m e)))) (self-is (not (eqb (leftFace m e) (rightFace m e))))) (self-is (linked m e)) .0 edge in
+      (parts .0 .0 .0 .0, parts .0 .0 .1)
+
+  pub valence-passed : (np ne nf : ℕ) → rowsFit xs ps es is fs np ne nf ≡ true → (p : ℕ) → p < np → 2 ≤ valence (pointTables ps []) p
+  unfolding rowsFit pointFit
+  valence-passed np ne nf h p l =
+      let m : Mesh = positionTables xs ps in
+      let points : every np (λ p. pointFit m ne p) ≡ true =
+      and-is (and-is (self-is (every np (λ p. pointFit m ne p))) (self-is (every ne (λ e. edgeFit (edgeTables es is) np ne nf e))))
+      (self-is (every nf (λ f. faceFit (faceTables [] fs) np ne f))) .0 h .0 .0 in
+      let point : pointFit m ne p ≡ true = every-is np (λ k. self-is (pointFit m ne k)) .0 points p l in
+      and-is (and-is (and-is (self-is (ltb (start m p) ne)) (self-is (finite (x m p) && finite (y m p) && finite (z m p))))
+      (leb-is 2 (valence m p))) (self-is (eqb (mark m p) 0 || eqb (mark m p) 1)) .0 point .0 .1
+
+  pub ends-passed : (np ne nf : ℕ) → rowsFit xs ps es is fs np ne nf ≡ true → Ends (faceTables es []) np ne
+  ends-passed np ne nf h = record {
+    origin-below = λ e l. edge-passed np ne nf h e l .0 .origin-in-range;
+    dest-below = λ e l. edge-passed np ne nf h e l .0 .dest-in-range;
+    differ = λ e l. edge-passed np ne nf h e l .1;
+  }

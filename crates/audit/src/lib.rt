@@ -1,18 +1,19 @@
 // Whether tables of any content, with counts of any size, are a closed mesh (document 01, "Audit").
-// It is near linear in the mesh, has no memory but locals and writes nothing.
+// It is linear in the mesh, save that past 32,768 points those with many edges are walked about once for each so many
+// (`sole_edges`); it has no memory but locals and writes nothing.
 // Not here: what is asked (`audited_meshes`: `audit`, and its quick form, which this code follows), the tests of its rows and
-// walks (`audit_tests`, `audit_edges`, `audit_faces`).
+// walks (`audit_tests`, `audit_edges`, `audit_faces`, `sole_edges`).
 // Contract: `audit`. Definitions: `specs/Parts.antt`. Laws: `proofs/Whole.antt`.
 ghost use mathlib.Core.Path.{_≡_};
 ghost use mathlib.Core.List.{[]};
 ghost use Prim.Native.Nat.{ℕ, _*_, _≤_, _<_};
 ghost use lib.ListN.{length};
 ghost use Rattle.tables.specs.Layout.{positionWidth, pointWidth, edgeWidth, faceWidth};
-ghost use Rattle.tables.specs.Mesh.{origin, dest, meshOf};
+ghost use Rattle.tables.specs.Mesh.{valence, meshOf};
 ghost use Rattle.audited_meshes.specs.Audit.{audit};
-ghost use Rattle.tables.specs.Parts.{faceTables};
+ghost use Rattle.tables.specs.Parts.{faceTables, pointTables};
+ghost use Rattle.sole_edges.specs.Sole.{Ends};
 ghost use Rattle.audit.specs.Parts.{rowsFit, walksFit};
-use audit_edges::are_one_edges;
 use audit_edges::edges_fit;
 use audit_faces::face_walks_fit;
 use audit_faces::faces_fit;
@@ -20,6 +21,7 @@ use audit_tests::points::point_walks_fit;
 use audit_tests::points::points_fit;
 use audit_tests::points::valences_fit;
 use counted_rows::rows_for;
+use sole_edges::are_one_edges;
 use tables::Counts;
 
 // The tests of single rows.
@@ -55,7 +57,8 @@ fn walks_fit(points: &[u32], edges: &[u32], faces: &[u32], counts: Counts) -> bo
     requires { ⌜ counts .points * pointWidth ≤ length (now points) ⌝ }
     requires { ⌜ counts .edges * edgeWidth ≤ length (now edges) ⌝ }
     requires { ⌜ counts .faces * faceWidth ≤ length (now faces) ⌝ }
-    requires { ⌜ ((e : ℕ) → e < counts .edges → (origin (faceTables (now edges) []) e < counts .points) × (dest (faceTables (now edges) []) e < counts .points)) ⌝ }
+    requires { ⌜ Ends (faceTables (now edges) []) (counts .points) (counts .edges) ⌝ }
+    requires { ⌜ ((p : ℕ) → p < counts .points → 2 ≤ valence (pointTables (now points) []) p) ⌝ }
     ensures { λ r. ⌜ r ≡ walksFit (now (points .entry)) (now (edges .entry)) (now (faces .entry)) (counts .points) (counts .edges) (counts .faces) ⌝ }
 {
     let np = counts.points;

@@ -1,2 +1,1 @@
 pub mod EdgeTests
-pub mod Alone

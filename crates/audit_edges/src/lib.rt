@@ -1,31 +1,29 @@
 // The tests of the audit about edges: the test of one row and the loops over the rows.
-// Not here: the audit made of them (`audit`). Definitions: `Parts` of `audit_tests`, `Quick` of `audited_meshes`.
+// Not here: second edges on the same two points (`sole_edges`), the audit made of them (`audit`).
+// Definitions: `Parts` of `audit_tests`, `Quick` of `audited_meshes`.
 ghost use mathlib.Core.Path.{_≡_};
 ghost use mathlib.Core.Bool.{_&&_};
 ghost use mathlib.Core.List.{[]};
 ghost use Prim.Native.Nat.{ℕ, _+_, _*_, _≤_, _<_};
 ghost use lib.Dec.{ltb};
 ghost use lib.ListN.{length};
-ghost use Rattle.tables.specs.Layout.{pointWidth, edgeWidth, leftAcwWord};
-ghost use Rattle.tables.specs.Mesh.{origin, dest, leftCw, leftAcw, rightCw, rightAcw};
+ghost use Rattle.tables.specs.Layout.{edgeWidth, leftAcwWord};
+ghost use Rattle.tables.specs.Mesh.{leftCw, leftAcw, rightCw, rightAcw};
 ghost use Rattle.audited_meshes.specs.Folds.{every};
 ghost use Rattle.audited_meshes.specs.Audit.{edgeInRange, linked, acwLinks};
-ghost use Rattle.audited_meshes.specs.Quick.{edgeFit, free, aloneAt, oneEdge};
+ghost use Rattle.audited_meshes.specs.Quick.{edgeFit};
 ghost use Rattle.audit_tests.specs.Parts.{linksBack};
-ghost use Rattle.tables.specs.Parts.{faceTables, pointTables, edgeTables};
+ghost use Rattle.tables.specs.Parts.{faceTables, edgeTables};
 use intervals::interval_fits;
 use tables::DEST_WORD;
 use tables::EDGE_WIDTH;
 use tables::LEFT_ACW_WORD;
 use tables::LEFT_CW_WORD;
 use tables::LEFT_FACE_WORD;
-use tables::POINT_WIDTH;
 use tables::RIGHT_ACW_WORD;
 use tables::RIGHT_CW_WORD;
 use tables::RIGHT_FACE_WORD;
-use tables::START_WORD;
 use tables::index;
-use walks::t_nurcc_control_point::acw_of_point;
 use walks::t_nurcc_control_point::touches;
 
 // Whether two row numbers are below n and two below k.
@@ -174,74 +172,6 @@ pub fn edges_fit(edges: &[u32], intervals: &[f64], np: usize, ne: usize, nf: usi
     let mut e = 0;
     while e < ne {
         if !edge_fit(edges, intervals, np, ne, nf, e) {
-            return false;
-        }
-        e += 1;
-    }
-    true
-}
-
-// Whether no edge about point p but e, among as many as its valence from its start edge, touches point q.
-fn is_alone(points: &[u32], edges: &[u32], ne: usize, e: usize, p: usize, q: usize) -> bool
-    requires { ⌜ p * pointWidth + pointWidth ≤ length (now points) ⌝ }
-    requires { ⌜ ne * edgeWidth ≤ length (now edges) ⌝ }
-    ensures { λ r. ⌜ r ≡ aloneAt (pointTables (now (points .entry)) (now (edges .entry))) ne e p q ⌝ }
-{
-    let k = index(points[p * POINT_WIDTH]);
-    let mut i = index(points[p * POINT_WIDTH + START_WORD]);
-    let mut n = 0;
-    while n < k {
-        if !is_free(edges, ne, e, q, i) {
-            return false;
-        }
-        i = index(acw_of_point(edges, p, i));
-        n += 1;
-    }
-    true
-}
-
-// Whether i is an edge below ne, and e itself or no edge at point q.
-fn is_free(edges: &[u32], ne: usize, e: usize, q: usize, i: usize) -> bool
-    requires { ⌜ ne * edgeWidth ≤ length (now edges) ⌝ }
-    ensures { λ r. ⌜ r ≡ free (faceTables (now (edges .entry)) []) ne e q i ⌝ }
-{
-    if ne <= i {
-        return false;
-    }
-    if i == e {
-        return true;
-    }
-    !touches(edges, q, i)
-}
-
-// Whether no other edge joins the two ends of edge e, seen from the end of smaller valence.
-fn is_one_edge(points: &[u32], edges: &[u32], np: usize, ne: usize, e: usize) -> bool
-    requires { ⌜ np * pointWidth ≤ length (now points) ⌝ }
-    requires { ⌜ ne * edgeWidth ≤ length (now edges) ⌝ }
-    requires { ⌜ e < ne ⌝ }
-    requires { ⌜ origin (faceTables (now edges) []) e < np ⌝ }
-    requires { ⌜ dest (faceTables (now edges) []) e < np ⌝ }
-    ensures { λ r. ⌜ r ≡ oneEdge (pointTables (now (points .entry)) (now (edges .entry))) ne e ⌝ }
-{
-    let b = e * EDGE_WIDTH;
-    let p = index(edges[b]);
-    let q = index(edges[b + DEST_WORD]);
-    if points[p * POINT_WIDTH] <= points[q * POINT_WIDTH] {
-        return is_alone(points, edges, ne, e, p, q);
-    }
-    is_alone(points, edges, ne, e, q, p)
-}
-
-// Whether no two of the first ne edges join the same two points.
-pub fn are_one_edges(points: &[u32], edges: &[u32], np: usize, ne: usize) -> bool
-    requires { ⌜ np * pointWidth ≤ length (now points) ⌝ }
-    requires { ⌜ ne * edgeWidth ≤ length (now edges) ⌝ }
-    requires { ⌜ ((e : ℕ) → e < ne → (origin (faceTables (now edges) []) e < np) × (dest (faceTables (now edges) []) e < np)) ⌝ }
-    ensures { λ r. ⌜ r ≡ every ne (λ e. oneEdge (pointTables (now (points .entry)) (now (edges .entry))) ne e) ⌝ }
-{
-    let mut e = 0;
-    while e < ne {
-        if !is_one_edge(points, edges, np, ne, e) {
             return false;
         }
         e += 1;

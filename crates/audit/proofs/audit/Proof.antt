@@ -2,7 +2,7 @@
 use mathlib.Core.Path.{sym, _∙_}
 use borrow.Author.Tests.{not-true, not-false}
 use borrow.Author.Needs.{needs}
-use Rattle.audit.proofs.Whole.{counts-rows, ends-below, audit-counts, audit-rows, audit-walks}
+use Rattle.audit.proofs.Whole.{counts-rows, ends-passed, valence-passed, audit-counts, audit-rows, audit-walks}
 use Rattle.tables.specs.Mesh.{meshOf}
 use Rattle.audit.proofs.audit.Statement.{statement}
 use Rattle.audit.proofs.audit.Tie as tie
@@ -37,10 +37,12 @@ walks-fit-requires c κs =
     (meshOf (a .positions .now) (a .points .now) (a .edges .now) (a .intervals .now) (a .faces .now))
     (a .counts .points) (a .counts .edges) (a .counts .faces)
     (sym (c .before .before .before .rows-for .ensures) ∙ not-false _ (c .before .before .if1 .left)) in
-    let ends = ends-below (a .positions .now) (a .points .now) (a .edges .now) (a .intervals .now) (a .faces .now)
-    (a .counts .points) (a .counts .edges) (a .counts .faces)
-    (sym (c .before .rows-fit .ensures) ∙ not-false _ (c .if2 .left)) in
-    (r .points-fit, (r .edges-fit, (r .faces-fit, ends)))
+    let rows = sym (c .before .rows-fit .ensures) ∙ not-false _ (c .if2 .left) in
+    let ends = ends-passed (a .positions .now) (a .points .now) (a .edges .now) (a .intervals .now) (a .faces .now)
+    (a .counts .points) (a .counts .edges) (a .counts .faces) rows in
+    let valences = valence-passed (a .positions .now) (a .points .now) (a .edges .now) (a .intervals .now) (a .faces .now)
+    (a .counts .points) (a .counts .edges) (a .counts .faces) rows in
+    (r .points-fit, (r .edges-fit, (r .faces-fit, (ends, valences))))
 
 returns-3 : tie.Need-returns-3
 returns-3 c =

@@ -1,0 +1,5 @@
+pub mod Joins
+pub mod Walking
+pub mod Comparing
+pub mod Walked
+pub mod OneEdges

@@ -1,0 +1,83 @@
+-- is_sole meets its contract. The invariant: the windows passed are sole; the measure is what is left of the passes.
+use Prim.Native.Nat.{ℕ, _+_, _-_, _*_, _/_, _≤_, _<_}
+use mathlib.Core.Bool.{false≢true}
+use mathlib.Core.List.{[]}
+use mathlib.Core.Path.{_≡_, refl, sym, _∙_, subst}
+use native.Mathlib.Omega.{arith}
+use borrow.Author.Tests.{not-true, not-false}
+use borrow.Author.Needs.{needs}
+use lib.ListN.{length}
+use Rattle.tables.specs.Parts.{faceTables}
+use Rattle.sole_edges.specs.Sole.{window, SoleIn}
+use Rattle.sole_edges.proofs.Walking.{below-more, sole-of-windows, other-below}
+use Rattle.sole_edges.proofs.is_sole.Statement.{statement}
+use Rattle.sole_edges.proofs.is_sole.Tie as tie
+
+abbrev Inv-loop : tie.InvT-loop
+Inv-loop points edges seen₀ np ne p passes k₀ seen k =
+    (k ≤ passes) × (passes ≡ np / 32768 + 1) × (length seen ≡ length seen₀)
+    × ((j : ℕ) → j < k → SoleIn (faceTables edges []) ne p (j * window))
+
+abbrev μ-loop : tie.MeasureT-loop
+μ-loop points edges seen₀ np ne p passes k₀ seen k = passes - k
+
+loop-holds : tie.Need-loop-holds Inv-loop μ-loop
+loop-holds c = (omega arith, refl, refl, λ j l. absurd (omega arith))
+
+is-sole-in-requires : tie.Need-is-sole-in-requires Inv-loop μ-loop
+is-sole-in-requires c κs =
+    let pre = c .before .before .before .before .before .before .pre in (
+      omega (arith, pre .0, pre .1 .0),
+      (
+        pre .1 .1 .0,
+        (omega (arith, pre .1 .1 .1 .0, c .before .before .loop .inv .2), (pre .1 .1 .1 .1 .0, pre .1 .1 .1 .1 .1)),
+      ),
+    )
+
+returns : tie.Need-returns Inv-loop μ-loop
+returns c = (
+  λ e. absurd (false≢true e),
+  λ sole.
+      absurd (false≢true (sym (not-true _ (c .if1 .taken))
+      ∙ c .before .before .before .is-sole-in .ensures .1 (λ i j li lj t same lo hi. sole i j li lj t same))),
+)
+
+loop-again : tie.Need-loop-again Inv-loop μ-loop
+loop-again c =
+    let a = c .before .before .before .before .before .before .before .before .before .before .args in
+    let loop = c .before .before .before .before .before .before .loop in
+    let inv = loop .inv in (
+      omega arith,
+      inv .1,
+      search needs,
+      below-more (λ (j : ℕ). SoleIn (faceTables (a .edges .now) []) (a .ne) (a .p) (j * window)) (loop .k) (inv .3)
+          (c .before .before .before .is-sole-in .ensures .0 (not-false _ (c .if1 .left))),
+    )
+
+returns-2 : tie.Need-returns-2 Inv-loop μ-loop
+returns-2 c =
+    let a = c .before .before .before .before .before .args in
+    let m = faceTables (a .edges .now) [] in
+    let inv = c .before .loop .inv in
+    let ends = c .before .before .before .before .before .pre .1 .1 .1 .1 .0 in
+    let sole = sole-of-windows m (a .np) (a .ne) (a .p)
+    (λ i l. other-below m (a .np) (a .p) i (ends .origin-below i l) (ends .dest-below i l)) (λ k l. inv .3 k (omega arith)) in
+    (λ e. sole, λ s. refl)
+
+pub is-sole-spec : {M : Type 1} → statement M
+is-sole-spec =
+    tie.close
+    (tie.spec
+    Inv-loop
+    μ-loop
+    (λ c. search needs)
+    loop-holds
+    (λ c. search needs)
+    is-sole-in-requires
+    (λ c. search needs)
+    returns
+    (λ c. search needs)
+    (λ c. search needs)
+    loop-again
+    (λ c. search needs)
+    returns-2)

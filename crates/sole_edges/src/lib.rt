@@ -1,0 +1,278 @@
+// Whether no two edges join the same two points (document 01, "Audit"), seen from each point: linear in the edges.
+// The other ends of a point's edges are compared with each other, if they are few. If they are many, each edge is noted in a local
+// table at the place of its other end: an edge that finds another between the same two points noted there is a second one. What
+// other walks left in the table does no harm, since the edge that is found is looked at. Past 32,768 points there is one walk for
+// each window of so many, so that no memory is lent.
+// Not here: the walks themselves (`audit_tests`), the other tests of edges (`audit_edges`).
+// Contract: `are_one_edges`. Definitions: `oneEdge` of `audited_meshes`, specs/Quick.antt; `specs/Sole.antt`.
+// Laws: `proofs/Joins.antt`, `proofs/Walking.antt`, `proofs/Comparing.antt`, `proofs/Walked.antt`, `proofs/OneEdges.antt`.
+ghost use mathlib.Core.Path.{_≡_};
+ghost use mathlib.Core.Bool.{true};
+ghost use mathlib.Core.List.{[]};
+ghost use mathlib.Core.Logic.{_↔_};
+ghost use Prim.Native.Nat.{ℕ, _+_, _*_, _≤_, _<_};
+ghost use lib.ListN.{length};
+ghost use Rattle.tables.specs.Layout.{pointWidth, edgeWidth};
+ghost use Rattle.tables.specs.Mesh.{valence};
+ghost use Rattle.tables.specs.Parts.{faceTables, pointTables};
+ghost use Rattle.audited_meshes.specs.Folds.{every};
+ghost use Rattle.audited_meshes.specs.Audited.{PointWalked};
+ghost use Rattle.audited_meshes.specs.Quick.{oneEdge};
+ghost use Rattle.sole_edges.specs.Sole.{few, window, second, unseen, noted, newEnd, Ends, SoleIn, Sole, SoleFrom};
+ghost use Rattle.walks.specs.Steps.{otherEnd};
+use tables::DEST_WORD;
+use tables::EDGE_WIDTH;
+use tables::POINT_WIDTH;
+use tables::START_WORD;
+use tables::index;
+use walks::Step;
+use walks::t_nurcc_control_point::acw_of_point;
+use walks::t_nurcc_control_point::touches;
+use walks::t_nurcc_iter::point_step;
+
+// A point with more edges than this has many.
+const FEW: usize = 32;
+
+// How many points one walk looks at.
+const WINDOW: usize = 32768;
+
+// Whether edge s is below ne, another than i, and joins the points p and q.
+fn is_second(edges: &[u32], ne: usize, p: usize, q: usize, i: usize, s: usize) -> bool
+    requires { ⌜ ne * edgeWidth ≤ length (now edges) ⌝ }
+    ensures { λ r. ⌜ r ≡ second (faceTables (now (edges .entry)) []) ne p q i s ⌝ }
+{
+    if ne <= s {
+        return false;
+    }
+    if s == i {
+        return false;
+    }
+    if !touches(edges, p, s) {
+        return false;
+    }
+    touches(edges, q, s)
+}
+
+// Notes edge i from p at its other end q, and says whether no second edge was noted there; a point out of the window from base
+// on is passed over.
+fn note(edges: &[u32], seen: &mut [u32], ne: usize, base: usize, p: usize, q: usize, i: u32) -> bool
+    requires { ⌜ ne * edgeWidth ≤ length (now edges) ⌝ }
+    requires { ⌜ window ≤ length (now seen) ⌝ }
+    ensures { λ r. ⌜ r ≡ unseen (faceTables (now (edges .entry)) []) ne base p (now (seen .entry)) q i ⌝ }
+    ensures { λ _. ⌜ now (seen .exit) ≡ noted base (now (seen .entry)) q i ⌝ }
+{
+    if q < base {
+        return true;
+    }
+    let k = q - base;
+    if WINDOW <= k {
+        return true;
+    }
+    let was = seen[k];
+    seen[k] = i;
+    !is_second(edges, ne, p, q, index(i), index(was))
+}
+
+// Whether each edge about point p to a point of the window from base on is the only one between its two points.
+fn is_sole_in(
+    points: &[u32],
+    edges: &[u32],
+    seen: &mut [u32],
+    np: usize,
+    ne: usize,
+    p: usize,
+    base: usize,
+) -> bool
+    requires { ⌜ p * pointWidth + pointWidth ≤ length (now points) ⌝ }
+    requires { ⌜ ne * edgeWidth ≤ length (now edges) ⌝ }
+    requires { ⌜ window ≤ length (now seen) ⌝ }
+    requires { ⌜ Ends (faceTables (now edges) []) np ne ⌝ }
+    requires { ⌜ PointWalked (pointTables (now points) (now edges)) ne p ⌝ }
+    ensures { λ r. ⌜ ((r ≡ true) ↔ SoleIn (faceTables (now (edges .entry)) []) ne p base) ⌝ }
+{
+    let k = index(points[p * POINT_WIDTH]);
+    let mut i = points[p * POINT_WIDTH + START_WORD];
+    let mut n = 0;
+    while n < k {
+        let Step::To { point, next } = point_step(edges, ne, p, index(i)) else {
+            return false;
+        };
+        if !note(edges, seen, ne, base, p, index(point), i) {
+            return false;
+        }
+        i = next;
+        n += 1;
+    }
+    true
+}
+
+// Whether each edge about point p is the only one between its two points.
+fn is_sole(points: &[u32], edges: &[u32], seen: &mut [u32], np: usize, ne: usize, p: usize) -> bool
+    requires { ⌜ np * pointWidth ≤ length (now points) ⌝ }
+    requires { ⌜ p < np ⌝ }
+    requires { ⌜ ne * edgeWidth ≤ length (now edges) ⌝ }
+    requires { ⌜ window ≤ length (now seen) ⌝ }
+    requires { ⌜ Ends (faceTables (now edges) []) np ne ⌝ }
+    requires { ⌜ PointWalked (pointTables (now points) (now edges)) ne p ⌝ }
+    ensures { λ r. ⌜ ((r ≡ true) ↔ Sole (faceTables (now (edges .entry)) []) ne p) ⌝ }
+{
+    let passes = np / WINDOW + 1;
+    let mut k = 0;
+    while k < passes {
+        if !is_sole_in(points, edges, seen, np, ne, p, k * WINDOW) {
+            return false;
+        }
+        k += 1;
+    }
+    true
+}
+
+// The other end of edge e, which touches point p.
+fn other_end(edges: &[u32], p: usize, e: usize) -> u32
+    requires { ⌜ e * edgeWidth + edgeWidth ≤ length (now edges) ⌝ }
+    ensures { λ r. ⌜ r ≡ otherEnd (faceTables (now (edges .entry)) []) p e ⌝ }
+{
+    let b = e * EDGE_WIDTH;
+    if index(edges[b]) == p {
+        return edges[b + DEST_WORD];
+    }
+    edges[b]
+}
+
+// Whether q stands at none of the first n places of ends.
+fn is_new_end(ends: &[u32], n: usize, q: u32) -> bool
+    requires { ⌜ n ≤ length (now ends) ⌝ }
+    ensures { λ r. ⌜ r ≡ newEnd (now (ends .entry)) n q ⌝ }
+{
+    let mut a = 0;
+    while a < n {
+        if ends[a] == q {
+            return false;
+        }
+        a += 1;
+    }
+    true
+}
+
+// Whether each edge about point p, which has no more than there are places in ends, is the only one between its two points.
+fn few_sole(points: &[u32], edges: &[u32], ends: &mut [u32], np: usize, ne: usize, p: usize) -> bool
+    requires { ⌜ p * pointWidth + pointWidth ≤ length (now points) ⌝ }
+    requires { ⌜ ne * edgeWidth ≤ length (now edges) ⌝ }
+    requires { ⌜ valence (pointTables (now points) []) p ≤ length (now ends) ⌝ }
+    requires { ⌜ Ends (faceTables (now edges) []) np ne ⌝ }
+    requires { ⌜ PointWalked (pointTables (now points) (now edges)) ne p ⌝ }
+    ensures { λ r. ⌜ ((r ≡ true) ↔ Sole (faceTables (now (edges .entry)) []) ne p) ⌝ }
+{
+    let k = index(points[p * POINT_WIDTH]);
+    let mut i = points[p * POINT_WIDTH + START_WORD];
+    let mut n = 0;
+    while n < k {
+        let e = index(i);
+        let q = other_end(edges, p, e);
+        if !is_new_end(ends, n, q) {
+            return false;
+        }
+        ends[n] = q;
+        i = acw_of_point(edges, p, e);
+        n += 1;
+    }
+    true
+}
+
+// Whether each edge about point p is the only one between its two points, be they few or many.
+fn point_sole(
+    points: &[u32],
+    edges: &[u32],
+    seen: &mut [u32],
+    np: usize,
+    ne: usize,
+    p: usize,
+) -> bool
+    requires { ⌜ np * pointWidth ≤ length (now points) ⌝ }
+    requires { ⌜ p < np ⌝ }
+    requires { ⌜ ne * edgeWidth ≤ length (now edges) ⌝ }
+    requires { ⌜ window ≤ length (now seen) ⌝ }
+    requires { ⌜ Ends (faceTables (now edges) []) np ne ⌝ }
+    requires { ⌜ PointWalked (pointTables (now points) (now edges)) ne p ⌝ }
+    ensures { λ r. ⌜ ((r ≡ true) ↔ Sole (faceTables (now (edges .entry)) []) ne p) ⌝ }
+{
+    if index(points[p * POINT_WIDTH]) <= FEW {
+        return few_sole(points, edges, seen, np, ne, p);
+    }
+    is_sole(points, edges, seen, np, ne, p)
+}
+
+// The same of all points from the given one on, by a lent table.
+fn sole_by_table(
+    points: &[u32],
+    edges: &[u32],
+    seen: &mut [u32],
+    np: usize,
+    ne: usize,
+    from: usize,
+) -> bool
+    requires { ⌜ np * pointWidth ≤ length (now points) ⌝ }
+    requires { ⌜ ne * edgeWidth ≤ length (now edges) ⌝ }
+    requires { ⌜ window ≤ length (now seen) ⌝ }
+    requires { ⌜ from ≤ np ⌝ }
+    requires { ⌜ Ends (faceTables (now edges) []) np ne ⌝ }
+    requires { ⌜ ((p : ℕ) → p < np → PointWalked (pointTables (now points) (now edges)) ne p) ⌝ }
+    ensures { λ r. ⌜ ((r ≡ true) ↔ SoleFrom (faceTables (now (edges .entry)) []) np ne from) ⌝ }
+{
+    let mut p = from;
+    while p < np {
+        if !point_sole(points, edges, seen, np, ne, p) {
+            return false;
+        }
+        p += 1;
+    }
+    true
+}
+
+// The same by a table of its own.
+fn sole_from(points: &[u32], edges: &[u32], np: usize, ne: usize, from: usize) -> bool
+    requires { ⌜ np * pointWidth ≤ length (now points) ⌝ }
+    requires { ⌜ ne * edgeWidth ≤ length (now edges) ⌝ }
+    requires { ⌜ from ≤ np ⌝ }
+    requires { ⌜ Ends (faceTables (now edges) []) np ne ⌝ }
+    requires { ⌜ ((p : ℕ) → p < np → PointWalked (pointTables (now points) (now edges)) ne p) ⌝ }
+    ensures { λ r. ⌜ ((r ≡ true) ↔ SoleFrom (faceTables (now (edges .entry)) []) np ne from) ⌝ }
+{
+    let mut seen = [0u32; WINDOW];
+    sole_by_table(points, edges, &mut seen, np, ne, from)
+}
+
+// Whether each edge about each point is the only one between its two points. Up to the first point with many edges there is no
+// table but the lent places for their other ends.
+fn all_sole(points: &[u32], edges: &[u32], ends: &mut [u32], np: usize, ne: usize) -> bool
+    requires { ⌜ np * pointWidth ≤ length (now points) ⌝ }
+    requires { ⌜ ne * edgeWidth ≤ length (now edges) ⌝ }
+    requires { ⌜ few ≤ length (now ends) ⌝ }
+    requires { ⌜ Ends (faceTables (now edges) []) np ne ⌝ }
+    requires { ⌜ ((p : ℕ) → p < np → PointWalked (pointTables (now points) (now edges)) ne p) ⌝ }
+    ensures { λ r. ⌜ ((r ≡ true) ↔ SoleFrom (faceTables (now (edges .entry)) []) np ne 0) ⌝ }
+{
+    let mut p = 0;
+    while p < np {
+        if FEW < index(points[p * POINT_WIDTH]) {
+            return sole_from(points, edges, np, ne, p);
+        }
+        if !few_sole(points, edges, ends, np, ne, p) {
+            return false;
+        }
+        p += 1;
+    }
+    true
+}
+
+// Whether no two of the first ne edges join the same two points, where the walks about the points pass all their edges.
+pub fn are_one_edges(points: &[u32], edges: &[u32], np: usize, ne: usize) -> bool
+    requires { ⌜ np * pointWidth ≤ length (now points) ⌝ }
+    requires { ⌜ ne * edgeWidth ≤ length (now edges) ⌝ }
+    requires { ⌜ Ends (faceTables (now edges) []) np ne ⌝ }
+    requires { ⌜ ((p : ℕ) → p < np → PointWalked (pointTables (now points) (now edges)) ne p) ⌝ }
+    ensures { λ r. ⌜ r ≡ every ne (λ e. oneEdge (pointTables (now (points .entry)) (now (edges .entry))) ne e) ⌝ }
+{
+    let mut ends = [0u32; FEW];
+    all_sole(points, edges, &mut ends, np, ne)
+}
