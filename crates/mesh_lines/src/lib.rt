@@ -1,6 +1,7 @@
 // The lines of mesh texts 1 and 2 (document 01, "Mesh text"; document 02, §4): point lines and face lines, read into lists.
 // Not here: the whole text and its limits (`mesh_text`).
-// Contracts: `coordinates`, `count_points`, `store_points`, `count_faces`, `store_faces`. Definitions: `specs/Grammar.antt` (the lines), `specs/Parts.antt` (the answers and the lists).
+// Contracts: `coordinates`, `count_points`, `store_points`, `count_faces`, `store_faces`.
+// Definitions: `specs/Grammar.antt` (the lines), `specs/Parts.antt` (the answers and the lists).
 // Laws for callers: `proofs/Laws.antt`, `proofs/Answers.antt`.
 ghost use mathlib.Core.Path.{_≡_};
 ghost use Prim.Native.Nat.{_≤_};
