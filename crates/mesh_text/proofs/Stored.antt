@@ -53,8 +53,8 @@ parts-of s (m, n, e) =
     let within = takes-many s (bytes "[point") (λ l. 0) (pointForm s) (length s) refl (takes-point s) 9 inside ps i ep9 .1 in
     whole v ps i fs j inside ep9 within ef (ends s j) e3
   where
-    whole : (v : Version) (ps : List (List ℕ)) (i : ℕ) (fs : List (List Side)) (j : ℕ) → 9 ≤ length s → pointLines s 9 ≡ parsed ps i → i ≤ length s
-        → faceLines s i ≡ parsed fs j → (b : Bool)
+    whole : (v : Version) (ps : List (List ℕ)) (i : ℕ) (fs : List (List Side)) (j : ℕ) → 9 ≤ length s
+        → pointLines s 9 ≡ parsed ps i → i ≤ length s → faceLines s i ≡ parsed fs j → (b : Bool)
         → choose b (pure (record { version = v; points = ps; faces = fs })) (λ a. unparsed) j ≡ parsed m n → TextParts s
     whole v ps i fs j inside ep within ef true e3 =
         let em : record { version = v; points = ps; faces = fs } ≡ m = cc in
@@ -75,7 +75,8 @@ module _ (s : List ℕ) (h : Parses (text s)) where
   pub points-there : (9 ≤ length s) × Parses (pointLines s 9)
   points-there = let t = parts-of s h in (t .head-inside, (t .what .points, t .middle, t .points))
 
-  pub stored-points : (xs : List Float) {xs′ : List Float} → xs′ ≡ stored (flat (map float)) xs 0 (pointLines s 9) → xs′ ≡ stored coordinates xs 0 (text s)
+  pub stored-points : (xs : List Float) {xs′ : List Float} → xs′ ≡ stored (flat (map float)) xs 0 (pointLines s 9)
+      → xs′ ≡ stored coordinates xs 0 (text s)
   stored-points xs e = let t = parts-of s h in rw (t .form) (rw (t .points) at e)
 
   module _ {i : ℕ} (ei : i ≡ placeAfter (pointLines s 9)) where
