@@ -11,7 +11,7 @@ use Rattle.tables.specs.Mesh.{Mesh, z, origin, dest, start}
 use Rattle.audited_meshes.specs.Walks.{acwOfPoint, Touches}
 use Rattle.audited_meshes.specs.Audited.{Audited, Passes, last, more}
 use Rattle.crossings.specs.Crossings.{between, crosses}
-use Rattle.crossings.specs.Claims.{Joins, Chain, there, along}
+use Rattle.crossings.specs.Claims.{Joins, EdgeChain, there, along}
 use Rattle.crossings.proofs.Order.{le-total}
 
 -- an edge that joins a point at or below the depth and one at or above it crosses
@@ -59,7 +59,7 @@ module _ (m : Mesh) (np ne nf : ℕ) (a : Audited m np ne nf) (d : Float) (f : f
   far-in-range e p q l (inl (o, t)) = subst (λ (k : ℕ). k < np) t (a .edge-in-range e l .dest-in-range)
   far-in-range e p q l (inr (o, t)) = subst (λ (k : ℕ). k < np) o (a .edge-in-range e l .origin-in-range)
 
-  pub chain-crosses : {p q : ℕ} → Chain m ne q p → p < np → le (z m p) d ≡ true → le d (z m q) ≡ true → CrossingEdge
+  pub chain-crosses : {p q : ℕ} → EdgeChain m ne q p → p < np → le (z m p) d ≡ true → le d (z m q) ≡ true → CrossingEdge
   chain-crosses {p} there l low high = at-depth p l low high
   chain-crosses {p} {q} (along r e el j rest) l low high =
       let k = far-in-range e p r el j in

@@ -5,7 +5,7 @@
 --     Lowest m c d e      e is the lowest-numbered edge that crosses
 --     Lowest-exactly      the claim: the finder names an edge exactly if it is the lowest-numbered
 --     Joins m e p q       the edge e joins the points p and q, in either direction
---     Chain m ne q p      a chain of edges joins the points p and q
+--     EdgeChain m ne q p  a chain of edges joins the points p and q
 --     AllJoined m c       the points of the mesh are all joined through edges
 --     Joined-found        the claim: in such a mesh every finite depth at or above some point and at or below some point, as are
 --                         those from the lowest point to the highest, is answered with an edge: 41 cannot occur
@@ -46,12 +46,12 @@ Lowest-exactly = (m : Mesh) (c : Counts) (d : Float) (e : ℕ) → (find m c d �
 abbrev pub Joins : Mesh → ℕ → ℕ → ℕ → Type 0
 Joins m e p q = ((origin m e ≡ p) × (dest m e ≡ q)) ⊎ ((origin m e ≡ q) × (dest m e ≡ p))
 
-pub data Chain (m : Mesh) (ne q : ℕ) : ℕ → Type 0 where
-  there : Chain m ne q q
-  along : {p : ℕ} (r e : ℕ) → e < ne → Joins m e p r → Chain m ne q r → Chain m ne q p
+pub data EdgeChain (m : Mesh) (ne q : ℕ) : ℕ → Type 0 where
+  there : EdgeChain m ne q q
+  along : {p : ℕ} (r e : ℕ) → e < ne → Joins m e p r → EdgeChain m ne q r → EdgeChain m ne q p
 
 abbrev pub AllJoined : Mesh → Counts → Type 0
-AllJoined m c = (p q : ℕ) → p < c .points → q < c .points → Chain m (c .edges) q p
+AllJoined m c = (p q : ℕ) → p < c .points → q < c .points → EdgeChain m (c .edges) q p
 
 abbrev pub Joined-found : Type 0
 Joined-found =

@@ -4,10 +4,10 @@ use lib.Ieee.{add, sub, neg, le, lt, ofBits}
 use Rattle.tables.specs.Rows.{over, zeroed}
 use Rattle.edge_links.specs.Connect.{linksOf}
 use Rattle.built_meshes.specs.Building.{build}
-use Rattle.filed_pieces.specs.TextTwo.{answered, textTwo, AsFiled2, intervalsLeft, TurnedIntervals}
+use Rattle.filed_pieces.specs.TextTwo.{answerTo, textTwo, AsFiled2, intervalsLeft, TurnedIntervals}
 
 pub as-filed-2 : AsFiled2
-unfolding textTwo answered build linksOf lt over zeroed add sub neg le ofBits
+unfolding textTwo answerTo build linksOf lt over zeroed add sub neg le ofBits
 as-filed-2 = refl
 
 pub turned-intervals : TurnedIntervals

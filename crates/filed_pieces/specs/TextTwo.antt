@@ -1,6 +1,6 @@
 -- Pieces of document 02, §4: lists of both versions, and the numbers that building must answer.
 --     FiledLists             lists, and the answer
---     answered l             what building answers to the lists l
+--     answerTo l             what building answers to the lists l
 --     textTwo                their list
 --     AsFiled2               every one is answered so
 --     TurnedIntervals        the intervals of two triangles in version 2 and in version 1, edge by edge
@@ -20,19 +20,19 @@ pub record FiledLists : Type 0 where
   pub lists : Lists
   pub answer : List ℕ
 
-unfoldable pub answered : Lists → List ℕ
+unfoldable pub answerTo : Lists → List ℕ
 unfolding build
-answered l = builtNumbers (build generalLimits l (used (rowsOf l)) .answer)
+answerTo l = builtNumbers (build generalLimits l (used (rowsOf l)) .answer)
 
 abbrev pub filed : Lists → List ℕ → FiledLists
 filed l ns = record { lists = l; answer = ns }
 
 -- 0.25, 0.5, 1.5 and 1e17
-abbrev pub quarter : Float
-quarter = ofBits binary64 0x3fd0000000000000
+abbrev pub oneQuarter : Float
+oneQuarter = ofBits binary64 0x3fd0000000000000
 
-abbrev pub half : Float
-half = ofBits binary64 0x3fe0000000000000
+abbrev pub oneHalf : Float
+oneHalf = ofBits binary64 0x3fe0000000000000
 
 abbrev pub threeHalves : Float
 threeHalves = ofBits binary64 0x3ff8000000000000
@@ -76,8 +76,8 @@ textTwo =
     ∷ filed (quadrilaterals tiny tiny nought nought) (13 ∷ [])
     ∷ filed (quadrilaterals2 tiny tiny nought nought) (4 ∷ 4 ∷ 2 ∷ [])
     -- 0.5, 1e17, 0.25, 1e17: 0.25 is lost beside 1e17 in version 1
-    ∷ filed (quadrilaterals half large quarter large) (4 ∷ 4 ∷ 2 ∷ [])
-    ∷ filed (quadrilaterals2 half large quarter large) (13 ∷ [])
+    ∷ filed (quadrilaterals oneHalf large oneQuarter large) (4 ∷ 4 ∷ 2 ∷ [])
+    ∷ filed (quadrilaterals2 oneHalf large oneQuarter large) (13 ∷ [])
     -- two triangles with sums 2, 0, 2, 0 pass
     ∷ filed (withFirsts (2 ∷ 1 ∷ 1 ∷ 2 ∷ 0 ∷ 1 ∷ 1 ∷ 0 ∷ []) (emptySided unit unit two)) (3 ∷ 3 ∷ 2 ∷ [])
     -- the first point of an empty side disagrees; of the first side; of the last face's last side
@@ -96,7 +96,7 @@ textTwo =
     ∷ []
 
 abbrev pub AsFiled2 : Type 0
-AsFiled2 = map (λ x. answered (x .lists)) textTwo ≡ map (λ x. x .answer) textTwo
+AsFiled2 = map (λ x. answerTo (x .lists)) textTwo ≡ map (λ x. x .answer) textTwo
 
 -- the intervals that a build leaves in the rows that ground 4 counts
 unfoldable pub intervalsLeft : Lists → List Float
@@ -104,6 +104,6 @@ unfolding build
 intervalsLeft l = build generalLimits l (used (rowsOf l)) .tables .intervals
 
 pub record TurnedIntervals : Type 0 where
-  pub version-1 : intervalsLeft (emptySided half threeHalves two) ≡ half ∷ threeHalves ∷ two ∷ replicate 3 nought
+  pub version-1 : intervalsLeft (emptySided oneHalf threeHalves two) ≡ oneHalf ∷ threeHalves ∷ two ∷ replicate 3 nought
   pub version-2 :
-      intervalsLeft (withFirsts (2 ∷ 1 ∷ 1 ∷ 2 ∷ 0 ∷ 1 ∷ 1 ∷ 0 ∷ []) (emptySided half threeHalves two)) ≡ threeHalves ∷ two ∷ half ∷ replicate 3 nought
+      intervalsLeft (withFirsts (2 ∷ 1 ∷ 1 ∷ 2 ∷ 0 ∷ 1 ∷ 1 ∷ 0 ∷ []) (emptySided oneHalf threeHalves two)) ≡ threeHalves ∷ two ∷ oneHalf ∷ replicate 3 nought

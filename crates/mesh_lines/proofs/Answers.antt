@@ -9,12 +9,13 @@ use lib.Seq.{sets}
 use Rattle.text_numbers.proofs.Stores.{sets-append}
 use Rattle.text_numbers.specs.Form.{Parsed, parsed, unparsed, onward, pure, ifParsed}
 use Rattle.mesh_lines.specs.Grammar.{Listed, Side, flat, sideCount, sidePoints}
-use Rattle.mesh_lines.specs.Parts.{placeAnswer, runAnswer, listedAnswer, sideAnswer, linesAnswer, stored}
+use Rattle.mesh_lines.specs.Parts.{placeAnswer, runAnswer, listedAnswer, sideAnswer, linesAnswer, Parses, placeAfter, stored, AtRun, AtLines}
 use Rattle.text_numbers.specs.declared.Number.the-variants as Number
 use Rattle.mesh_lines.specs.declared.Place.the-variants as Place
 use Rattle.mesh_lines.specs.declared.Run.{Run}
 use Rattle.mesh_lines.specs.declared.Run.the-variants as Run
 use Rattle.mesh_lines.specs.declared.SideRead.the-variants as SideRead
+use Rattle.mesh_lines.specs.declared.Lines.{Lines}
 use Rattle.mesh_lines.specs.declared.Lines.the-variants as Lines
 use Rattle.mesh_lines.specs.declared.ListedPoint.the-variants as ListedPoint
 
@@ -47,6 +48,10 @@ pub lines-none : (x : Parsed (List (List Side))) → linesAnswer x ≡ Lines.Non
 lines-none (parsed fs n) e = cc
 lines-none unparsed e = refl
 
+-- what is promised where something was found, holds of lines that are of the form
+pub at-lines : (x : Parsed (List (List Side))) → Parses x → (r : Lines) → r ≡ linesAnswer x → (P : Type 0) → AtLines r P → P
+at-lines x (a, n, e) r er P h = rw (er, e) at h
+
 -- what is counted on from c
 abbrev pub runFrom : {A : Type 0} → (List A → ℕ) → ℕ → Parsed (List A) → Run
 runFrom F c x = ifParsed (λ l n. Run.Of (c + F l) n) Run.None x
@@ -67,6 +72,16 @@ module _ {A : Type 0} where
   pub run-none : (f : A → ℕ) (x : Parsed A) → runAnswer f x ≡ Run.None → x ≡ unparsed
   run-none f (parsed a n) e = cc
   run-none f unparsed e = refl
+
+  pub at-run : (f : A → ℕ) (x : Parsed A) → Parses x → (r : Run) → r ≡ runAnswer f x → (P : Type 0) → AtRun r P → P
+  at-run f x (a, n, e) r er P h = rw (er, e) at h
+
+  -- the place after lines that are of the form
+  pub after-run : (f : A → ℕ) (x : Parsed A) → Parses x → (r : Run) → r ≡ runAnswer f x → {c n : ℕ} → r ≡ Run.Of c n → n ≡ placeAfter x
+  after-run f x h r er e = let (a, ea, ec) = run-of f x (sym er ∙ e) in rw ea
+
+  pub after-none : (f : A → ℕ) (x : Parsed A) → Parses x → (r : Run) → r ≡ runAnswer f x → r ≡ Run.None → 0 ≡ placeAfter x
+  after-none f x h r er e = rw (run-none f x (sym er ∙ e))
 
   -- the same after one more element was found
   pub place-next : (a : A) (x : Parsed (List A)) → placeAnswer (onward (λ l. pure (a ∷ l)) x) ≡ placeAnswer x

@@ -2,13 +2,16 @@
 --     lengthWord p                 how many points a side lists, as a word of 32 bits
 --     listedIn sides               how many points the sides of a face list
 --     placeAnswer runAnswer listedAnswer sideAnswer linesAnswer x  the answers to what was found
+--     Parses x                     something was found
+--     placeAfter x                 the place after what was found
 --     stored f l i x               the list that is left where something was found
 --     AtPlace AtRun AtSide AtLines      what is promised where something was found
+use mathlib.Core.Path.{_≡_}
 use mathlib.Core.List.{List, []}
 use Prim.Native.Nat.{ℕ, _%_}
 use lib.ListN.{length}
 use lib.Seq.{sets}
-use Rattle.text_numbers.specs.Form.{Parsed, ifParsed}
+use Rattle.text_numbers.specs.Form.{Parsed, parsed, ifParsed}
 use Rattle.mesh_lines.specs.Grammar.{Listed, Side, flat, sideCount, sidePoints}
 use Rattle.mesh_lines.specs.declared.Place.{Place}
 use Rattle.mesh_lines.specs.declared.Place.the-variants as Place
@@ -42,6 +45,12 @@ sideAnswer x = ifParsed (λ p n. SideRead.Of (p .first) (sideCount p) n) SideRea
 
 abbrev pub linesAnswer : Parsed (List (List Side)) → Lines
 linesAnswer x = ifParsed (λ fs n. Lines.Are (length fs) (length (flat (flat sidePoints) fs)) n) Lines.None x
+
+abbrev pub Parses : {A : Type 0} → Parsed A → Type 0
+Parses {A} x = (a : A) × (n : ℕ) × (x ≡ parsed a n)
+
+abbrev pub placeAfter : {A : Type 0} → Parsed A → ℕ
+placeAfter x = ifParsed (λ a n. n) 0 x
 
 -- the list l with the numbers f of what was found stored in it from i on
 abbrev pub stored : {A B : Type 0} → (A → List B) → List B → ℕ → Parsed A → List B

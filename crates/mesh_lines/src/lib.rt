@@ -1,6 +1,7 @@
 // The lines of mesh texts 1 and 2 (document 01, "Mesh text"; document 02, §4): point lines and face lines, read into lists.
 // Not here: the whole text and its limits (`mesh_text`).
-// Contracts: `coordinates`, `points`, `faces`. Definitions: `specs/Grammar.antt` (the lines), `specs/Parts.antt` (the answers and the lists).
+// Contracts: `coordinates`, `count_points`, `store_points`, `count_faces`, `store_faces`.
+// Definitions: `specs/Grammar.antt` (the lines), `specs/Parts.antt` (the answers and the lists).
 // Laws for callers: `proofs/Laws.antt`, `proofs/Answers.antt`.
 ghost use mathlib.Core.Path.{_≡_};
 ghost use Prim.Native.Nat.{_≤_};
@@ -12,7 +13,7 @@ ghost use Rattle.text_numbers.specs.Answers.{number};
 ghost use Rattle.mesh_lines.specs.Grammar.{coordinateForm, pointForm, listedForm, sideForm, faceForm, flat};
 ghost use Rattle.mesh_lines.specs.Grammar.{pointsIn, intervalsIn, sideFirst, sidePoints, sideIntervals};
 ghost use Rattle.mesh_lines.specs.Parts.{lengthWord, listedIn, placeAnswer, runAnswer, listedAnswer, sideAnswer, linesAnswer};
-ghost use Rattle.mesh_lines.specs.Parts.{stored, AtPlace, AtRun, AtSide, AtLines};
+ghost use Rattle.mesh_lines.specs.Parts.{Parses, placeAfter, stored, AtPlace, AtRun, AtSide, AtLines};
 use text_numbers::Number;
 use text_numbers::bits;
 use text_numbers::decimal;
@@ -112,9 +113,9 @@ fn point(s: &[u8], at: usize, xs: &mut [f64], n: usize) -> Place
     Place::At(i + 2)
 }
 
-// The point lines, and how many they are. Where one is not of the form, what stands in the list is left free: the reader of a whole
-// text stores nothing for its caller before it has scanned it once.
-pub fn points(s: &[u8], at: usize, xs: &mut [f64]) -> Run
+// The point lines, and how many they are. Where one is not of the form, what stands in the list is left free here, and the lists in
+// `faces`: neither is public, and `store_points` and `store_faces` are for lines that are of the form.
+fn points(s: &[u8], at: usize, xs: &mut [f64]) -> Run
     requires { ⌜ at ≤ length (now s) ⌝ }
     ensures run { λ r. ⌜ r ≡ runAnswer length (many (now (s .entry)) (bytes "[point") (pointForm (now (s .entry))) (length (now (s .entry))) at) ⌝ }
     ensures list { λ r. ⌜
@@ -257,8 +258,8 @@ fn face(
     Run::Of(c, i + 2)
 }
 
-// The face lines, how many they are, and how many points they list. Where one is not of the form, the lists are left free.
-pub fn faces(
+// The face lines, how many they are, and how many points they list.
+fn faces(
     s: &[u8],
     at: usize,
     ls: &mut [u32],
@@ -293,4 +294,68 @@ pub fn faces(
         c += m;
     }
     Lines::Are(k, c, i)
+}
+
+// How many point lines stand at a place, and the place after them. Their coordinates are stored nowhere.
+pub fn count_points(s: &[u8], at: usize) -> Run
+    requires { ⌜ at ≤ length (now s) ⌝ }
+    ensures { λ r. ⌜ r ≡ runAnswer length (many (now (s .entry)) (bytes "[point") (pointForm (now (s .entry))) (length (now (s .entry))) at) ⌝ }
+{
+    let mut xs = [0.0; 1];
+    points(s, at, &mut xs)
+}
+
+// Stores the coordinates of the point lines at a place, as far as the list has rows, and gives the place after them.
+pub fn store_points(s: &[u8], at: usize, xs: &mut [f64]) -> usize
+    requires { ⌜ at ≤ length (now s) ⌝ }
+    requires { ⌜ Parses (many (now s) (bytes "[point") (pointForm (now s)) (length (now s)) at) ⌝ }
+    ensures place { λ r. ⌜ r ≡ placeAfter (many (now (s .entry)) (bytes "[point") (pointForm (now (s .entry))) (length (now (s .entry))) at) ⌝ }
+    ensures list { λ _. ⌜
+        now (xs .exit) ≡ stored (flat (map float)) (now (xs .entry)) 0 (many (now (s .entry)) (bytes "[point")
+        (pointForm (now (s .entry))) (length (now (s .entry))) at) ⌝ }
+{
+    match points(s, at, xs) {
+        Run::Of(_, i) => i,
+        Run::None => 0,
+    }
+}
+
+// How many face lines stand at a place, how many points they list, and the place after them. Their numbers are stored nowhere.
+pub fn count_faces(s: &[u8], at: usize) -> Lines
+    requires { ⌜ at ≤ length (now s) ⌝ }
+    ensures { λ r. ⌜ r ≡ linesAnswer (many (now (s .entry)) (bytes "[face") (faceForm (now (s .entry))) (length (now (s .entry))) at) ⌝ }
+{
+    let mut ls = [0u32; 1];
+    let mut qs = [0u32; 1];
+    let mut ps = [0u32; 1];
+    let mut ds = [0.0; 1];
+    faces(s, at, &mut ls, &mut qs, &mut ps, &mut ds)
+}
+
+// Stores the numbers of the face lines at a place, as far as the lists have rows: the lengths and the first points of their sides, the
+// listed points and their intervals.
+pub fn store_faces(
+    s: &[u8],
+    at: usize,
+    ls: &mut [u32],
+    qs: &mut [u32],
+    ps: &mut [u32],
+    ds: &mut [f64],
+)
+    requires { ⌜ at ≤ length (now s) ⌝ }
+    requires { ⌜ Parses (many (now s) (bytes "[face") (faceForm (now s)) (length (now s)) at) ⌝ }
+    ensures lengths { λ _. ⌜
+        now (ls .exit) ≡ stored (flat (map lengthWord)) (now (ls .entry)) 0 (many (now (s .entry)) (bytes "[face")
+        (faceForm (now (s .entry))) (length (now (s .entry))) at) ⌝ }
+    ensures firsts { λ _. ⌜
+        now (qs .exit) ≡ stored (flat (map sideFirst)) (now (qs .entry)) 0 (many (now (s .entry)) (bytes "[face")
+        (faceForm (now (s .entry))) (length (now (s .entry))) at) ⌝ }
+    ensures points { λ _. ⌜
+        now (ps .exit) ≡ stored (flat (flat sidePoints)) (now (ps .entry)) 0 (many (now (s .entry)) (bytes "[face")
+        (faceForm (now (s .entry))) (length (now (s .entry))) at) ⌝ }
+    ensures intervals { λ _. ⌜
+        now (ds .exit) ≡ stored (flat (flat sideIntervals)) (now (ds .entry)) 0 (many (now (s .entry)) (bytes "[face")
+        (faceForm (now (s .entry))) (length (now (s .entry))) at) ⌝ }
+{
+    faces(s, at, ls, qs, ps, ds);
 }

@@ -1,3 +1,4 @@
 mod Cases
 pub mod Read
 mod Heads
+mod Stored

@@ -1,7 +1,6 @@
--- How a scan of the whole text answers. The contract of the reader names none of this.
+-- How counting the whole text answers. The contract of the reader names none of this.
 --     lengthWords m        of each side, how many points it lists, as a word of 32 bits
 --     headOf x totalOf x   the answers to what was found
---     AtTotal t P          what is promised where a text was found
 use mathlib.Core.List.{List, map}
 use Prim.Native.Nat.{ℕ}
 use lib.ListN.{length}
@@ -24,7 +23,3 @@ headOf x = ifParsed (λ v n. Head.Is v) Head.None x
 
 abbrev pub totalOf : Parsed TextMesh → Total
 totalOf x = ifParsed (λ m n. Total.Of (m .version) (length (m .points)) (length (m .faces)) (length (listedPoints m))) Total.None x
-
-abbrev pub AtTotal : Total → Type 0 → Type 0
-AtTotal (Total.Of v p f c) P = P
-AtTotal Total.None P = Unit {0}

@@ -6,16 +6,18 @@
 ghost use mathlib.Core.Path.{_≡_};
 ghost use Prim.Native.Nat.{_≤_};
 ghost use lib.ListN.{length};
-ghost use Rattle.mesh_lines.specs.Parts.{stored};
+ghost use Rattle.mesh_lines.specs.Parts.{Parses, stored};
 ghost use Rattle.mesh_text.specs.Text.{headForm, ends, text};
 ghost use Rattle.mesh_text.specs.Reading.{within, ReadOutcome, readInto, readingNumbers};
 ghost use Rattle.mesh_text.specs.Lists.{coordinates, firsts, listedPoints, intervals};
-ghost use Rattle.mesh_text.specs.Parts.{lengthWords, headOf, totalOf, AtTotal};
+ghost use Rattle.mesh_text.specs.Parts.{lengthWords, headOf, totalOf};
 use built_meshes::Version;
 use mesh_lines::Lines;
 use mesh_lines::Run;
-use mesh_lines::faces;
-use mesh_lines::points;
+use mesh_lines::count_faces;
+use mesh_lines::count_points;
+use mesh_lines::store_faces;
+use mesh_lines::store_points;
 use tables::Sizes;
 use text_numbers::stands;
 
@@ -51,37 +53,6 @@ fn read_head(s: &[u8]) -> Head
     Head::None
 }
 
-// The whole text, its numbers stored in the lists as far as these have rows.
-fn scan(
-    s: &[u8],
-    xs: &mut [f64],
-    ls: &mut [u32],
-    qs: &mut [u32],
-    ps: &mut [u32],
-    ds: &mut [f64],
-) -> Total
-    ensures sizes { λ r. ⌜ r ≡ totalOf (text (now (s .entry))) ⌝ }
-    ensures coordinates { λ r. ⌜ AtTotal r (now (xs .exit) ≡ stored coordinates (now (xs .entry)) 0 (text (now (s .entry)))) ⌝ }
-    ensures lengths { λ r. ⌜ AtTotal r (now (ls .exit) ≡ stored lengthWords (now (ls .entry)) 0 (text (now (s .entry)))) ⌝ }
-    ensures firsts { λ r. ⌜ AtTotal r (now (qs .exit) ≡ stored firsts (now (qs .entry)) 0 (text (now (s .entry)))) ⌝ }
-    ensures points { λ r. ⌜ AtTotal r (now (ps .exit) ≡ stored listedPoints (now (ps .entry)) 0 (text (now (s .entry)))) ⌝ }
-    ensures intervals { λ r. ⌜ AtTotal r (now (ds .exit) ≡ stored intervals (now (ds .entry)) 0 (text (now (s .entry)))) ⌝ }
-{
-    let Head::Is(v) = read_head(s) else {
-        return Total::None;
-    };
-    let Run::Of(p, i) = points(s, 9, xs) else {
-        return Total::None;
-    };
-    let Lines::Are(f, c, j) = faces(s, i, ls, qs, ps, ds) else {
-        return Total::None;
-    };
-    if !ends(s, j) {
-        return Total::None;
-    }
-    Total::Of(v, p, f, c)
-}
-
 // Whether the end line stands at a place and is the last of the text.
 pub fn ends(s: &[u8], at: usize) -> bool
     requires { ⌜ at ≤ length (now s) ⌝ }
@@ -97,12 +68,32 @@ pub fn ends(s: &[u8], at: usize) -> bool
 fn sizes(s: &[u8]) -> Total
     ensures { λ r. ⌜ r ≡ totalOf (text (now (s .entry))) ⌝ }
 {
-    let mut xs = [0.0; 1];
-    let mut ls = [0u32; 1];
-    let mut qs = [0u32; 1];
-    let mut ps = [0u32; 1];
-    let mut ds = [0.0; 1];
-    scan(s, &mut xs, &mut ls, &mut qs, &mut ps, &mut ds)
+    let Head::Is(v) = read_head(s) else {
+        return Total::None;
+    };
+    let Run::Of(p, i) = count_points(s, 9) else {
+        return Total::None;
+    };
+    let Lines::Are(f, c, j) = count_faces(s, i) else {
+        return Total::None;
+    };
+    if !ends(s, j) {
+        return Total::None;
+    }
+    Total::Of(v, p, f, c)
+}
+
+// Stores the numbers of a text in the lists, as far as these have rows.
+fn store(s: &[u8], xs: &mut [f64], ls: &mut [u32], qs: &mut [u32], ps: &mut [u32], ds: &mut [f64])
+    requires { ⌜ Parses (text (now s)) ⌝ }
+    ensures coordinates { λ _. ⌜ now (xs .exit) ≡ stored coordinates (now (xs .entry)) 0 (text (now (s .entry))) ⌝ }
+    ensures lengths { λ _. ⌜ now (ls .exit) ≡ stored lengthWords (now (ls .entry)) 0 (text (now (s .entry))) ⌝ }
+    ensures firsts { λ _. ⌜ now (qs .exit) ≡ stored firsts (now (qs .entry)) 0 (text (now (s .entry))) ⌝ }
+    ensures points { λ _. ⌜ now (ps .exit) ≡ stored listedPoints (now (ps .entry)) 0 (text (now (s .entry))) ⌝ }
+    ensures intervals { λ _. ⌜ now (ds .exit) ≡ stored intervals (now (ds .entry)) 0 (text (now (s .entry))) ⌝ }
+{
+    let i = store_points(s, 9, xs);
+    store_faces(s, i, ls, qs, ps, ds);
 }
 
 // Whether the counts are within the limits and within the rooms of the five lists.
@@ -170,6 +161,6 @@ pub fn read_text(
     if !within(c, limits, xs.len(), ls.len(), ps.len(), ds.len(), qs.len()) {
         return Reading::OverLimits;
     }
-    scan(s, xs, ls, qs, ps, ds);
+    store(s, xs, ls, qs, ps, ds);
     Reading::Read(version, c)
 }

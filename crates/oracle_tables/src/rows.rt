@@ -1,7 +1,8 @@
 // What stands in the rows of lent tables that hold no mesh. A row that still has the filling was not touched.
 ghost use mathlib.Core.Path.{_≡_};
 ghost use Prim.Native.Nat.{_≤_, _-_};
-ghost use lib.ListN.{length};
+ghost use lib.ListN.{length, drop};
+ghost use Rattle.oracle_tables.specs.Kept.{keptWords, keptNumbers, kept};
 use crate::fields::least;
 use crate::held::NUMBER;
 use crate::held::Tables;
@@ -52,7 +53,9 @@ fn count_zero_numbers(numbers: &[f64], from: usize) -> usize
 }
 
 // Whether all words from a place on are as filled.
-fn kept_words(words: &[u32], from: usize) -> bool {
+fn kept_words(words: &[u32], from: usize) -> bool
+    ensures { λ r. ⌜ r ≡ keptWords (drop from (now (words .entry))) ⌝ }
+{
     let mut i = from;
     while i < words.len() {
         if words[i] != WORD {
@@ -64,7 +67,9 @@ fn kept_words(words: &[u32], from: usize) -> bool {
 }
 
 // Whether all numbers from a place on are as filled.
-fn kept_numbers(numbers: &[f64], from: usize) -> bool {
+fn kept_numbers(numbers: &[f64], from: usize) -> bool
+    ensures { λ r. ⌜ r ≡ keptNumbers (drop from (now (numbers .entry))) ⌝ }
+{
     let mut i = from;
     while i < numbers.len() {
         if numbers[i] != NUMBER {
@@ -140,15 +145,25 @@ pub fn tell_rows(head: &[u8], t: Tables, counts: Counts) {
 }
 
 // Whether all of the tables is as filled.
-pub fn is_kept(t: Tables) -> bool {
+pub fn is_kept(t: Tables) -> bool
+    ensures { λ r. ⌜ r ≡ kept t ⌝ }
+{
     let positions = t.positions;
     let points = t.points;
     let edges = t.edges;
     let intervals = t.intervals;
     let faces = t.faces;
-    kept_numbers(&positions, 0)
-        && kept_words(&points, 0)
-        && kept_words(&edges, 0)
-        && kept_numbers(&intervals, 0)
-        && kept_words(&faces, 0)
+    if !kept_numbers(&positions, 0) {
+        return false;
+    }
+    if !kept_words(&points, 0) {
+        return false;
+    }
+    if !kept_words(&edges, 0) {
+        return false;
+    }
+    if !kept_numbers(&intervals, 0) {
+        return false;
+    }
+    kept_words(&faces, 0)
 }

@@ -12,6 +12,7 @@ use borrow.Author.Tests.{lt-ltb, le-ltb, eqb-true, eqb-false}
 use lib.ListN.{length, getD, set, replicate, length-set, length-replicate}
 use lib.Seq.{getD-set-same, getD-set-other}
 use Rattle.audited_meshes.specs.Folds.{every, distinct, Distinct}
+use Rattle.audited_meshes.proofs.Folds.{below-suc}
 use Rattle.audited_meshes.proofs.Tests.{every-is, self-is}
 use Rattle.audited_meshes.proofs.Audited.{distinct-is}
 use Rattle.orders.specs.Orders.{window, fresh, noted, Apart, ApartAbove, Marks}
@@ -29,14 +30,6 @@ marks-none base ks =
       marked-there = λ v h. absurd (h (getD-replicate-zero window v));
       there-marked = λ j l. absurd (not-suc-le-zero l);
     }
-
--- a number below suc n is below n or is n
-pub below-suc : {A : Type 0} (k n : ℕ) → k < suc n → (k < n → A) → (k ≡ n → A) → A
-below-suc {A} k n l f g = go (decLt k n)
-  where
-    go : Dec (k < n) → A
-    go (yes lt) = f lt
-    go (no ge) = g (omega arith)
 
 module _ (base : ℕ) (ks : List ℕ) (n : ℕ) (seen : List ℕ) (marks : Marks base ks n seen) where
   -- an entry out of the window leaves the marks as they are

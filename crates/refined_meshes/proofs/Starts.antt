@@ -30,7 +30,7 @@ use Rattle.refined_meshes.specs.declared.Edition.{Edition}
 use Rattle.refined_meshes.specs.declared.Edition.the-variants.{First, Second}
 use Rattle.refined_meshes.specs.Turns.{turns}
 use Rattle.refined_meshes.specs.State.{State, withPositions, edgeOf}
-use Rattle.refined_meshes.specs.Starts.{newHalf, oldStart, centreStart, startsPut, settledStarts, pointsIn}
+use Rattle.refined_meshes.specs.Starts.{newHalf, oldStart, centreJoin, startsPut, settledStarts, pointsIn}
 use Rattle.refined_meshes.specs.Settled.{settled}
 use Rattle.refined_meshes.specs.Refines.{Refines}
 use Rattle.refined_meshes.proofs.Words.{pointOf, faceOf}
@@ -101,14 +101,14 @@ module _ (m w : Mesh) (np ne nf : ℕ) (ps : List ℕ) where
   length-all : length (settledStarts m w np ne nf ps) ≡ length ps
   unfolding settledStarts
   length-all =
-      length-put (λ f. corner w f 0) (centreStart m w) nf mids ∙ length-put (dest w) (newHalf w) ne olds
+      length-put (λ f. corner w f 0) (centreJoin m w) nf mids ∙ length-put (dest w) (newHalf w) ne olds
       ∙ length-put (λ p. p) (oldStart m w) np ps
 
   -- A word that is no start edge stays.
   pub kept-word : (k : ℕ) → ((i : ℕ) → k ≢ i * 3 + 1) → getD (settledStarts m w np ne nf ps) k 0 ≡ getD ps k 0
   unfolding settledStarts
   kept-word k h =
-      put-other (λ f. corner w f 0) (centreStart m w) nf mids k (λ i l. h (corner w i 0))
+      put-other (λ f. corner w f 0) (centreJoin m w) nf mids k (λ i l. h (corner w i 0))
       ∙ put-other (dest w) (newHalf w) ne olds k (λ i l. h (dest w i))
       ∙ put-other (λ p. p) (oldStart m w) np ps k (λ i l. h i)
 
@@ -119,7 +119,7 @@ length-starts Second m np ne nf s = length-all m (withPositions [] s) np ne nf (
 -- Words that are alike are alike when start edges are settled.
 module _
     (m w w' : Mesh) (np ne nf : ℕ) (halves : (e : ℕ) → e < ne → newHalf w' e ≡ newHalf w e) (ends : (e : ℕ) → e < ne → dest w' e ≡ dest w e)
-    (starts : (p : ℕ) → p < np → oldStart m w' p ≡ oldStart m w p) (centres : (f : ℕ) → f < nf → centreStart m w' f ≡ centreStart m w f)
+    (starts : (p : ℕ) → p < np → oldStart m w' p ≡ oldStart m w p) (centres : (f : ℕ) → f < nf → centreJoin m w' f ≡ centreJoin m w f)
     (corners : (f : ℕ) → f < nf → corner w' f 0 ≡ corner w f 0)
   where
     starts-alike :
@@ -131,7 +131,7 @@ module _
         let o' = length-put (λ p. p) (oldStart m w') np ps' in
         let d = length-put (dest w) (newHalf w) ne (olds m w np ne nf ps) in
         let d' = length-put (dest w') (newHalf w') ne (olds m w' np ne nf ps') in
-        put-alike (λ f. corner w f 0) (λ f. corner w' f 0) (centreStart m w) (centreStart m w') k nf corners centres (mids m w np ne nf ps)
+        put-alike (λ f. corner w f 0) (λ f. corner w' f 0) (centreJoin m w) (centreJoin m w') k nf corners centres (mids m w np ne nf ps)
         (mids m w' np ne nf ps') (omega (arith, d, o)) (omega (arith, d', o'))
         (put-alike (dest w) (dest w') (newHalf w) (newHalf w') k ne ends halves (olds m w np ne nf ps) (olds m w' np ne nf ps') (omega (arith, o))
         (omega (arith, o')) (put-alike (λ p. p) (λ p. p) (oldStart m w) (oldStart m w') k np (λ i l. refl) starts ps ps' r r' same))
@@ -236,14 +236,14 @@ module _
             ∙ half-is e
 
     -- The joining edge of place 0.
-    centre-is : (f : Row nf) → centreStart m w (f .0) ≡ edgeRow (join (c .faceDart f))
+    centre-is : (f : Row nf) → centreJoin m w (f .0) ≡ edgeRow (join (c .faceDart f))
     unfolding edgeRow
     centre-is f = go (c .faceDart f) (c .edge-faceDart f) (c .about-faces .cls-start f)
       where
-        by : (e : Row ne) → e ≡ t .faceStart f → centreStart m w (f .0) ≡ cond (eqb (leftFace m (e .0)) (f .0)) (leftAcw w (e .0)) (rightCw w (e .0))
+        by : (e : Row ne) → e ≡ t .faceStart f → centreJoin m w (f .0) ≡ cond (eqb (leftFace m (e .0)) (f .0)) (leftAcw w (e .0)) (rightCw w (e .0))
         by e q = ap (λ i. cond (eqb (leftFace m i) (f .0)) (leftAcw w i) (rightCw w i)) (stands .faceStart-stands f ∙ ap (λ x. x .0) (sym q))
 
-        go : (d : Dart (Row ne)) → edge d ≡ t .faceStart f → face t d ≡ f → centreStart m w (f .0) ≡ edgeRow (join d)
+        go : (d : Dart (Row ne)) → edge d ≡ t .faceStart f → face t d ≡ f → centreJoin m w (f .0) ≡ edgeRow (join d)
         go (lft e) q h =
             by e q
             ∙ ap (λ b. cond b (leftAcw w (e .0)) (rightCw w (e .0))) (eq-eqb (leftFace m (e .0)) (f .0) (stands .leftFace-stands e ∙ ap (λ x. x .0) h))
@@ -294,7 +294,7 @@ module _
           → getD (settledStarts m w np ne nf (s .points)) (r .numbering .points .to x .0 * 3 + 1) 0 ≡ r .numbering .edges .to (refined t c .start x) .0
       unfolding settledStarts pointRow edgeRow
       starts-stand (old p) =
-          put-other (λ f. corner w f 0) (centreStart m w) nf midsPut (pointRow (old p) * 3 + 1)
+          put-other (λ f. corner w f 0) (centreJoin m w) nf midsPut (pointRow (old p) * 3 + 1)
           (no-centre (old p) (λ f q. let z : _≡_ {A = ℕ} 0 1 = cc in omega arith))
           ∙ put-other (dest w) (newHalf w) ne oldsPut (pointRow (old p) * 3 + 1)
           (no-mid (old p) (λ e q. let z : _≡_ {A = ℕ} 0 1 = cc in omega arith))
@@ -302,7 +302,7 @@ module _
           ∙ put-at (λ i. i) (oldStart m w) np (s .points) (λ i l. omega (arith, old-at i l, row-there (old (i, l)))) (λ i j a b q. q) (p .0) (p .1)
           ∙ old-is p
       starts-stand (mid e) =
-          put-other (λ f. corner w f 0) (centreStart m w) nf midsPut (pointRow (mid e) * 3 + 1)
+          put-other (λ f. corner w f 0) (centreJoin m w) nf midsPut (pointRow (mid e) * 3 + 1)
           (no-centre (mid e) (λ f q. let z : _≡_ {A = ℕ} 0 1 = cc in omega arith))
           ∙ ap (λ k. getD midsPut (k * 3 + 1) 0) (sym (mid-at (e .0) (e .1)))
           ∙ put-at (dest w) (newHalf w) ne oldsPut
@@ -315,7 +315,7 @@ module _
           ∙ half-is e
       starts-stand (facePoint f) =
           ap (λ k. getD (settledStarts m w np ne nf (s .points)) (k * 3 + 1) 0) (sym (centre-at (f .0) (f .1)))
-          ∙ put-at (λ f. corner w f 0) (centreStart m w) nf midsPut
+          ∙ put-at (λ f. corner w f 0) (centreJoin m w) nf midsPut
           (λ i l.
           omega (
             arith,

@@ -16,7 +16,7 @@ use Rattle.tables.specs.declared.Counts.{Counts}
 use Rattle.refined_meshes.specs.declared.Edition.{Edition}
 use Rattle.refined_meshes.specs.declared.Edition.the-variants.{Second}
 use Rattle.refined_meshes.specs.State.{stateOf}
-use Rattle.refined_meshes.specs.Starts.{newHalf, oldStart, centreStart, startsPut, settledStarts, pointsIn}
+use Rattle.refined_meshes.specs.Starts.{newHalf, oldStart, centreJoin, startsPut, settledStarts, pointsIn}
 use Rattle.refined_meshes.proofs.Turns.{turns-none, turns-turn}
 use Rattle.settling_starts.specs.Fits.{MidsFit, CentresFit}
 
@@ -38,15 +38,15 @@ module _ (ps es newedges : List ℕ) (p e far : ℕ) (at : e ≡ getD ps (p * 3 
 module _ (es fs newedges : List ℕ) (f e left : ℕ) (at : e ≡ getD fs (f * 5) 0) (side : left ≡ getD es (e * 8 + 2) 0) where
   by-side :
       (b : Bool) → eqb left f ≡ b
-      → centreStart (meshOf [] [] es [] fs) (edgeTable newedges) f ≡ cond b (getD newedges (e * 8 + 5) 0) (getD newedges (e * 8 + 6) 0)
+      → centreJoin (meshOf [] [] es [] fs) (edgeTable newedges) f ≡ cond b (getD newedges (e * 8 + 5) 0) (getD newedges (e * 8 + 6) 0)
   by-side b q =
       ap (λ i. cond (eqb (getD es (i * 8 + 2) 0) f) (getD newedges (i * 8 + 5) 0) (getD newedges (i * 8 + 6) 0)) (sym at)
       ∙ ap (λ c. cond c (getD newedges (e * 8 + 5) 0) (getD newedges (e * 8 + 6) 0)) (ap (λ i. eqb i f) (sym side) ∙ q)
 
-  pub centre-left : left ≡ f → getD newedges (e * 8 + 5) 0 ≡ centreStart (meshOf [] [] es [] fs) (edgeTable newedges) f
+  pub centre-left : left ≡ f → getD newedges (e * 8 + 5) 0 ≡ centreJoin (meshOf [] [] es [] fs) (edgeTable newedges) f
   centre-left q = sym (by-side true (eq-eqb left f q))
 
-  pub centre-right : ¬ (left ≡ f) → getD newedges (e * 8 + 6) 0 ≡ centreStart (meshOf [] [] es [] fs) (edgeTable newedges) f
+  pub centre-right : ¬ (left ≡ f) → getD newedges (e * 8 + 6) 0 ≡ centreJoin (meshOf [] [] es [] fs) (edgeTable newedges) f
   centre-right q = sym (by-side false (ne-eqb left f q))
 
 module _ (row edge : ℕ → ℕ) where
@@ -78,11 +78,11 @@ pub all-settled :
     (ed : Edition) → ed ≡ Second → (ps es fs : List ℕ) (c : Counts) (newedges newfaces newpoints xs ys zs : List ℕ)
     → xs ≡ startsPut (c .points) (λ p. p) (oldStart (meshOf [] ps es [] []) (edgeTable newedges)) newpoints
     → ys ≡ startsPut (c .edges) (dest (edgeTable newedges)) (newHalf (edgeTable newedges)) xs
-    → zs ≡ startsPut (c .faces) (λ f. corner (meshOf [] [] [] [] newfaces) f 0) (centreStart (meshOf [] [] es [] fs) (edgeTable newedges)) ys
+    → zs ≡ startsPut (c .faces) (λ f. corner (meshOf [] [] [] [] newfaces) f 0) (centreJoin (meshOf [] [] es [] fs) (edgeTable newedges)) ys
     → zs ≡ pointsIn ed (meshOf [] ps es [] fs) (c .points) (c .edges) (c .faces) (stateOf newpoints newedges [] newfaces 0 0 0)
 unfolding settledStarts
 all-settled ed q ps es fs c newedges newfaces newpoints xs ys zs h k j =
     j
-    ∙ ap (startsPut (c .faces) (λ f. corner (meshOf [] [] [] [] newfaces) f 0) (centreStart (meshOf [] [] es [] fs) (edgeTable newedges)))
+    ∙ ap (startsPut (c .faces) (λ f. corner (meshOf [] [] [] [] newfaces) f 0) (centreJoin (meshOf [] [] es [] fs) (edgeTable newedges)))
     (k ∙ ap (startsPut (c .edges) (dest (edgeTable newedges)) (newHalf (edgeTable newedges))) h)
     ∙ ap (λ e. pointsIn e (meshOf [] ps es [] fs) (c .points) (c .edges) (c .faces) (stateOf newpoints newedges [] newfaces 0 0 0)) (sym q)

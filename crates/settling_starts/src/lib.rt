@@ -8,7 +8,7 @@ ghost use mathlib.Core.Path.{_≡_};
 ghost use mathlib.Core.List.{[]};
 ghost use Rattle.tables.specs.Mesh.{meshOf, edgeTable, dest, corner};
 ghost use Rattle.refined_meshes.specs.State.{stateOf};
-ghost use Rattle.refined_meshes.specs.Starts.{newHalf, oldStart, centreStart, startsPut, pointsIn};
+ghost use Rattle.refined_meshes.specs.Starts.{newHalf, oldStart, centreJoin, startsPut, pointsIn};
 ghost use Rattle.settling_starts.specs.Fits.{HalfFits, OldFits, CentreFits, OldsFit, MidsFit, CentresFit, StartsFit};
 use refined_meshes::Edition;
 use tables::Counts;
@@ -52,7 +52,7 @@ fn old_start(points: &[u32], edges: &[u32], newedges: &[u32], p: usize) -> u32
 fn centre_start(edges: &[u32], faces: &[u32], newedges: &[u32], f: usize) -> u32
     requires { ⌜ CentreFits (now edges) (now faces) (now newedges) f ⌝ }
     ensures { λ r. ⌜
-        r ≡ centreStart (meshOf [] [] (now (edges .entry)) [] (now (faces .entry))) (edgeTable (now (newedges .entry))) f ⌝ }
+        r ≡ centreJoin (meshOf [] [] (now (edges .entry)) [] (now (faces .entry))) (edgeTable (now (newedges .entry))) f ⌝ }
 {
     let e = index(faces[f * FACE_WIDTH]);
     let b = e * EDGE_WIDTH;
@@ -109,7 +109,7 @@ fn settle_centres(
     ensures { λ _. ⌜
         now (newpoints .exit)
         ≡ startsPut nf (λ f. corner (meshOf [] [] [] [] (now (newfaces .entry))) f 0)
-        (centreStart (meshOf [] [] (now (edges .entry)) [] (now (faces .entry))) (edgeTable (now (newedges .entry))))
+        (centreJoin (meshOf [] [] (now (edges .entry)) [] (now (faces .entry))) (edgeTable (now (newedges .entry))))
         (now (newpoints .entry)) ⌝ }
 {
     let mut f = 0;

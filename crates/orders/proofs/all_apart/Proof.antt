@@ -6,7 +6,8 @@ use native.Mathlib.Omega.{arith}
 use borrow.Author.Tests.{not-true, not-false}
 use borrow.Author.Needs.{needs}
 use lib.ListN.{length, getD}
-use Rattle.orders.proofs.Laws.{below-suc, distinct-of-windows, not-distinct}
+use Rattle.audited_meshes.proofs.Folds.{below-suc}
+use Rattle.orders.proofs.Laws.{distinct-of-windows, not-distinct}
 use Rattle.orders.specs.Orders.{window, ApartAbove}
 use Rattle.orders.proofs.all_apart.Statement.{statement}
 use Rattle.orders.proofs.all_apart.Tie as tie

@@ -7,7 +7,7 @@ use mathlib.Core.List.{[]}
 use native.Mathlib.Omega.{arith}
 use lib.ListN.{length, length-set}
 use Rattle.tables.specs.Mesh.{meshOf, edgeTable, corner}
-use Rattle.refined_meshes.specs.Starts.{centreStart, startsPut}
+use Rattle.refined_meshes.specs.Starts.{centreJoin, startsPut}
 use Rattle.settling_starts.proofs.Laws.{starts-none, starts-turn, starts-end}
 use Rattle.settling_starts.proofs.settle_centres.Tie as tie
 use Rattle.settling_starts.proofs.settle_centres.Reads as reads
@@ -19,7 +19,7 @@ abbrev Inv-loop : tie.InvT-loop
 Inv-loop edges faces nf newedges newfaces newpoints₀ f₀ newpoints f =
     (f ≤ nf) × (length newpoints ≡ length newpoints₀)
     × (newpoints
-    ≡ startsPut f (λ f. corner (meshOf [] [] [] [] newfaces) f 0) (centreStart (meshOf [] [] edges [] faces) (edgeTable newedges)) newpoints₀)
+    ≡ startsPut f (λ f. corner (meshOf [] [] [] [] newfaces) f 0) (centreJoin (meshOf [] [] edges [] faces) (edgeTable newedges)) newpoints₀)
 
 abbrev μ-loop : tie.MeasureT-loop
 μ-loop edges faces nf newedges newfaces newpoints₀ f₀ newpoints f = nf - f

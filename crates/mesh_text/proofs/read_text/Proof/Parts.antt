@@ -1,4 +1,4 @@
--- Reading a text into lists l: r is the answer for its version v and its sizes p, f and c; q and the lists xs′, ls′, qs′, ps′ and ds′ are what the second scan leaves.
+-- Reading a text into lists l: r is the answer for its version v and its sizes p, f and c; xs′, ls′, qs′, ps′ and ds′ are the lists once the text is stored.
 use mathlib.Core.List.{List, [], _∷_, _++_, map}
 use mathlib.Core.Path.{_≡_, refl, sym, ap, _∙_}
 use mathlib.Core.Bool.{true, false}
@@ -15,8 +15,8 @@ use Rattle.mesh_lines.specs.Grammar.{Side, flat, sideCount, sidePoints}
 use Rattle.mesh_text.specs.Text.{TextMesh, text}
 use Rattle.mesh_text.specs.Reading.{counts, TextLists, within, ReadOutcome, readInto, readingNumbers}
 use Rattle.mesh_text.specs.Lists.{coordinates, lengths, firsts, listedPoints, intervals}
-use Rattle.mesh_lines.specs.Parts.{lengthWord, stored}
-use Rattle.mesh_text.specs.Parts.{lengthWords, totalOf, AtTotal}
+use Rattle.mesh_lines.specs.Parts.{lengthWord, Parses, stored}
+use Rattle.mesh_text.specs.Parts.{lengthWords, totalOf}
 use Rattle.text_numbers.proofs.Laws.{and-both}
 use Rattle.mesh_text.specs.declared.Total.{Total}
 use Rattle.mesh_text.specs.declared.Total.the-variants as Total
@@ -37,6 +37,10 @@ total-of unparsed e = let z : _≡_ {A = ℕ} 0 1 = cc in absurd (omega arith)
 total-none : (x : Parsed TextMesh) → totalOf x ≡ Total.None → x ≡ unparsed
 total-none (parsed m n) e = cc
 total-none unparsed e = refl
+
+-- a text that was counted is of the form
+pub parses : (s : List ℕ) {r : Total} → r ≡ totalOf (text s) → {v : Version} {p f c : ℕ} → r ≡ Total.Of v p f c → Parses (text s)
+parses s er ep = let (m, n, et, ec, ev) = total-of (text s) (sym er ∙ ep) in (m, n, et)
 
 -- lengths that fit a word are that word
 side-words : (sides : List Side) → length (flat sidePoints sides) ≤ 4294967295 → map lengthWord sides ≡ map sideCount sides
@@ -81,24 +85,22 @@ module _ (s : List ℕ) (limits : Sizes) (l : TextLists) {r : Total} (er : r ≡
         rw (et, ec, ew)
 
     pub whole : within (record { points = p; faces = f; listed = c }) limits (length (l .coordinates)) (length (l .lengths)) (length (l .listed)) (length (l .intervals)) (length (l .firsts)) ≡ true
-        → {q : Total} → q ≡ totalOf (text s) → {xs′ : List Float} {ls′ qs′ ps′ : List ℕ} {ds′ : List Float}
-        → AtTotal q (xs′ ≡ stored coordinates (l .coordinates) 0 (text s)) → AtTotal q (ls′ ≡ stored lengthWords (l .lengths) 0 (text s))
-        → AtTotal q (qs′ ≡ stored firsts (l .firsts) 0 (text s))
-        → AtTotal q (ps′ ≡ stored listedPoints (l .listed) 0 (text s)) → AtTotal q (ds′ ≡ stored intervals (l .intervals) 0 (text s))
+        → {xs′ : List Float} {ls′ qs′ ps′ : List ℕ} {ds′ : List Float}
+        → xs′ ≡ stored coordinates (l .coordinates) 0 (text s) → ls′ ≡ stored lengthWords (l .lengths) 0 (text s)
+        → qs′ ≡ stored firsts (l .firsts) 0 (text s) → ps′ ≡ stored listedPoints (l .listed) 0 (text s) → ds′ ≡ stored intervals (l .intervals) 0 (text s)
         → record { reading = Reading.Read v (record { points = p; faces = f; listed = c }); lists = record { coordinates = xs′; lengths = ls′; firsts = qs′; listed = ps′; intervals = ds′ } }
         ≡ readInto s limits l
     unfolding readInto
-    whole ew {q} eq ex el eq′ ep′ ed =
+    whole ew ex el eq′ ep′ ed =
         let (m, n, et, ec, ev) = total-of (text s) (sym er ∙ ep) in
-        let eo : q ≡ Total.Of v p f c = eq ∙ sym er ∙ ep in
         let h = listed-fits _ limits _ _ _ _ _ ew in
         let em : length (listedPoints m) ≡ c = ap (λ (v : Sizes). v .listed) ec in
         let w : lengthWords m ≡ lengths m = face-words (m .faces) (omega arith) in
-        let ex″ = rw (eo, et) at ex in
-        let el″ = (rw (eo, et) at el) ∙ ap (sets (l .lengths) 0) w in
-        let eq″ = rw (eo, et) at eq′ in
-        let ep″ = rw (eo, et) at ep′ in
-        let ed″ = rw (eo, et) at ed in
+        let ex″ = rw et at ex in
+        let el″ = (rw et at el) ∙ ap (sets (l .lengths) 0) w in
+        let eq″ = rw et at eq′ in
+        let ep″ = rw et at ep′ in
+        let ed″ = rw et at ed in
         rw (et, ec, ev, ew) (λ i. record {
           reading = Reading.Read v (record { points = p; faces = f; listed = c });
           lists = record { coordinates = ex″ i; lengths = el″ i; firsts = eq″ i; listed = ep″ i; intervals = ed″ i };

@@ -1,18 +1,15 @@
--- The whole text: h is the answer for the head, which names version v; r is the answer for the point lines, p of them, which end at i; q that for the face lines, f of them with c listed points, which
--- end at j; xs′, ls′, qs′, ps′ and ds′ are the lists that they leave.
-use mathlib.Core.List.{List, map}
+-- The whole text counted: h is the answer for the head, which names version v; r is the answer for the point lines, p of them, which end
+-- at i; q that for the face lines, f of them with c listed points, which end at j.
+use mathlib.Core.List.{List}
 use mathlib.Core.Path.{_≡_, refl, sym, _∙_}
 use mathlib.Core.Bool.{true, false}
 use Prim.Native.Nat.{ℕ, _≤_}
 use lib.ListN.{length}
-use lib.Ieee.{Float}
-use Rattle.text_numbers.specs.Form.{bytes, parsed, Form, many}
-use Rattle.mesh_lines.specs.Grammar.{Side, pointForm, faceForm, flat, sideFirst, sidePoints, sideIntervals}
+use Rattle.text_numbers.specs.Form.{bytes, parsed}
+use Rattle.mesh_lines.specs.Grammar.{Side, pointForm, faceForm, flat, sidePoints}
 use Rattle.mesh_text.specs.Text.{headForm, ends, mesh, text}
-use Rattle.text_numbers.specs.Numbers.{float}
-use Rattle.mesh_text.specs.Lists.{coordinates, firsts, listedPoints, intervals}
-use Rattle.mesh_lines.specs.Parts.{lengthWord, runAnswer, linesAnswer, stored, AtRun, AtLines}
-use Rattle.mesh_text.specs.Parts.{lengthWords, headOf, totalOf}
+use Rattle.mesh_lines.specs.Parts.{runAnswer, linesAnswer}
+use Rattle.mesh_text.specs.Parts.{headOf, totalOf}
 use Rattle.mesh_lines.specs.declared.Run.{Run}
 use Rattle.mesh_lines.specs.declared.Run.the-variants as Run
 use Rattle.mesh_lines.specs.declared.Lines.{Lines}
@@ -23,14 +20,9 @@ use Rattle.mesh_text.specs.declared.Head.the-variants as Head
 use Rattle.mesh_text.specs.declared.Total.the-variants as Total
 use Rattle.text_numbers.proofs.Laws.{takes-many}
 use Rattle.mesh_lines.proofs.Laws.{takes-point, takes-face}
+use Rattle.mesh_text.proofs.Stored.{pointLines, faceLines}
 use Rattle.mesh_text.proofs.Heads.{head-read, head-none}
 use Rattle.mesh_lines.proofs.Answers.{run-of, run-none, lines-are, lines-none}
-
-abbrev pointLines : List ℕ → Form (List (List ℕ))
-pointLines s = many s (bytes "[point") (pointForm s) (length s)
-
-abbrev faceLines : List ℕ → Form (List (List Side))
-faceLines s = many s (bytes "[face") (faceForm s) (length s)
 
 module _ (s : List ℕ) {h : Head} (eh : h ≡ headOf (headForm s 0)) where
   pub no-head : h ≡ Head.None → Total.None ≡ totalOf (text s)
@@ -77,24 +69,5 @@ module _ (s : List ℕ) {h : Head} (eh : h ≡ headOf (headForm s 0)) where
             unfolding mesh text
             read ee = rw (is-head, points-read .1, faces-read .1, ee)
 
-            pub whole : ends s j ≡ true → (xs : List Float) (ls qs ps : List ℕ) (ds : List Float) {xs′ : List Float} {ls′ qs′ ps′ : List ℕ} {ds′ : List Float}
-                → AtRun r (xs′ ≡ stored (flat (map float)) xs 0 (pointLines s 9))
-                → AtLines q (ls′ ≡ stored (flat (map lengthWord)) ls 0 (faceLines s i))
-                → AtLines q (qs′ ≡ stored (flat (map sideFirst)) qs 0 (faceLines s i))
-                → AtLines q (ps′ ≡ stored (flat (flat sidePoints)) ps 0 (faceLines s i))
-                → AtLines q (ds′ ≡ stored (flat (flat sideIntervals)) ds 0 (faceLines s i))
-                → (Total.Of v p f c ≡ totalOf (text s))
-                × ((xs′ ≡ stored coordinates xs 0 (text s))
-                × ((ls′ ≡ stored lengthWords ls 0 (text s))
-                × ((qs′ ≡ stored firsts qs 0 (text s)) × ((ps′ ≡ stored listedPoints ps 0 (text s)) × (ds′ ≡ stored intervals ds 0 (text s))))))
-            whole ee xs ls qs ps ds ex el eqq epp ed =
-                let t = read ee in (
-                  rw (t, points-read .2, faces-read .2, faces-read .3),
-                  (
-                    rw t (rw (ep, points-read .1) at ex),
-                    (
-                      rw t (rw (ef, faces-read .1) at el),
-                      (rw t (rw (ef, faces-read .1) at eqq), (rw t (rw (ef, faces-read .1) at epp), rw t (rw (ef, faces-read .1) at ed))),
-                    ),
-                  ),
-                )
+            pub whole : ends s j ≡ true → Total.Of v p f c ≡ totalOf (text s)
+            whole ee = rw (read ee, points-read .2, faces-read .2, faces-read .3)
