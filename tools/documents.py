@@ -20,7 +20,8 @@ STATED = """
     filed_pieces/Pieces filed_pieces/TextTwo full_agreement/Agreement handover_outputs/Claims handover_outputs/Output listings/Claims listings/Handing
     mesh_printing/Claims outcomes/Outcomes refine_outputs/Bytes refine_outputs/Claims refine_outputs/Output refined_meshes/Refines
     refined_meshes/SplitStarts renumbered_meshes/Claims runs/Runs station/Station station_steps/Told step_runs/Claims
-    steps/FirstGround steps/LentScratch steps/OneStep steps/Step text_meshes/Claims text_meshes/TextBuilding
+    refusal_places/Claims steps/FirstGround steps/LentScratch steps/OneStep steps/Step text_meshes/Claims text_meshes/TextBuilding
+    text_places/Claims whole_grounds/Claims
 """.split()
 
 # What each crate's definitions are about, in the order of the table.
@@ -53,6 +54,10 @@ ABOUT = {
     "mesh_printing": "the printing of mesh texts 1 and 2",
     "refine_outputs": "what the program `refine` writes",
     "handover_outputs": "what the program `handover` writes",
+    "mended_lists": "the places of all faces, and which of them are on one edge",
+    "refusal_places": "where the first ground in the faces is met",
+    "whole_grounds": "the answer of building told without tables",
+    "text_places": "where a text is refused",
     "crossings": "depths that edges cross, the depth finder",
     "station_answers": "how an answer is told to a C caller",
     "station_steps": "what the C functions of the step answer and leave",
