@@ -160,9 +160,9 @@ module _ (step : ℕ → ℕ) (n : ℕ) (stays : (k : ℕ) → k < n → step k 
         omega (arith, w .less),
         omega (arith, w .within),
         iter-shares (w .i) (iter step (w .j - w .i) k) k (iter-below (w .j - w .i) k b) b
-        (sym (iter-add step (w .j - w .i) (w .i) k)
-        ∙ ap (λ (x : ℕ). iter step x k) (let z : w .j - w .i + w .i ≡ w .j = omega (arith, w .less) in z)
-        ∙ sym (w .same)),
+            (sym (iter-add step (w .j - w .i) (w .i) k)
+            ∙ ap (λ (x : ℕ). iter step x k) (let z : w .j - w .i + w .i ≡ w .j = omega (arith, w .less) in z)
+            ∙ sym (w .same)),
       )
 
   pub short-way : (k s : ℕ) → k < n → (a : ℕ) → iter step a k ≡ s → (c : ℕ) × (c ≤ n) × (iter step c k ≡ s)
