@@ -7,59 +7,45 @@ use Rattle.text_mending.proofs.Laws.{promised}
 use borrow.Author.Needs.{needs}
 use Rattle.text_mending.proofs.mend_text.Statement.{statement}
 use Rattle.text_mending.proofs.mend_text.Tie as tie
-use Rattle.text_mending.proofs.mend_text.Reads as reads
-use Rattle.text_mending.proofs.mend_text.Lts as lts
-use Rattle.text_mending.proofs.read_and_mend.Reads as read-and-mend-reads
-use Rattle.text_numbers.proofs.stands.Reads as stands-reads
 
--- src/lib.rt:182:25
 slice-aggregate-stands : tie.Need-slice-aggregate-stands
 slice-aggregate-stands c = search needs
 
--- src/lib.rt:182:9
 stands-requires : tie.Need-stands-requires
 stands-requires c κs = search needs
 
--- src/lib.rt:183:9
 same-length : tie.Need-same-length
 same-length c = search needs
 
--- src/lib.rt:183:9
 returns : tie.Need-returns
 returns c =
-    promised (sym (other-head (c .before .before .before .before .before .args .text .now) (sym (c .before .stands .ensures) ∙ not-true _ (c .if1 .taken))))
+    promised (sym (other-head (c .before .before .before .before .before .args .text .now) (sym (c .before .stands .ensures) ∙ not-true
+    _ (c .if1 .taken))))
 
--- src/lib.rt:192:9
 slice-aggregate-read-and-mend : tie.Need-slice-aggregate-read-and-mend
 slice-aggregate-read-and-mend c = search needs
 
--- src/lib.rt:193:9
 slice-aggregate-read-and-mend-2 : tie.Need-slice-aggregate-read-and-mend-2
 slice-aggregate-read-and-mend-2 c = search needs
 
--- src/lib.rt:194:9
 slice-aggregate-read-and-mend-3 : tie.Need-slice-aggregate-read-and-mend-3
 slice-aggregate-read-and-mend-3 c = search needs
 
--- src/lib.rt:195:9
 slice-aggregate-read-and-mend-4 : tie.Need-slice-aggregate-read-and-mend-4
 slice-aggregate-read-and-mend-4 c = search needs
 
--- src/lib.rt:196:9
 slice-aggregate-read-and-mend-5 : tie.Need-slice-aggregate-read-and-mend-5
 slice-aggregate-read-and-mend-5 c = search needs
 
--- src/lib.rt:190:5
 read-and-mend-requires : tie.Need-read-and-mend-requires
 read-and-mend-requires c κs =
-    let head = sym (c .before .before .before .before .before .before .before .stands .ensures) ∙ not-false _ (c .before .before .before .before .before .before .if1 .left) in
+    let head = sym (c .before .before .before .before .before .before .before .stands .ensures) ∙ not-false _ (c .before .before .before
+    .before .before .before .if1 .left) in
     (omega arith, (omega arith, (omega arith, (omega arith, (omega arith, head)))))
 
--- src/lib.rt:177:1
 same-length-2 : tie.Need-same-length-2
 same-length-2 c = search needs
 
--- src/lib.rt:177:1
 returns-2 : tie.Need-returns-2
 returns-2 c =
     promised (c .before .before .before .before .before .before .before .read-and-mend .ensures)

@@ -5,28 +5,21 @@ use Rattle.text_mending.proofs.Laws.{not-text, over-limits, said-first}
 use borrow.Author.Needs.{needs}
 use Rattle.text_mending.proofs.read_and_mend.Statement.{statement}
 use Rattle.text_mending.proofs.read_and_mend.Tie as tie
-use Rattle.text_mending.proofs.read_and_mend.Reads as reads
-use Rattle.text_mending.proofs.read_and_mend.Lts as lts
-use Rattle.building_tests.proofs.Bounds.most.Reads as most-reads
-use Rattle.mesh_text.proofs.read_text.Reads as read-text-reads
-use Rattle.text_mending.proofs.mend_first.Reads as mend-first-reads
 
--- src/lib.rt:159:27
 most-requires : tie.Need-most-requires
 most-requires c κs = search needs
 
--- src/lib.rt:159:11
 read-text-requires : tie.Need-read-text-requires
 read-text-requires c κs = search needs
 
--- src/lib.rt:160:23
 enum-known-version : tie.Need-enum-known-version
 enum-known-version c = search needs
 
--- src/lib.rt:160:38
 mend-first-requires : tie.Need-mend-first-requires
 mend-first-requires c κs =
-    let args = c .before .before .before .before .before .before .before .before .before .before .before .before .before .before .before .before .before .before .before .before .before .before .before .before .before .before .before .before .before .before .before .before .before .args in
+    let args = c .before .before .before .before .before .before .before .before .before .before .before .before .before .before .before
+    .before .before .before .before .before .before .before .before .before .before .before .before .before .before .before .before
+    .before .before .args in
     let h = fits General (args .text .now)
     (record {
       coordinates = args .coordinates .now;
@@ -35,7 +28,10 @@ mend-first-requires c κs =
       listed = args .listed .now;
       intervals = args .beside .now;
     })
-    (c .before .before .before .before .before .before .before .before .before .before .before .before .before .before .before .before .before .before .before .before .before .before .before .before .before .most .ensures) (c .before .before .before .before .before .before .before .before .before .before .before .before .before .before .before .before .before .before .before .read-text .ensures .0) (c .before .before .before .before .before .before .before .version .given .1) in
+    (c .before .before .before .before .before .before .before .before .before .before .before .before .before .before .before .before
+    .before .before .before .before .before .before .before .before .before .most .ensures) (c .before .before .before .before
+    .before .before .before .before .before .before .before .before .before .before .before .before .before .before .before
+    .read-text .ensures .0) (c .before .before .before .before .before .before .before .version .given .1) in
     let s = said-first (args .text .now)
     (record {
       coordinates = args .coordinates .now;
@@ -44,73 +40,64 @@ mend-first-requires c κs =
       listed = args .listed .now;
       intervals = args .beside .now;
     })
-    (c .before .before .before .before .before .before .before .before .before .before .before .before .before .before .before .before .before .before .before .before .before .before .before .before .before .most .ensures) (c .before .before .before .before .before .before .before .before .before .before .before .before .before .before .before .before .before .before .before .read-text .ensures .0) (c .before .before .before .before .before .before .before .before .before .before .before .before .before .before .before .before .before .before .before .before .before .before .before .before .before .before .before .before .before .before .before .before .before .pre .1 .1 .1 .1 .1) (c .before .before .before .before .before .before .before .version .given .1) in
+    (c .before .before .before .before .before .before .before .before .before .before .before .before .before .before .before .before
+    .before .before .before .before .before .before .before .before .before .most .ensures) (c .before .before .before .before
+    .before .before .before .before .before .before .before .before .before .before .before .before .before .before .before
+    .read-text .ensures .0) (c .before .before .before .before .before .before .before .before .before .before .before .before
+    .before .before .before .before .before .before .before .before .before .before .before .before .before .before .before .before
+    .before .before .before .before .before .pre .1 .1 .1 .1 .1) (c .before .before .before .before .before .before .before .version
+    .given .1) in
     (h .coordinates, (h .lengths, (h .firsts, (h .listed, (h .intervals, s)))))
 
--- src/lib.rt:171:29
 enum-told : tie.Need-enum-told
 enum-told c = search needs
 
--- src/lib.rt:172:53
 enum-told-2 : tie.Need-enum-told-2
 enum-told-2 c = search needs
 
--- src/lib.rt:141:1
 same-length : tie.Need-same-length
 same-length c = search needs
 
--- src/lib.rt:141:1
 same-length-2 : tie.Need-same-length-2
 same-length-2 c = search needs
 
--- src/lib.rt:141:1
 same-length-3 : tie.Need-same-length-3
 same-length-3 c = search needs
 
--- src/lib.rt:141:1
 same-length-4 : tie.Need-same-length-4
 same-length-4 c = search needs
 
--- src/lib.rt:141:1
 same-length-5 : tie.Need-same-length-5
 same-length-5 c = search needs
 
--- src/lib.rt:141:1
 same-length-6 : tie.Need-same-length-6
 same-length-6 c = search needs
 
--- src/lib.rt:141:1
 returns : tie.Need-returns
 returns c = search needs
 
--- src/lib.rt:141:1
 same-length-7 : tie.Need-same-length-7
 same-length-7 c = search needs
 
--- src/lib.rt:141:1
 same-length-8 : tie.Need-same-length-8
 same-length-8 c = search needs
 
--- src/lib.rt:141:1
 same-length-9 : tie.Need-same-length-9
 same-length-9 c = search needs
 
--- src/lib.rt:141:1
 same-length-10 : tie.Need-same-length-10
 same-length-10 c = search needs
 
--- src/lib.rt:141:1
 same-length-11 : tie.Need-same-length-11
 same-length-11 c = search needs
 
--- src/lib.rt:141:1
 same-length-12 : tie.Need-same-length-12
 same-length-12 c = search needs
 
--- src/lib.rt:141:1
 returns-2 : tie.Need-returns-2
 returns-2 c =
-    let args = c .before .before .before .before .before .before .before .before .before .before .before .before .before .before .before .before .before .before .before .before .before .before .before .before .before .before .args in
+    let args = c .before .before .before .before .before .before .before .before .before .before .before .before .before .before .before
+    .before .before .before .before .before .before .before .before .before .before .before .args in
     not-text (args .text .now)
     (record {
       coordinates = args .coordinates .now;
@@ -119,37 +106,34 @@ returns-2 c =
       listed = args .listed .now;
       intervals = args .beside .now;
     })
-    (c .before .before .before .before .before .before .before .before .before .before .before .before .before .before .before .before .before .before .most .ensures) (c .before .before .before .before .before .before .before .before .before .before .before .before .read-text .ensures .0) (c .enum-told .given .1)
+    (c .before .before .before .before .before .before .before .before .before .before .before .before .before .before .before .before
+    .before .before .most .ensures) (c .before .before .before .before .before .before .before .before .before .before .before
+    .before .read-text .ensures .0) (c .enum-told .given .1)
 
--- src/lib.rt:141:1
 same-length-13 : tie.Need-same-length-13
 same-length-13 c = search needs
 
--- src/lib.rt:141:1
 same-length-14 : tie.Need-same-length-14
 same-length-14 c = search needs
 
--- src/lib.rt:141:1
 same-length-15 : tie.Need-same-length-15
 same-length-15 c = search needs
 
--- src/lib.rt:141:1
 same-length-16 : tie.Need-same-length-16
 same-length-16 c = search needs
 
--- src/lib.rt:141:1
 same-length-17 : tie.Need-same-length-17
 same-length-17 c = search needs
 
--- src/lib.rt:141:1
 same-length-18 : tie.Need-same-length-18
 same-length-18 c = search needs
 
--- src/lib.rt:141:1
 returns-3 : tie.Need-returns-3
 returns-3 c =
-    let args = c .before .before .before .before .before .before .before .before .before .before .before .before .before .before .before .before .before .before .before .before .before .before .before .before .before .before .args in
-    let pre = c .before .before .before .before .before .before .before .before .before .before .before .before .before .before .before .before .before .before .before .before .before .before .before .before .before .before .pre in
+    let args = c .before .before .before .before .before .before .before .before .before .before .before .before .before .before .before
+    .before .before .before .before .before .before .before .before .before .before .before .args in
+    let pre = c .before .before .before .before .before .before .before .before .before .before .before .before .before .before .before
+    .before .before .before .before .before .before .before .before .before .before .before .pre in
     over-limits (args .text .now)
     (record {
       coordinates = args .coordinates .now;
@@ -158,7 +142,9 @@ returns-3 c =
       listed = args .listed .now;
       intervals = args .beside .now;
     })
-    (c .before .before .before .before .before .before .before .before .before .before .before .before .before .before .before .before .before .before .most .ensures) (c .before .before .before .before .before .before .before .before .before .before .before .before .read-text .ensures .0) (pre .1 .1 .1 .1 .1) (pre .0) (pre .1 .0) (pre .1 .1 .0) (pre .1 .1 .1 .0)
+    (c .before .before .before .before .before .before .before .before .before .before .before .before .before .before .before .before
+    .before .before .most .ensures) (c .before .before .before .before .before .before .before .before .before .before .before
+    .before .read-text .ensures .0) (pre .1 .1 .1 .1 .1) (pre .0) (pre .1 .0) (pre .1 .1 .0) (pre .1 .1 .1 .0)
     (pre .1 .1 .1 .1 .0) (c .enum-told2 .given .1)
 
 pub read-and-mend-spec : {M : Type 1} → statement M

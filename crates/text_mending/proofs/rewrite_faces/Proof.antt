@@ -5,63 +5,66 @@ use Rattle.text_mending.proofs.Laws.{turn-room, few-points, write-room,
 use borrow.Author.Needs.{needs}
 use Rattle.text_mending.proofs.rewrite_faces.Statement.{statement}
 use Rattle.text_mending.proofs.rewrite_faces.Tie as tie
-use Rattle.text_mending.proofs.rewrite_faces.Reads as reads
-use Rattle.text_mending.proofs.rewrite_faces.Lts as lts
-use Rattle.face_turning.proofs.turn_faces.Reads as turn-faces-reads
-use Rattle.text_printing.proofs.write_face_lines.Reads as write-face-lines-reads
 
--- src/lib.rt:75:5
 turn-faces-requires : tie.Need-turn-faces-requires
 turn-faces-requires c κs =
     let args = c .before .before .before .before .before .before .before .before .before .before .before .args in
-    let h = turn-room (args .text .now) (args .coordinates .now) (args .sides .now) (args .firsts .now) (args .listed .now) (args .beside .now) (args .turned .now) (c .before .before .before .before .before .before .before .before .before .before .before .pre) in
+    let h = turn-room (args .text .now) (args .coordinates .now) (args .sides .now) (args .firsts .now) (args .listed .now) (args
+    .beside .now) (args .turned .now) (c .before .before .before .before .before .before .before .before .before .before .before
+    .pre) in
     (h .0, (h .1, (h .2, h .3)))
 
--- src/lib.rt:76:27
 mul-at : tie.Need-mul-at
 mul-at c =
-    let args = c .before .before .before .before .before .before .before .before .before .before .before .before .before .before .before .before .before .before .before .before .args in
-    let few = few-points (args .text .now) (args .coordinates .now) (args .sides .now) (args .firsts .now) (args .listed .now) (args .beside .now) (args .turned .now) (c .before .before .before .before .before .before .before .before .before .before .before .before .before .before .before .before .before .before .before .before .pre) in
+    let args = c .before .before .before .before .before .before .before .before .before .before .before .before .before .before .before
+    .before .before .before .before .before .args in
+    let few = few-points (args .text .now) (args .coordinates .now) (args .sides .now) (args .firsts .now) (args .listed .now) (args
+    .beside .now) (args .turned .now) (c .before .before .before .before .before .before .before .before .before .before .before
+    .before .before .before .before .before .before .before .before .before .pre) in
     omega arith
 
--- src/lib.rt:76:14
 add-at : tie.Need-add-at
 add-at c =
-    let args = c .before .before .before .before .before .before .before .before .before .before .before .before .before .before .before .before .before .before .before .before .args in
-    let few = few-points (args .text .now) (args .coordinates .now) (args .sides .now) (args .firsts .now) (args .listed .now) (args .beside .now) (args .turned .now) (c .before .before .before .before .before .before .before .before .before .before .before .before .before .before .before .before .before .before .before .before .pre) in
+    let args = c .before .before .before .before .before .before .before .before .before .before .before .before .before .before .before
+    .before .before .before .before .before .args in
+    let few = few-points (args .text .now) (args .coordinates .now) (args .sides .now) (args .firsts .now) (args .listed .now) (args
+    .beside .now) (args .turned .now) (c .before .before .before .before .before .before .before .before .before .before .before
+    .before .before .before .before .before .before .before .before .before .pre) in
     omega arith
 
--- src/lib.rt:77:5
 write-face-lines-requires : tie.Need-write-face-lines-requires
 write-face-lines-requires c κs =
-    let args = c .before .before .before .before .before .before .before .before .before .before .before .before .before .before .before .before .before .before .before .before .before .before .before .before .before .args in
-    write-room (args .text .now) (args .coordinates .now) (args .sides .now) (args .firsts .now) (args .listed .now) (args .beside .now) (args .turned .now) (c .before .before .before .before .before .before .before .before .before .before .before .before .before .before .before .before .before .before .before .before .before .before .before .before .before .pre) (c .before .before .before .before .before .before .before .before .before .before .before .before .before .turn-faces .ensures) _ refl
+    let args = c .before .before .before .before .before .before .before .before .before .before .before .before .before .before .before
+    .before .before .before .before .before .before .before .before .before .before .args in
+    write-room (args .text .now) (args .coordinates .now) (args .sides .now) (args .firsts .now) (args .listed .now) (args .beside .now)
+    (args .turned .now) (c .before .before .before .before .before .before .before .before .before .before .before .before .before
+    .before .before .before .before .before .before .before .before .before .before .before .before .pre) (c .before .before .before
+    .before .before .before .before .before .before .before .before .before .before .turn-faces .ensures) _ refl
 
--- src/lib.rt:61:1
 same-length : tie.Need-same-length
 same-length c = search needs
 
--- src/lib.rt:61:1
 same-length-2 : tie.Need-same-length-2
 same-length-2 c = search needs
 
--- src/lib.rt:61:1
 same-length-3 : tie.Need-same-length-3
 same-length-3 c = search needs
 
--- src/lib.rt:61:1
 same-length-4 : tie.Need-same-length-4
 same-length-4 c = search needs
 
--- src/lib.rt:61:1
 same-length-5 : tie.Need-same-length-5
 same-length-5 c = search needs
 
--- src/lib.rt:61:1
 returns : tie.Need-returns
 returns c =
-    let args = c .before .before .before .before .before .before .before .before .before .before .before .before .before .before .before .before .before .before .before .before .before .before .before .before .before .before .before .before .args in
-    rewritten (args .text .now) (args .coordinates .now) (args .sides .now) (args .firsts .now) (args .listed .now) (args .beside .now) (args .turned .now) (c .before .before .before .before .before .before .before .before .before .before .before .before .before .before .before .before .before .before .before .before .before .before .before .before .before .before .before .before .pre) (c .before .before .before .before .before .before .before .before .before .before .before .before .before .before .before .before .turn-faces .ensures) _ refl (c .before .before .write-face-lines .ensures)
+    let args = c .before .before .before .before .before .before .before .before .before .before .before .before .before .before .before
+    .before .before .before .before .before .before .before .before .before .before .before .before .before .args in
+    rewritten (args .text .now) (args .coordinates .now) (args .sides .now) (args .firsts .now) (args .listed .now) (args .beside .now)
+    (args .turned .now) (c .before .before .before .before .before .before .before .before .before .before .before .before .before
+    .before .before .before .before .before .before .before .before .before .before .before .before .before .before .before .pre) (c
+    .before .before .before .before .before .before .before .before .before .before .before .before .before .before .before .before
+    .turn-faces .ensures) _ refl (c .before .before .write-face-lines .ensures)
 
 pub rewrite-faces-spec : {M : Type 1} → statement M
 rewrite-faces-spec =
