@@ -5,7 +5,7 @@ use Rattle.station_mending.proofs.mend_text_told.Statement.{statement}
 use Rattle.station_mending.proofs.mend_text_told.Tie as tie
 
 returns : tie.Need-returns
-returns c = told-of _ _ (c .text-mending-number .ensures) (c .before .before .before .mend-text .ensures)
+returns c = told-of _ _ (c .text-mending-number .ensures) (c .before .before .before .mend-text .ensures .0)
 
 pub mend-text-told-spec : {M : Type 1} → statement M
 mend-text-told-spec =
