@@ -4,6 +4,8 @@
 #     station/harness.sh compare [MESHES [SEED]]    the library against the Rust on generated meshes (20,000, seed 1);
 #                                                   with 0, or 20,000 and more, also the largest mesh, up to the ceilings
 #     station/harness.sh fuzz [CASES [SEED]]        random and damaged lists, texts and tables (50,000, seed 1)
+#     station/harness.sh mend [CASES [SEED]]        texts with faces turned, damaged texts and any bytes through the mender,
+#                                                   against all choices of faces (20,000, seed 1)
 #     station/harness.sh tampered                   changed bits in what the library leaves, which must be found
 #     station/harness.sh bench [FACES]              times; the Rust is run on meshes of up to so many faces (all)
 #     station/harness.sh obj [FACES]                a shuffled mesh of about so many faces as an OBJ (3,000)

@@ -1,5 +1,5 @@
 #!/bin/sh
-# The short edition for the gate: the examples and the header, some generated meshes and damaged inputs: station/short.sh [SEED]
+# The short edition for the gate: the examples and the header, some generated meshes, damaged inputs and mended texts: station/short.sh [SEED]
 # Needed: the Rattle kit, cc, rustc, python3, and the six Rust files (oracle/README.md).
 set -eu
 here=$(cd "$(dirname "$0")" && pwd)
@@ -10,3 +10,4 @@ needed station/short.sh rt cc rustc python3 sources
 "$here/harness.sh" tampered
 "$here/harness.sh" compare 2000 "${1:-1}"
 "$here/harness.sh" fuzz 2000 "${1:-1}"
+"$here/harness.sh" mend 2000 "${1:-1}"

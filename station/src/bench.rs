@@ -4,6 +4,7 @@ use crate::library::{self, Counts, Edition, Tables};
 use crate::lists::Lists;
 use crate::listings;
 use crate::memory;
+use crate::mender;
 use crate::random::Random;
 use crate::rust::Mesh;
 use crate::shapes::{self, Shape};
@@ -127,6 +128,32 @@ fn building(samples: &[Sample], rust_most: usize) {
     println!();
 }
 
+/// Texts with half of their faces turned: mended by the library, beside building from the mended text.
+fn mending(samples: &[Sample]) {
+    println!("## Mending\n");
+    println!("| Mesh | Faces | Bytes | Mended, µs | ns a face | Built from the text, µs | Times building |");
+    println!("|---|---|---|---|---|---|---|");
+    for Sample { name, lists } in samples {
+        let faces = lists.faces();
+        let mut random = Random::new(faces as u64);
+        let version_2 = Lists { firsts: Some(Vec::new()), ..lists.clone() }.fitted();
+        let choice: Vec<bool> = (0..faces).map(|f| f > 0 && random.once_in(2)).collect();
+        let text = mender::reversed(&version_2, &choice).text().expect("the sample has a text").into_bytes();
+        let wanted = version_2.text().expect("the sample has a text").into_bytes();
+        let runs = (200_000 / faces).clamp(9, 500);
+        let mended = least(runs, || text.clone(), |text| assert_eq!(library::mend_text(text), 0, "the sample is mended"));
+        let room = Counts { points: lists.points(), edges: lists.listed.len(), faces };
+        let built = least(runs, || Tables::patterned(room, 0), |tables| {
+            assert_eq!(library::build_text(&wanted, tables, &mut [0; 3]), 0, "the mended sample is built");
+        });
+        println!(
+            "| {name} | {faces} | {} | {:.0} | {:.0} | {:.0} | {:.2} |",
+            text.len(), mended / 1e3, mended / faces as f64, built / 1e3, mended / built
+        );
+    }
+    println!();
+}
+
 /// One line of the table of steps.
 fn step(name: &str, mesh: &Tables, counts: Counts, rust_most: usize) {
     let after = counts.refined();
@@ -166,6 +193,7 @@ pub fn run(rust_most: usize) {
     let mut samples: Vec<Sample> = sizes.into_iter().map(torus).collect();
     samples.extend([64, 256, 1024, 3000].map(shuffled));
     building(&samples, rust_most);
+    mending(&samples);
     println!("## One step\n");
     println!(
         "| Mesh | Faces after | Library, µs | ns a face | Second edition, µs | Times the first | Audit's share | Write and copy, ns a face | Times that | \

@@ -1,9 +1,10 @@
-//! Document 01's grounds and its audit, and document 02's grounds of mesh text 2, written down once more in plain Rust, to say which answer is expected of the
-//! library. Nothing here is taken from the library, and nothing is quick.
+//! Document 01's grounds and its audit, and document 02's grounds of mesh text 2 and of the mender, written down once more in
+//! plain Rust, to say which answer is expected of the library. Nothing here is taken from the library, and nothing is quick.
 
 use crate::library::{Counts, NONE, Tables};
 use crate::lists::Lists;
 use crate::numbers::sums_agree;
+use oracle::text::Version;
 use std::collections::{HashMap, HashSet};
 
 pub const MOST_POINTS: usize = 4096;
@@ -23,15 +24,38 @@ pub fn building(lists: &Lists, room: Counts) -> u32 {
     if room.points < np || room.faces < nf || room.edges < listed {
         return 4;
     }
-    faces(lists).map_or_else(|ground| ground, |()| whole(lists))
+    faces(lists, Tests::Building).map_or_else(|ground| ground, |()| whole(lists))
+}
+
+/// The first ground of the mender (document 02, section 8), but for 1 of a text that is none and 44; 0 if there is none.
+pub fn mending(lists: &Lists) -> u32 {
+    let (np, nf, listed) = (lists.points(), lists.faces(), lists.listed.len());
+    if lists.version() == Version::One {
+        return 1;
+    }
+    if !lists.agree() || np > MOST_POINTS || nf > MOST_FACES || listed > MOST_LISTED {
+        return 2;
+    }
+    if !lists.coordinates.iter().all(|x| x.is_finite()) || !lists.intervals.iter().all(|&d| is_interval(d)) {
+        return 3;
+    }
+    faces(lists, Tests::Mending).map_or_else(|ground| ground, |()| 0)
+}
+
+/// Whose tests the faces are put to: the mender leaves out 13 and 15.
+#[derive(Clone, Copy, PartialEq, Eq)]
+enum Tests {
+    Building,
+    Mending,
 }
 
 fn is_interval(d: f64) -> bool {
     d.is_finite() && d.is_sign_positive()
 }
 
-/// The faces in turn: 10 to 12, 43 and 13 of each, then 14 and 15 of its edges.
-fn faces(lists: &Lists) -> Result<(), u32> {
+/// The faces in turn: 10 to 12, 43 and 13 of each, then 14 and 15 of its edges; 20 when all are through.
+fn faces(lists: &Lists, tests: Tests) -> Result<(), u32> {
+    let building = tests == Tests::Building;
     // For each two points that an edge joins: from which to which it runs, and whether it has a second face.
     let mut edges: HashMap<(u32, u32), ((u32, u32), bool)> = HashMap::new();
     let agreed = lists.agreed();
@@ -54,7 +78,7 @@ fn faces(lists: &Lists) -> Result<(), u32> {
         if lists.firsts.as_ref().is_some_and(|firsts| firsts[4 * f..4 * f + 4] != agreed[4 * f..4 * f + 4]) {
             return Err(43);
         }
-        if !sums_agree(lists.version(), four) {
+        if building && !sums_agree(lists.version(), four) {
             return Err(13);
         }
         for i in 0..n {
@@ -64,7 +88,7 @@ fn faces(lists: &Lists) -> Result<(), u32> {
                     edges.insert((p.min(q), p.max(q)), ((p, q), false));
                 }
                 Some((_, true)) => return Err(14),
-                Some((way, _)) if *way == (p, q) => return Err(15),
+                Some((way, _)) if building && *way == (p, q) => return Err(15),
                 Some((_, second)) => *second = true,
             }
         }

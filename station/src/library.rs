@@ -148,7 +148,7 @@ pub fn build_text(text: &[u8], tables: &mut Tables, counts: &mut [usize; 3]) -> 
     }
 }
 
-/// Mends a text in place.
+/// Mends a text in place. The answer is document 02's number, 0 for mended.
 pub fn mend_text(text: &mut [u8]) -> u32 {
     // SAFETY: the pointer goes with its length.
     unsafe { lavyngo_mend_text(text.as_mut_ptr(), text.len()) }

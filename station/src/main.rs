@@ -3,6 +3,7 @@
 //!     station compare [MESHES [SEED]]    generated meshes, after building and after one and two steps; with 0 meshes, or
 //!                                        20,000 and more, also the largest mesh, up to the ceilings
 //!     station fuzz [CASES [SEED]]        random and damaged lists, texts and tables
+//!     station mend [CASES [SEED]]        texts with faces turned, damaged texts and any bytes through the mender
 //!     station bench [FACES]              times; the Rust is run on meshes of up to so many faces
 //!     station obj [FACES]                a shuffled mesh of about so many faces as an OBJ, for other libraries
 //!     station profile [STEPS]            steps of the torus of 64 by 64, for a profiler
@@ -21,6 +22,7 @@ mod library;
 mod listings;
 mod lists;
 mod memory;
+mod mend;
 mod mender;
 mod names;
 mod numbers;
@@ -160,6 +162,25 @@ fn fuzz(cases: u64, seed: u64) -> ExitCode {
     }
 }
 
+fn mend(cases: u64, seed: u64) -> ExitCode {
+    match mend::run(cases, seed) {
+        Ok(m) => {
+            println!("seed {seed}: {} texts mended or refused; of {} meshes all choices of faces were tried", m.texts, m.tried);
+            println!("the mender answered: {}; {} faces turned", listed(&m.answers), m.faces);
+            println!(
+                "{} mended texts built, {} accepted, {} records compared with the Rust's; refused, by ground: {}",
+                m.tally.texts, m.tally.accepted, m.tally.records, listed(&m.tally.refused)
+            );
+            println!("every answer and every byte is document 02's");
+            ExitCode::SUCCESS
+        }
+        Err((place, what)) => {
+            println!("WRONG in {place}: {what}");
+            ExitCode::FAILURE
+        }
+    }
+}
+
 /// Panics of the Rust become lines of the oracle; what was said last is kept, for a panic that is our own.
 static LAST_PANIC: Mutex<String> = Mutex::new(String::new());
 
@@ -178,6 +199,7 @@ fn command() -> ExitCode {
     match words.first().map(String::as_str) {
         Some("compare") => compare(number(1, 20_000), number(2, 1)),
         Some("fuzz") => fuzz(number(1, 50_000), number(2, 1)),
+        Some("mend") => mend(number(1, 20_000), number(2, 1)),
         Some("tampered") => tampered(),
         Some("stack") => {
             stack::run();
@@ -201,7 +223,7 @@ fn command() -> ExitCode {
             ExitCode::SUCCESS
         }
         _ => {
-            eprintln!("usage: station compare [MESHES [SEED]] | fuzz [CASES [SEED]] | bench [FACES] | profile [STEPS] | stack | tampered");
+            eprintln!("usage: station compare [MESHES [SEED]] | fuzz [CASES [SEED]] | mend [CASES [SEED]] | bench [FACES] | profile [STEPS] | stack | tampered");
             ExitCode::from(2)
         }
     }

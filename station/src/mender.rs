@@ -1,158 +1,158 @@
-//! The mender of texts (document 02, §8) once more in plain Rust, and texts with faces turned round through the library.
+//! The mender of texts (document 02, section 8) once more in plain Rust that follows the document's words, and texts through the
+//! library's mender.
 
-use crate::grounds::{MOST_FACES, MOST_LISTED, MOST_POINTS};
-use crate::library;
 use crate::lists::Lists;
 use crate::random::Random;
-use oracle::text::Version;
-use std::collections::{BTreeMap, HashMap, HashSet};
+use crate::{grounds, library, numbers, shapes};
+use oracle::text::{Side, Version};
+use std::collections::{BTreeMap, HashMap};
 
 /// How often the mender gave each answer.
 pub type Answers = BTreeMap<u32, u64>;
 
-/// Turns a face round: the sides in opposite order, each backwards, each interval on its pair of points.
-fn turn(lists: &mut Lists, f: usize) {
-    let (begin, n) = lists.places()[f];
-    if n > 0 {
-        lists.listed[begin..begin + n - 1].reverse();
-        lists.intervals[begin..begin + n].reverse();
-    }
-    lists.sides[4 * f..4 * f + 4].reverse();
-    if let Some(firsts) = &mut lists.firsts {
-        firsts[4 * f + 1..4 * f + 4].reverse();
-    }
+/// A side backwards, from its last point to its first one. Each interval stays on its pair of points.
+fn backwards((first, entries): &Side) -> Side {
+    let mut points = vec![*first];
+    points.extend(entries.iter().map(|entry| entry.0));
+    let pairs = (0..entries.len()).rev().map(|k| (points[k], entries[k].1)).collect();
+    (points[entries.len()], pairs)
 }
 
-/// For each two points that an edge joins: the faces that have it, and whether they run it from the lower point.
-type Edges = HashMap<(u32, u32), Vec<(usize, bool)>>;
+/// The lists with these faces reversed: the sides in opposite order, each side backwards.
+pub fn reversed(lists: &Lists, choice: &[bool]) -> Lists {
+    let mut mesh = lists.mesh().expect("lists whose lengths agree");
+    for (face, _) in mesh.faces.iter_mut().zip(choice).filter(|(_, turned)| **turned) {
+        *face = [3, 2, 1, 0].map(|k: usize| backwards(&face[k]));
+    }
+    Lists::of_mesh(&mesh)
+}
 
-/// The faces in turn: 10 to 12 and 43 of each, then 14 of its edges; then 20.
-fn edges(lists: &Lists) -> Result<Edges, u32> {
-    let mut edges = Edges::new();
-    let agreed = lists.agreed();
-    for (f, (begin, n)) in lists.places().into_iter().enumerate() {
+/// The two faces of an edge, and whether they run along it the same way.
+pub struct Shared {
+    pub faces: [usize; 2],
+    pub same_way: bool,
+}
+
+/// The edges of lists of which each edge has two faces.
+pub fn edges(lists: &Lists) -> Vec<Shared> {
+    let mut met: HashMap<(u32, u32), Vec<(usize, u32)>> = HashMap::new();
+    for (face, (begin, n)) in lists.places().into_iter().enumerate() {
         let border = &lists.listed[begin..begin + n];
-        if !(3..=64).contains(&n) {
-            return Err(10);
-        }
-        if border.iter().any(|&p| p as usize >= lists.points()) {
-            return Err(11);
-        }
-        if border.iter().collect::<HashSet<_>>().len() < n {
-            return Err(12);
-        }
-        if lists.firsts.as_ref().is_some_and(|firsts| firsts[4 * f..4 * f + 4] != agreed[4 * f..4 * f + 4]) {
-            return Err(43);
-        }
         for i in 0..n {
             let (p, q) = (border[i], border[(i + 1) % n]);
-            let faces = edges.entry((p.min(q), p.max(q))).or_default();
-            if faces.len() == 2 {
-                return Err(14);
-            }
-            faces.push((f, p < q));
+            met.entry((p.min(q), p.max(q))).or_default().push((face, p));
         }
     }
-    if edges.values().any(|faces| faces.len() == 1) { Err(20) } else { Ok(edges) }
+    met.into_values()
+        .map(|two| Shared { faces: [two[0].0, two[1].0], same_way: two[0].1 == two[1].1 })
+        .collect()
 }
 
-/// The faces to turn: part by part, from the lowest-numbered face on, which stays. None if no choice works.
-fn choice(edges: &Edges, faces: usize) -> Option<Vec<bool>> {
-    let mut beside = vec![Vec::new(); faces];
-    for pair in edges.values() {
-        let ((f, runs), (g, other)) = (pair[0], pair[1]);
-        beside[f].push((g, runs == other));
-        beside[g].push((f, runs == other));
+/// Whether all neighbours run opposite ways once the faces of a choice are reversed.
+pub fn works(edges: &[Shared], choice: &[bool]) -> bool {
+    edges.iter().all(|edge| edge.same_way == (choice[edge.faces[0]] != choice[edge.faces[1]]))
+}
+
+/// The choice, found by going from face to face: each neighbour is turned as the edge demands.
+pub fn by_walking(edges: &[Shared], faces: usize) -> Option<Vec<bool>> {
+    let mut beside: Vec<Vec<(usize, bool)>> = vec![Vec::new(); faces];
+    for Shared { faces: [f, g], same_way } in edges {
+        beside[*f].push((*g, *same_way));
+        beside[*g].push((*f, *same_way));
     }
-    let mut turned: Vec<Option<bool>> = vec![None; faces];
-    for lowest in 0..faces {
-        if turned[lowest].is_some() {
+    let mut choice: Vec<Option<bool>> = vec![None; faces];
+    for first in 0..faces {
+        if choice[first].is_some() {
             continue;
         }
-        turned[lowest] = Some(false);
-        let mut todo = vec![lowest];
-        while let Some(f) = todo.pop() {
-            for &(g, same) in &beside[f] {
-                let due = turned[f] != Some(same);
-                match turned[g] {
-                    None => {
-                        turned[g] = Some(due);
-                        todo.push(g);
-                    }
-                    Some(is) if is != due => return None,
-                    Some(_) => {}
+        choice[first] = Some(false);
+        let mut waiting = vec![first];
+        while let Some(face) = waiting.pop() {
+            for &(next, same_way) in &beside[face] {
+                if choice[next].is_none() {
+                    choice[next] = choice[face].map(|turned| turned != same_way);
+                    waiting.push(next);
                 }
             }
         }
     }
-    turned.into_iter().collect()
+    let choice: Vec<bool> = choice.into_iter().map(|turned| turned == Some(true)).collect();
+    works(edges, &choice).then_some(choice)
 }
 
-/// The mended lists, or the ground.
-fn mended(lists: &Lists) -> Result<Lists, u32> {
-    if lists.version() == Version::One {
-        return Err(1);
+/// What the mender is to answer to lists: the faces to turn, or its ground.
+fn turns(lists: &Lists) -> Result<Vec<bool>, u32> {
+    match grounds::mending(lists) {
+        0 => by_walking(&edges(lists), lists.faces()).ok_or(44),
+        ground => Err(ground),
     }
-    if lists.points() > MOST_POINTS || lists.faces() > MOST_FACES || lists.listed.len() > MOST_LISTED {
-        return Err(2);
-    }
-    let finite = lists.coordinates.iter().all(|x| x.is_finite());
-    if !finite || !lists.intervals.iter().all(|d| d.is_finite() && d.is_sign_positive()) {
-        return Err(3);
-    }
-    let turned = choice(&edges(lists)?, lists.faces()).ok_or(44u32)?;
-    let mut lists = lists.clone();
-    for f in (0..turned.len()).filter(|&f| turned[f]) {
-        turn(&mut lists, f);
-    }
-    Ok(lists)
 }
 
-/// A text through the library's mender, held against document 02: lists are what it says, if it is of the form.
-pub fn through(text: &[u8], lists: Option<&Lists>, answers: &mut Answers) -> Result<(), String> {
-    let mut bytes = text.to_vec();
-    let answer = library::mend_text(&mut bytes);
+/// The beginning of a text, for a message.
+pub fn shown(text: &[u8]) -> String {
+    String::from_utf8_lossy(&text[..text.len().min(4000)]).into_owned()
+}
+
+fn demand(holds: bool, what: impl FnOnce() -> String) -> Result<(), String> {
+    if holds { Ok(()) } else { Err(what()) }
+}
+
+/// A mended text: its lists, and how many faces were turned.
+pub struct Mended {
+    pub lists: Lists,
+    pub turned: usize,
+}
+
+/// A text of any bytes through the library's mender: the answer, and every byte of the text. The lists are what it says, if it is
+/// of the form.
+pub fn through(text: &[u8], lists: Option<&Lists>, answers: &mut Answers) -> Result<Option<Mended>, String> {
+    let expected = lists.map_or(Err(1), turns);
+    let mut left = text.to_vec();
+    let answer = library::mend_text(&mut left);
+    let number = expected.as_ref().err().copied().unwrap_or(0);
+    demand(answer == number, || format!("the mender answers {answer}, document 02 says {number}, to the text\n{}", shown(text)))?;
     *answers.entry(answer).or_default() += 1;
-    let (expected, left) = match lists.map_or(Err(1), mended) {
-        Ok(lists) => (0, lists.text().expect("lists that were read have a text").into_bytes()),
-        Err(ground) => (ground, text.to_vec()),
+    let (Ok(choice), Some(lists)) = (expected, lists) else {
+        demand(left == text, || format!("the mender answers {answer} and changes the text\n{}", shown(text)))?;
+        return Ok(None);
     };
-    if answer != expected {
-        return Err(format!("the mender answers {answer}, document 02 says {expected}"));
-    }
-    if bytes != left {
-        return Err(format!("the mender answers {answer} and leaves another text than document 02 says"));
-    }
-    if answer == 0 && (library::mend_text(&mut bytes) != 0 || bytes != left) {
-        return Err(String::from("a mended text is mended again"));
-    }
-    Ok(())
+    let lists = reversed(lists, &choice);
+    let wanted = lists.text().unwrap_or_default().into_bytes();
+    demand(left == wanted, || format!("mended:\n{}\nexpected:\n{}", shown(&left), shown(&wanted)))?;
+    demand(choice.contains(&true) || left == text, || format!("a text that needs nothing is changed\n{}", shown(text)))?;
+    let mut twice = left.clone();
+    let again = library::mend_text(&mut twice);
+    demand(again == 0 && twice == left, || format!("a mended text is answered {again}, or changed\n{}", shown(text)))?;
+    Ok(Some(Mended { lists, turned: choice.iter().filter(|turned| **turned).count() }))
 }
 
-/// Three squares on four points, a surface with one side only: no choice works.
-fn cross_cap() -> Lists {
-    Lists {
-        coordinates: vec![0.0; 12],
-        sides: vec![1; 12],
-        firsts: Some(Vec::new()),
-        listed: vec![0, 1, 2, 3, 0, 1, 3, 2, 0, 2, 1, 3],
-        intervals: vec![1.0; 12],
-    }
-    .fitted()
+/// Faces turned at random: as a rule about half of them, now and then none, one or all.
+pub fn turned(random: &mut Random, lists: &Lists) -> Lists {
+    let one = random.below(lists.faces().max(1));
+    let how = random.below(8);
+    let choice: Vec<bool> = (0..lists.faces())
+        .map(|f| match how {
+            0 => false,
+            1 => true,
+            2 => f == one,
+            _ => random.once_in(2),
+        })
+        .collect();
+    reversed(lists, &choice)
 }
 
-/// The text of lists, or now and then of a surface with one side only, some faces turned round, through the library's mender.
+/// The text of lists, or now and then of a surface with one side, some faces turned round, through the library's mender.
 pub fn check(random: &mut Random, lists: &Lists, answers: &mut Answers) -> Result<(), String> {
     if !lists.agree() {
         return Ok(());
     }
-    let mut lists = if random.once_in(20) { cross_cap() } else { lists.clone() };
-    let often = random.of(&[2, 3, 8]);
-    for f in 0..lists.faces() {
-        if random.once_in(often) {
-            turn(&mut lists, f);
-        }
-    }
+    let lists = if random.once_in(20) {
+        let shape = shapes::one_sided(random);
+        numbers::numbered_in(random, &shape, Version::Two)
+    } else {
+        lists.clone()
+    };
+    let lists = turned(random, &lists);
     let text = lists.text().expect("lists that agree have a text");
-    through(text.as_bytes(), Some(&lists), answers)
+    through(text.as_bytes(), Some(&lists), answers).map(drop)
 }

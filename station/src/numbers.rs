@@ -168,9 +168,14 @@ pub fn ordinary(random: &mut Random, shape: &Shape) -> Lists {
     lists(random, shape, Intervals::Full, Coordinates::Full, Version::One)
 }
 
-/// The shape with numbers of some kind.
+/// The shape with numbers of some kind, in either version.
 pub fn numbered(random: &mut Random, shape: &Shape) -> Lists {
     let version = random.of(&[Version::One, Version::Two]);
+    numbered_in(random, shape, version)
+}
+
+/// The shape with numbers of some kind.
+pub fn numbered_in(random: &mut Random, shape: &Shape, version: Version) -> Lists {
     let intervals = match random.below(17) {
         0..=2 => Intervals::Ones,
         3..=6 => Intervals::Eighths,

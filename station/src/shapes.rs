@@ -61,6 +61,34 @@ pub fn torus(m: usize, n: usize) -> Shape {
     Shape { points: m * n, borders }
 }
 
+/// A Klein bottle of m by n squares: once round the first way, the second way is turned over.
+fn klein_bottle(m: usize, n: usize) -> Shape {
+    let at = |i: usize, j: usize| if i < m { i * n + j % n } else { (n - j % n) % n };
+    let square = |i, j| vec![at(i, j), at(i + 1, j), at(i + 1, j + 1), at(i, j + 1)];
+    let borders = (0..m).flat_map(|i| (0..n).map(move |j| square(i, j))).collect();
+    Shape { points: m * n, borders }
+}
+
+/// Projective planes: half a cube, half an icosahedron.
+const HALF_CUBE: [[usize; 4]; 3] = [[0, 1, 2, 3], [0, 1, 3, 2], [0, 2, 1, 3]];
+const HALF_ICOSAHEDRON: [[usize; 3]; 10] = [
+    [0, 1, 2], [0, 2, 3], [0, 3, 4], [0, 4, 5], [0, 5, 1], [1, 2, 4], [2, 3, 5], [3, 4, 1], [4, 5, 2], [5, 1, 3],
+];
+
+/// A surface with one side: each edge has two faces, and no choice of faces turned makes all neighbours run opposite ways.
+pub fn one_sided(random: &mut Random) -> Shape {
+    let mut shape = match random.below(4) {
+        0 => Shape { points: 4, borders: HALF_CUBE.iter().map(|b| b.to_vec()).collect() },
+        1 => Shape { points: 6, borders: HALF_ICOSAHEDRON.iter().map(|b| b.to_vec()).collect() },
+        _ => klein_bottle(random.between(3, 4), random.between(3, 4)),
+    };
+    for _ in 0..random.below(6) {
+        if random.once_in(2) { shape.put_point(random, 64) } else { shape.put_chord(random) }
+    }
+    shape.scramble(random);
+    shape
+}
+
 pub fn together(shapes: &[Shape]) -> Shape {
     let mut whole = Shape { points: 0, borders: Vec::new() };
     for shape in shapes {
