@@ -1,7 +1,8 @@
 // The methods of an edge, by value: its ends, its sides, the choice of a neighbour, and a neighbour set.
 ghost use mathlib.Core.Path.{_≡_};
 ghost use Rattle.t_spline.specs.Edge.{connectionOf, withConnection, sameFace, commonFace};
-ghost use Rattle.t_spline.specs.Ends.{acwAtEnd, cwAtEnd, otherEnd, acwOnSide, cwOnSide, firstEnd, pointAtEnd, faceFromSide, endOf, sideOf, acwFromPoint, cwFromPoint, acwFromFace, cwFromFace, commonPoint};
+ghost use Rattle.t_spline.specs.Ends.{acwAtEnd, cwAtEnd, otherEnd, acwOnSide, cwOnSide, firstEnd, pointAtEnd, faceFromSide};
+ghost use Rattle.t_spline.specs.Ends.{endOf, sideOf, acwFromPoint, cwFromPoint, acwFromFace, cwFromFace, commonPoint};
 use crate::FaceSide;
 use crate::NONE;
 use crate::PointEnd;
