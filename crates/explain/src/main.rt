@@ -1,7 +1,7 @@
 // The program `explain`: reads what `refine` reads, or a handover listing, from standard input, and writes in words what becomes of it: accepted,
 // with its counts, or the ground, where it is met, and what it means.
 // The answer is that of `build_text` (`text_building`) or of `read_listing` (`listing_reading`), the place that of `text_place` (`text_places`). No
-// contract can say what is read and written. A read or a write that fails is said on standard error.
+// contract can say what is read and written. A read or a write that fails is said on standard error (`streams`).
 use answer_numbers::ground_number;
 use building_tests::Bounds;
 use building_tests::REFINE_FACES;
@@ -10,7 +10,6 @@ use building_tests::REFINE_POINTS;
 use edge_lookups::told_edge;
 use io::print_decimal;
 use io::write_all;
-use libc::STDERR_FILENO;
 use libc::STDOUT_FILENO;
 use listing_reading::read_listing;
 use listings::Reading;
@@ -19,6 +18,8 @@ use mesh_text::read_text;
 use numbered_steps::LENT_EDGES;
 use numbered_steps::LENT_FACES;
 use numbered_steps::LENT_POINTS;
+use streams::is_input_lost;
+use streams::say_output_lost;
 use tables::Counts;
 use tables::EDGE_WIDTH;
 use tables::FACE_WIDTH;
@@ -225,25 +226,13 @@ fn explain(text: &[u8]) -> bool {
     explain_text(text)
 }
 
-// Whether a read fails where the input has ended: one more is tried.
-fn input_fails() -> bool {
-    let mut one = [0u8; 1];
-    libc::read(0, &mut one) < 0
-}
-
 fn main() {
     let mut text = [0u8; INPUT_BYTES + 1];
     let n = io::read_full(0, &mut text);
-    if n <= INPUT_BYTES {
-        if input_fails() {
-            write_all(STDERR_FILENO, b"explain: standard input cannot be read\n");
-            return;
-        }
+    if is_input_lost(b"explain", n, INPUT_BYTES + 1) {
+        return;
     }
     if !explain(&text[..n]) {
-        write_all(
-            STDERR_FILENO,
-            b"explain: standard output cannot be written\n",
-        );
+        say_output_lost(b"explain");
     }
 }
