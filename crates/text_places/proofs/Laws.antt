@@ -259,12 +259,12 @@ module _ (b : Bounds) (s : List ℕ) (l : TextLists) {r : Reading} {l′ : TextL
         let (kp, kf, kl) = few b in
         let x = leb-true (c .points) (limitsOf b .points) e0 in
         let y = leb-true (c .faces) (limitsOf b .faces) e2 in
-        record { held = fits b s l noMesh eb e ec; points-few = omega (arith, x); faces-few = omega (arith, y) }
+        record { held = fits b s l eb e ec; points-few = omega (arith, x); faces-few = omega (arith, y) }
 
     -- the lists had room before
     before : Held c l
     before =
-        let h = fits b s l noMesh eb e ec in
+        let h = fits b s l eb e ec in
         let q = read-lists in
         let lc = length-sets (l .coordinates) 0 (coordinates (means .what)) in
         let ll = length-sets (l .lengths) 0 (lengths (means .what)) in

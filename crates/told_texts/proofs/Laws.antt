@@ -324,12 +324,12 @@ module _ (b : Bounds) (s : List ℕ) (l : TextLists) {r : Reading} {l′ : TextL
     read-lists = ap (λ (v : ReadOutcome). v .lists) e ∙ ap (λ (v : Sizes). readInto s v l .lists) eb ∙ means .lists
 
     pub held : Held c l′
-    held = fits b s l noMesh eb e ec
+    held = fits b s l eb e ec
 
     -- the lists had room before
     before : Held c l
     before =
-        let h = fits b s l noMesh eb e ec in
+        let h = fits b s l eb e ec in
         let q = read-lists in
         let lc = length-sets (l .coordinates) 0 (coordinates (means .what)) in
         let ll = length-sets (l .lengths) 0 (lengths (means .what)) in
