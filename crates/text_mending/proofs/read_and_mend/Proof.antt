@@ -1,5 +1,6 @@
 -- read_and_mend meets its contract: of a text that is read, the first entries of the lists are those of the text.
 use Rattle.building_tests.specs.declared.Bounds.the-variants.{General}
+use Rattle.mesh_text.specs.Reading.{TextLists}
 use Rattle.text_building.proofs.Laws.{fits}
 use Rattle.text_mending.proofs.Laws.{not-text, over-limits, said-first}
 use borrow.Author.Needs.{needs}
@@ -17,36 +18,21 @@ enum-known-version c = search needs
 
 mend-first-requires : tie.Need-mend-first-requires
 mend-first-requires c κs =
-    let args = c .before .before .before .before .before .before .before .before .before .before .before .before .before .before .before
-    .before .before .before .before .before .before .before .before .before .before .before .before .before .before .before .before
-    .before .before .args in
-    let h = fits General (args .text .now)
-    (record {
+    let version = c .before .before .before .before .before .before .before in
+    let read = version .before .before .before .before .before .before .before .before .before .before .before .before in
+    let most = read .before .before .before .before .before .before in
+    let start = most .before .before .before .before .before .before .before .before in
+    let args = start .args in
+    let lent : TextLists = record {
       coordinates = args .coordinates .now;
       lengths = args .sides .now;
       firsts = args .firsts .now;
       listed = args .listed .now;
       intervals = args .beside .now;
-    })
-    (c .before .before .before .before .before .before .before .before .before .before .before .before .before .before .before .before
-    .before .before .before .before .before .before .before .before .before .most .ensures) (c .before .before .before .before
-    .before .before .before .before .before .before .before .before .before .before .before .before .before .before .before
-    .read-text .ensures .0) (c .before .before .before .before .before .before .before .version .given .1) in
-    let s = said-first (args .text .now)
-    (record {
-      coordinates = args .coordinates .now;
-      lengths = args .sides .now;
-      firsts = args .firsts .now;
-      listed = args .listed .now;
-      intervals = args .beside .now;
-    })
-    (c .before .before .before .before .before .before .before .before .before .before .before .before .before .before .before .before
-    .before .before .before .before .before .before .before .before .before .most .ensures) (c .before .before .before .before
-    .before .before .before .before .before .before .before .before .before .before .before .before .before .before .before
-    .read-text .ensures .0) (c .before .before .before .before .before .before .before .before .before .before .before .before
-    .before .before .before .before .before .before .before .before .before .before .before .before .before .before .before .before
-    .before .before .before .before .before .pre .1 .1 .1 .1 .1) (c .before .before .before .before .before .before .before .version
-    .given .1) in
+    } in
+    let h = fits General (args .text .now) lent (most .most .ensures) (read .read-text .ensures .0) (version .version .given .1) in
+    let s = said-first (args .text .now) lent (most .most .ensures) (read .read-text .ensures .0) (start .pre .1 .1 .1 .1 .1)
+        (version .version .given .1) in
     (h .coordinates, (h .lengths, (h .firsts, (h .listed, (h .intervals, s)))))
 
 enum-told : tie.Need-enum-told
