@@ -6,7 +6,7 @@ use crate::lists::Lists;
 use crate::{listings, shapes};
 use std::process::{Command, Stdio};
 
-const CALLS: [&str; 10] = [
+const CALLS: [&str; 11] = [
     "build", "build_2", "build_text", "mend_text", "explain_text", "audit", "step", "step_published", "find_depth", "write_listing", "read_listing",
 ];
 
