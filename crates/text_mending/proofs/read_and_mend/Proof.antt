@@ -32,7 +32,7 @@ mend-first-requires c κs =
     } in
     let h = fits General (args .text .now) lent (most .most .ensures) (read .read-text .ensures .0) (version .version .given .1) in
     let s = said-first (args .text .now) lent (most .most .ensures) (read .read-text .ensures .0) (start .pre .1 .1 .1 .1 .1)
-        (version .version .given .1) in
+    (version .version .given .1) in
     (h .coordinates, (h .lengths, (h .firsts, (h .listed, (h .intervals, s)))))
 
 enum-told : tie.Need-enum-told
