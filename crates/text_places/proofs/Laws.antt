@@ -7,43 +7,32 @@
 use mathlib.Core.Path.{_≡_, refl, sym, _∙_, ap}
 use mathlib.Core.Bool.{Bool, true, false}
 use mathlib.Core.List.{List, []}
-use mathlib.Core.Logic.{_⊎_, inl, inr}
-use Prim.Native.Nat.{ℕ, _+_, _*_, _/_, _%_, _≤_, _<_}
+use mathlib.Core.Logic.{inl, inr}
+use Prim.Native.Nat.{ℕ, _+_, _*_, _/_, _≤_, _<_}
 use native.Mathlib.Omega.{arith}
 use lib.Ieee.{Float, nan}
-use lib.ListN.{length, take, drop, getD, replicate, length-replicate}
+use lib.ListN.{length, take, replicate, length-replicate}
 use lib.Dec.{leb}
-use lib.Seq.{sets, length-sets, sets-eq, take-append-seam}
 use borrow.Author.Tests.{leb-true}
-use Rattle.tables.specs.Layout.{positionWidth}
-use Rattle.tables.specs.Mesh.{Mesh, meshOf, none}
+use Rattle.tables.specs.Mesh.{Mesh, meshOf}
 use Rattle.tables.specs.declared.Sizes.{Sizes}
-use Rattle.text_numbers.specs.Form.{Parsed, parsed, unparsed}
-use Rattle.mesh_text.specs.Text.{text, TextMesh}
-use Rattle.mesh_text.specs.Reading.{counts, TextLists, withText, within, ReadOutcome, readInto}
-use Rattle.mesh_text.specs.Lists.{coordinates, lengths, firsts, listedPoints, intervals}
+use Rattle.mesh_text.specs.Reading.{TextLists, within, readInto}
+use Rattle.mesh_text.specs.Lists.{coordinates, lengths, firsts, intervals}
 use Rattle.mesh_text.specs.declared.Reading.{Reading}
 use Rattle.mesh_text.specs.declared.Reading.the-variants as Reading
-use Rattle.mesh_text.proofs.Read.{ReadText, read-means, length-coordinates, length-lengths, length-firsts, length-intervals}
 use Rattle.built_meshes.specs.Lists.{Lists, pointsOf, facesOf, offset, countsFit, listedFit}
-use Rattle.built_meshes.specs.Grounds.{Where, lists, whole}
-use Rattle.built_meshes.specs.Building.{build}
-use Rattle.built_meshes.specs.declared.Built.{Built}
-use Rattle.built_meshes.specs.declared.Built.the-variants as Built
-use Rattle.built_meshes.specs.declared.Ground.the-variants.{OverCounts}
+use Rattle.built_meshes.specs.Grounds.{lists, whole}
 use Rattle.built_meshes.specs.declared.Version.{Version}
 use Rattle.built_meshes.specs.declared.Ground.{Ground}
-use Rattle.built_meshes.proofs.Begin.{Counted, counts-is, counted-fits, Roomy, numbers-is, listed-all}
-use Rattle.built_meshes.proofs.Theorem.{refusals-hold, over-of}
+use Rattle.built_meshes.proofs.Begin.{Counted, counts-is, Roomy, numbers-is, listed-all}
 use Rattle.building_tests.specs.Lent.{listsIn, lists as listsOne, limitsOf}
 use Rattle.building_tests.specs.declared.Bounds.{Bounds}
 use Rattle.building_tests.specs.declared.Bounds.the-variants.{General, Refine}
-use Rattle.mended_lists.specs.Edges.{placesOf, placeAt}
-use Rattle.face_mending.specs.Shown.{FacesRoom, TosShown}
-use Rattle.text_meshes.specs.TextBuilding.{tooLong, listsOf, told, TextOutcome, ofForm, buildTextIf}
-use Rattle.text_meshes.specs.declared.TextBuilt.{TextBuilt}
-use Rattle.text_meshes.specs.declared.TextBuilt.the-variants.{NotText, Refused}
-use Rattle.text_building.proofs.Laws.{Held, fits, not-text as formless, over-limits as beyond}
+use Rattle.mended_lists.specs.Edges.{placesOf}
+use Rattle.face_mending.specs.Shown.{FacesRoom}
+use Rattle.text_meshes.specs.TextBuilding.{tooLong}
+use Rattle.text_meshes.specs.declared.TextBuilt.the-variants.{NotText}
+use Rattle.text_building.proofs.Laws.{Held, no-form, over-text, means, fits, first-lists}
 use Rattle.text_numbers.proofs.Laws.{and-both}
 use Rattle.refusal_places.specs.declared.Spot.{Spot}
 use Rattle.refusal_places.specs.declared.Spot.the-variants.{Clear, Face, Edge}
@@ -177,73 +166,19 @@ first-is v cs ss fs ls is r e = e
 
 -- ---- a text
 
-take-sets : {A : Type 0} (xs cs : List A) (n : ℕ) → length cs ≡ n → n ≤ length xs → take n (sets xs 0 cs) ≡ cs
-take-sets xs cs n e h = rw (sets-eq cs xs 0 (omega arith), ← e) (take-append-seam cs (drop (0 + length cs) xs))
-
-noMesh : Mesh
-noMesh = meshOf [] [] [] [] []
-
--- what building answers of the text in any tables says where it is not read
-module _ (b : Bounds) (s : List ℕ) where
-  nowhere-clear : (np : ℕ) (x : Spot) → x ≡ Clear → placeAtCheck 0 whole ≡ placeAtCheck np (whereOf x)
-  nowhere-clear np x e = rw e
-
-  place-formless : record { answer = NotText; tables = noMesh } ≡ buildTextIf false b s noMesh → placeAtCheck 0 whole ≡ textPlaceIf false b s
-  unfolding buildTextIf ofForm textPlaceIf formPlace
-  place-formless h = go (text s) (ap (λ (o : TextOutcome). o .answer) h)
-    where
-      answer : (t : TextMesh) (x : Built) → NotText ≡ told x → ⊥
-      answer t (Built.Accepted k) h = let z : _≡_ {A = ℕ} 0 1 = cc in omega arith
-      answer t (Built.Refused g) h = let z : _≡_ {A = ℕ} 0 1 = cc in omega arith
-
-      go : (x : Parsed TextMesh) → NotText ≡ ofForm b noMesh x .answer → placeAtCheck 0 whole ≡ formPlace b x
-      go (parsed t n) q = absurd (answer t (build (limitsOf b) (listsOf t) noMesh .answer) q)
-      go unparsed q = refl
-
-  place-over : record { answer = Refused OverCounts; tables = noMesh } ≡ buildTextIf false b s noMesh → placeAtCheck 0 whole ≡ textPlaceIf false b s
-  unfolding buildTextIf ofForm textPlaceIf formPlace spotted
-  place-over h = go (text s) (ap (λ (o : TextOutcome). o .answer) h)
-    where
-      refused : (x : Built) → Refused OverCounts ≡ told x → x ≡ Built.Refused OverCounts
-      refused (Built.Accepted k) q = absurd (let z : _≡_ {A = ℕ} 0 1 = cc in omega arith)
-      refused (Built.Refused g) q = let y : g ≡ OverCounts = cc in ap Built.Refused y
-
-      over : (t : TextMesh) → build (limitsOf b) (listsOf t) noMesh .answer ≡ Built.Refused OverCounts → spotted (limitsOf b) (listsOf t) ≡ Clear
-      over t q = fit (countsFit (limitsOf b) (listsOf t)) refl
-        where
-          fit : (f : Bool) → countsFit (limitsOf b) (listsOf t) ≡ f → spotIf f (listedFit (listsOf t)) (firstSpot (listsOf t)) ≡ Clear
-          fit false e = refl
-          fit true e =
-              absurd
-              (counted-fits (limitsOf b) (listsOf t) (counts-is (limitsOf b) (listsOf t) e)
-              (over-of (limitsOf b) (listsOf t) noMesh
-              (refusals-hold (limitsOf b) (listsOf t) noMesh (omega (arith, few b .1)) OverCounts q .holds)))
-
-      go : (x : Parsed TextMesh) → Refused OverCounts ≡ ofForm b noMesh x .answer → placeAtCheck 0 whole ≡ formPlace b x
-      go (parsed t n) q =
-          nowhere-clear (length (t .points)) (spotted (limitsOf b) (listsOf t)) (over t (refused (build (limitsOf b) (listsOf t) noMesh .answer) q))
-      go unparsed q = refl
-
 module _ (b : Bounds) (s : List ℕ) (l : TextLists) {r : Reading} {l′ : TextLists} {limits : Sizes} (eb : limits ≡ limitsOf b)
     (e : record { reading = r; lists = l′ } ≡ readInto s limits l) where
   pub not-text : r ≡ Reading.NotText → placeAtCheck 0 whole ≡ textPlaceIf false b s
-  not-text h = place-formless b s (formless b s l noMesh eb e h)
+  unfolding textPlaceIf formPlace
+  not-text h = rw (no-form b s l eb e h)
 
   pub over-limits :
       12288 ≤ length (l .coordinates) → 16384 ≤ length (l .lengths) → 16384 ≤ length (l .listed) → 16384 ≤ length (l .intervals) →
       16384 ≤ length (l .firsts) → r ≡ Reading.OverLimits → placeAtCheck 0 whole ≡ textPlaceIf false b s
-  over-limits rx rl rp rd rq h = place-over b s (beyond b s l noMesh eb e rx rl rp rd rq h)
+  unfolding textPlaceIf formPlace spotted
+  over-limits rx rl rp rd rq h = let (t, n, et, ec) = over-text b s l eb e rx rl rp rd rq h in rw (et, ec)
 
   module _ {v : Version} {c : Sizes} (ec : r ≡ Reading.Read v c) where
-    answered : r ≡ readInto s (limitsOf b) l .reading
-    answered = ap (λ (x : ReadOutcome). x .reading) e ∙ ap (λ (v : Sizes). readInto s v l .reading) eb
-
-    means : ReadText s (limitsOf b) l v c
-    means = read-means s (limitsOf b) l v c (sym answered ∙ ec)
-
-    read-lists : l′ ≡ withText (means .what) l
-    read-lists = ap (λ (v : ReadOutcome). v .lists) e ∙ ap (λ (v : Sizes). readInto s v l .lists) eb ∙ means .lists
-
     -- the lists have room for what was read, and its counts are within the general limits
     pub record Roomed : Type 0 where
       pub held : Held c l′
@@ -253,7 +188,7 @@ module _ (b : Bounds) (s : List ℕ) (l : TextLists) {r : Reading} {l′ : TextL
     pub roomed : Roomed
     unfolding within
     roomed =
-        let w = means .fits in
+        let w = means b s l eb e ec .fits in
         let (e0, e1) = and-both (leb (c .points) (limitsOf b .points)) _ w in
         let (e2, e3) = and-both (leb (c .faces) (limitsOf b .faces)) _ e1 in
         let (kp, kf, kl) = few b in
@@ -261,50 +196,16 @@ module _ (b : Bounds) (s : List ℕ) (l : TextLists) {r : Reading} {l′ : TextL
         let y = leb-true (c .faces) (limitsOf b .faces) e2 in
         record { held = fits b s l eb e ec; points-few = omega (arith, x); faces-few = omega (arith, y) }
 
-    -- the lists had room before
-    before : Held c l
-    before =
-        let h = fits b s l eb e ec in
-        let q = read-lists in
-        let lc = length-sets (l .coordinates) 0 (coordinates (means .what)) in
-        let ll = length-sets (l .lengths) 0 (lengths (means .what)) in
-        let lp = length-sets (l .listed) 0 (listedPoints (means .what)) in
-        let ld = length-sets (l .intervals) 0 (intervals (means .what)) in
-        let lq = length-sets (l .firsts) 0 (firsts (means .what)) in
-        let k : Held c (withText (means .what) l) = rw q at h in
-        record {
-          coordinates = omega (arith, k .coordinates);
-          lengths = omega (arith, k .lengths);
-          listed = omega (arith, k .listed);
-          intervals = omega (arith, k .intervals);
-          firsts = omega (arith, k .firsts);
-        }
-
     pub first-entries :
         (o : TextPlace) → o ≡ placeAtCheck (c .points) (whereOf (spotted (limitsOf b)
         (listsIn v (take (3 * c .points) (l′ .coordinates)) (take (4 * c .faces) (l′ .lengths)) (take (4 * c .faces) (l′ .firsts))
         (take (c .listed) (l′ .listed)) (take (c .listed) (l′ .intervals))))) → o ≡ textPlaceIf false b s
     unfolding textPlaceIf formPlace
     first-entries o eo =
-        let x = means in
-        let t = x .what in
-        let h = before in
-        let ep : length (t .points) ≡ c .points = ap (λ (v : Sizes). v .points) (x .counted) in
-        let ef : length (t .faces) ≡ c .faces = ap (λ (v : Sizes). v .faces) (x .counted) in
-        let en : length (listedPoints t) ≡ c .listed = ap (λ (v : Sizes). v .listed) (x .counted) in
-        let lc = length-coordinates s t (x .place) (x .form) in
-        let ll = length-lengths s t (x .place) (x .form) in
-        let lq = length-firsts s t (x .place) (x .form) in
-        let li = length-intervals t in
-        let el : l′ ≡ withText t l = read-lists in
-        let tc = ap (λ (v : TextLists). take (3 * c .points) (v .coordinates)) el ∙ take-sets (l .coordinates) (coordinates t) (3 * c .points) (omega arith) (h .coordinates) in
-        let tl = ap (λ (v : TextLists). take (4 * c .faces) (v .lengths)) el ∙ take-sets (l .lengths) (lengths t) (4 * c .faces) (omega arith) (h .lengths) in
-        let tq = ap (λ (v : TextLists). take (4 * c .faces) (v .firsts)) el ∙ take-sets (l .firsts) (firsts t) (4 * c .faces) (omega arith) (h .firsts) in
-        let tv = sym (x .versioned) in
-        let tn = sym ep in
-        let tp = ap (λ (v : TextLists). take (c .listed) (v .listed)) el ∙ take-sets (l .listed) (listedPoints t) (c .listed) (omega arith) (h .listed) in
-        let td = ap (λ (v : TextLists). take (c .listed) (v .intervals)) el ∙ take-sets (l .intervals) (intervals t) (c .listed) (omega arith) (h .intervals) in
-        rw (x .form) (eo ∙ λ i. placeAtCheck (tn i) (whereOf (spotted (limitsOf b) (listsIn (tv i) (tc i) (tl i) (tq i) (tp i) (td i)))))
+        let x = means b s l eb e ec in
+        let tn : c .points ≡ length (x .what .points) = ap (λ (v : Sizes). v .points) (sym (x .counted)) in
+        let tl = first-lists b s l eb e ec in
+        rw (x .form) (eo ∙ λ i. placeAtCheck (tn i) (whereOf (spotted (limitsOf b) (tl i))))
 
 module _ (b : Bounds) (s : List ℕ) {t : Bool} (e : t ≡ tooLong b (length s)) where
   pub too-long : t ≡ true → placeAtCheck 0 whole ≡ textPlace b s

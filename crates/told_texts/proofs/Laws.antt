@@ -2,39 +2,28 @@
 use mathlib.Core.Path.{_≡_, refl, sym, _∙_, ap}
 use mathlib.Core.Bool.{Bool, true, false, not, cond}
 use mathlib.Core.List.{List, []}
-use mathlib.Core.Logic.{_⊎_, inl, inr}
-use Prim.Native.Nat.{ℕ, zero, suc, _+_, _*_, _/_, _%_, _≤_, _<_}
+use Prim.Native.Nat.{ℕ, zero, suc, _+_, _*_, _/_, _≤_, _<_}
 use native.Mathlib.Omega.{arith}
 use native.Mathlib.Decide.{ℕ-discrete}
 use lib.Ieee.{Float, nan}
-use lib.ListN.{length, take, drop, getD, replicate, length-replicate, getD-replicate}
-use lib.Dec.{eqb, ltb, leb}
-use lib.Seq.{sets, length-sets, sets-eq, take-append-seam, length-take-le, getD-take}
-use borrow.Author.Tests.{leb-true}
+use lib.ListN.{length, take, getD, replicate, length-replicate, getD-replicate}
+use lib.Dec.{eqb, ltb}
+use lib.Seq.{length-take-le, getD-take}
 use Rattle.tables.specs.Layout.{positionWidth}
-use Rattle.tables.specs.Mesh.{Mesh, meshOf, none}
 use Rattle.tables.specs.declared.Sizes.{Sizes}
-use Rattle.text_numbers.specs.Form.{Parsed, parsed, unparsed}
-use Rattle.mesh_text.specs.Text.{text, TextMesh}
-use Rattle.mesh_text.specs.Reading.{counts, TextLists, withText, within, ReadOutcome, readInto}
-use Rattle.mesh_text.specs.Lists.{coordinates, lengths, firsts, listedPoints, intervals}
+use Rattle.mesh_text.specs.Reading.{TextLists, readInto}
+use Rattle.mesh_text.specs.Lists.{coordinates, lengths, firsts, intervals}
 use Rattle.mesh_text.specs.declared.Reading.{Reading}
 use Rattle.mesh_text.specs.declared.Reading.the-variants as Reading
-use Rattle.mesh_text.proofs.Read.{ReadText, read-means, length-coordinates, length-lengths, length-firsts, length-intervals}
 use Rattle.built_meshes.specs.Lists.{Lists, pointsOf, facesOf, size, offset, countsFit, listedFit}
-use Rattle.built_meshes.specs.Grounds.{Where, lists, whole}
-use Rattle.built_meshes.specs.Building.{build}
-use Rattle.built_meshes.specs.declared.Built.{Built}
-use Rattle.built_meshes.specs.declared.Built.the-variants as Built
+use Rattle.built_meshes.specs.Grounds.{lists}
 use Rattle.built_meshes.specs.declared.Ground.the-variants.{OverCounts, UnfitNumber, FaceSize, OutOfRange, PointTwice, FirstPoint, NonRectangularFace}
 use Rattle.built_meshes.specs.declared.Version.{Version}
 use Rattle.built_meshes.specs.declared.Ground.{Ground}
-use Rattle.built_meshes.proofs.Begin.{Counted, counts-is, counted-fits, Roomy, numbers-is, listed-all}
-use Rattle.built_meshes.proofs.Theorem.{refusals-hold, over-of}
 use Rattle.building_tests.specs.Lent.{listsIn, lists as listsOne, limitsOf}
 use Rattle.building_tests.specs.declared.Bounds.{Bounds}
 use Rattle.building_tests.specs.declared.Bounds.the-variants.{General, Refine}
-use Rattle.mended_lists.specs.Edges.{placesOf, placeAt, latest, mate, follower}
+use Rattle.mended_lists.specs.Edges.{placesOf, latest, mate, follower}
 use Rattle.mended_lists.proofs.Edges.{places-length, Numbered, numbered}
 use Rattle.shared_edges.specs.Chains.{mateAt, Entered}
 use Rattle.shared_edges.proofs.Laws.{latest-same}
@@ -47,15 +36,13 @@ use Rattle.built_meshes.specs.declared.Verdict.the-variants.{Fit, Unfit}
 use Rattle.audited_meshes.specs.Folds.{every}
 use Rattle.audited_meshes.proofs.Tests.{ltb-is, every-is}
 use Rattle.face_mending.specs.Shown.{FacesRoom, TosShown}
-use Rattle.text_meshes.specs.TextBuilding.{tooLong, listsOf, told, TextOutcome, ofForm, buildTextIf}
-use Rattle.text_meshes.specs.declared.TextBuilt.{TextBuilt}
-use Rattle.text_meshes.specs.declared.TextBuilt.the-variants.{NotText, Refused}
-use Rattle.text_building.proofs.Laws.{Held, fits, not-text as formless, over-limits as beyond}
-use Rattle.text_numbers.proofs.Laws.{and-both}
+use Rattle.text_meshes.specs.TextBuilding.{tooLong}
+use Rattle.text_meshes.specs.declared.TextBuilt.the-variants.{NotText}
+use Rattle.text_building.proofs.Laws.{Held, no-form, over-text, means, fits, first-lists}
 use Rattle.refusal_places.specs.declared.Spot.{Spot}
 use Rattle.refusal_places.specs.declared.Spot.the-variants.{Clear, Face, Edge}
-use Rattle.refusal_places.specs.Spots.{thenSpot, verdictSpot, edgesSpot, faceSpot, facesSpot, firstSpot, spotIf, spotted, whereOf}
-use Rattle.refusal_places.proofs.Theorem.{spot-in-faces, face-stops, edge-stops, not-clear}
+use Rattle.refusal_places.specs.Spots.{thenSpot, verdictSpot, edgesSpot, faceSpot, facesSpot, firstSpot}
+use Rattle.refusal_places.proofs.Theorem.{face-stops, edge-stops, not-clear}
 use Rattle.whole_grounds.specs.Turning.{wholeMet, metIf, listsMet, nextsOf, turnFrom, pointsBegun, turnsCome}
 use Rattle.whole_tests.specs.Whole.{WholeRoom}
 use Rattle.text_places.specs.TextPlaces.{SpotRoom}
@@ -259,91 +246,21 @@ whole-room-any v ss fs ls is np r mates seconds hm hs p x e h =
 
 -- ---- a text
 
-take-sets : {A : Type 0} (xs cs : List A) (n : ℕ) → length cs ≡ n → n ≤ length xs → take n (sets xs 0 cs) ≡ cs
-take-sets xs cs n e h = rw (sets-eq cs xs 0 (omega arith), ← e) (take-append-seam cs (drop (0 + length cs) xs))
-
-noMesh : Mesh
-noMesh = meshOf [] [] [] [] []
-
--- what building answers of the text in any tables says where it is not read
-module _ (b : Bounds) (s : List ℕ) where
-  place-formless : record { answer = NotText; tables = noMesh } ≡ buildTextIf false b s noMesh → 1 ≡ toldIf false b s
-  unfolding buildTextIf ofForm toldIf formNumber
-  place-formless h = go (text s) (ap (λ (o : TextOutcome). o .answer) h)
-    where
-      answer : (t : TextMesh) (x : Built) → NotText ≡ told x → ⊥
-      answer t (Built.Accepted k) h = let z : _≡_ {A = ℕ} 0 1 = cc in omega arith
-      answer t (Built.Refused g) h = let z : _≡_ {A = ℕ} 0 1 = cc in omega arith
-
-      go : (x : Parsed TextMesh) → NotText ≡ ofForm b noMesh x .answer → 1 ≡ formNumber b x
-      go (parsed t n) q = absurd (answer t (build (limitsOf b) (listsOf t) noMesh .answer) q)
-      go unparsed q = refl
-
-  place-over : record { answer = Refused OverCounts; tables = noMesh } ≡ buildTextIf false b s noMesh → 2 ≡ toldIf false b s
-  unfolding buildTextIf ofForm toldIf formNumber listsMet
-  place-over h = go (text s) (ap (λ (o : TextOutcome). o .answer) h)
-    where
-      refused : (x : Built) → Refused OverCounts ≡ told x → x ≡ Built.Refused OverCounts
-      refused (Built.Accepted k) q = absurd (let z : _≡_ {A = ℕ} 0 1 = cc in omega arith)
-      refused (Built.Refused g) q = let y : g ≡ OverCounts = cc in ap Built.Refused y
-
-      over : (t : TextMesh) → build (limitsOf b) (listsOf t) noMesh .answer ≡ Built.Refused OverCounts → listsMet (limitsOf b) (listsOf t) ≡ Unfit OverCounts
-      over t q = fit (countsFit (limitsOf b) (listsOf t)) refl
-        where
-          fit : (f : Bool) → countsFit (limitsOf b) (listsOf t) ≡ f → metIf f (listedFit (listsOf t)) (firstSpot (listsOf t)) (wholeMet (listsOf t)) ≡ Unfit OverCounts
-          fit false e = refl
-          fit true e =
-              absurd
-              (counted-fits (limitsOf b) (listsOf t) (counts-is (limitsOf b) (listsOf t) e)
-              (over-of (limitsOf b) (listsOf t) noMesh
-              (refusals-hold (limitsOf b) (listsOf t) noMesh (omega (arith, few b .1)) OverCounts q .holds)))
-
-      go : (x : Parsed TextMesh) → Refused OverCounts ≡ ofForm b noMesh x .answer → 2 ≡ formNumber b x
-      go (parsed t n) q =
-          sym (ap verdictNumber (over t (refused (build (limitsOf b) (listsOf t) noMesh .answer) q)))
-      go unparsed q = absurd (let z : _≡_ {A = ℕ} 0 1 = cc in omega arith)
-
 module _ (b : Bounds) (s : List ℕ) (l : TextLists) {r : Reading} {l′ : TextLists} {limits : Sizes} (eb : limits ≡ limitsOf b)
     (e : record { reading = r; lists = l′ } ≡ readInto s limits l) where
   pub not-text : r ≡ Reading.NotText → 1 ≡ toldIf false b s
-  not-text h = place-formless b s (formless b s l noMesh eb e h)
+  unfolding toldIf formNumber
+  not-text h = rw (no-form b s l eb e h)
 
   pub over-limits :
       12288 ≤ length (l .coordinates) → 16384 ≤ length (l .lengths) → 16384 ≤ length (l .listed) → 16384 ≤ length (l .intervals) →
       16384 ≤ length (l .firsts) → r ≡ Reading.OverLimits → 2 ≡ toldIf false b s
-  over-limits rx rl rp rd rq h = place-over b s (beyond b s l noMesh eb e rx rl rp rd rq h)
+  unfolding toldIf formNumber listsMet
+  over-limits rx rl rp rd rq h = let (t, n, et, ec) = over-text b s l eb e rx rl rp rd rq h in rw (et, ec)
 
   module _ {v : Version} {c : Sizes} (ec : r ≡ Reading.Read v c) where
-    answered : r ≡ readInto s (limitsOf b) l .reading
-    answered = ap (λ (x : ReadOutcome). x .reading) e ∙ ap (λ (v : Sizes). readInto s v l .reading) eb
-
-    means : ReadText s (limitsOf b) l v c
-    means = read-means s (limitsOf b) l v c (sym answered ∙ ec)
-
-    read-lists : l′ ≡ withText (means .what) l
-    read-lists = ap (λ (v : ReadOutcome). v .lists) e ∙ ap (λ (v : Sizes). readInto s v l .lists) eb ∙ means .lists
-
     pub held : Held c l′
     held = fits b s l eb e ec
-
-    -- the lists had room before
-    before : Held c l
-    before =
-        let h = fits b s l eb e ec in
-        let q = read-lists in
-        let lc = length-sets (l .coordinates) 0 (coordinates (means .what)) in
-        let ll = length-sets (l .lengths) 0 (lengths (means .what)) in
-        let lp = length-sets (l .listed) 0 (listedPoints (means .what)) in
-        let ld = length-sets (l .intervals) 0 (intervals (means .what)) in
-        let lq = length-sets (l .firsts) 0 (firsts (means .what)) in
-        let k : Held c (withText (means .what) l) = rw q at h in
-        record {
-          coordinates = omega (arith, k .coordinates);
-          lengths = omega (arith, k .lengths);
-          listed = omega (arith, k .listed);
-          intervals = omega (arith, k .intervals);
-          firsts = omega (arith, k .firsts);
-        }
 
     pub first-entries :
         (o : ℕ) → o ≡ verdictNumber (listsMet (limitsOf b)
@@ -351,24 +268,7 @@ module _ (b : Bounds) (s : List ℕ) (l : TextLists) {r : Reading} {l′ : TextL
         (take (c .listed) (l′ .listed)) (take (c .listed) (l′ .intervals)))) → o ≡ toldIf false b s
     unfolding toldIf formNumber
     first-entries o eo =
-        let x = means in
-        let t = x .what in
-        let h = before in
-        let ep : length (t .points) ≡ c .points = ap (λ (v : Sizes). v .points) (x .counted) in
-        let ef : length (t .faces) ≡ c .faces = ap (λ (v : Sizes). v .faces) (x .counted) in
-        let en : length (listedPoints t) ≡ c .listed = ap (λ (v : Sizes). v .listed) (x .counted) in
-        let lc = length-coordinates s t (x .place) (x .form) in
-        let ll = length-lengths s t (x .place) (x .form) in
-        let lq = length-firsts s t (x .place) (x .form) in
-        let li = length-intervals t in
-        let el : l′ ≡ withText t l = read-lists in
-        let tc = ap (λ (v : TextLists). take (3 * c .points) (v .coordinates)) el ∙ take-sets (l .coordinates) (coordinates t) (3 * c .points) (omega arith) (h .coordinates) in
-        let tl = ap (λ (v : TextLists). take (4 * c .faces) (v .lengths)) el ∙ take-sets (l .lengths) (lengths t) (4 * c .faces) (omega arith) (h .lengths) in
-        let tq = ap (λ (v : TextLists). take (4 * c .faces) (v .firsts)) el ∙ take-sets (l .firsts) (firsts t) (4 * c .faces) (omega arith) (h .firsts) in
-        let tv = sym (x .versioned) in
-        let tp = ap (λ (v : TextLists). take (c .listed) (v .listed)) el ∙ take-sets (l .listed) (listedPoints t) (c .listed) (omega arith) (h .listed) in
-        let td = ap (λ (v : TextLists). take (c .listed) (v .intervals)) el ∙ take-sets (l .intervals) (intervals t) (c .listed) (omega arith) (h .intervals) in
-        rw (x .form) (eo ∙ λ i. verdictNumber (listsMet (limitsOf b) (listsIn (tv i) (tc i) (tl i) (tq i) (tp i) (td i))))
+        rw (means b s l eb e ec .form) (eo ∙ ap (λ (x : Lists). verdictNumber (listsMet (limitsOf b) x)) (first-lists b s l eb e ec))
 
 module _ (b : Bounds) (s : List ℕ) {t : Bool} (e : t ≡ tooLong b (length s)) where
   pub too-long : t ≡ true → 2 ≡ toldNumber b s
