@@ -11,10 +11,13 @@ import sys
 SLICES = {"f64": "double", "u32": "uint32_t", "u8": "uint8_t"}
 NUMBERS = {"f64": "double"}
 RESULTS = {"u32": "uint32_t"}
+# A parameter whose name in C is a word of Rattle.
+NAMES = {"place": "where"}
 
 
 def in_c(name, kind):
     """The C parameters of one parameter of Rattle."""
+    name = NAMES.get(name, name)
     if kind in NUMBERS:
         return ["%s %s" % (NUMBERS[kind], name)]
     const = "" if kind.startswith("&mut ") else "const "

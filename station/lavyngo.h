@@ -152,6 +152,11 @@ uint32_t lavyngo_build_text(
    nothing where the answer is not 0. Building a text that was mended can still meet 4, 13, 21 and 22. */
 uint32_t lavyngo_mend_text(uint8_t *text, size_t text_length);
 
+/* What becomes of a mesh text, and where it is refused: the answer of lavyngo_build_text in tables with rows to spare, so never 4, and
+   in `where` the line (from 1), the face and the edge of the face (from 0) of the check that is met: the first in the order of the
+   grounds. 10 to 13 and 43 have a line and a face, 14 and 15 an edge too; what there is none of is SIZE_MAX. No tables are needed. */
+uint32_t lavyngo_explain_text(const uint8_t *text, size_t text_length, size_t where[3]);
+
 /* Whether tables of any content, with counts of any size, are a closed mesh: 0, or 30 if they are not. Writes nothing. */
 uint32_t lavyngo_audit(
     const double *positions, size_t positions_length, const uint32_t *points, size_t points_length,

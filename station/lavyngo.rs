@@ -228,6 +228,23 @@ pub fn mend_text(text: &mut [u8]) -> Result<(), Ground> {
     accepted(answer, [0; 3]).map(|_| ())
 }
 
+/// Where a text is refused: its line, counted from 1, and the face and the edge of the face, from 0, where there is one.
+#[derive(Clone, Copy, Debug, PartialEq, Eq)]
+pub struct Place {
+    pub line: Option<usize>,
+    pub face: Option<usize>,
+    pub edge: Option<usize>,
+}
+
+/// What building answers to a text in tables with rows to spare, and where it is refused.
+pub fn explain_text(text: &[u8]) -> Result<(), (Ground, Place)> {
+    let mut words = [0; 3];
+    // SAFETY: the pointer goes with its length.
+    let answer = unsafe { lavyngo_explain_text(text.as_ptr(), text.len(), &mut words) };
+    let [line, face, edge] = words.map(|word| (word != usize::MAX).then_some(word));
+    if answer == 0 { Ok(()) } else { Err((Ground(answer), Place { line, face, edge })) }
+}
+
 fn accepted(answer: u32, counts: [usize; 3]) -> Result<Counts, Ground> {
     if answer == 0 { Ok(Counts::of(counts)) } else { Err(Ground(answer)) }
 }
@@ -258,6 +275,7 @@ pub mod raw {
             faces: *mut u32, faces_length: usize, counts: *mut [usize; 3],
         ) -> u32;
         pub fn lavyngo_mend_text(text: *mut u8, text_length: usize) -> u32;
+        pub fn lavyngo_explain_text(text: *const u8, text_length: usize, place: *mut [usize; 3]) -> u32;
         pub fn lavyngo_audit(
             positions: *const f64, positions_length: usize, points: *const u32, points_length: usize,
             edges: *const u32, edges_length: usize, intervals: *const f64, intervals_length: usize,

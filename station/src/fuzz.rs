@@ -220,6 +220,10 @@ fn text(random: &mut Random, fuzzed: &mut Fuzzed) -> Result<(), String> {
     }
     let lists = oracle::text::read(&bytes).map(|mesh| Lists::of_mesh(&mesh));
     mender::through(&bytes, lists.as_ref(), &mut fuzzed.mended)?;
+    let (told, wanted) = (library::explain_text(&bytes), grounds::explained(lists.as_ref()));
+    demand(told == wanted, || {
+        format!("explained as {told:?}, document 01 says {wanted:?}, to the text\n{}", String::from_utf8_lossy(&bytes))
+    })?;
     let listed = lists.clone().unwrap_or_default();
     let room = Counts { points: listed.points(), edges: listed.listed.len(), faces: listed.faces() };
     let mut tables = Tables::patterned(room, random.below(9));

@@ -24,7 +24,7 @@ pub fn building(lists: &Lists, room: Counts) -> u32 {
     if room.points < np || room.faces < nf || room.edges < listed {
         return 4;
     }
-    faces(lists, Tests::Building).map_or_else(|ground| ground, |()| whole(lists))
+    faces(lists, Tests::Building).map_or_else(|met| met.ground, |()| whole(lists))
 }
 
 /// The first ground of the mender (document 02, section 8), but for 1 of a text that is none and 44; 0 if there is none.
@@ -39,7 +39,29 @@ pub fn mending(lists: &Lists) -> u32 {
     if !lists.coordinates.iter().all(|x| x.is_finite()) || !lists.intervals.iter().all(|&d| is_interval(d)) {
         return 3;
     }
-    faces(lists, Tests::Mending).map_or_else(|ground| ground, |()| 0)
+    faces(lists, Tests::Mending).map_or_else(|met| met.ground, |()| 0)
+}
+
+/// The answer of building a text in tables with rows to spare, and its place: the line from 1, the face and its edge from 0, each
+/// `usize::MAX` where there is none. A text that is of no form has no lists.
+pub fn explained(lists: Option<&Lists>) -> (u32, [usize; 3]) {
+    let nowhere = [usize::MAX; 3];
+    let Some(lists) = lists else { return (1, nowhere) };
+    let answer = building(lists, CEILINGS);
+    if answer < 10 || answer == 20 {
+        return (answer, nowhere);
+    }
+    match faces(lists, Tests::Building) {
+        Ok(()) => (answer, nowhere),
+        Err(met) => (answer, [lists.points() + met.face + 2, met.face, met.edge]),
+    }
+}
+
+/// A ground, the face that meets it, and its edge, `usize::MAX` where the ground is not of an edge.
+struct Met {
+    ground: u32,
+    face: usize,
+    edge: usize,
 }
 
 /// Whose tests the faces are put to: the mender leaves out 13 and 15.
@@ -54,32 +76,33 @@ fn is_interval(d: f64) -> bool {
 }
 
 /// The faces in turn: 10 to 12, 43 and 13 of each, then 14 and 15 of its edges; 20 when all are through.
-fn faces(lists: &Lists, tests: Tests) -> Result<(), u32> {
+fn faces(lists: &Lists, tests: Tests) -> Result<(), Met> {
     let building = tests == Tests::Building;
     // For each two points that an edge joins: from which to which it runs, and whether it has a second face.
     let mut edges: HashMap<(u32, u32), ((u32, u32), bool)> = HashMap::new();
     let agreed = lists.agreed();
     for (f, (sides, (begin, n))) in lists.sides.chunks_exact(4).zip(lists.places()).enumerate() {
         let border = &lists.listed[begin..begin + n];
+        let refused = |ground| Err(Met { ground, face: f, edge: usize::MAX });
         let mut at = begin;
         let four = [0, 1, 2, 3].map(|k: usize| {
             at += sides[k] as usize;
             &lists.intervals[at - sides[k] as usize..at]
         });
         if !(3..=64).contains(&n) {
-            return Err(10);
+            return refused(10);
         }
         if border.iter().any(|&p| p as usize >= lists.points()) {
-            return Err(11);
+            return refused(11);
         }
         if border.iter().collect::<HashSet<_>>().len() < n {
-            return Err(12);
+            return refused(12);
         }
         if lists.firsts.as_ref().is_some_and(|firsts| firsts[4 * f..4 * f + 4] != agreed[4 * f..4 * f + 4]) {
-            return Err(43);
+            return refused(43);
         }
         if building && !sums_agree(lists.version(), four) {
-            return Err(13);
+            return refused(13);
         }
         for i in 0..n {
             let (p, q) = (border[i], border[(i + 1) % n]);
@@ -87,13 +110,14 @@ fn faces(lists: &Lists, tests: Tests) -> Result<(), u32> {
                 None => {
                     edges.insert((p.min(q), p.max(q)), ((p, q), false));
                 }
-                Some((_, true)) => return Err(14),
-                Some((way, _)) if building && *way == (p, q) => return Err(15),
+                Some((_, true)) => return Err(Met { ground: 14, face: f, edge: i }),
+                Some((way, _)) if building && *way == (p, q) => return Err(Met { ground: 15, face: f, edge: i }),
                 Some((_, second)) => *second = true,
             }
         }
     }
-    if edges.values().any(|edge| !edge.1) { Err(20) } else { Ok(()) }
+    let lone = edges.values().any(|edge| !edge.1);
+    if lone { Err(Met { ground: 20, face: usize::MAX, edge: usize::MAX }) } else { Ok(()) }
 }
 
 /// 21, then 22: about each point the faces make one ring. Each edge has two faces, which run against each other.

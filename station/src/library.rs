@@ -154,6 +154,14 @@ pub fn mend_text(text: &mut [u8]) -> u32 {
     unsafe { lavyngo_mend_text(text.as_mut_ptr(), text.len()) }
 }
 
+/// The answer of building a text in tables with rows to spare, and the line, the face and the edge of it.
+pub fn explain_text(text: &[u8]) -> (u32, [usize; 3]) {
+    let mut place = [0; 3];
+    // SAFETY: the pointer goes with its length.
+    let answer = unsafe { lavyngo_explain_text(text.as_ptr(), text.len(), &mut place) };
+    (answer, place)
+}
+
 /// 0 for a closed mesh, else 30.
 pub fn audit(tables: &Tables, counts: [usize; 3]) -> u32 {
     let t = tables;

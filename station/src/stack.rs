@@ -6,8 +6,8 @@ use crate::lists::Lists;
 use crate::{listings, shapes};
 use std::process::{Command, Stdio};
 
-const CALLS: [&str; 10] = [
-    "build", "build_2", "build_text", "mend_text", "audit", "step", "step_published", "find_depth", "write_listing", "read_listing",
+const CALLS: [&str; 11] = [
+    "build", "build_2", "build_text", "mend_text", "explain_text", "audit", "step", "step_published", "find_depth", "write_listing", "read_listing",
 ];
 
 /// The cube, so that the stack does not depend on what is worked on.
@@ -42,6 +42,7 @@ pub fn call(name: &str, bytes: usize) {
         "build_2" => library::build(&version_2, &mut tables, &mut counts),
         "build_text" => library::build_text(text.as_bytes(), &mut tables, &mut counts),
         "mend_text" => library::mend_text(&mut scanned),
+        "explain_text" => library::explain_text(text.as_bytes()).0,
         "audit" => library::audit(&refined, counts),
         "step" => library::step(Edition::First, &mut refined, &mut counts, &[0, 1, 2, 3, 4, 5], &mut scratch),
         "step_published" => library::step(Edition::Second, &mut refined, &mut counts, &[0, 1, 2, 3, 4, 5], &mut scratch),

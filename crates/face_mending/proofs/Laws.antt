@@ -122,7 +122,7 @@ module _ (ss ls ts : List ℕ) (shown : TosShown ss ls ts) (all : offset (lists 
       (λ j. sameEdge (placeAt (placesOf (lists [] ss ls [])) j) (placeAt (placesOf (lists [] ss ls [])) k)) k
       (λ i c. joins-shown i k (omega arith) b)
 
-  third-shown : (k : ℕ) → k < length ls → thirdAt ls ts k ≡ third (placesOf (lists [] ss ls [])) k
+  pub third-shown : (k : ℕ) → k < length ls → thirdAt ls ts k ≡ third (placesOf (lists [] ss ls [])) k
   unfolding third
   third-shown k b = go (mateAt ls ts k) (mate-shown k b) (mate-below-at k)
     where

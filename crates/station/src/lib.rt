@@ -4,8 +4,8 @@
 // Not here: what the functions do (`building`, `text_building`, `text_mending`, `audit`, `refining`, `depth_finder`,
 // `listing_writing`, `listing_reading`), how an answer is told (`station_answers`, `station_mending`, `station_steps`,
 // `station_listings`).
-// Contracts: `lavyngo_build`, `lavyngo_build_2`, `lavyngo_build_text`, `lavyngo_mend_text`, `lavyngo_audit`, `lavyngo_step`,
-// `lavyngo_step_published`, `lavyngo_find_depth`, `lavyngo_write_listing`, `lavyngo_read_listing`, `lavyngo_version`.
+// Contracts: `lavyngo_build`, `lavyngo_build_2`, `lavyngo_build_text`, `lavyngo_mend_text`, `lavyngo_explain_text`, `lavyngo_audit`,
+// `lavyngo_step`, `lavyngo_step_published`, `lavyngo_find_depth`, `lavyngo_write_listing`, `lavyngo_read_listing`, `lavyngo_version`.
 // Definitions: `specs/Station.antt`. Laws: `proofs/Laws.antt`.
 ghost use mathlib.Core.Path.{_≡_};
 ghost use Rattle.built_meshes.specs.Building.{build};
@@ -21,6 +21,7 @@ ghost use Rattle.steps.specs.OneStep.{Binary64};
 ghost use Rattle.station.specs.Station.{BuildingTold, built, textBuilt, audited, Finding, found, libraryVersion};
 ghost use Rattle.mended_texts.specs.Mending.{mendText};
 ghost use Rattle.station_mending.specs.Told.{MendingTold, mended};
+ghost use Rattle.station_places.specs.Told.{Explained, explained};
 ghost use Rattle.station_steps.specs.Told.{StepTold, stepped};
 ghost use Rattle.crossings.specs.Crossings.{find};
 ghost use Rattle.station_answers.specs.Answers.{countsIn};
@@ -39,6 +40,7 @@ use station_answers::tell_text_built;
 use station_listings::read_listing_told;
 use station_listings::write_listing_told;
 use station_mending::mend_text_told;
+use station_places::explain_text_told;
 use station_steps::step_told;
 use text_building::build_text;
 
@@ -162,6 +164,16 @@ pub extern "C" fn lavyngo_mend_text(text: &mut [u8]) -> u32
         _≡_ {A = MendingTold} (record { answer = r; text = now (text .exit) }) (mended (mendText (now (text .entry)))) ⌝ }
 {
     mend_text_told(text)
+}
+
+// Tells what becomes of a text of any bytes, and where it is refused: the number of building it in tables with rows to spare, the line, the
+// face and the edge.
+#[no_mangle]
+pub extern "C" fn lavyngo_explain_text(text: &[u8], place: &mut [usize; 3]) -> u32
+    ensures { λ r. ⌜
+        _≡_ {A = Explained} (record { answer = r; place = now (place .exit) }) (explained (now (text .entry)) (now (place .entry))) ⌝ }
+{
+    explain_text_told(text, place)
 }
 
 // Whether the tables are a closed mesh with these counts: 0, or 30 if they are not.

@@ -7,10 +7,12 @@ use Rattle.handover.proofs.main.Statement.{statement}
 use Rattle.handover.proofs.main.Tie as tie
 
 array-share-prefix-out : tie.Need-array-share-prefix-out
-array-share-prefix-out c = (answer-fits _ _ (c .before .handover .ensures))
+array-share-prefix-out c = answer-fits _ _ (c .before .before .handover .ensures)
 
-slice-aggregate-write-all : tie.Need-slice-aggregate-write-all
-slice-aggregate-write-all c = sym (length-take-le (c .before .before .handover .result) (c .before .before .handover .last .1 .0) (answer-fits _ _ (c .before .before .handover .ensures)))
+slice-aggregate-write-output-2 : tie.Need-slice-aggregate-write-output-2
+slice-aggregate-write-output-2 c =
+    let r = c .before .before .before .handover in
+    sym (length-take-le (r .result) (r .last .1 .0) (answer-fits _ _ (r .ensures)))
 
 pub main-spec : {M : Type 1} → statement M
 main-spec =
@@ -20,9 +22,14 @@ main-spec =
     (λ c κs. search needs)
     (λ c. search needs)
     (λ c. search needs)
+    (λ c κs. search needs)
+    (λ c. search needs)
+    (λ c. search needs)
+    (λ c. search needs)
     (λ c. search needs)
     (λ c κs. search needs)
+    (λ c. search needs)
     array-share-prefix-out
-    slice-aggregate-write-all
+    slice-aggregate-write-output-2
     (λ c κs. search needs)
     (λ c. search needs))
