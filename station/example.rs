@@ -2,7 +2,7 @@
 
 mod lavyngo;
 
-use lavyngo::{Counts, EDGE, FACE, Ground, Lists, POINT, POSITION, Tables};
+use lavyngo::{Counts, EDGE, FACE, Ground, Lists, POINT, POSITION, Place, Tables, explain_text, mend_text};
 
 fn print(tables: &Tables, counts: Counts) {
     let bits = |x: &f64| format!("{:016x}", x.to_bits());
@@ -50,8 +50,22 @@ fn example() -> Result<(), Ground> {
     Ok(())
 }
 
+/// Two triangles back to back, both listed the same way round: the second face is refused, mended and then accepted.
+fn mend_triangles() {
+    let point = "[point 0000000000000000 0000000000000000 0000000000000000]\n";
+    let one = "3ff0000000000000";
+    let face = format!("[face [2 [0 {one}]] [0] [0 [1 {one}]] [1 [2 0000000000000000]]]\n");
+    let mut text = format!("[mesh 2]\n{point}{point}{point}{face}{face}[end]\n").into_bytes();
+    let place = Place { line: Some(6), face: Some(1), edge: Some(0) };
+    assert_eq!(explain_text(&text), Err((Ground(15), place)));
+    assert_eq!(mend_text(&mut text), Ok(()));
+    assert_eq!(explain_text(&text), Ok(()));
+    assert_eq!(mend_text(&mut text[..20]), Err(Ground(1)));
+}
+
 fn main() {
     assert_eq!(lavyngo::version(), lavyngo::VERSION);
+    mend_triangles();
     if let Err(Ground(number)) = example() {
         println!("[refused {number}]");
         std::process::exit(1);
