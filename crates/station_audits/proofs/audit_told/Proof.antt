@@ -1,10 +1,10 @@
--- lavyngo_audit meets its contract: the answer of the audit, as its number.
+-- audit_told meets its contract: the answer of the audit, as its number.
 use borrow.Author.Needs.{needs}
 use mathlib.Core.Path.{sym, _∙_}
 use Rattle.tables.specs.Mesh.{meshOf}
-use Rattle.station.proofs.Laws.{audited-closed, audited-open}
-use Rattle.station.proofs.lavyngo_audit.Statement.{statement}
-use Rattle.station.proofs.lavyngo_audit.Tie as tie
+use Rattle.station_audits.proofs.Laws.{audited-closed, audited-open}
+use Rattle.station_audits.proofs.audit_told.Statement.{statement}
+use Rattle.station_audits.proofs.audit_told.Tie as tie
 
 load-counts-requires : tie.Need-load-counts-requires
 load-counts-requires c κs = search needs
@@ -24,8 +24,8 @@ returns-2 c =
     audited-open (meshOf (a .positions .now) (a .points .now) (a .edges .now) (a .intervals .now) (a .faces .now))
     (c .before .before .load-counts .ensures) ((sym (c .before .audit .ensures) ∙ c .if1 .left))
 
-pub lavyngo-audit-spec : {M : Type 1} → statement M
-lavyngo-audit-spec = tie.close (tie.spec
+pub audit-told-spec : {M : Type 1} → statement M
+audit-told-spec = tie.close (tie.spec
     load-counts-requires
     audit-requires
     returns

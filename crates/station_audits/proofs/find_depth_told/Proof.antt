@@ -1,10 +1,10 @@
--- lavyngo_find_depth meets its contract: the answer of the depth finder, as it is told.
+-- find_depth_told meets its contract: the answer of the depth finder, as it is told.
 use Rattle.tables.specs.Mesh.{meshOf}
 use Rattle.station_answers.specs.Answers.{countsIn}
-use Rattle.station.proofs.Laws.{crossing-told}
+use Rattle.station_audits.proofs.Laws.{crossing-told}
 use borrow.Author.Needs.{needs}
-use Rattle.station.proofs.lavyngo_find_depth.Statement.{statement}
-use Rattle.station.proofs.lavyngo_find_depth.Tie as tie
+use Rattle.station_audits.proofs.find_depth_told.Statement.{statement}
+use Rattle.station_audits.proofs.find_depth_told.Tie as tie
 
 load-counts-requires : tie.Need-load-counts-requires
 load-counts-requires c κs = search needs
@@ -21,8 +21,8 @@ returns c =
     crossing-told (a .edge .now) (meshOf (a .positions .now) (a .points .now) (a .edges .now) (a .intervals .now) (a .faces .now))
     (countsIn (a .counts .now)) (a .depth) (c .before .before .before .load-counts .ensures) (c .before .before .find-depth .ensures) (c .tell-crossing .ensures .0) (c .tell-crossing .ensures .1)
 
-pub lavyngo-find-depth-spec : {M : Type 1} → statement M
-lavyngo-find-depth-spec =
+pub find-depth-told-spec : {M : Type 1} → statement M
+find-depth-told-spec =
     tie.close (tie.spec
     load-counts-requires
     find-depth-requires
