@@ -22,7 +22,7 @@ STATED = """
     mesh_printing/Claims outcomes/Outcomes refine_outputs/Bytes refine_outputs/Claims refine_outputs/Output refined_meshes/Refines
     refined_meshes/SplitStarts refusal_places/Claims renumbered_meshes/Claims runs/Runs station/Station station_audits/Told station_building/Told
     station_mending/Told station_places/Told station_steps/Told step_runs/Claims steps/FirstGround steps/LentScratch steps/OneStep steps/Step text_meshes/Claims text_meshes/TextBuilding
-    text_places/Claims text_printing/Faces told_texts/Claims whole_grounds/Claims
+    explained_texts/Numbers explained_texts/Places text_printing/Faces whole_grounds/Claims
 """.split()
 
 # What each crate's definitions are about, in the order of the table.
@@ -63,6 +63,7 @@ ABOUT = {
     "whole_grounds": "the answer of building told without tables",
     "text_places": "where a text is refused",
     "told_texts": "the answer to a text, told without tables",
+    "explained_texts": "what is claimed of the place and of the answer that are told of a text",
     "crossings": "depths that edges cross, the depth finder",
     "station_answers": "how an answer is told to a C caller",
     "station_building": "what the C functions that build answer and leave",

@@ -1,10 +1,10 @@
 -- rewrite_faces meets its contract: the lists are turned, and their lines stand where those of the text stood.
 use mathlib.Core.Path.{refl}
 use native.Mathlib.Omega.{arith}
-use Rattle.text_mending.proofs.Laws.{turn-room, few-points, write-room, rewritten}
+use Rattle.text_rewriting.proofs.Laws.{turn-room, few-points, write-room, rewritten}
 use borrow.Author.Needs.{needs}
-use Rattle.text_mending.proofs.rewrite_faces.Statement.{statement}
-use Rattle.text_mending.proofs.rewrite_faces.Tie as tie
+use Rattle.text_rewriting.proofs.rewrite_faces.Statement.{statement}
+use Rattle.text_rewriting.proofs.rewrite_faces.Tie as tie
 
 turn-faces-requires : tie.Need-turn-faces-requires
 turn-faces-requires c κs =
@@ -42,19 +42,27 @@ write-face-lines-requires c κs =
     .before .before .before .before .before .before .before .before .before .before .turn-faces .ensures) _ refl
 
 same-length : tie.Need-same-length
-same-length c = search needs
+same-length c = c .before .before .write-face-lines .kept .0
 
 same-length-2 : tie.Need-same-length-2
-same-length-2 c = search needs
+same-length-2 c =
+    let c8 = c .before .before .before .before .before .before .before .before in
+    c8 .before .before .before .before .before .before .before .before .turn-faces .kept .0
 
 same-length-3 : tie.Need-same-length-3
-same-length-3 c = search needs
+same-length-3 c =
+    let c8 = c .before .before .before .before .before .before .before .before in
+    c8 .before .before .before .before .before .before .before .before .turn-faces .kept .1 .0
 
 same-length-4 : tie.Need-same-length-4
-same-length-4 c = search needs
+same-length-4 c =
+    let c8 = c .before .before .before .before .before .before .before .before in
+    c8 .before .before .before .before .before .before .before .before .turn-faces .kept .1 .1 .0
 
 same-length-5 : tie.Need-same-length-5
-same-length-5 c = search needs
+same-length-5 c =
+    let c8 = c .before .before .before .before .before .before .before .before in
+    c8 .before .before .before .before .before .before .before .before .turn-faces .kept .1 .1 .1 .0
 
 returns : tie.Need-returns
 returns c =

@@ -19,8 +19,8 @@ use Rattle.text_meshes.specs.declared.TextBuilt.the-variants.{Refused}
 use Rattle.text_meshes.proofs.Theorem.{of-lists}
 use Rattle.refusal_places.specs.Spots.{spotted, whereOf}
 use Rattle.refusal_places.proofs.Theorem.{spot-is-first}
 use Rattle.text_places.specs.TextPlaces.{placeAtCheck, formPlace, textPlaceIf, textPlace}
-use Rattle.text_places.specs.Claims.{Place-is-first}
+use Rattle.explained_texts.specs.Places.{Place-is-first}
 
 few : (b : Bounds) → limitsOf b .faces ≤ none
 few General = omega arith

@@ -24,8 +24,8 @@ use Rattle.whole_grounds.proofs.Theorem.{Answered, refuses, accepts, lists-came
 use Rattle.text_meshes.specs.Claims.{Stands-for}
 use Rattle.text_meshes.specs.declared.TextBuilt.the-variants.{Refused}
 use Rattle.text_meshes.proofs.Theorem.{of-lists}
 use Rattle.told_texts.specs.Told.{verdictNumber, formNumber, toldIf, toldNumber}
-use Rattle.told_texts.specs.Claims.{answerNumber, Number-is-answer}
+use Rattle.explained_texts.specs.Numbers.{answerNumber, Number-is-answer}
 
 few : (b : Bounds) → limitsOf b .faces ≤ none
 few General = omega arith

@@ -1,8 +1,8 @@
 -- mend_by_lists meets its contract: the answer to the lists is that to the text.
-use Rattle.text_mending.proofs.Laws.{can-mend, refused, twisted}
+use Rattle.text_rewriting.proofs.Laws.{can-mend, refused, twisted}
 use borrow.Author.Needs.{needs}
-use Rattle.text_mending.proofs.mend_by_lists.Statement.{statement}
-use Rattle.text_mending.proofs.mend_by_lists.Tie as tie
+use Rattle.text_rewriting.proofs.mend_by_lists.Statement.{statement}
+use Rattle.text_rewriting.proofs.mend_by_lists.Tie as tie
 
 slice-aggregate-find-turns : tie.Need-slice-aggregate-find-turns
 slice-aggregate-find-turns c = search needs
@@ -33,19 +33,29 @@ enum-told-2 : tie.Need-enum-told-2
 enum-told-2 c = search needs
 
 same-length : tie.Need-same-length
-same-length c = search needs
+same-length c =
+    let c8 = c .before .before .before .before .before .before .before .before in
+    c8 .before .before .rewrite-faces .kept .0
 
 same-length-2 : tie.Need-same-length-2
-same-length-2 c = search needs
+same-length-2 c =
+    let c8 = c .before .before .before .before .before .before .before .before in
+    c8 .before .before .rewrite-faces .kept .1 .1 .0
 
 same-length-3 : tie.Need-same-length-3
-same-length-3 c = search needs
+same-length-3 c =
+    let c8 = c .before .before .before .before .before .before .before .before in
+    c8 .before .before .rewrite-faces .kept .1 .1 .1 .0
 
 same-length-4 : tie.Need-same-length-4
-same-length-4 c = search needs
+same-length-4 c =
+    let c8 = c .before .before .before .before .before .before .before .before in
+    c8 .before .before .rewrite-faces .kept .1 .1 .1 .1 .0
 
 same-length-5 : tie.Need-same-length-5
-same-length-5 c = search needs
+same-length-5 c =
+    let c8 = c .before .before .before .before .before .before .before .before in
+    c8 .before .before .rewrite-faces .kept .1 .1 .1 .1 .1 .0
 
 returns : tie.Need-returns
 returns c = search needs
