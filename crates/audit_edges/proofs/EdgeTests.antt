@@ -1,11 +1,13 @@
 -- The tests of one edge: what each of its tests decides. Assumes nothing.
-use mathlib.Core.Path.{_≡_, refl}
-use mathlib.Core.Bool.{Bool, true, false, not, _&&_}
+use mathlib.Core.Path.{_≡_, refl, sym, _∙_, ap}
+use mathlib.Core.Bool.{Bool, true, false, not, _&&_, _||_, cond}
 use mathlib.Core.List.{List, []}
 use mathlib.Core.Logic.{_≢_}
-use Prim.Native.Nat.{ℕ}
+use Prim.Native.Nat.{ℕ, _+_, _*_}
+use native.Mathlib.Omega.{arith}
 use lib.Dec.{eqb, ltb}
 use lib.Ieee.{Float}
+use lib.ListN.{getD}
 use borrow.Author.Tests.{eq-eqb, ne-eqb}
 use Rattle.tables.specs.Mesh.{Mesh, origin, dest, leftFace, rightFace, leftCw, leftAcw, rightCw, rightAcw, interval}
 use Rattle.audited_meshes.specs.Walks.{touches, borders, cwOfFace}
@@ -14,6 +16,8 @@ use Rattle.audited_meshes.specs.Audited.{EdgeInRange}
 use Rattle.audited_meshes.specs.Quick.{edgeFit}
 use Rattle.audited_meshes.proofs.Audited.{edgeInRange-is}
 use Rattle.audit_tests.specs.Parts.{linksBack}
+use Rattle.walks.specs.Places.{placeOf}
+use Rattle.walks.proofs.Places.{place-one-of, place-choice}
 use Rattle.audit_tests.proofs.Laws.{and-false, and-assoc, and-four}
 use Rattle.tables.specs.Parts.{faceTables, edgeTables}
 
@@ -64,6 +68,38 @@ module _ (es : List ℕ) where
     pub linked-4 : left-acw ≡ true → right-acw ≡ true → left-cw ≡ true → linked at e ≡ right-cw
     unfolding linked
     linked-4 a b c = rw (a, b, c)
+
+-- the link back, where i is the left face of edge a, s the number of its side that has face f, and w the face that is found by it
+module _ (es : List ℕ) (back f a e : ℕ) {i j s : ℕ} (left : i ≡ getD es (a * 8 + 2) 0) (face : j ≡ f) (at : s ≡ placeOf i j) where
+  side : s ≡ placeOf i f
+  side = at ∙ ap (placeOf i) face
+
+  -- whether the face is on a side of the edge
+  on-side : {w : ℕ} → w ≡ getD es (a * 8 + 2 + s) 0 → eqb w f ≡ (eqb (getD es (a * 8 + 2) 0) f || eqb (getD es (a * 8 + 3) 0) f)
+  on-side found =
+      place-one-of es (a * 8 + 2) f left side found
+      ∙ ap (λ (k : ℕ). eqb (getD es (a * 8 + 2) 0) f || eqb (getD es k 0) f) (right (a * 8))
+    where
+      right : (b : ℕ) → b + 2 + 1 ≡ b + 3
+      right b = omega arith
+
+  link-is : getD es (a * 8 + back + 2 * s) 0
+      ≡ cond (eqb (getD es (a * 8 + 2) 0) f) (getD es (a * 8 + back) 0) (getD es (a * 8 + (back + 2)) 0)
+  link-is =
+      place-choice es (a * 8 + 2) f left side (λ (k : ℕ). getD es (a * 8 + back + 2 * k) 0) (ap (λ (k : ℕ). getD es k 0) (near (a * 8) back))
+      (ap (λ (k : ℕ). getD es k 0) (far (a * 8) back))
+    where
+      near : (b k : ℕ) → b + k + 2 * 0 ≡ b + k
+      near b k = omega arith
+
+      far : (b k : ℕ) → b + k + 2 * 1 ≡ b + (k + 2)
+      far b k = omega arith
+
+  pub back-nowhere : (getD es (a * 8 + 2 + s) 0 ≡ f → ⊥) → false ≡ linksBack es back f a e
+  back-nowhere h = rw (sym (on-side refl) ∙ ne-eqb _ f h)
+
+  pub back-at : {w : ℕ} → getD es (a * 8 + 2 + s) 0 ≡ f → w ≡ getD es (a * 8 + back + 2 * s) 0 → eqb w e ≡ linksBack es back f a e
+  back-at h link = rw (sym (on-side refl) ∙ eq-eqb _ f h) (ap (λ (x : ℕ). eqb x e) (link ∙ link-is))
 
 -- the tests of an edge, in turn
 module _ (m : Mesh) (np ne nf e : ℕ) where

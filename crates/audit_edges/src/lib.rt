@@ -24,6 +24,8 @@ use tables::RIGHT_ACW_WORD;
 use tables::RIGHT_CW_WORD;
 use tables::RIGHT_FACE_WORD;
 use tables::index;
+use walks::SIDE_WIDTH;
+use walks::place_of;
 use walks::t_nurcc_control_point::touches;
 
 // Whether two row numbers are below n and two below k.
@@ -69,21 +71,19 @@ fn edge_in_range(edges: &[u32], np: usize, ne: usize, nf: usize, e: usize) -> bo
 }
 
 // Whether edge a borders face f and has the link back to edge e there: the link at place `back` of its words if f is on its left,
-// two places further if it is on its right.
+// two places further if it is on its right. The words are found by the number of the side, so that the answer of the comparison
+// with the left face, which no one can foretell, is no branch.
 fn links_back(edges: &[u32], back: usize, f: u32, a: usize, e: usize) -> bool
     requires { ⌜ a * edgeWidth + edgeWidth ≤ length (now edges) ⌝ }
     requires { ⌜ back ≤ leftAcwWord ⌝ }
     ensures { λ r. ⌜ r ≡ linksBack (now (edges .entry)) back f a e ⌝ }
 {
     let b = a * EDGE_WIDTH;
-    if edges[b + LEFT_FACE_WORD] == f {
-        return index(edges[b + back]) == e;
+    let s = place_of(index(edges[b + LEFT_FACE_WORD]), index(f));
+    if edges[b + LEFT_FACE_WORD + s] != f {
+        return false;
     }
-    if edges[b + RIGHT_FACE_WORD] == f {
-        let right = back + 2;
-        return index(edges[b + right]) == e;
-    }
-    false
+    index(edges[b + back + SIDE_WIDTH * s]) == e
 }
 
 // Whether edge a touches point p, borders face f and links back to edge e by its clockwise link there.
