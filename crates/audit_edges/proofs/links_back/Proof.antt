@@ -7,13 +7,13 @@ use Rattle.audit_edges.proofs.links_back.Tie as tie
 returns : tie.Need-returns
 returns c =
     let a = c .before .before .before .before .before .before .before .args in
-    back-nowhere (a .edges .now) (a .back) (a .f) (a .a) (a .e) (c .before .before .before .before .index .ensures)
+    back-nowhere (a .edges .now) (a .f) (a .a) (a .e) (c .before .before .before .before .index .ensures)
     (c .before .before .before .index2 .ensures) (c .before .before .place-of .ensures .0) (c .if1 .taken)
 
 returns-2 : tie.Need-returns-2
 returns-2 c =
     let a = c .before .before .before .before .before .before .before .before .before .args in
-    back-at (a .edges .now) (a .back) (a .f) (a .a) (a .e)
+    back-at (a .edges .now) (a .f) (a .a) (a .e)
     (c .before .before .before .before .before .before .index .ensures)
     (c .before .before .before .before .before .index2 .ensures)
     (c .before .before .before .before .place-of .ensures .0) (c .before .before .if1 .left) (c .index3 .ensures)
