@@ -4,7 +4,7 @@
 -- number, some dart goes to each: its edge is where the clockwise link leads. Assumes nothing.
 use mathlib.Core.Path.{_≡_, refl, sym, _∙_, ap, subst}
 use mathlib.Core.Bool.{Bool, true, false, not, _&&_}
-use mathlib.Core.Logic.{_↔_, inl, inr, _≢_, Iff·trans}
+use mathlib.Core.Logic.{inl, inr, _≢_, Iff·trans}
 use Prim.Native.Nat.{ℕ, _*_, _<_}
 use lib.Dec.{eqb}
 use borrow.Author.Tests.{eq-eqb, ne-eqb}
@@ -24,6 +24,7 @@ use Rattle.audited_meshes.proofs.Tests.{Is, and-is, not-is, eqb-is, self-is, ev
 use Rattle.audited_meshes.proofs.Audited.{edgeInRange-is, acwLinks-is, cwLinks-is}
 use Rattle.audit_edges.specs.HalfLinks.{acwLinked, halfFit}
 
+-- the tests of the half, and then those of the clockwise links
 regrouped : (a b c d : Bool) → (a && (b && c && d)) ≡ (a && b && (c && d))
 regrouped true true c d = refl
 regrouped true false c d = refl
@@ -39,6 +40,7 @@ pub record Half (m : Mesh) (ne e : ℕ) : Type 0 where
 
 -- the sides of the edges below ne, over tables of any content
 module _ (m : Mesh) (ne : ℕ) (half : (e : ℕ) → e < ne → Half m ne e) where
+  -- the number of its edge
   num : Dart (Row ne) → ℕ
   num d = edge d .0
 
@@ -101,6 +103,7 @@ module _ (m : Mesh) (ne : ℕ) (half : (e : ℕ) → e < ne → Half m ne e) whe
   back-acw (lft e) = half (e .0) (e .1) .left-acw .links-back
   back-acw (rgt e) = half (e .0) (e .1) .right-acw .links-back
 
+  -- the dart to which it leads, from which the clockwise link leads back
   next : (d : Dart (Row ne)) → Seen (faceOf d) (acwOf d)
   next d = seen (faceOf d) (acwOf d) (borders-acw d)
 
@@ -111,11 +114,12 @@ module _ (m : Mesh) (ne : ℕ) (half : (e : ℕ) → e < ne → Half m ne e) whe
       ∙ ap (cwOfFace m (faceOf d)) (next d .dart-num)
       ∙ back-acw d
 
+  -- no two darts go to one
   next-injective : Injective (λ d. next d .dart)
   next-injective d d' h =
       settled d d' (sym (cw-next d) ∙ ap cwOf h ∙ cw-next d') (sym (next d .dart-face) ∙ ap faceOf h ∙ next d' .dart-face)
 
-  -- each dart is next to some dart
+  -- and so some dart goes to each
   next-onto : (d : Dart (Row ne)) → (x : Dart (Row ne)) × (next x .dart ≡ d)
   next-onto d = (at .0, to-injective darts _ _ (at .1))
     where
@@ -128,6 +132,7 @@ module _ (m : Mesh) (ne : ℕ) (half : (e : ℕ) → e < ne → Half m ne e) whe
           (λ x y h. next-injective x y (to-injective darts _ _ h))
           (darts .to d)
 
+  -- the clockwise link leads to the edge of that dart
   cw-links : (d : Dart (Row ne)) → CwLinks m (num d) (faceOf d) (cwOf d)
   cw-links d =
       let x = next-onto d .0 in
