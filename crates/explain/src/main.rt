@@ -1,31 +1,21 @@
 // The program `explain`: reads what `refine` reads, or a handover listing, from standard input, and writes in words what becomes of it: accepted,
 // with its counts, or the ground, where it is met, and what it means.
-// The answer is that of `build_text` (`text_building`) or of `read_listing` (`listing_reading`), the place that of `text_place` (`text_places`). No
-// contract can say what is read and written. A read or a write that fails is said on standard error (`streams`).
+// The answer is that of `text_answer` or `listing_answer` (`explain_answers`), the place that of `text_place` (`text_places`), the points of an edge
+// and the face that runs it before those of `text_edge` (`text_edges`). No contract can say what is read and written. A read or a write that
+// fails is said on standard error (`streams`).
 use answer_numbers::ground_number;
 use building_tests::Bounds;
-use building_tests::REFINE_FACES;
-use building_tests::REFINE_LISTED;
-use building_tests::REFINE_POINTS;
-use edge_lookups::told_edge;
+use edge_lookups::ToldEdge;
+use explain_answers::listing_answer;
+use explain_answers::text_answer;
 use io::print_decimal;
 use io::write_all;
 use libc::STDOUT_FILENO;
-use listing_reading::read_listing;
 use listings::Reading;
-use mesh_text::Reading as TextReading;
-use mesh_text::read_text;
-use numbered_steps::LENT_EDGES;
-use numbered_steps::LENT_FACES;
-use numbered_steps::LENT_POINTS;
 use streams::is_input_lost;
 use streams::say_output_lost;
 use tables::Counts;
-use tables::EDGE_WIDTH;
-use tables::FACE_WIDTH;
-use tables::POINT_WIDTH;
-use tables::POSITION_WIDTH;
-use text_building::build_text;
+use text_edges::text_edge;
 use text_meshes::TextBuilt;
 use text_numbers::stands;
 use text_places::NOWHERE;
@@ -64,17 +54,6 @@ fn say_of_face(n: u32) -> bool {
     say(b" has opposite sides whose intervals do not sum up alike\n")
 }
 
-// What is said of an edge by its ground, 14 or 15, where the face given runs it the same way.
-fn say_of_edge(n: u32, face: usize) -> bool {
-    if n == 14 {
-        return say(b" has two faces already\n");
-    }
-    if !say_number(b" runs the same way as in face ", face) {
-        return false;
-    }
-    say(b"\n")
-}
-
 // What a ground of the text or of the whole means.
 fn say_of_whole(n: u32) -> bool {
     if n == 1 {
@@ -106,33 +85,49 @@ fn say_line(n: u32, line: usize, f: usize) -> bool {
     say_number(b": face ", f)
 }
 
-// Says an edge of face f by its place i in it and by its points.
+// Says the points of an edge.
+fn say_points(p: u32, q: u32) -> bool {
+    if !say_number(b" from point ", p as usize) {
+        return false;
+    }
+    say_number(b" to point ", q as usize)
+}
+
+// Says of an edge from p to q that it has two faces.
+fn say_triple(p: u32, q: u32) -> bool {
+    if !say_points(p, q) {
+        return false;
+    }
+    say(b" has two faces already\n")
+}
+
+// Says of an edge from p to q that face g runs it the same way.
+fn say_same_way(p: u32, q: u32, g: usize) -> bool {
+    if !say_points(p, q) {
+        return false;
+    }
+    if !say_number(b" runs the same way as in face ", g) {
+        return false;
+    }
+    say(b"\n")
+}
+
+// Says the edge i of face f by its points. An edge that is refused by 15 is always told with a face, one that is refused by 14 with its points
+// (`specs/Claims.antt` of `text_edges`).
 fn say_edge(text: &[u8], n: u32, f: usize, i: usize) -> bool {
-    let mut coordinates = [0.0; POSITION_WIDTH * REFINE_POINTS];
-    let mut sides = [0u32; 4 * REFINE_FACES];
-    let mut firsts = [0u32; 4 * REFINE_FACES];
-    let mut listed = [0u32; REFINE_LISTED];
-    let mut beside = [0.0; REFINE_LISTED];
-    read_text(
-        text,
-        Bounds::Refine.most(),
-        &mut coordinates,
-        &mut sides,
-        &mut firsts,
-        &mut listed,
-        &mut beside,
-    );
-    let edge = told_edge(&sides, &listed, f, i);
     if !say_number(b", edge ", i) {
         return false;
     }
-    if !say_number(b" from point ", edge.from as usize) {
-        return false;
+    match text_edge(text, Bounds::Refine, f, i) {
+        ToldEdge::Missing => say(b"\n"),
+        ToldEdge::First(p, q) => say_triple(p, q),
+        ToldEdge::Again(p, q, g) => {
+            if n == 14 {
+                return say_triple(p, q);
+            }
+            say_same_way(p, q, g)
+        }
     }
-    if !say_number(b" to point ", edge.to as usize) {
-        return false;
-    }
-    say_of_edge(n, edge.face)
 }
 
 // Says a refusal of a text by the ground n, with its place.
@@ -169,20 +164,7 @@ fn say_accepted(c: Counts) -> bool {
 
 // Says what becomes of a mesh text.
 fn explain_text(text: &[u8]) -> bool {
-    let mut positions = [0.0; LENT_POINTS * POSITION_WIDTH];
-    let mut points = [0u32; LENT_POINTS * POINT_WIDTH];
-    let mut edges = [0u32; LENT_EDGES * EDGE_WIDTH];
-    let mut intervals = [0.0; LENT_EDGES];
-    let mut faces = [0u32; LENT_FACES * FACE_WIDTH];
-    match build_text(
-        text,
-        Bounds::Refine,
-        &mut positions,
-        &mut points,
-        &mut edges,
-        &mut intervals,
-        &mut faces,
-    ) {
+    match text_answer(text) {
         TextBuilt::Accepted(c) => say_accepted(c),
         TextBuilt::NotText => say_refused(text, 1),
         TextBuilt::Refused(g) => say_refused(text, ground_number(g)),
@@ -191,19 +173,7 @@ fn explain_text(text: &[u8]) -> bool {
 
 // Says what becomes of a handover listing.
 fn explain_listing(text: &[u8]) -> bool {
-    let mut positions = [0.0; LENT_POINTS * POSITION_WIDTH];
-    let mut points = [0u32; LENT_POINTS * POINT_WIDTH];
-    let mut edges = [0u32; LENT_EDGES * EDGE_WIDTH];
-    let mut intervals = [0.0; LENT_EDGES];
-    let mut faces = [0u32; LENT_FACES * FACE_WIDTH];
-    match read_listing(
-        text,
-        &mut positions,
-        &mut points,
-        &mut edges,
-        &mut intervals,
-        &mut faces,
-    ) {
+    match listing_answer(text) {
         Reading::Read(c) => say_accepted(c),
         Reading::NotListing => say(
             b"refused 40: the text is not of the form of a handover listing\n",
@@ -226,13 +196,18 @@ fn explain(text: &[u8]) -> bool {
     explain_text(text)
 }
 
-fn main() {
-    let mut text = [0u8; INPUT_BYTES + 1];
-    let n = io::read_full(0, &mut text);
-    if is_input_lost(b"explain", n, INPUT_BYTES + 1) {
+// Reads the input into the buffer, and says what becomes of it.
+fn explain_input(buffer: &mut [u8]) {
+    let n = io::read_full(0, buffer);
+    if is_input_lost(b"explain", n, buffer.len()) {
         return;
     }
-    if !explain(&text[..n]) {
+    if !explain(&buffer[..n]) {
         say_output_lost(b"explain");
     }
+}
+
+fn main() {
+    let mut text = [0u8; INPUT_BYTES + 1];
+    explain_input(&mut text);
 }
