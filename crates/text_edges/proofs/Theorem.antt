@@ -19,7 +19,7 @@ use Rattle.building_tests.specs.declared.Bounds.{Bounds}
 use Rattle.text_meshes.specs.TextBuilding.{listsOf}
 use Rattle.text_meshes.specs.Claims.{Stands-for}
 use Rattle.text_places.specs.TextPlaces.{placeAtCheck, textPlace}
-use Rattle.text_places.proofs.Theorem.{place-is-first}
+use Rattle.explained_texts.proofs.Places.{place-is-first}
 use Rattle.edge_lookups.specs.declared.ToldEdge.the-variants.{First, Again}
 use Rattle.edge_lookups.specs.Told.{toldEdge}
 use Rattle.edge_lookups.specs.Claims.{FirstFace}
