@@ -96,8 +96,5 @@ module _ (a b c : Bool) where
     pub second-of-four : b ≡ false → false ≡ (a && b && c && d)
     second-of-four h = sym (rw (h, and-false a))
 
-    pub third-of-four : c ≡ false → false ≡ (a && b && c && d)
-    third-of-four h = sym (rw (h, and-false (a && b)))
-
-    pub fourth-of-four : a ≡ true → b ≡ true → c ≡ true → d ≡ (a && b && c && d)
-    fourth-of-four h k l = sym (rw (h, k, l))
+    pub last-two-of-four : a ≡ true → b ≡ true → (c && d) ≡ (a && b && c && d)
+    last-two-of-four h k = sym (rw (h, k))

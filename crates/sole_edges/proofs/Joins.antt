@@ -1,6 +1,6 @@
 -- Edges between two points that differ. Assumes nothing.
 --     Joins m p q e     edge e joins the points p and q, in either direction
-use mathlib.Core.Path.{_≡_, refl, sym, _∙_}
+use mathlib.Core.Path.{_≡_, refl, sym, _∙_, subst}
 use mathlib.Core.Bool.{Bool, true, false, cond}
 use mathlib.Core.Logic.{_⊎_, inl, inr, _≢_}
 use Prim.Native.Nat.{ℕ}
@@ -58,3 +58,9 @@ other-differs m p e d (inr b) h =
 -- an edge joins a point that it touches and its other end
 pub joins-other : (m : Mesh) (p e : ℕ) → origin m e ≢ dest m e → Touches m p e → Joins m p (otherEnd m p e) e
 joins-other m p e d t = joins-of-touches m p (otherEnd m p e) e (other-differs m p e d t) t (other-touched m p e)
+
+-- edges of a point with the same other end join the same two points
+pub same-of-others : (m : Mesh) (p i j : ℕ) → origin m i ≢ dest m i → origin m j ≢ dest m j → Touches m p i → Touches m p j
+    → otherEnd m p i ≡ otherEnd m p j → SameEnds m i j
+same-of-others m p i j di dj ti tj same =
+    same-of-joins m p (otherEnd m p j) i j (subst (λ (x : ℕ). Joins m p x i) same (joins-other m p i di ti)) (joins-other m p j dj tj)
