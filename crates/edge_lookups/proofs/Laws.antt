@@ -7,12 +7,12 @@
 --     no-face, no-points, no-place, face-cut, told-there    what is told by the tests of the place
 --     Begun, begun-..        the invariant of finding where the listed points of the face begin
 use mathlib.Core.Path.{_≡_, refl, sym, _∙_, ap}
-use mathlib.Core.Bool.{Bool, true, false, not, cond, _&&_}
+use mathlib.Core.Bool.{Bool, true, false, not, _&&_}
 use mathlib.Core.List.{List, []}
-use Prim.Native.Nat.{ℕ, zero, suc, _+_, _/_, _≤_, _<_}
+use Prim.Native.Nat.{ℕ, zero, suc, _+_, _≤_, _<_}
 use native.Mathlib.Omega.{arith}
 use native.Mathlib.Decide.{ℕ-discrete}
-use lib.Dec.{eqb, leb, ltb}
+use lib.Dec.{eqb}
 use lib.ListN.{length, getD}
 use borrow.Author.Tests.{eq-eqb, ne-eqb, lt-ltb, le-ltb, le-leb, lt-leb}
 use Rattle.perimeters.specs.Places.{nextPlace}
@@ -23,7 +23,7 @@ use Rattle.built_meshes.specs.Places.{pointOf, nextOf}
 use Rattle.building_tests.specs.Lent.{lists}
 use Rattle.edge_lookups.specs.declared.ToldEdge.{ToldEdge}
 use Rattle.edge_lookups.specs.declared.ToldEdge.the-variants.{Missing, First, Again}
-use Rattle.edge_lookups.specs.Told.{noneRuns, before, sameWayBefore, isListed, toldEdge}
+use Rattle.edge_lookups.specs.Told.{noneRuns, sameWayBefore, isListed, toldEdge}
 
 -- ---- one place
 

@@ -3,22 +3,20 @@
 --     Came, came             what the search for a face comes to
 --     missing-exactly .. same-way-told       the claims of `specs/Claims.antt`
 use mathlib.Core.Path.{_≡_, refl, sym, _∙_, ap, subst}
-use mathlib.Core.Bool.{Bool, true, false, not, cond, _&&_, false≢true}
-use mathlib.Core.Logic.{_↔_, _⊎_, inl, inr}
+use mathlib.Core.Bool.{Bool, true, false, not, cond, false≢true}
+use mathlib.Core.Logic.{_⊎_, inl, inr}
 use Prim.Native.Nat.{ℕ, zero, suc, _+_, _≤_, _<_}
 use native.Mathlib.Omega.{arith}
 use native.Mathlib.Decide.{decLt}
-use lib.Dec.{eqb, leb, ltb}
 use lib.ListN.{length}
-use borrow.Author.Tests.{not-true, not-false}
+use borrow.Author.Tests.{not-false}
 use Rattle.tables.specs.declared.Sizes.{Sizes}
 use Rattle.tables.specs.Mesh.{Mesh}
-use Rattle.audited_meshes.specs.Folds.{every}
 use Rattle.audited_meshes.proofs.Folds.{below-suc}
 use Rattle.audited_meshes.proofs.Tests.{Is, and-is, not-is, eqb-is, ltb-is, leb-is, every-is}
 use Rattle.built_meshes.specs.Lists.{Lists, facesOf, size, offset, countsFit}
 use Rattle.built_meshes.specs.Places.{pointOf, nextOf, IsPlace, Runs, Earlier}
-use Rattle.built_meshes.specs.Grounds.{Where, lists, face, edge, Met, over-counts, point-twice, triple-face, same-way, First-met}
+use Rattle.built_meshes.specs.Grounds.{lists, face, edge, Met, over-counts, point-twice, triple-face, same-way, First-met}
 use Rattle.built_meshes.specs.declared.Ground.{Ground}
 use Rattle.built_meshes.specs.declared.Ground.the-variants.{OverCounts, PointTwice, SameWay}
 use Rattle.built_meshes.proofs.Versions.{every-false}

@@ -4,8 +4,7 @@
 use mathlib.Core.Path.{_≡_, refl, sym, _∙_, ap}
 use mathlib.Core.Bool.{Bool, true, false, cond, false≢true}
 use mathlib.Core.List.{List, []}
-use mathlib.Core.Logic.{_⊎_, inl, inr}
-use Prim.Native.Nat.{ℕ, zero, suc, _*_, _≤_, _<_}
+use Prim.Native.Nat.{ℕ, zero, suc, _*_, _≤_}
 use native.Mathlib.Omega.{arith}
 use lib.Dec.{leb}
 use lib.Ieee.{Float}
@@ -13,10 +12,9 @@ use lib.ListN.{length, take}
 use borrow.Author.Tests.{leb-true}
 use Rattle.tables.specs.Mesh.{Mesh, meshOf}
 use Rattle.tables.specs.declared.Sizes.{Sizes}
-use Rattle.text_numbers.specs.Form.{Parsed, parsed, unparsed}
 use Rattle.text_numbers.proofs.Laws.{and-both}
-use Rattle.mesh_text.specs.Text.{text, TextMesh}
-use Rattle.mesh_text.specs.Reading.{counts, TextLists, within, readInto}
+use Rattle.mesh_text.specs.Text.{TextMesh}
+use Rattle.mesh_text.specs.Reading.{TextLists, within, readInto}
 use Rattle.mesh_text.specs.Lists.{listedPoints}
 use Rattle.mesh_text.specs.declared.Reading.{Reading}
 use Rattle.mesh_text.specs.declared.Reading.the-variants as Reading
@@ -28,7 +26,7 @@ use Rattle.built_meshes.specs.declared.Ground.the-variants.{OverCounts}
 use Rattle.built_meshes.specs.declared.Built.the-variants as Built
 use Rattle.building_tests.specs.Lent.{lists, listsIn, limitsOf}
 use Rattle.building_tests.specs.declared.Bounds.{Bounds}
-use Rattle.text_meshes.specs.TextBuilding.{tooLong, listsOf, told, TextOutcome, buildText}
+use Rattle.text_meshes.specs.TextBuilding.{tooLong, listsOf, told, TextOutcome}
 use Rattle.text_meshes.specs.Claims.{Stands-for, Over-text, over-bytes, over-points, over-faces, over-listed}
 use Rattle.text_meshes.specs.declared.TextBuilt.the-variants.{Refused}
 use Rattle.text_meshes.proofs.Theorem.{of-lists, over-exactly}

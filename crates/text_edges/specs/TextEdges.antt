@@ -1,6 +1,6 @@
 -- What is told of an edge of a mesh text.
 --     textEdge b s f i      what is told of place i of face f by the lists that the text s stands for, if it is within the limits b
-use mathlib.Core.Bool.{Bool, true, false, cond}
+use mathlib.Core.Bool.{cond}
 use mathlib.Core.List.{List}
 use Prim.Native.Nat.{ℕ}
 use lib.ListN.{length}

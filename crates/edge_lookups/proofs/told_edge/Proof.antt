@@ -1,11 +1,8 @@
 -- told_edge meets its contract. The invariant: the listed points of the faces before face g are there; the measure is what is left of the faces.
-use mathlib.Core.Path.{_≡_, sym, ap, _∙_}
 use mathlib.Core.List.{[]}
-use Prim.Native.Nat.{_≤_, _-_, _+_}
+use Prim.Native.Nat.{_-_}
 use native.Mathlib.Omega.{arith}
-use lib.ListN.{length}
 use borrow.Author.Needs.{needs}
-use Rattle.built_meshes.specs.Lists.{offset}
 use Rattle.building_tests.specs.Lent.{lists}
 use Rattle.edge_lookups.proofs.Laws.{no-face, face-cut, Begun, begun-none, begun-more, begun-all}
 use Rattle.edge_lookups.proofs.told_edge.Statement.{statement}

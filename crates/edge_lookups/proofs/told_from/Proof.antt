@@ -1,5 +1,4 @@
 -- told_from meets its contract: the place is tested, then its points are read and the faces before are searched.
-use mathlib.Core.Path.{_≡_, sym, ap, _∙_}
 use mathlib.Core.List.{[]}
 use native.Mathlib.Omega.{arith}
 use Rattle.building_tests.specs.Lent.{lists}

@@ -1,6 +1,6 @@
 -- main meets its contract: the buffer is as long as it is made.
 use borrow.Author.Needs.{needs}
-use mathlib.Core.Path.{_≡_, sym}
+use mathlib.Core.Path.{sym}
 use Prim.Native.Nat.{ℕ}
 use lib.ListN.{length-replicate}
 use Rattle.explain.proofs.main.Statement.{statement}

@@ -1,5 +1,5 @@
 -- listing_answer meets its contract: the tables are zero.
-use mathlib.Core.Path.{_≡_, ap}
+use mathlib.Core.Path.{ap}
 use Rattle.refine_outputs.specs.Output.{zeroTables}
 use Rattle.listings.specs.Handing.{ReadingOutcome}
 use borrow.Author.Needs.{needs}

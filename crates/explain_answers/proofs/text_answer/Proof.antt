@@ -1,5 +1,5 @@
 -- text_answer meets its contract: the tables are zero.
-use mathlib.Core.Path.{_≡_, ap}
+use mathlib.Core.Path.{ap}
 use Rattle.refine_outputs.specs.Output.{zeroTables}
 use Rattle.text_meshes.specs.TextBuilding.{TextOutcome}
 use borrow.Author.Needs.{needs}

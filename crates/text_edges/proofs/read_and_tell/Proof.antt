@@ -1,6 +1,4 @@
 -- read_and_tell meets its contract: of a text that is read, the first entries of the lists are those of the text.
-use mathlib.Core.Path.{_≡_, refl, sym, _∙_, ap}
-use native.Mathlib.Omega.{arith}
 use Rattle.text_places.proofs.Laws.{roomed}
 use Rattle.text_edges.proofs.Laws.{first-entries, not-text, over-limits}
 use borrow.Author.Needs.{needs}

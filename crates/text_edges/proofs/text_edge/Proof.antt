@@ -1,7 +1,6 @@
 -- text_edge meets its contract: a text that is too long has no edge, any other is read into lists with room.
-use mathlib.Core.Path.{_≡_, sym, _∙_}
+use mathlib.Core.Path.{sym, _∙_}
 use native.Mathlib.Omega.{arith}
-use lib.ListN.{length-replicate}
 use Rattle.text_edges.proofs.Laws.{too-long}
 use borrow.Author.Needs.{needs}
 use Rattle.text_edges.proofs.text_edge.Statement.{statement}

@@ -1,5 +1,5 @@
 -- told_first meets its contract: the first entries of the two lists are looked at.
-use mathlib.Core.Path.{_≡_, sym}
+use mathlib.Core.Path.{sym}
 use Prim.Native.Nat.{_*_}
 use lib.Seq.{length-take-le}
 use borrow.Author.Needs.{needs}
