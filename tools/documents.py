@@ -21,8 +21,9 @@ STATED = """
     mend_outputs/Claims mend_outputs/Output mended_lists/Claims mended_lists/Grounds mended_texts/Claims
     mesh_printing/Claims outcomes/Outcomes refine_outputs/Bytes refine_outputs/Claims refine_outputs/Output refined_meshes/Refines
     explained_texts/Numbers explained_texts/Places refined_meshes/SplitStarts refusal_places/Claims renumbered_meshes/Claims runs/Runs station/Station
-    station_audits/Told station_building/Told station_mending/Told station_places/Told station_steps/Told step_runs/Claims steps/FirstGround
-    steps/LentScratch steps/OneStep steps/Step text_edges/Claims text_meshes/Claims text_meshes/TextBuilding text_printing/Faces whole_grounds/Claims
+    station_audits/Told station_building/Told station_listings/Told station_mending/Told station_places/Told station_steps/Told step_runs/Claims
+    steps/FirstGround steps/LentScratch steps/OneStep steps/Step text_edges/Claims text_meshes/Claims text_meshes/TextBuilding text_printing/Faces
+    whole_grounds/Claims
 """.split()
 
 # What each crate's definitions are about, in the order of the table.
@@ -70,6 +71,8 @@ ABOUT = {
     "station_answers": "how an answer is told to a C caller",
     "station_building": "what the C functions that build answer and leave",
     "station_audits": "what the C functions that audit and find a depth answer and leave",
+    "listing_answers": "what is written for a C caller beside an answer about a listing",
+    "station_listings": "what the C functions of the listing answer and leave",
     "station_steps": "what the C functions of the step answer and leave",
     "station_mending": "what the C function of the mender answers and leaves",
     "station_places": "what the C function that explains a text answers and writes",

@@ -1,10 +1,10 @@
 -- `store_read` meets its contract, by the cases of the answer.
 use borrow.Author.Needs.{needs}
-use Rattle.station_listings.proofs.Laws.{counts-stored}
-use Rattle.station_listings.proofs.store_read.Statement.{statement}
-use Rattle.station_listings.proofs.store_read.Tie as tie
-use Rattle.station_listings.proofs.store_read.Reads as reads
-use Rattle.station_listings.proofs.store_read.Lts as lts
+use Rattle.listing_answers.proofs.Laws.{counts-stored}
+use Rattle.listing_answers.proofs.store_read.Statement.{statement}
+use Rattle.listing_answers.proofs.store_read.Tie as tie
+use Rattle.listing_answers.proofs.store_read.Reads as reads
+use Rattle.listing_answers.proofs.store_read.Lts as lts
 use Rattle.station_answers.proofs.store_counts.Reads as store-counts-reads
 
 -- src/lib.rt:59:23
