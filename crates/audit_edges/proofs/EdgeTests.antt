@@ -16,7 +16,8 @@ use Rattle.audited_meshes.specs.Audited.{EdgeInRange}
 use Rattle.audited_meshes.proofs.Audited.{edgeInRange-is}
 use Rattle.walks.specs.Places.{placeOf}
 use Rattle.walks.proofs.Places.{place-one-of, place-choice}
-use Rattle.audit_tests.proofs.Laws.{and-false, and-assoc, and-four}
+use Rattle.audited_meshes.proofs.Folds.{and-false}
+use Rattle.audit_tests.proofs.Laws.{and-assoc, and-four}
 use Rattle.tables.specs.Parts.{faceTables, edgeTables}
 use Rattle.audit_edges.specs.HalfLinks.{cwBack, acwLinked, halfFit}
 

@@ -7,7 +7,8 @@ use lib.Ieee.Scale.{finite}
 use borrow.Author.Tests.{lt-ltb, le-ltb, le-leb, lt-leb}
 use Rattle.tables.specs.Mesh.{Mesh, x, y, z, valence, start, mark}
 use Rattle.audited_meshes.specs.Quick.{pointFit}
-use Rattle.audit_tests.proofs.Laws.{and-false, and-assoc}
+use Rattle.audited_meshes.proofs.Folds.{and-false}
+use Rattle.audit_tests.proofs.Laws.{and-assoc}
 
 module _ (m : Mesh) (ne p : ℕ) where
   -- its coordinates are finite

@@ -12,7 +12,7 @@ use lib.Seq.{getD-set-same, getD-set-other}
 use Rattle.tables.specs.Mesh.{Mesh, valence, start, origin, dest}
 use Rattle.audited_meshes.specs.Walks.{acwOfPoint, Touches}
 use Rattle.audited_meshes.proofs.Tests.{every-is, not-is, eqb-is}
-use Rattle.walks.specs.Steps.{otherEnd}
+use Rattle.walks.specs.Steps.{pointAcross}
 use Rattle.sole_edges.specs.Sole.{newEnd, after, edgeOf, Round, Apart, Sole}
 use Rattle.sole_edges.proofs.Joins.{same-of-others}
 use Rattle.sole_edges.proofs.Rounds.{after-one, round-once}
@@ -23,7 +23,7 @@ module _ (m : Mesh) (ne p : ℕ) where
 
   -- the other end of the edge after a steps
   abbrev far : ℕ → ℕ
-  far a = otherEnd m p (edgeOf m p a)
+  far a = pointAcross m p (edgeOf m p a)
 
   pub record Comparing (k : ℕ) (ends : List ℕ) (n i : ℕ) : Type 0 where
     pub many : k ≡ valence m p
@@ -55,7 +55,7 @@ module _ (m : Mesh) (ne p : ℕ) where
     pub comparing-lost : n < k → (OnPoint i → ⊥) → Round m ne p → ⊥
     comparing-lost l off r = off (subst OnPoint (sym (h .here)) (r .on n (omega (arith, h .many))))
 
-    pub comparing-next : n < k → OnPoint i → (q next : ℕ) → q ≡ otherEnd m p i → next ≡ acwOfPoint m p i → newEnd ends n q ≡ true
+    pub comparing-next : n < k → OnPoint i → (q next : ℕ) → q ≡ pointAcross m p i → next ≡ acwOfPoint m p i → newEnd ends n q ≡ true
         → Comparing k (set ends n q) (n + 1) next
     comparing-next l oi q next other along fresh = record {
       many = h .many;
@@ -68,7 +68,7 @@ module _ (m : Mesh) (ne p : ℕ) where
     }
       where
         q-is : q ≡ far n
-        q-is = other ∙ ap (otherEnd m p) (h .here)
+        q-is = other ∙ ap (pointAcross m p) (h .here)
 
         below : (a : ℕ) → a < n + 1 → n ≢ a → a < n
         below a l d = go (decLt a n)
@@ -92,7 +92,7 @@ module _ (m : Mesh) (ne p : ℕ) where
         apart-more a b l k (no d) same = h .apart a b l (below b k d) same
 
     -- where each edge is the only one between its two points, every other end is new
-    pub comparing-stop : ((e : ℕ) → e < ne → origin m e ≢ dest m e) → n < k → (q : ℕ) → q ≡ otherEnd m p i → newEnd ends n q ≡ false
+    pub comparing-stop : ((e : ℕ) → e < ne → origin m e ≢ dest m e) → n < k → (q : ℕ) → q ≡ pointAcross m p i → newEnd ends n q ≡ false
         → Round m ne p → Sole m ne p → ⊥
     comparing-stop differ l q other found r sole =
         false≢true (sym found ∙ every-is n (λ (a : ℕ). not-is (eqb-is (getD ends a 0) q)) .1 new)
@@ -102,7 +102,7 @@ module _ (m : Mesh) (ne p : ℕ) where
 
         new : (a : ℕ) → a < n → getD ends a 0 ≢ q
         new a b same =
-            let one : far a ≡ far n = sym (h .stands a b) ∙ same ∙ other ∙ ap (otherEnd m p) (h .here) in
+            let one : far a ≡ far n = sym (h .stands a b) ∙ same ∙ other ∙ ap (pointAcross m p) (h .here) in
             let oa = at a (omega arith) in
             let on = at n (omega arith) in
             round-once m ne p r a n b (omega (arith, h .many))
@@ -116,7 +116,7 @@ module _ (m : Mesh) (ne p : ℕ) where
       record {
         on = λ a b. h .on a (all a b);
         home = ap (edgeOf m p) (sym all-passed) ∙ sym (h .here) ∙ home;
-        away = λ a b c q. h .apart 0 a b (all a c) (ap (otherEnd m p) (sym q));
+        away = λ a b c q. h .apart 0 a b (all a c) (ap (pointAcross m p) (sym q));
       },
       λ a b la lb same. one a b la lb same (decLt a b) (decLt b a),
     )

@@ -24,7 +24,7 @@ use Rattle.audited_meshes.proofs.Walks.{passes-on, passes-once}
 use Rattle.audited_meshes.proofs.Sums.{sum-is}
 use Rattle.audited_meshes.proofs.Audited.{touches-is, pointWalk-is}
 use Rattle.audit_tests.specs.Parts.{walkFits}
-use Rattle.walks.specs.Steps.{otherEnd}
+use Rattle.walks.specs.Steps.{pointAcross}
 use Rattle.sole_edges.specs.Sole.{Ends, edgeOf, Round, Apart, Sole}
 use Rattle.sole_edges.proofs.Joins.{touches-of-joins, other-of-joins, joins-of-same, other-differs, joins-other}
 use Rattle.sole_edges.proofs.Rounds.{steps-of-passes, listed-of-steps, Place, place-of-passed}
@@ -133,13 +133,13 @@ walked-of-tests m np ne ends two sum fits p l =
 pub sole-of-apart : (m : Mesh) (ne p : ℕ) → ((e : ℕ) → e < ne → origin m e ≢ dest m e) → PointWalked m ne p → Apart m p → Sole m ne p
 sole-of-apart m ne p differ w apart i j li lj t same =
     let joins = joins-other m p i (differ i li) t in
-    let other = joins-of-same m p (otherEnd m p i) i j same joins in
+    let other = joins-of-same m p (pointAcross m p i) i j same joins in
     let away = other-differs m p i (differ i li) t in
     let at = place i li t in
-    let to = place j lj (touches-of-joins m p (otherEnd m p i) j other) in
+    let to = place j lj (touches-of-joins m p (pointAcross m p i) j other) in
     sym (at .is)
     ∙ apart (at .at) (to .at) (omega (arith, at .below, w .is-valence)) (omega (arith, to .below, w .is-valence))
-    (ap (otherEnd m p) (at .is) ∙ sym (other-of-joins m p (otherEnd m p i) j away other) ∙ ap (otherEnd m p) (sym (to .is)))
+    (ap (pointAcross m p) (at .is) ∙ sym (other-of-joins m p (pointAcross m p i) j away other) ∙ ap (pointAcross m p) (sym (to .is)))
     ∙ to .is
   where
     place : (e : ℕ) → e < ne → Touches m p e → Place (acwOfPoint m p) (OnPoint m ne p) (start m p) (start m p) e (length (w .edges))

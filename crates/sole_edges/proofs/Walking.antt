@@ -15,7 +15,7 @@ use Rattle.tables.specs.Mesh.{Mesh, valence, start, origin, dest, edgeTable}
 use Rattle.audited_meshes.specs.Walks.{touches, acwOfPoint, Touches}
 use Rattle.audited_meshes.proofs.Tests.{Is, and-is, not-is, eqb-is, ltb-is}
 use Rattle.audited_meshes.proofs.Audited.{touches-is, on-point-is}
-use Rattle.walks.specs.Steps.{otherEnd, pointStep}
+use Rattle.walks.specs.Steps.{pointAcross, pointStep}
 use Rattle.walks.specs.declared.Step.the-variants.{To, Lost}
 use Rattle.walks.proofs.Steps.{to-is, lost-is}
 use Rattle.sole_edges.specs.Sole.{window, second, unseen, noted, after, edgeOf, Round, ApartIn, Apart, SoleIn, RoundsFrom}
@@ -84,7 +84,7 @@ module _ (base : ℕ) (seen : List ℕ) (q i : ℕ) where
 module _ (m : Mesh) (ne p base : ℕ) where
   -- edge j is noted at its other end, if this is in the window
   abbrev pub Noted : List ℕ → ℕ → Type 0
-  Noted seen j = base ≤ otherEnd m p j → otherEnd m p j < base + window → getD seen (otherEnd m p j - base) 0 ≡ j
+  Noted seen j = base ≤ pointAcross m p j → pointAcross m p j < base + window → getD seen (pointAcross m p j - base) 0 ≡ j
 
   abbrev pub OnPoint : ℕ → Type 0
   OnPoint e = (e < ne) × Touches m p e
@@ -112,36 +112,36 @@ module _ (m : Mesh) (ne p base : ℕ) where
 
   -- what was noted stays, unless a second edge is found
   noted-kept : (seen : List ℕ) (i j : ℕ) → window ≤ length seen → OnPoint j
-      → unseen m ne base p seen (otherEnd m p i) i ≡ true → Noted seen j → Noted (noted base seen (otherEnd m p i) i) j
-  noted-kept seen i j room oj fresh was lo hi = go (ℕ-discrete (otherEnd m p j) (otherEnd m p i))
+      → unseen m ne base p seen (pointAcross m p i) i ≡ true → Noted seen j → Noted (noted base seen (pointAcross m p i) i) j
+  noted-kept seen i j room oj fresh was lo hi = go (ℕ-discrete (pointAcross m p j) (pointAcross m p i))
     where
-      go : Dec (otherEnd m p j ≡ otherEnd m p i) → getD (noted base seen (otherEnd m p i) i) (otherEnd m p j - base) 0 ≡ j
-      go (no d) = apart (decLt (otherEnd m p i) base)
+      go : Dec (pointAcross m p j ≡ pointAcross m p i) → getD (noted base seen (pointAcross m p i) i) (pointAcross m p j - base) 0 ≡ j
+      go (no d) = apart (decLt (pointAcross m p i) base)
         where
-          apart : Dec (otherEnd m p i < base) → getD (noted base seen (otherEnd m p i) i) (otherEnd m p j - base) 0 ≡ j
+          apart : Dec (pointAcross m p i < base) → getD (noted base seen (pointAcross m p i) i) (pointAcross m p j - base) 0 ≡ j
           apart (yes l) =
-              ap (λ (s : List ℕ). getD s (otherEnd m p j - base) 0) (noted-before base seen (otherEnd m p i) i l) ∙ was lo hi
-          apart (no g) = noted-other base seen (otherEnd m p i) i (otherEnd m p j - base) (λ e. d (omega arith)) ∙ was lo hi
+              ap (λ (s : List ℕ). getD s (pointAcross m p j - base) 0) (noted-before base seen (pointAcross m p i) i l) ∙ was lo hi
+          apart (no g) = noted-other base seen (pointAcross m p i) i (pointAcross m p j - base) (λ e. d (omega arith)) ∙ was lo hi
       go (yes e) = same (ℕ-discrete j i)
         where
-          there : getD seen (otherEnd m p i - base) 0 ≡ j
+          there : getD seen (pointAcross m p i - base) 0 ≡ j
           there = ap (λ (x : ℕ). getD seen (x - base) 0) (sym e) ∙ was lo hi
 
-          touched : Touches m (otherEnd m p i) j
+          touched : Touches m (pointAcross m p i) j
           touched = subst (λ (x : ℕ). Touches m x j) e (other-touched m p j)
 
-          same : Dec (j ≡ i) → getD (noted base seen (otherEnd m p i) i) (otherEnd m p j - base) 0 ≡ j
+          same : Dec (j ≡ i) → getD (noted base seen (pointAcross m p i) i) (pointAcross m p j - base) 0 ≡ j
           same (yes s) =
-              ap (λ (x : ℕ). getD (noted base seen (otherEnd m p i) i) (x - base) 0) e
-              ∙ noted-same base seen (otherEnd m p i) i (omega arith) (omega arith) room ∙ sym s
+              ap (λ (x : ℕ). getD (noted base seen (pointAcross m p i) i) (x - base) 0) e
+              ∙ noted-same base seen (pointAcross m p i) i (omega arith) (omega arith) room ∙ sym s
           same (no d) =
               absurd (false≢true
-              (sym (unseen-inside m ne base p seen (otherEnd m p i) i (omega arith) (omega arith) fresh)
-              ∙ ap (λ (x : ℕ). second m ne p (otherEnd m p i) i x) there
-              ∙ second-is m ne p (otherEnd m p i) i j .1 (((oj .0, d), oj .1), touched)))
+              (sym (unseen-inside m ne base p seen (pointAcross m p i) i (omega arith) (omega arith) fresh)
+              ∙ ap (λ (x : ℕ). second m ne p (pointAcross m p i) i x) there
+              ∙ second-is m ne p (pointAcross m p i) i j .1 (((oj .0, d), oj .1), touched)))
 
-  noted-here : (seen : List ℕ) (i : ℕ) → window ≤ length seen → Noted (noted base seen (otherEnd m p i) i) i
-  noted-here seen i room lo hi = noted-same base seen (otherEnd m p i) i lo (omega arith) room
+  noted-here : (seen : List ℕ) (i : ℕ) → window ≤ length seen → Noted (noted base seen (pointAcross m p i) i) i
+  noted-here seen i room lo hi = noted-same base seen (pointAcross m p i) i lo (omega arith) room
 
   module _ (k : ℕ) (seen : List ℕ) (n i : ℕ) (h : Walking k seen n i) where
     -- the edge that the walk has come to
@@ -149,19 +149,19 @@ module _ (m : Mesh) (ne p base : ℕ) where
     walking-lost l off r = off (subst OnPoint (sym (h .here)) (r .on n (omega (arith, h .many))))
 
     -- one edge more, and no second one was noted: its other end is q, the notes are seen' then
-    pub walking-next : n < k → (0 < n → i ≢ start m p) → OnPoint i → (q next : ℕ) (seen' : List ℕ) → q ≡ otherEnd m p i
+    pub walking-next : n < k → (0 < n → i ≢ start m p) → OnPoint i → (q next : ℕ) (seen' : List ℕ) → q ≡ pointAcross m p i
         → next ≡ acwOfPoint m p i → unseen m ne base p seen q i ≡ true → seen' ≡ noted base seen q i → Walking k seen' (n + 1) next
     walking-next l yet oi q next seen' other along fresh notes = record {
       many = h .many;
       within = omega arith;
-      room = omega (arith, ap length now, noted-length base seen (otherEnd m p i) i, h .room);
+      room = omega (arith, ap length now, noted-length base seen (pointAcross m p i) i, h .room);
       here = along ∙ ap (acwOfPoint m p) (h .here) ∙ sym (after-one (acwOfPoint m p) n (start m p));
       on = λ a b. on-more a b (ℕ-discrete n a);
       away = λ a b c. away-more a b c (ℕ-discrete n a);
       passed = λ a b. subst (λ (s : List ℕ). Noted s (edgeOf m p a)) (sym now) (passed-more a b (ℕ-discrete n a));
     }
       where
-        now : seen' ≡ noted base seen (otherEnd m p i) i
+        now : seen' ≡ noted base seen (pointAcross m p i) i
         now = notes ∙ ap (λ (x : ℕ). noted base seen x i) other
 
         below : (a : ℕ) → a < n + 1 → n ≢ a → a < n
@@ -179,25 +179,25 @@ module _ (m : Mesh) (ne p base : ℕ) where
         away-more a b c (yes s) same = yet (omega arith) (h .here ∙ ap (edgeOf m p) s ∙ same)
         away-more a b c (no d) same = h .away a b (below a c d) same
 
-        passed-more : (a : ℕ) → a < n + 1 → Dec (n ≡ a) → Noted (noted base seen (otherEnd m p i) i) (edgeOf m p a)
+        passed-more : (a : ℕ) → a < n + 1 → Dec (n ≡ a) → Noted (noted base seen (pointAcross m p i) i) (edgeOf m p a)
         passed-more a b (yes s) =
-            subst (Noted (noted base seen (otherEnd m p i) i)) (h .here ∙ ap (edgeOf m p) s) (noted-here seen i (h .room))
+            subst (Noted (noted base seen (pointAcross m p i) i)) (h .here ∙ ap (edgeOf m p) s) (noted-here seen i (h .room))
         passed-more a b (no d) =
             noted-kept seen i (edgeOf m p a) (h .room) (h .on a (below a b d))
             (ap (λ (x : ℕ). unseen m ne base p seen x i) (sym other) ∙ fresh) (h .passed a (below a b d))
 
     -- where each edge is the only one between its two points, no second one is found
-    pub walking-stop : ((e : ℕ) → e < ne → origin m e ≢ dest m e) → OnPoint i → (q : ℕ) → q ≡ otherEnd m p i
+    pub walking-stop : ((e : ℕ) → e < ne → origin m e ≢ dest m e) → OnPoint i → (q : ℕ) → q ≡ pointAcross m p i
         → unseen m ne base p seen q i ≡ false → SoleIn m ne p base → ⊥
     walking-stop differ oi q other found sole =
-        let (lo, hi, again) = seen-inside m ne base p seen (otherEnd m p i) i (ap (λ (x : ℕ). unseen m ne base p seen x i) (sym other) ∙ found) in
-        let s = second-is m ne p (otherEnd m p i) i (getD seen (otherEnd m p i - base) 0) .0 again in
+        let (lo, hi, again) = seen-inside m ne base p seen (pointAcross m p i) i (ap (λ (x : ℕ). unseen m ne base p seen x i) (sym other) ∙ found) in
+        let s = second-is m ne p (pointAcross m p i) i (getD seen (pointAcross m p i - base) 0) .0 again in
         let d = differ i (oi .0) in
         let away = other-differs m p i d (oi .1) in
-        let joins = joins-of-touches m p (otherEnd m p i) (getD seen (otherEnd m p i - base) 0) away (s .0 .1) (s .1) in
+        let joins = joins-of-touches m p (pointAcross m p i) (getD seen (pointAcross m p i - base) 0) away (s .0 .1) (s .1) in
         s .0 .0 .1
-        (sym (sole i (getD seen (otherEnd m p i - base) 0) (oi .0) (s .0 .0 .0) (oi .1)
-        (same-of-joins m p (otherEnd m p i) i (getD seen (otherEnd m p i - base) 0) (joins-other m p i d (oi .1)) joins) lo (omega arith)))
+        (sym (sole i (getD seen (pointAcross m p i - base) 0) (oi .0) (s .0 .0 .0) (oi .1)
+        (same-of-joins m p (pointAcross m p i) i (getD seen (pointAcross m p i - base) 0) (joins-other m p i d (oi .1)) joins) lo (omega arith)))
 
     -- the walk is at its start again after its valence
     pub walking-home : n ≡ k → i ≡ start m p → Round m ne p × ApartIn m p base
@@ -235,16 +235,16 @@ module _ (m : Mesh) (ne p base : ℕ) where
 
 -- a step that is made is from an edge of the point, and one that is lost is not
 pub step-made : (es : List ℕ) (ne p i q next : ℕ) → To q next ≡ pointStep es ne p i
-    → ((i < ne) × Touches (edgeTable es) p i) × (q ≡ otherEnd (edgeTable es) p i) × (next ≡ acwOfPoint (edgeTable es) p i)
+    → ((i < ne) × Touches (edgeTable es) p i) × (q ≡ pointAcross (edgeTable es) p i) × (next ≡ acwOfPoint (edgeTable es) p i)
 step-made es ne p i q next h =
     let m : Mesh = edgeTable es in
-    let parts = to-is (ltb i ne && touches m p i) (otherEnd m p i) (acwOfPoint m p i) q next h in
+    let parts = to-is (ltb i ne && touches m p i) (pointAcross m p i) (acwOfPoint m p i) q next h in
     (on-point-is m ne p i .0 (parts .0), sym (parts .1), sym (parts .2))
 
 pub step-lost : (es : List ℕ) (ne p i : ℕ) → Lost ≡ pointStep es ne p i → ((i < ne) × Touches (edgeTable es) p i) → ⊥
 step-lost es ne p i h on =
     let m : Mesh = edgeTable es in
-    false≢true (sym (lost-is (ltb i ne && touches m p i) (otherEnd m p i) (acwOfPoint m p i) h) ∙ on-point-is m ne p i .1 on)
+    false≢true (sym (lost-is (ltb i ne && touches m p i) (pointAcross m p i) (acwOfPoint m p i) h) ∙ on-point-is m ne p i .1 on)
 
 -- ---- all windows together
 
@@ -275,14 +275,14 @@ rounds-joined m np ne p before behind q a b = go (decLt q p)
     go (yes l) = before q a l
     go (no g) = behind q (omega arith) b
 
-pub apart-of-windows : (m : Mesh) (np ne p : ℕ) → ((i : ℕ) → i < ne → otherEnd m p i < np) → Round m ne p
+pub apart-of-windows : (m : Mesh) (np ne p : ℕ) → ((i : ℕ) → i < ne → pointAcross m p i < np) → Round m ne p
     → ((k : ℕ) → k < np / window + 1 → ApartIn m p (k * window)) → Apart m p
 apart-of-windows m np ne p below r apart a b la lb same =
-    let o = otherEnd m p (edgeOf m p a) in
+    let o = pointAcross m p (edgeOf m p a) in
     let l : o < np = below (edgeOf m p a) (r .on a la .0) in
     apart (o / window) (omega arith) a b la lb same (omega arith) (omega arith)
 
-pub other-below : (m : Mesh) (np p i : ℕ) → origin m i < np → dest m i < np → otherEnd m p i < np
+pub other-below : (m : Mesh) (np p i : ℕ) → origin m i < np → dest m i < np → pointAcross m p i < np
 other-below m np p i a b = go (eqb (origin m i) p)
   where
     go : (t : Bool) → cond t (dest m i) (origin m i) < np

@@ -29,7 +29,7 @@ use Rattle.tables.specs.Mesh.{Mesh, valence, start, origin, dest}
 use Rattle.audited_meshes.specs.Folds.{every}
 use Rattle.audited_meshes.specs.Walks.{touches, acwOfPoint, Touches}
 use Rattle.audited_meshes.specs.Audited.{SameEnds}
-use Rattle.walks.specs.Steps.{otherEnd}
+use Rattle.walks.specs.Steps.{pointAcross}
 
 abbrev pub few : ℕ
 few = 32
@@ -69,17 +69,17 @@ pub record Round (m : Mesh) (ne p : ℕ) : Type 0 where
 
 abbrev pub ApartIn : Mesh → ℕ → ℕ → Type 0
 ApartIn m p base =
-    (a b : ℕ) → a < valence m p → b < valence m p → otherEnd m p (edgeOf m p a) ≡ otherEnd m p (edgeOf m p b)
-    → base ≤ otherEnd m p (edgeOf m p a) → otherEnd m p (edgeOf m p a) < base + window → edgeOf m p a ≡ edgeOf m p b
+    (a b : ℕ) → a < valence m p → b < valence m p → pointAcross m p (edgeOf m p a) ≡ pointAcross m p (edgeOf m p b)
+    → base ≤ pointAcross m p (edgeOf m p a) → pointAcross m p (edgeOf m p a) < base + window → edgeOf m p a ≡ edgeOf m p b
 
 abbrev pub Apart : Mesh → ℕ → Type 0
 Apart m p =
-    (a b : ℕ) → a < valence m p → b < valence m p → otherEnd m p (edgeOf m p a) ≡ otherEnd m p (edgeOf m p b)
+    (a b : ℕ) → a < valence m p → b < valence m p → pointAcross m p (edgeOf m p a) ≡ pointAcross m p (edgeOf m p b)
     → edgeOf m p a ≡ edgeOf m p b
 
 abbrev pub SoleIn : Mesh → ℕ → ℕ → ℕ → Type 0
 SoleIn m ne p base =
-    (i j : ℕ) → i < ne → j < ne → Touches m p i → SameEnds m i j → base ≤ otherEnd m p i → otherEnd m p i < base + window
+    (i j : ℕ) → i < ne → j < ne → Touches m p i → SameEnds m i j → base ≤ pointAcross m p i → pointAcross m p i < base + window
     → i ≡ j
 
 abbrev pub Sole : Mesh → ℕ → ℕ → Type 0
