@@ -1,5 +1,6 @@
 // Times the audit and the depth finder on a torus of 256 by 256 squares: 65,536 points, 131,072 edges, 65,536 faces, the most that a
-// step may leave.
+// step may leave. First with its rows in the order of the squares, then as two steps leave it from 64 by 64 squares that stand in
+// random order, with the faces visited in random orders: neighbours stand far apart in the tables then.
 #include "lavyngo.h"
 #include <stdbool.h>
 #include <stdio.h>
@@ -9,7 +10,12 @@
 enum { N = 256, P = N * N, E = 2 * P, F = P };
 static double positions[3 * P], intervals[E];
 static uint32_t points[3 * P], edges[8 * E], faces[5 * F];
-static const size_t counts[3] = {P, E, F};
+static size_t counts[3] = {P, E, F};
+
+// The squares that two steps make the torus of, and scratch for the steps.
+enum { SIDE = N / 4, COARSE = SIDE * SIDE };
+static double coordinates[3 * COARSE], beside[4 * COARSE], newpositions[3 * P], newintervals[E];
+static uint32_t sides[4 * COARSE], listed[4 * COARSE], order[F], newpoints[3 * P], newedges[8 * E], newfaces[5 * F];
 
 // The point, the edge to the right of it, the edge upwards and the square right and above of it.
 static uint32_t at(int x, int y) { return (uint32_t)(((y + N) % N) * N + (x + N) % N); }
@@ -32,6 +38,40 @@ static bool is_nowhere(void) {
     size_t edge;
     return lavyngo_find_depth(positions, 3 * P, points, 3 * P, edges, 8 * E, intervals, E, faces, 5 * F, counts, 1e9, &edge)
            == LAVYNGO_NOWHERE;
+}
+
+// The first n numbers in random order, the same in every run.
+static void shuffle(uint32_t *numbers, size_t n) {
+    static uint64_t state = 1;
+    for (size_t i = 0; i < n; i++) numbers[i] = (uint32_t)i;
+    for (size_t i = n; i > 1; i--) {
+        state = state * 6364136223846793005u + 1442695040888963407u;
+        size_t j = (size_t)(state >> 33) % i;
+        uint32_t kept = numbers[i - 1];
+        numbers[i - 1] = numbers[j];
+        numbers[j] = kept;
+    }
+}
+
+// Refines the mesh once, its faces in random order.
+static bool is_refined(void) {
+    shuffle(order, counts[LAVYNGO_FACES]);
+    return lavyngo_step(positions, 3 * P, points, 3 * P, edges, 8 * E, intervals, E, faces, 5 * F, counts, order, counts[LAVYNGO_FACES],
+                        newpositions, 3 * P, newpoints, 3 * P, newedges, 8 * E, newintervals, E, newfaces, 5 * F) == LAVYNGO_ACCEPTED;
+}
+
+// Builds the torus of SIDE by SIDE squares, which are listed in random order, and refines it twice.
+static bool is_shuffled(void) {
+    shuffle(order, COARSE);
+    for (uint32_t k = 0; k < COARSE; k++) {
+        uint32_t x = order[k] % SIDE, y = order[k] / SIDE, right = (x + 1) % SIDE, above = (y + 1) % SIDE;
+        uint32_t corners[4] = {y * SIDE + x, y * SIDE + right, above * SIDE + right, above * SIDE + x};
+        for (uint32_t i = 0; i < 4; i++) sides[4 * k + i] = 1, listed[4 * k + i] = corners[i], beside[4 * k + i] = 1.0;
+        for (uint32_t i = 0; i < 3; i++) coordinates[3 * order[k] + i] = x + y * i;
+    }
+    return lavyngo_build(coordinates, 3 * COARSE, sides, 4 * COARSE, listed, 4 * COARSE, beside, 4 * COARSE, positions, 3 * P, points,
+                         3 * P, edges, 8 * E, intervals, E, faces, 5 * F, counts) == LAVYNGO_ACCEPTED
+           && is_refined() && is_refined();
 }
 
 static double milliseconds(void) {
@@ -71,6 +111,7 @@ int main(int argc, char **argv) {
     bool nowhere = timed("the depth finder, no edge crossing", is_nowhere, runs);
     edges[8 * (E - 1) + 4] ^= 1;
     bool spoilt = is_closed();
-    printf("closed %d, nowhere %d, spoilt %d\n", closed, nowhere, spoilt);
-    return closed && nowhere && !spoilt ? 0 : 1;
+    bool shuffled = is_shuffled() && timed("the audit, rows in random order", is_closed, runs);
+    printf("closed %d, nowhere %d, spoilt %d, shuffled %d\n", closed, nowhere, spoilt, shuffled);
+    return closed && nowhere && !spoilt && shuffled ? 0 : 1;
 }

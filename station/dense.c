@@ -1,4 +1,5 @@
-/* The least time of auditing a dense mesh, and of a damaged one: every one of M points is joined to every one of N, by squares.
+/* The least time of auditing a dense mesh, of a damaged one, and of building it from its lists, where M * N is at most 8,192:
+   every one of M points is joined to every one of N, by squares.
 
      dense M N [ROUNDS]      M and N even, M * N at most 131,072
 
@@ -9,11 +10,15 @@
 #include <stdlib.h>
 #include <time.h>
 
-enum { EDGES = 131072, POINTS = EDGES, FACES = EDGES };
+enum { EDGES = 131072, POINTS = EDGES, FACES = EDGES, MOST_POINTS = 4096, MOST_LISTED = 16384 };
 enum { ORIGIN, DEST, LEFT, RIGHT, LEFT_CW, LEFT_ACW, RIGHT_CW, RIGHT_ACW, WORDS };
 static double positions[3 * POINTS], intervals[EDGES];
 static uint32_t points[3 * POINTS], edges[WORDS * EDGES], faces[5 * FACES];
 static size_t counts[3];
+LAVYNGO_TABLES(built, MOST_POINTS, MOST_LISTED, MOST_LISTED);
+static double beside[MOST_LISTED];
+static uint32_t sides[MOST_LISTED], listed[MOST_LISTED];
+static size_t places;
 static int m, n;
 
 static uint32_t edge(int i, int j) { return (uint32_t)((i + m) % m * n + (j + n) % n); }
@@ -63,20 +68,54 @@ static double now(void) {
     return t.tv_sec * 1e9 + t.tv_nsec;
 }
 
+/* Lists the points of each face as they follow on its left, the first of them behind the start edge. */
+static void put_lists(void) {
+    for (size_t f = 0; f < counts[2]; f++) {
+        const uint32_t first = faces[5 * f];
+        uint32_t at = first;
+        int s = edges[WORDS * at + LEFT] != f;
+        for (int i = 0; i < 4; i++, places++) {
+            listed[places] = edges[WORDS * at + (s ? ORIGIN : DEST)], sides[places] = 1, beside[places] = 1;
+            at = edges[WORDS * at + (s ? RIGHT_ACW : LEFT_ACW)], s = !s;
+        }
+    }
+}
+
+/* The least time of building, in ns for a listed point; 0 past the limits of building. */
+static double build(int rounds) {
+    if ((size_t)m * n > MOST_LISTED / 2) return 0;
+    put_lists();
+    double least = 1e18;
+    for (; rounds > 0; rounds--) {
+        size_t made[3];
+        const double began = now();
+        const uint32_t answer =
+            lavyngo_tables_build(positions, 3 * counts[0], sides, places, listed, places, beside, places, &built, made);
+        const double took = now() - began;
+        if (answer || made[1] != counts[1] || made[2] != counts[2]) printf("refused %u\n", answer), exit(1);
+        if (took < least) least = took;
+    }
+    return least / places;
+}
+
 int main(int argc, char **argv) {
     m = argc > 2 ? atoi(argv[1]) : 0, n = argc > 2 ? atoi(argv[2]) : 0;
     if (m < 2 || n < 2 || m % 2 || n % 2 || m > EDGES / n) return printf("dense M N [ROUNDS], both even\n"), 2;
     counts[0] = (size_t)(m + n), counts[1] = (size_t)m * n;
     put_edges(), put_faces(), put_points();
+    const int rounds = argc > 3 ? atoi(argv[3]) : 1;
     double least = 1e18;
-    for (int r = argc > 3 ? atoi(argv[3]) : 1; r > 0; r--) {
+    for (int r = rounds; r > 0; r--) {
         const double began = now();
         const uint32_t answer = audit();
         const double took = now() - began;
         if (answer) return printf("refused %u\n", answer), 1;
         if (took < least) least = took;
     }
+    const double building = build(rounds);
     edges[WORDS * (counts[1] - 1) + DEST] = (uint32_t)m;
-    printf("%d by %d: %zu edges, %.1f ns an edge; damaged: %u\n", m, n, counts[1], least / counts[1], audit());
+    printf("%d by %d: %zu edges, %.1f ns an edge; damaged: %u", m, n, counts[1], least / counts[1], audit());
+    if (building) printf("; building: %.1f ns a listed point", building);
+    printf("\n");
     return 0;
 }

@@ -16,13 +16,14 @@ ROOT = Path(__file__).resolve().parent.parent
 # `handover`, `mend_text`, `mend` and of the functions for C cite.
 STATED = """
     audited_meshes/Audit audited_meshes/Claims building_tests/Lent built_meshes/Building built_meshes/Builds built_meshes/Claims
-    built_meshes/Connects built_meshes/LentContent closed_meshes/Refinement closed_meshes/Renumbering crossings/Claims
+    built_meshes/Connects built_meshes/LentContent closed_meshes/Refinement closed_meshes/Renumbering crossings/Claims edge_lookups/Claims
     filed_pieces/Pieces filed_pieces/TextTwo full_agreement/Agreement handover_outputs/Claims handover_outputs/Output listings/Claims listings/Handing
     mend_outputs/Claims mend_outputs/Output mended_lists/Claims mended_lists/Grounds mended_texts/Claims
     mesh_printing/Claims outcomes/Outcomes refine_outputs/Bytes refine_outputs/Claims refine_outputs/Output refined_meshes/Refines
-    refined_meshes/SplitStarts refusal_places/Claims renumbered_meshes/Claims runs/Runs station/Station station_mending/Told station_places/Told station_steps/Told
-    step_runs/Claims steps/FirstGround steps/LentScratch steps/OneStep steps/Step text_meshes/Claims text_meshes/TextBuilding
-    text_places/Claims text_printing/Faces told_texts/Claims whole_grounds/Claims
+    explained_texts/Numbers explained_texts/Places refined_meshes/SplitStarts refusal_places/Claims renumbered_meshes/Claims runs/Runs station/Station
+    station_audits/Told station_building/Told station_listings/Told station_mending/Told station_places/Told station_steps/Told step_runs/Claims
+    steps/FirstGround steps/LentScratch steps/OneStep steps/Step text_edges/Claims text_meshes/Claims text_meshes/TextBuilding text_printing/Faces
+    whole_grounds/Claims
 """.split()
 
 # What each crate's definitions are about, in the order of the table.
@@ -62,13 +63,20 @@ ABOUT = {
     "refusal_places": "where the first ground in the faces is met",
     "whole_grounds": "the answer of building told without tables",
     "text_places": "where a text is refused",
+    "edge_lookups": "the points of an edge, and the face that runs it before",
+    "text_edges": "the same of an edge of a text",
     "told_texts": "the answer to a text, told without tables",
+    "explained_texts": "what is claimed of the place and of the answer that are told of a text",
     "crossings": "depths that edges cross, the depth finder",
     "station_answers": "how an answer is told to a C caller",
+    "station_building": "what the C functions that build answer and leave",
+    "station_audits": "what the C functions that audit and find a depth answer and leave",
+    "listing_answers": "what is written for a C caller beside an answer about a listing",
+    "station_listings": "what the C functions of the listing answer and leave",
     "station_steps": "what the C functions of the step answer and leave",
     "station_mending": "what the C function of the mender answers and leaves",
     "station_places": "what the C function that explains a text answers and writes",
-    "station": "what the C functions answer and leave",
+    "station": "the version of the library",
     "filed_pieces": "document 01's starred pieces, and pieces of mesh text 2",
 }
 USE = re.compile(r"^use Rattle·(\w+?)(?:·specs\.specs|\.specs)\.(\w+)", re.M)

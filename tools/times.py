@@ -1,7 +1,8 @@
 #!/usr/bin/env python3
 """The times of the gate, read from the log that .ci/run keeps.
 
-    tools/times.py [LOG]            print one line: checks, proofs, edits, programs, runs, whole; and the crates of over 60 seconds
+    tools/times.py [LOG]            print one line: checks, proofs, edits, programs, runs, whole; what of it came with requests; and the
+                                    crates of over 60 seconds
     tools/times.py [LOG] --write    put that line and the seconds of each crate into the section "The gate" of docs/TIMES.md
 
 LOG is .ci/target/log where none is named. A line of it is the seconds since the start and what was said then; the parts of the gate
@@ -75,12 +76,28 @@ def listed():
     return re.findall(r"^(\w+):", (ROOT / "crates.txt").read_text(), re.M)
 
 
+def requested():
+    """The crates that came with a request: crates.txt names document 02 beside them."""
+    return set(re.findall(r"^# (\w+): .*document 02", (ROOT / "crates.txt").read_text(), re.M))
+
+
+def shares(log):
+    """How much of the proofs and of the edits is of crates that came with requests, by the seconds of the crates and edits."""
+    came = requested()
+    told = []
+    for name, seconds in (("proofs", log.crates), ("edits", {c: sum(e) for c, e in log.edits.items()})):
+        part = sum(s for c, s in seconds.items() if c in came) / max(1, sum(seconds.values()))
+        told.append(f"{name} {spoken(round(part * log.parts()[name]))}")
+    return ", ".join(told)
+
+
 def section(log):
     rows = ["| Crate | Seconds | Edits | Seconds of its edits |", "|---|---|---|---|"]
     for crate in listed():
         edits = log.edits.get(crate, [])
         rows.append(f"| {crate} | {log.crates[crate]} | {len(edits)} | {sum(edits) if edits else ''} |")
-    return f"{HEAD}`.ci/run` {log.title}: {log.line()}. Its last line: '{log.tally}'.\n\n" + "\n".join(rows) + "\n"
+    return f"{HEAD}`.ci/run` {log.title}: {log.line()}. Its last line: '{log.tally}'. Of this {shares(log)} are of crates \
+that came with requests of document 02 (crates.txt names it beside them), by their seconds.\n\n" + "\n".join(rows) + "\n"
 
 
 def main():
@@ -91,6 +108,7 @@ def main():
     if lacking or "rt ci" not in log.began:
         sys.exit(f"times: this is no log of a gate that proved these crates: {' '.join(lacking)}")
     print(log.line())
+    print("of crates that came with requests:", shares(log))
     for crate, seconds in log.crates.items():
         if seconds > LONG:
             print(f"over {LONG} s: {crate}, {seconds} s")

@@ -9,16 +9,24 @@ using Kernel = CGAL::Simple_cartesian<double>;
 using Surface = CGAL::Surface_mesh<Kernel::Point_3>;
 
 struct CgalPeer : Peer {
+    std::vector<Kernel::Point_3> places;
+    std::vector<std::vector<Surface::Vertex_index>> corners;
     Surface before, mesh;
 
     explicit CgalPeer(const Polygons &polygons) {
-        std::vector<Surface::Vertex_index> vertices;
-        for (const Point &p : polygons.points) vertices.push_back(before.add_vertex({p[0], p[1], p[2]}));
+        for (const Point &p : polygons.points) places.push_back({p[0], p[1], p[2]});
         for (const auto &face : polygons.faces) {
-            std::vector<Surface::Vertex_index> corners;
-            for (int p : face) corners.push_back(vertices[std::size_t(p)]);
-            before.add_face(corners);
+            corners.emplace_back();
+            for (int p : face) corners.back().push_back(Surface::Vertex_index(Surface::size_type(p)));
         }
+        build();
+        before = mesh;
+    }
+    void build() override {
+        mesh.clear();
+        mesh.reserve(Surface::size_type(places.size()), Surface::size_type(2 * corners.size()), Surface::size_type(corners.size()));
+        for (const auto &p : places) mesh.add_vertex(p);
+        for (const auto &face : corners) mesh.add_face(face);
     }
     const char *name() const override { return "CGAL Surface_mesh"; }
     void prepare() override { mesh = before; }

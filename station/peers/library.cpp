@@ -79,12 +79,16 @@ struct Held {
     std::size_t counts[3] = {0, 0, 0};
 };
 
+void build(const Lists &l, const Tables &into, std::size_t counts[3]) {
+    demand(lavyngo_tables_build(l.coordinates.data(), l.coordinates.size(), l.sides.data(), l.sides.size(), l.listed.data(),
+                                l.listed.size(), l.beside.data(), l.beside.size(), &into.lent, counts));
+}
+
 Held built(const Polygons &mesh) {
     const Lists l = lists_of(mesh);
     Held held;
     held.tables = std::make_unique<Tables>(mesh.points.size(), l.listed.size(), mesh.faces.size());
-    demand(lavyngo_tables_build(l.coordinates.data(), l.coordinates.size(), l.sides.data(), l.sides.size(), l.listed.data(),
-                                l.listed.size(), l.beside.data(), l.beside.size(), &held.tables->lent, held.counts));
+    build(l, *held.tables, held.counts);
     return held;
 }
 
@@ -104,8 +108,10 @@ struct LibraryPeer : Peer {
     std::size_t counts[3] = {0, 0, 0}, after[3] = {0, 0, 0}, now[3] = {0, 0, 0};
     std::unique_ptr<Tables> before, mesh, scratch;
     std::vector<std::uint32_t> order;
+    Lists lists;
 
     explicit LibraryPeer(const Polygons &polygons) {
+        lists = lists_of(polygons);
         const Held held = polygons.coarse ? stepped(built(*polygons.coarse)) : built(polygons);
         std::memcpy(counts, held.counts, sizeof counts);
         lavyngo_counts_after(counts, after);
@@ -115,6 +121,7 @@ struct LibraryPeer : Peer {
         order = numbered(counts[LAVYNGO_FACES]);
     }
     const char *name() const override { return "Lavyngo, audit included"; }
+    void build() override { ::build(lists, *mesh, now); }
     void prepare() override {
         mesh->take(*before);
         std::memcpy(now, counts, sizeof now);
@@ -128,6 +135,14 @@ struct LibraryPeer : Peer {
             found.push_back({at[LAVYNGO_X], at[LAVYNGO_Y], at[LAVYNGO_Z]});
         }
         return found;
+    }
+};
+
+struct PublishedPeer : LibraryPeer {
+    using LibraryPeer::LibraryPeer;
+    const char *name() const override { return "Lavyngo, the published rule"; }
+    void step() override {
+        demand(lavyngo_tables_step_published(&mesh->lent, now, order.data(), order.size(), &scratch->lent));
     }
 };
 
@@ -170,4 +185,5 @@ Polygons refined(const std::string &name, const Polygons &coarse) {
 }
 
 std::unique_ptr<Peer> library_peer(const Polygons &mesh) { return std::make_unique<LibraryPeer>(mesh); }
+std::unique_ptr<Peer> published_peer(const Polygons &mesh) { return std::make_unique<PublishedPeer>(mesh); }
 std::unique_ptr<Peer> limit_peer(const Polygons &mesh) { return std::make_unique<LimitPeer>(mesh); }

@@ -1,5 +1,6 @@
 // One step of the same meshes by OpenSubdiv, CGAL, OpenMesh and this library, and the limit, in one run: the rounds take turns,
-// and the least of the medians of some sittings is given, in nanoseconds for each face after the step.
+// and the least of the medians of some sittings is given, in nanoseconds for each face after the step. Then building, in nanoseconds
+// for each face.
 //     peers [MESH.obj ..]
 #include "peer.h"
 #include <algorithm>
@@ -66,34 +67,61 @@ bool same(const Peer &a, const Peer &b, std::size_t old) {
     return std::all_of(sums, sums + 6, [&](double s) { return std::abs(s) < 1e-6 * double(x.size()); });
 }
 
-void measure(const Polygons &mesh) {
-    constexpr int SITTINGS = 5;
-    std::vector<std::unique_ptr<Peer>> peers;
-    for (auto make : {limit_peer, library_peer, opensubdiv_peer, cgal_peer, openmesh_peer}) peers.push_back(make(mesh));
-    std::vector<double> least(peers.size(), 1e300), most(peers.size(), 0.0);
+constexpr int SITTINGS = 5;
+
+// The least and the greatest of the medians of the sittings, for each peer.
+struct Medians {
+    std::vector<double> least, most;
+};
+
+// Times what is done with each peer, the rounds in turn: `prepare` is not timed, `run` is; in nanoseconds for each of so many faces.
+template <typename Prepare, typename Run>
+Medians timed(const std::vector<std::unique_ptr<Peer>> &peers, int rounds, Prepare prepare, Run run, std::size_t faces) {
+    Medians found{std::vector<double>(peers.size(), 1e300), std::vector<double>(peers.size(), 0.0)};
     for (int sitting = 0; sitting < SITTINGS; sitting++) {
         std::vector<std::vector<double>> times(peers.size());
-        const int rounds = std::clamp(int(400000 / mesh.faces.size()), 9, 400);
         for (int round = 0; round < rounds; round++)
             for (std::size_t k = 0; k < peers.size(); k++) {
-                peers[k]->prepare();
+                prepare(*peers[k]);
                 const auto start = std::chrono::steady_clock::now();
-                peers[k]->step();
+                run(*peers[k]);
                 const std::chrono::duration<double, std::nano> taken = std::chrono::steady_clock::now() - start;
-                times[k].push_back(taken.count() / double(peers[k]->faces()));
+                times[k].push_back(taken.count() / double(faces));
             }
         for (std::size_t k = 0; k < peers.size(); k++) {
-            least[k] = std::min(least[k], median(times[k]));
-            most[k] = std::max(most[k], median(times[k]));
+            found.least[k] = std::min(found.least[k], median(times[k]));
+            found.most[k] = std::max(found.most[k], median(times[k]));
         }
     }
-    const bool agree = same(*peers[2], *peers[3], mesh.points.size()) && same(*peers[2], *peers[4], mesh.points.size());
-    const bool counted = peers[1]->faces() == peers[2]->faces() && peers[1]->points().size() == peers[2]->points().size();
-    const char *form = "%s, %zu faces after the step: the peers %s, the library has %s many rows\n";
-    std::printf(form, mesh.name.c_str(), peers[1]->faces(), agree ? "agree" : "DIFFER", counted ? "as" : "NOT AS");
+    return found;
+}
+
+void print(const std::vector<std::unique_ptr<Peer>> &peers, const Medians &medians, const char *what) {
     for (std::size_t k = 0; k < peers.size(); k++)
-        std::printf("  %-38s %7.1f ns a face (medians %.1f to %.1f)\n", peers[k]->name(), least[k], least[k], most[k]);
+        std::printf("  %-38s %7.1f ns a face%s (medians %.1f to %.1f)\n", peers[k]->name(), medians.least[k], what, medians.least[k],
+                    medians.most[k]);
     std::fflush(stdout);
+}
+
+// Building; a mesh that is refined from another is not built.
+void measure_building(const Polygons &mesh, int rounds) {
+    std::vector<std::unique_ptr<Peer>> peers;
+    for (auto make : {library_peer, opensubdiv_peer, cgal_peer, openmesh_peer}) peers.push_back(make(mesh));
+    print(peers, timed(peers, rounds, [](Peer &) {}, [](Peer &p) { p.build(); }, mesh.faces.size()), ", building");
+}
+
+void measure(const Polygons &mesh) {
+    std::vector<std::unique_ptr<Peer>> peers;
+    for (auto make : {opensubdiv_peer, cgal_peer, openmesh_peer, limit_peer, library_peer, published_peer}) peers.push_back(make(mesh));
+    for (auto &peer : peers) peer->prepare(), peer->step();
+    const Peer &first = *peers[0], &library = *peers[4];
+    const bool agree = same(first, *peers[1], mesh.points.size()) && same(first, *peers[2], mesh.points.size());
+    const bool counted = library.faces() == first.faces() && library.points().size() == first.points().size();
+    const char *form = "%s, %zu faces after the step: the peers %s, the library has %s many rows\n";
+    std::printf(form, mesh.name.c_str(), library.faces(), agree ? "agree" : "DIFFER", counted ? "as" : "NOT AS");
+    const int rounds = std::clamp(int(400000 / mesh.faces.size()), 9, 400);
+    print(peers, timed(peers, rounds, [](Peer &p) { p.prepare(); }, [](Peer &p) { p.step(); }, library.faces()), "");
+    if (!mesh.coarse) measure_building(mesh, rounds);
 }
 }  // namespace
 

@@ -8,16 +8,24 @@ struct Doubles : OpenMesh::DefaultTraitsDouble {};
 using Mesh = OpenMesh::PolyMesh_ArrayKernelT<Doubles>;
 
 struct OpenMeshPeer : Peer {
+    std::vector<Mesh::Point> places;
+    std::vector<std::vector<Mesh::VertexHandle>> corners;
     Mesh before, mesh;
 
     explicit OpenMeshPeer(const Polygons &polygons) {
-        std::vector<Mesh::VertexHandle> vertices;
-        for (const Point &p : polygons.points) vertices.push_back(before.add_vertex({p[0], p[1], p[2]}));
+        for (const Point &p : polygons.points) places.push_back({p[0], p[1], p[2]});
         for (const auto &face : polygons.faces) {
-            std::vector<Mesh::VertexHandle> corners;
-            for (int p : face) corners.push_back(vertices[std::size_t(p)]);
-            before.add_face(corners);
+            corners.emplace_back();
+            for (int p : face) corners.back().push_back(Mesh::VertexHandle(p));
         }
+        build();
+        before = mesh;
+    }
+    void build() override {
+        mesh = Mesh();
+        mesh.reserve(places.size(), 2 * corners.size(), corners.size());
+        for (const auto &p : places) mesh.add_vertex(p);
+        for (const auto &face : corners) mesh.add_face(face);
     }
     const char *name() const override { return "OpenMesh"; }
     void prepare() override { mesh = before; }

@@ -29,7 +29,7 @@ struct OpenSubdivPeer : Peer {
         }
     }
     const char *name() const override { return "OpenSubdiv, full topology"; }
-    void prepare() override {
+    void build() override {
         Descriptor d;
         d.numVertices = int(old.size());
         d.numFaces = int(sizes.size());
@@ -37,6 +37,9 @@ struct OpenSubdivPeer : Peer {
         d.vertIndicesPerFace = corners.data();
         using Factory = Far::TopologyRefinerFactory<Descriptor>;
         refiner.reset(Factory::Create(d, Factory::Options(Sdc::SCHEME_CATMARK, Sdc::Options())));
+    }
+    void prepare() override {
+        build();
         fine.clear();
     }
     void step() override {

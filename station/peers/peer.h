@@ -21,6 +21,8 @@ struct Polygons {
 struct Peer {
     virtual ~Peer() = default;
     virtual const char *name() const = 0;
+    // Builds the mesh from its polygons, which stand ready in the form that the library takes. Timed.
+    virtual void build() = 0;
     // Makes the mesh anew as it is before the step. Not timed.
     virtual void prepare() = 0;
     // The step. Timed.
@@ -34,6 +36,7 @@ std::unique_ptr<Peer> opensubdiv_peer(const Polygons &);
 std::unique_ptr<Peer> cgal_peer(const Polygons &);
 std::unique_ptr<Peer> openmesh_peer(const Polygons &);
 std::unique_ptr<Peer> library_peer(const Polygons &);
+std::unique_ptr<Peer> published_peer(const Polygons &);
 std::unique_ptr<Peer> limit_peer(const Polygons &);
 
 // The refinement of a mesh by the library.

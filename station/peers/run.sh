@@ -1,5 +1,5 @@
 #!/bin/sh
-# Compares one step of this library with OpenSubdiv, CGAL and OpenMesh on the same meshes: station/peers/run.sh [MESH.obj ..]
+# Compares one step of this library, and building, with OpenSubdiv, CGAL and OpenMesh on the same meshes: station/peers/run.sh [MESH.obj ..]
 # Needed: the Rattle kit, g++, and Debian's packages libosd-dev, libcgal-dev, libopenmesh-dev. Not part of the gate.
 set -eu
 here=$(cd "$(dirname "$0")" && pwd)

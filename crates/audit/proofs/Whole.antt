@@ -29,7 +29,7 @@ use Rattle.tables.specs.Parts.{faceTables, pointTables, positionTables, edgeTab
 use Rattle.sole_edges.specs.Sole.{Ends}
 use Rattle.audit.specs.Parts.{rowsFit, walksFit}
 use Rattle.audit_tests.specs.Parts.{walkFits, facesWalked}
-use Rattle.audit_tests.proofs.Laws.{every-cong, first-of-three, second-of-three, third-of-three, first-of-four, second-of-four, third-of-four, fourth-of-four}
+use Rattle.audit_tests.proofs.Laws.{every-cong, first-of-three, second-of-three, third-of-three, first-of-four, second-of-four, last-two-of-four}
 
 module _ (m : Mesh) (np ne nf : ℕ) where
   pub record Rows : Type 0 where
@@ -162,13 +162,9 @@ module _ (xs : List Float) (ps es : List ℕ) (is : List Float) (fs : List ℕ) 
     unfolding walksFit
     walks-faces = second-of-four valences-pass face-walks-pass point-walks-pass one-edges-pass
 
-    pub walks-points : point-walks-pass ≡ false → false ≡ walksFit ps es fs np ne nf
+    pub walks-points : valences-pass ≡ true → face-walks-pass ≡ true → (point-walks-pass && one-edges-pass) ≡ walksFit ps es fs np ne nf
     unfolding walksFit
-    walks-points = third-of-four valences-pass face-walks-pass point-walks-pass one-edges-pass
-
-    pub walks-edges : valences-pass ≡ true → face-walks-pass ≡ true → point-walks-pass ≡ true → one-edges-pass ≡ walksFit ps es fs np ne nf
-    unfolding walksFit
-    walks-edges = fourth-of-four valences-pass face-walks-pass point-walks-pass one-edges-pass
+    walks-points = last-two-of-four valences-pass face-walks-pass point-walks-pass one-edges-pass
 
     -- the parts of the audit in turn
     pub audit-counts : rowsFor (countsOf np ne nf) whole-mesh ≡ false → false ≡ audit whole-mesh np ne nf

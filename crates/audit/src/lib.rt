@@ -17,11 +17,10 @@ ghost use Rattle.audit.specs.Parts.{rowsFit, walksFit};
 use audit_edges::edges_fit;
 use audit_faces::face_walks_fit;
 use audit_faces::faces_fit;
-use audit_tests::points::point_walks_fit;
 use audit_tests::points::points_fit;
 use audit_tests::points::valences_fit;
 use counted_rows::rows_for;
-use sole_edges::are_one_edges;
+use sole_edges::walks_with_sole_edges;
 use tables::Counts;
 
 // The tests of single rows.
@@ -71,10 +70,7 @@ fn walks_fit(points: &[u32], edges: &[u32], faces: &[u32], counts: Counts) -> bo
     if !face_walks_fit(edges, faces, ne, nf, total) {
         return false;
     }
-    if !point_walks_fit(points, edges, ne, np) {
-        return false;
-    }
-    are_one_edges(points, edges, np, ne)
+    walks_with_sole_edges(points, edges, np, ne)
 }
 
 // Whether the tables are a closed mesh.

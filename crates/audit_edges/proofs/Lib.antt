@@ -1,1 +1,2 @@
 pub mod EdgeTests
+pub mod Links

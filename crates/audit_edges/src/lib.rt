@@ -1,19 +1,20 @@
 // The tests of the audit about edges: the test of one row and the loops over the rows.
 // Not here: second edges on the same two points (`sole_edges`), the audit made of them (`audit`).
-// Definitions: `Parts` of `audit_tests`, `Quick` of `audited_meshes`.
+// Definitions: `specs/HalfLinks.antt` (the test with half of the links), `Quick` of `audited_meshes` (the whole test).
+// Theorem: half of the links are enough (`every-half` in `proofs/Links.antt`).
 ghost use mathlib.Core.Path.{_≡_};
 ghost use mathlib.Core.Bool.{_&&_};
 ghost use mathlib.Core.List.{[]};
 ghost use Prim.Native.Nat.{ℕ, _+_, _*_, _≤_, _<_};
 ghost use lib.Dec.{ltb};
 ghost use lib.ListN.{length};
-ghost use Rattle.tables.specs.Layout.{edgeWidth, leftAcwWord};
-ghost use Rattle.tables.specs.Mesh.{leftCw, leftAcw, rightCw, rightAcw};
+ghost use Rattle.tables.specs.Layout.{edgeWidth};
+ghost use Rattle.tables.specs.Mesh.{leftAcw, rightAcw};
 ghost use Rattle.audited_meshes.specs.Folds.{every};
-ghost use Rattle.audited_meshes.specs.Audit.{edgeInRange, linked, acwLinks};
+ghost use Rattle.audited_meshes.specs.Audit.{edgeInRange, acwLinks};
 ghost use Rattle.audited_meshes.specs.Quick.{edgeFit};
-ghost use Rattle.audit_tests.specs.Parts.{linksBack};
 ghost use Rattle.tables.specs.Parts.{faceTables, edgeTables};
+ghost use Rattle.audit_edges.specs.HalfLinks.{cwBack, acwLinked, halfFit};
 use intervals::interval_fits;
 use tables::DEST_WORD;
 use tables::EDGE_WIDTH;
@@ -24,6 +25,8 @@ use tables::RIGHT_ACW_WORD;
 use tables::RIGHT_CW_WORD;
 use tables::RIGHT_FACE_WORD;
 use tables::index;
+use walks::SIDE_WIDTH;
+use walks::place_of;
 use walks::t_nurcc_control_point::touches;
 
 // Whether two row numbers are below n and two below k.
@@ -68,22 +71,18 @@ fn edge_in_range(edges: &[u32], np: usize, ne: usize, nf: usize, e: usize) -> bo
     false
 }
 
-// Whether edge a borders face f and has the link back to edge e there: the link at place `back` of its words if f is on its left,
-// two places further if it is on its right.
-fn links_back(edges: &[u32], back: usize, f: u32, a: usize, e: usize) -> bool
+// Whether edge a borders face f and links back to edge e by its clockwise link there. The words are found by the number of the side, so
+// that the answer of the comparison with the left face, which no one can foretell, is no branch.
+fn links_back(edges: &[u32], f: u32, a: usize, e: usize) -> bool
     requires { ⌜ a * edgeWidth + edgeWidth ≤ length (now edges) ⌝ }
-    requires { ⌜ back ≤ leftAcwWord ⌝ }
-    ensures { λ r. ⌜ r ≡ linksBack (now (edges .entry)) back f a e ⌝ }
+    ensures { λ r. ⌜ r ≡ cwBack (faceTables (now (edges .entry)) []) f a e ⌝ }
 {
     let b = a * EDGE_WIDTH;
-    if edges[b + LEFT_FACE_WORD] == f {
-        return index(edges[b + back]) == e;
+    let s = place_of(index(edges[b + LEFT_FACE_WORD]), index(f));
+    if edges[b + LEFT_FACE_WORD + s] != f {
+        return false;
     }
-    if edges[b + RIGHT_FACE_WORD] == f {
-        let right = back + 2;
-        return index(edges[b + right]) == e;
-    }
-    false
+    index(edges[b + LEFT_CW_WORD + SIDE_WIDTH * s]) == e
 }
 
 // Whether edge a touches point p, borders face f and links back to edge e by its clockwise link there.
@@ -92,60 +91,40 @@ fn acw_links(edges: &[u32], p: u32, f: u32, a: usize, e: usize) -> bool
     ensures { λ r. ⌜ r ≡ acwLinks (faceTables (now (edges .entry)) []) e p f a ⌝ }
 {
     if touches(edges, index(p), a) {
-        return links_back(edges, LEFT_CW_WORD, f, a, e);
+        return links_back(edges, f, a, e);
     }
     false
 }
 
-// Whether the links of edge e lead to edges that link back. They are in range.
+// Whether the anticlockwise links of edge e lead to edges that link back. They are in range. The clockwise links are not tested: where
+// the anticlockwise links of all edges are undone so, they lead to no side of an edge twice, hence to every side once, and then the
+// clockwise links are undone as well (`every-half` in `proofs/Links.antt`).
 fn is_linked(edges: &[u32], ne: usize, e: usize) -> bool
     requires { ⌜ ne * edgeWidth ≤ length (now edges) ⌝ }
     requires { ⌜ e < ne ⌝ }
-    requires { ⌜ leftCw (faceTables (now edges) []) e < ne ⌝ }
     requires { ⌜ leftAcw (faceTables (now edges) []) e < ne ⌝ }
-    requires { ⌜ rightCw (faceTables (now edges) []) e < ne ⌝ }
     requires { ⌜ rightAcw (faceTables (now edges) []) e < ne ⌝ }
-    ensures { λ r. ⌜ r ≡ linked (faceTables (now (edges .entry)) []) e ⌝ }
+    ensures { λ r. ⌜ r ≡ acwLinked (faceTables (now (edges .entry)) []) e ⌝ }
 {
     let b = e * EDGE_WIDTH;
+    let origin = edges[b];
+    let dest = edges[b + DEST_WORD];
     let left = edges[b + LEFT_FACE_WORD];
     let right = edges[b + RIGHT_FACE_WORD];
-    if !acw_links(
-        edges,
-        edges[b + DEST_WORD],
-        left,
-        index(edges[b + LEFT_ACW_WORD]),
-        e,
-    ) {
+    let left_acw = index(edges[b + LEFT_ACW_WORD]);
+    let right_acw = index(edges[b + RIGHT_ACW_WORD]);
+    if !acw_links(edges, dest, left, left_acw, e) {
         return false;
     }
-    if !acw_links(edges, edges[b], right, index(edges[b + RIGHT_ACW_WORD]), e) {
-        return false;
-    }
-    if !links_back(
-        edges,
-        LEFT_ACW_WORD,
-        left,
-        index(edges[b + LEFT_CW_WORD]),
-        e,
-    ) {
-        return false;
-    }
-    links_back(
-        edges,
-        LEFT_ACW_WORD,
-        right,
-        index(edges[b + RIGHT_CW_WORD]),
-        e,
-    )
+    acw_links(edges, origin, right, right_acw, e)
 }
 
-// The test of edge e.
+// The test of edge e, but for its clockwise links.
 fn edge_fit(edges: &[u32], intervals: &[f64], np: usize, ne: usize, nf: usize, e: usize) -> bool
     requires { ⌜ ne * edgeWidth ≤ length (now edges) ⌝ }
     requires { ⌜ ne ≤ length (now intervals) ⌝ }
     requires { ⌜ e < ne ⌝ }
-    ensures { λ r. ⌜ r ≡ edgeFit (edgeTables (now (edges .entry)) (now (intervals .entry))) np ne nf e ⌝ }
+    ensures { λ r. ⌜ r ≡ halfFit (edgeTables (now (edges .entry)) (now (intervals .entry))) np ne nf e ⌝ }
 {
     let b = e * EDGE_WIDTH;
     if !edge_in_range(edges, np, ne, nf, e) {
@@ -163,7 +142,7 @@ fn edge_fit(edges: &[u32], intervals: &[f64], np: usize, ne: usize, nf: usize, e
     is_linked(edges, ne, e)
 }
 
-// The test of the first ne edges.
+// The test of the first ne edges: where each passes the test but for its clockwise links, each passes the whole test.
 pub fn edges_fit(edges: &[u32], intervals: &[f64], np: usize, ne: usize, nf: usize) -> bool
     requires { ⌜ ne * edgeWidth ≤ length (now edges) ⌝ }
     requires { ⌜ ne ≤ length (now intervals) ⌝ }

@@ -22,7 +22,8 @@ use Rattle.walks.proofs.Laws.{border-point, border-walk, passed-back, passed-lo
 use Rattle.walks.proofs.Border.{laid-point}
 use Rattle.walks.proofs.Back.{faceWalk-within}
 use Rattle.audit_tests.specs.Parts.{differAt, faceSize, facesWalked}
-use Rattle.audit_tests.proofs.Laws.{and-false, every-none, every-more, every-stop, every-all, every-cong, sumTo-none, sumTo-more, sumTo-stop, sumTo-all}
+use Rattle.audited_meshes.proofs.Folds.{and-false, every-none, every-more, every-stop}
+use Rattle.audit_tests.proofs.Laws.{every-all, every-cong, sumTo-none, sumTo-more, sumTo-stop, sumTo-all}
 
 module _ (m : Mesh) (np ne f : ℕ) where
   abbrev pub cornerHere : ℕ → Bool

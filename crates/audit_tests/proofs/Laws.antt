@@ -1,5 +1,5 @@
 -- The laws of loops that test or add up rows, for every test and every row. Assumes nothing.
---     every-none, every-more, every-stop     no row is tested yet, one row more passes, one row fails; every-all: all pass
+--     every-all                              all rows pass
 --     sumTo-none, sumTo-more, sumTo-stop     no row is added yet, one row more, the sum is past the total; sumTo-all: it is whole
 use mathlib.Core.Path.{_≡_, refl, sym, _∙_, ap, ap₂}
 use mathlib.Core.Bool.{Bool, true, false, _&&_}
@@ -12,31 +12,11 @@ use lib.Dec.{eqb}
 use borrow.Author.Tests.{ne-eqb}
 use Rattle.closed_meshes.specs.Renumbering.{sumTo}
 use Rattle.audited_meshes.specs.Folds.{every}
-use Rattle.audited_meshes.proofs.Folds.{below-suc}
-
-pub and-false : (a : Bool) → (a && false) ≡ false
-and-false true = refl
-and-false false = refl
+use Rattle.audited_meshes.proofs.Folds.{and-false}
 
 pub and-assoc : (a b c : Bool) → (a && b && c) ≡ (a && (b && c))
 and-assoc true b c = refl
 and-assoc false b c = refl
-
-pub every-none : (test : ℕ → Bool) → every 0 test ≡ true
-unfolding every
-every-none test = refl
-
-pub every-more : (i : ℕ) (test : ℕ → Bool) → every i test ≡ true → test i ≡ true → every (i + 1) test ≡ true
-unfolding every
-every-more i test h t = rw add-one (rw (h, t))
-
-pub every-stop : (n i : ℕ) (test : ℕ → Bool) → i < n → test i ≡ false → every n test ≡ false
-unfolding every
-every-stop zero i test l t = absurd (omega arith)
-every-stop (suc n) i test l t =
-    below-suc i n l
-    (λ lt. rw (every-stop n i test lt t))
-    (λ same. rw (sym (ap test same) ∙ t) (and-false (every n test)))
 
 pub sumTo-none : (g : ℕ → ℕ) → sumTo 0 g ≡ 0
 unfolding sumTo
@@ -96,8 +76,5 @@ module _ (a b c : Bool) where
     pub second-of-four : b ≡ false → false ≡ (a && b && c && d)
     second-of-four h = sym (rw (h, and-false a))
 
-    pub third-of-four : c ≡ false → false ≡ (a && b && c && d)
-    third-of-four h = sym (rw (h, and-false (a && b)))
-
-    pub fourth-of-four : a ≡ true → b ≡ true → c ≡ true → d ≡ (a && b && c && d)
-    fourth-of-four h k l = sym (rw (h, k, l))
+    pub last-two-of-four : a ≡ true → b ≡ true → (c && d) ≡ (a && b && c && d)
+    last-two-of-four h k = sym (rw (h, k))

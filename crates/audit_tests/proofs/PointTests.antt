@@ -1,17 +1,14 @@
 -- The test of one point: what each of its tests decides. Assumes nothing.
-use mathlib.Core.Path.{_≡_, refl, _∙_, ap}
+use mathlib.Core.Path.{_≡_, _∙_}
 use mathlib.Core.Bool.{Bool, true, false, _&&_, _||_}
 use Prim.Native.Nat.{ℕ, _<_, _≤_}
 use lib.Dec.{eqb, ltb}
 use lib.Ieee.Scale.{finite}
 use borrow.Author.Tests.{lt-ltb, le-ltb, le-leb, lt-leb}
 use Rattle.tables.specs.Mesh.{Mesh, x, y, z, valence, start, mark}
-use Rattle.audited_meshes.specs.Walks.{Walk, back, lost}
-use Rattle.audited_meshes.specs.Quick.{pointFit, pointBack}
-use Rattle.walks.specs.declared.Passed.{Passed}
-use Rattle.walks.specs.Steps.{passedBy}
-use Rattle.audit_tests.proofs.Laws.{and-false, and-assoc}
-use Rattle.walks.specs.declared.Passed
+use Rattle.audited_meshes.specs.Quick.{pointFit}
+use Rattle.audited_meshes.proofs.Folds.{and-false}
+use Rattle.audit_tests.proofs.Laws.{and-assoc}
 
 module _ (m : Mesh) (ne p : ℕ) where
   -- its coordinates are finite
@@ -34,14 +31,3 @@ module _ (m : Mesh) (ne p : ℕ) where
   unfolding pointFit
   point-mark s h v =
       rw (lt-ltb (start m p) ne s, and-assoc (finite (x m p)) (finite (y m p)) (finite (z m p)) ∙ h, le-leb 2 (valence m p) v)
-
--- the walk came back after the valence v
-pub back-after : (w : Walk) (v n : ℕ) → Passed.Back n ≡ passedBy w → pointBack v w ≡ eqb n v
-unfolding pointBack
-back-after (back es) v n h = ap (λ (k : ℕ). eqb k v) (cc)
-back-after lost v n h = let z : true ≡ false = cc in cc
-
-pub lost-after : (w : Walk) (v : ℕ) → Passed.Lost ≡ passedBy w → pointBack v w ≡ false
-unfolding pointBack
-lost-after (back es) v h = let z : true ≡ false = cc in cc
-lost-after lost v h = refl

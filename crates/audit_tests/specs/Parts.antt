@@ -1,6 +1,4 @@
 -- The parts of the quick test, each over the tables that it looks at.
---     linksBack es k f a e    edge a borders face f and has the link back to edge e there: the link at place k of its words if f is
---                             on its left, two places further if it is on its right; 4 for clockwise links, 5 for anticlockwise
 --     walkFits m ne p         the walk about point p comes back after its valence
 --     differAt ks i j         other numbers stand at the places i and j
 --     faceSize m ne f         how many edges the walk about face f passes, if it comes back after at least 3 and passes no point
@@ -8,20 +6,14 @@
 --     facesWalked m ne nf t   the walks about the first nf faces come back so, and their lengths add up to t
 use mathlib.Core.Bool.{Bool, not, _&&_, cond}
 use mathlib.Core.List.{List}
-use Prim.Native.Nat.{ℕ, _+_, _*_}
+use Prim.Native.Nat.{ℕ}
 use lib.Dec.{eqb}
 use lib.ListN.{getD}
 use Rattle.closed_meshes.specs.Renumbering.{sumTo}
-use Rattle.tables.specs.Layout.{edgeWidth}
-use Rattle.tables.specs.Mesh.{Mesh, valence, leftFace, edgeTable}
+use Rattle.tables.specs.Mesh.{Mesh, valence}
 use Rattle.audited_meshes.specs.Folds.{every}
-use Rattle.audited_meshes.specs.Walks.{passed, borders, faceWalk, pointWalk}
+use Rattle.audited_meshes.specs.Walks.{passed, faceWalk, pointWalk}
 use Rattle.audited_meshes.specs.Quick.{faceBack, pointBack}
-
-abbrev pub linksBack : List ℕ → ℕ → ℕ → ℕ → ℕ → Bool
-linksBack es k f a e =
-    let m : Mesh = edgeTable es in
-    borders m f a && eqb (cond (eqb (leftFace m a) f) (getD es (a * edgeWidth + k) 0) (getD es (a * edgeWidth + (k + 2)) 0)) e
 
 abbrev pub walkFits : Mesh → ℕ → ℕ → Bool
 walkFits m ne p = pointBack (valence m p) (pointWalk m ne (valence m p) p)

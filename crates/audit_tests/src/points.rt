@@ -5,19 +5,16 @@ ghost use Prim.Native.Nat.{_+_, _*_, _≤_};
 ghost use lib.Dec.{eqb};
 ghost use lib.ListN.{length};
 ghost use Rattle.closed_meshes.specs.Renumbering.{sumTo};
-ghost use Rattle.tables.specs.Layout.{positionWidth, pointWidth, edgeWidth};
+ghost use Rattle.tables.specs.Layout.{positionWidth, pointWidth};
 ghost use Rattle.tables.specs.Mesh.{valence};
 ghost use Rattle.audited_meshes.specs.Folds.{every};
 ghost use Rattle.audited_meshes.specs.Quick.{pointFit};
 ghost use Rattle.tables.specs.Parts.{pointTables, positionTables};
-ghost use Rattle.audit_tests.specs.Parts.{walkFits};
 use records::load_position;
 use tables::MARK_WORD;
 use tables::POINT_WIDTH;
 use tables::START_WORD;
 use tables::index;
-use walks::Passed;
-use walks::t_nurcc_iter::point_walk;
 
 // The test of point p.
 fn point_fit(positions: &[f64], points: &[u32], ne: usize, p: usize) -> bool
@@ -73,33 +70,4 @@ pub fn valences_fit(points: &[u32], np: usize, total: usize) -> bool
         p += 1;
     }
     sum == total
-}
-
-// Whether the walk about each of the first np points comes back after its valence.
-pub fn point_walks_fit(points: &[u32], edges: &[u32], ne: usize, np: usize) -> bool
-    requires { ⌜ np * pointWidth ≤ length (now points) ⌝ }
-    requires { ⌜ ne * edgeWidth ≤ length (now edges) ⌝ }
-    ensures { λ r. ⌜ r ≡ every np (λ p. walkFits (pointTables (now (points .entry)) (now (edges .entry))) ne p) ⌝ }
-{
-    let mut p = 0;
-    while p < np {
-        if !point_walk_fits(points, edges, ne, p) {
-            return false;
-        }
-        p += 1;
-    }
-    true
-}
-
-// Whether the walk about point p comes back after its valence.
-fn point_walk_fits(points: &[u32], edges: &[u32], ne: usize, p: usize) -> bool
-    requires { ⌜ p * pointWidth + pointWidth ≤ length (now points) ⌝ }
-    requires { ⌜ ne * edgeWidth ≤ length (now edges) ⌝ }
-    ensures { λ r. ⌜ r ≡ walkFits (pointTables (now (points .entry)) (now (edges .entry))) ne p ⌝ }
-{
-    let v = index(points[p * POINT_WIDTH]);
-    match point_walk(edges, points, ne, v, p) {
-        Passed::Back(n) => n == v,
-        Passed::Lost => false,
-    }
 }

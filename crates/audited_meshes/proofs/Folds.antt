@@ -1,14 +1,16 @@
 -- The laws of sums over the numbers below a bound, and of how often a number stands in a list. Assumes nothing.
 use mathlib.Core.Path.{_≡_, refl, sym, _∙_, ap, ap₂, subst}
+use mathlib.Core.Bool.{Bool, true, false, _&&_}
 use mathlib.Core.List.{List, [], _∷_}
 use Prim.Native.Nat.{ℕ, zero, suc, _+_, _*_, _≤_, _<_}
 use native.Mathlib.Omega.{arith}
 use native.Mathlib.Decide.{decLe}
+use native.Mathlib.Numerals.{add-one}
 use lib.Dec.{eqb}
 use lib.ListN.{length}
 use borrow.Author.Tests.{eq-eqb, ne-eqb}
 use Rattle.closed_meshes.specs.Renumbering.{sumTo}
-use Rattle.audited_meshes.specs.Folds.{oneIf, occurrences}
+use Rattle.audited_meshes.specs.Folds.{every, oneIf, occurrences}
 
 -- a number below suc n is below n or is n
 pub below-suc : {A : Type 0} (k n : ℕ) → k < suc n → (k < n → A) → (k ≡ n → A) → A
@@ -84,3 +86,25 @@ length-sumTo n (k ∷ ks) h =
     let here : k < n = h k (subst (λ t. 0 < oneIf t + occurrences k ks) (sym (eq-eqb k k refl)) (omega arith)) in
     let rest : length ks ≡ sumTo n (λ i. occurrences i ks) = length-sumTo n ks (λ i l. h i (omega arith)) in
     omega (arith, rest, sumTo-one n k here, sumTo-add n (λ i. oneIf (eqb k i)) (λ i. occurrences i ks))
+
+-- ---- a test of the numbers below a bound: of none, of one more, of one that fails, of all
+
+pub and-false : (a : Bool) → (a && false) ≡ false
+and-false true = refl
+and-false false = refl
+
+pub every-none : (test : ℕ → Bool) → every 0 test ≡ true
+unfolding every
+every-none test = refl
+
+pub every-more : (i : ℕ) (test : ℕ → Bool) → every i test ≡ true → test i ≡ true → every (i + 1) test ≡ true
+unfolding every
+every-more i test h t = rw add-one (rw (h, t))
+
+pub every-stop : (n i : ℕ) (test : ℕ → Bool) → i < n → test i ≡ false → every n test ≡ false
+unfolding every
+every-stop zero i test l t = absurd (omega arith)
+every-stop (suc n) i test l t =
+    below-suc i n l
+    (λ lt. rw (every-stop n i test lt t))
+    (λ same. rw (sym (ap test same) ∙ t) (and-false (every n test)))

@@ -1,14 +1,15 @@
 -- How building begins and ends, over plain variables. Assumes nothing.
 --     concluded-fit, concluded-unfit    the ends of `conclude`
 --     Rooms, rooms, rooms-of            what the tables have room for when no ground up to 4 holds, and when they are zeroed
---     standing-none                     nothing stands in zeroed tables
+--     standing-none, lent-rooms         nothing stands in zeroed tables, and there is a row and a link for each edge
 --     stopped-outcome, on-outcome       the answer when a face was refused, and when all faces stand
 --     refused-counts .. begun-build     the answer by the tests before the faces
 --     promised                          an outcome, and its answer in the documents' numbers
+--     links-room, links-none            the links at the beginning
 use mathlib.Core.Path.{_≡_, refl, sym, _∙_, ap, subst}
-use mathlib.Core.Bool.{true, false, _&&_}
+use mathlib.Core.Bool.{true, false}
 use mathlib.Core.List.{List, []}
-use Prim.Native.Nat.{ℕ, zero, _*_, _≤_, _<_}
+use Prim.Native.Nat.{ℕ, zero, _+_, _*_, _≤_, _<_}
 use native.Mathlib.Nat.{le-of-eq}
 use borrow.Author.Tests.{eqb-true}
 use native.Mathlib.Omega.{arith}
@@ -18,7 +19,7 @@ use Rattle.tables.specs.Mesh.{Mesh, none, meshOf}
 use Rattle.tables.specs.Rows.{over, zeroed}
 use Rattle.tables.specs.Counted.{countsOf, rowsFor, zeroedRows}
 use Rattle.tables.proofs.Laws.{length-zeroed}
-use Rattle.built_meshes.specs.Lists.{Lists, pointsOf, facesOf, rowsOf, offset, firstsCounted, countsFit, listedFit}
+use Rattle.built_meshes.specs.Lists.{Lists, generalLimits, pointsOf, facesOf, rowsOf, offset, firstsCounted, countsFit, listedFit}
 use Rattle.tables.specs.declared.Sizes.{Sizes}
 use Rattle.built_meshes.specs.Perimeters.{BuildState, Progress, on, stopped}
 use Rattle.built_meshes.specs.Answers.{builtNumbers}
@@ -35,7 +36,7 @@ use Rattle.built_meshes.proofs.Theorem.{tablesOf, zeroed-after}
 use Rattle.building_tests.specs.Lent.{lists, listsIn, FirstsGiven, limitsOf}
 use Rattle.building_tests.specs.declared.Bounds.{Bounds}
 use Rattle.building_tests.specs.declared.Bounds.the-variants.{General, Refine}
-use Rattle.edge_search.specs.Chains.{Newest, Standing}
+use Rattle.edge_search.specs.Chains.{buckets, Newest, Standing}
 use Rattle.building_faces.specs.Rings.{stateAt, ListedRoom}
 use Rattle.building.specs.Concluding.{concluded, answeredFrom, Begun, Zeroed}
 
@@ -125,33 +126,32 @@ unfolding zeroed
 getD-zeroed n i z d xs h =
     List·getD-append (replicate n z) (drop n xs) d i (subst (λ k. i < k) (sym (length-replicate n z)) h) ∙ getD-replicate n i z d h
 
--- nothing stands in zeroed tables, with links that are 0
-pub standing-none : (l : Lists) (t : Mesh) (links ch : List ℕ) → Zeroed l t → pointsOf l ≤ length links → ch ≡ zeroed (pointsOf l) 0 links
-    → Standing (pointsOf l) (t .points) (t .edges) ch 0
+-- nothing stands in zeroed tables, where every bucket's link is 0
+pub standing-none : (l : Lists) (t : Mesh) (ch : List ℕ) → Zeroed l t → buckets ≤ length ch
+    → ((b : ℕ) → b < buckets → getD ch b 0 ≡ 0) → Standing (pointsOf l) (t .points) (t .edges) ch 0
 unfolding zeroedRows
-standing-none l t links ch h room c =
+standing-none l t ch h room none-yet =
     record {
       points-fit = rooms-of l t h .points-fit;
       edges-fit = omega arith;
-      links-fit = rw (c, length-zeroed (pointsOf l) 0 links room) (omega arith);
+      links-fit = omega arith;
       valences = λ p b. rw (h .zero) (rw (getD-zeroed (pointsOf l * 3) (p * 3) 0 0 (h .lent .points) (omega arith)) (omega arith));
-      newest = λ p b. rw (c, getD-zeroed (pointsOf l) p 0 0 links b) (none-newest (t .edges) p);
-      chained = record { older-origin = λ e b. absurd (omega arith); older-dest = λ e b. absurd (omega arith) };
+      newest = λ b i. rw (none-yet b i) (none-newest (t .edges) b);
+      chained = λ e i. absurd (omega arith);
     }
   where
-    none-newest : (es : List ℕ) (p : ℕ) → Newest es p 0 0
-    none-newest es p =
+    none-newest : (es : List ℕ) (b : ℕ) → Newest es b 0 0
+    none-newest es b =
         record {
           below = omega arith;
-          touching = λ e s. absurd (omega arith);
-          none-between = λ e i b. absurd (omega arith);
+          within = λ e s. absurd (omega arith);
+          none-between = λ e i j. absurd (omega arith);
         }
 
--- there are rows and links for all edges
-pub lent-rooms : (l : Lists) (t : Mesh) (ch : List ℕ) → Rooms l t → 36864 ≤ length ch
-    → ListedRoom (pointsOf l) (l .listed) (l .intervals) (t .edges) (t .intervals) ch
+-- there is a row and a link for each edge
+pub lent-rooms : (l : Lists) (t : Mesh) (ch : List ℕ) → Rooms l t → buckets + generalLimits .listed ≤ length ch
+    → ListedRoom (l .listed) (l .intervals) (t .edges) (t .intervals) ch
 lent-rooms l t ch r room =
-    let a = r .points-few in
     let b = r .listed-few in
     record {
       edge-rows = r .edges-fit;
@@ -226,5 +226,11 @@ pub promised : {o p : BuildOutcome} → o ≡ p → (o ≡ p) × (builtNumbers (
 promised e = (e, ap (λ (o : BuildOutcome). builtNumbers (o .answer)) e)
 
 -- the links at the beginning
-pub links-room : 36864 ≤ length (replicate {A = ℕ} 36864 0)
-links-room = le-of-eq (sym (length-replicate {A = ℕ} 36864 0))
+abbrev pub noLinks : List ℕ
+noLinks = replicate {A = ℕ} (buckets + generalLimits .listed) 0
+
+pub links-room : buckets + generalLimits .listed ≤ length noLinks
+links-room = le-of-eq (sym (length-replicate {A = ℕ} (buckets + generalLimits .listed) 0))
+
+pub links-none : (b : ℕ) → b < buckets → getD noLinks b 0 ≡ 0
+links-none b h = getD-replicate (buckets + generalLimits .listed) b 0 0 (omega arith)

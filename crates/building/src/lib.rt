@@ -3,8 +3,8 @@
 // Carries over `try_new` of t_nurcc/mod.rs.
 // Contract: `build`. Definitions: `Building` of `built_meshes`; `specs/Concluding.antt`.
 ghost use mathlib.Core.Path.{_≡_};
-ghost use Prim.Native.Nat.{_+_, _*_, _/_, _≤_};
-ghost use lib.ListN.{length};
+ghost use Prim.Native.Nat.{ℕ, _+_, _*_, _/_, _≤_, _<_};
+ghost use lib.ListN.{length, getD};
 ghost use Rattle.tables.specs.Layout.{positionWidth, pointWidth, edgeWidth, faceWidth};
 ghost use Rattle.tables.specs.Mesh.{Mesh, meshOf};
 ghost use Rattle.built_meshes.specs.Lists.{generalLimits, rowsOf};
@@ -13,6 +13,7 @@ ghost use Rattle.built_meshes.specs.Building.{BuildOutcome, build};
 ghost use Rattle.tables.specs.Counted.{zeroedRows};
 ghost use Rattle.built_meshes.specs.Whole.{wholeVerdict};
 ghost use Rattle.building_tests.specs.Lent.{listsIn, limitsOf};
+ghost use Rattle.edge_search.specs.Chains.{buckets};
 ghost use Rattle.building.specs.Concluding.{concluded, answeredFrom, Begun, Zeroed};
 use building_faces::Faced;
 use building_faces::enter_faces;
@@ -20,7 +21,6 @@ use building_lists::counts_fit;
 use building_lists::numbers_fit;
 use building_tests::Bounds;
 use building_tests::MOST_LISTED;
-use building_tests::MOST_POINTS;
 use building_whole::whole::mark_points;
 use building_whole::whole::whole_verdict;
 use built_meshes::Built;
@@ -29,11 +29,11 @@ use built_meshes::Verdict;
 use built_meshes::Version;
 use counted_rows::rows_for;
 use counted_rows::zero_rows;
+use edge_search::BUCKETS;
 use tables::Counts;
 use tables::POSITION_WIDTH;
 use tables::copy_numbers;
 use tables::index;
-use tables::zero_words;
 
 // The verdict on the whole when k edges stand, and the tables by it: finished, or their counted rows made zero.
 fn conclude(
@@ -95,10 +95,10 @@ fn conclude(
     }
 }
 
-// The words of a chain: a link for each point, and two for each edge.
-const CHAIN: usize = MOST_POINTS + 2 * MOST_LISTED;
+// The words of the chains: a link for each bucket, and one for each edge.
+const CHAIN: usize = BUCKETS + MOST_LISTED;
 
-// Builds in tables whose counted rows are zero, from lists that meet no ground up to 4.
+// Builds in tables whose counted rows are zero, with chains of no edge, from lists that meet no ground up to 4.
 fn build_zeroed(
     version: Version,
     coordinates: &[f64],
@@ -114,7 +114,8 @@ fn build_zeroed(
     chain: &mut [u32],
 ) -> Built
     requires { ⌜ Zeroed (listsIn version (now coordinates) (now sides) (now firsts) (now listed) (now beside)) (meshOf (now positions) (now points) (now edges) (now intervals) (now faces)) ⌝ }
-    requires { ⌜ generalLimits .points + 2 * generalLimits .listed ≤ length (now chain) ⌝ }
+    requires { ⌜ buckets + generalLimits .listed ≤ length (now chain) ⌝ }
+    requires { ⌜ ((b : ℕ) → b < buckets → getD (now chain) b 0 ≡ 0) ⌝ }
     ensures { λ r. ⌜
         ((m : Mesh) → Begun (listsIn version (now (coordinates .entry)) (now (sides .entry)) (now (firsts .entry)) (now (listed .entry)) (now (beside .entry))) m →
         (meshOf (now (positions .entry)) (now (points .entry)) (now (edges .entry)) (now (intervals .entry)) (now (faces .entry)))
@@ -129,7 +130,6 @@ fn build_zeroed(
     let np = coordinates.len() / POSITION_WIDTH;
     let nl = listed.len();
     let nf = sides.len() / 4;
-    zero_words(chain, np);
     match enter_faces(
         version,
         sides,

@@ -19,9 +19,9 @@ use Rattle.building_faces.specs.declared.RingEdges.{RingEdges}
 use Rattle.building_faces.specs.declared.Turned.the-variants as Turns
 
 -- what is lent serves as well when the tables keep their lengths
-pub lent-same : (np : ℕ) (ls : List ℕ) (be : List Float) (es₀ es : List ℕ) (is₀ is : List Float) (ch₀ ch : List ℕ)
-    → length es ≡ length es₀ → length is ≡ length is₀ → length ch ≡ length ch₀ → ListedRoom np ls be es₀ is₀ ch₀ → ListedRoom np ls be es is ch
-lent-same np ls be es₀ es is₀ is ch₀ ch a b c h =
+pub lent-same : (ls : List ℕ) (be : List Float) (es₀ es : List ℕ) (is₀ is : List Float) (ch₀ ch : List ℕ)
+    → length es ≡ length es₀ → length is ≡ length is₀ → length ch ≡ length ch₀ → ListedRoom ls be es₀ is₀ ch₀ → ListedRoom ls be es is ch
+lent-same ls be es₀ es is₀ is ch₀ ch a b c h =
     record {
       edge-rows = rw a (h .edge-rows);
       interval-rows = rw b (h .interval-rows);

@@ -77,9 +77,9 @@ placed-point np ls a n i h l =
     ltb-true (getD ls (a + i) 0) np (every-is n (λ j. self-is (ltb (getD ls (a + j) 0) np)) .0 (h .points) i l)
 
 -- there is room for one more edge while as many stand as places were entered
-pub room-lent : (np : ℕ) (ls : List ℕ) (be : List Float) (es : List ℕ) (is : List Float) (ch : List ℕ) (k : ℕ)
-    → ListedRoom np ls be es is ch → k < length ls → EdgeRoom np es is ch k
-room-lent np ls be es is ch k h l =
+pub room-lent : (ls : List ℕ) (be : List Float) (es : List ℕ) (is : List Float) (ch : List ℕ) (k : ℕ)
+    → ListedRoom ls be es is ch → k < length ls → EdgeRoom es is ch k
+room-lent ls be es is ch k h l =
     let a = h .edge-rows in let b = h .interval-rows in let c = h .link-rows in let d = h .few in
     record { edge-row = omega arith; interval-row = omega arith; links-row = omega arith; few = omega arith }
 

@@ -4,7 +4,7 @@
 --     turnOf m r              the ring after a turn, or its ground, with the tables m as they stand then
 --     stateAt m k             the state of the tables m in which k edges stand
 --     stateOf m r             the state after a face, or its ground, with the tables m as they stand then
---     ListedRoom              there is a row and links for as many edges as points are listed, and an interval beside each
+--     ListedRoom              there is a row and a link for as many edges as points are listed, and an interval beside each
 --     ListedFrom              n points from the place a on are listed and in range
 --     Sided                   face f has its four sides, of n points in all, and as many are listed from the place a on
 --     Closing                 the first edge of a ring and the one before are edges
@@ -22,7 +22,7 @@ use Rattle.built_meshes.specs.Lists.{size, generalLimits}
 use Rattle.built_meshes.specs.Faces.{listedInRange}
 use Rattle.built_meshes.specs.Perimeters.{BuildState, FaceState, Progress, on, stopped}
 use Rattle.building_tests.specs.Lent.{lists}
-use Rattle.edge_search.specs.Chains.{Standing}
+use Rattle.edge_search.specs.Chains.{buckets, Standing}
 use Rattle.building_faces.specs.declared.RingEdges.{RingEdges}
 use Rattle.building_faces.specs.declared.Turned.{Turned}
 use Rattle.building_faces.specs.declared.Turned.the-variants as Turns
@@ -46,10 +46,10 @@ abbrev pub stateOf : Mesh → Faced → Progress BuildState
 stateOf m (Faces.On k) = on (stateAt m k)
 stateOf m (Faces.Stopped g) = stopped g m
 
-pub record ListedRoom (np : ℕ) (ls : List ℕ) (be : List Float) (es : List ℕ) (is : List Float) (ch : List ℕ) : Type 0 where
+pub record ListedRoom (ls : List ℕ) (be : List Float) (es : List ℕ) (is : List Float) (ch : List ℕ) : Type 0 where
   pub edge-rows : length ls * edgeWidth ≤ length es
   pub interval-rows : length ls ≤ length is
-  pub link-rows : np + length ls * 2 ≤ length ch
+  pub link-rows : buckets + length ls ≤ length ch
   pub few : length ls ≤ generalLimits .listed
   pub beside : length be ≡ length ls
 

@@ -80,7 +80,7 @@ fn turn_place(
     i: usize,
 ) -> Turned
     requires { ⌜ Standing np (now points) (now edges) (now chain) (ring .edges) ⌝ }
-    requires { ⌜ ListedRoom np (now listed) (now beside) (now edges) (now intervals) (now chain) ⌝ }
+    requires { ⌜ ListedRoom (now listed) (now beside) (now edges) (now intervals) (now chain) ⌝ }
     requires { ⌜ ListedFrom np (now listed) a n ⌝ }
     requires { ⌜ i < n ⌝ }
     requires { ⌜ ring .edges ≤ a + i ⌝ }
@@ -133,7 +133,7 @@ fn enter_places(
     n: usize,
 ) -> Turned
     requires { ⌜ Standing np (now points) (now edges) (now chain) k ⌝ }
-    requires { ⌜ ListedRoom np (now listed) (now beside) (now edges) (now intervals) (now chain) ⌝ }
+    requires { ⌜ ListedRoom (now listed) (now beside) (now edges) (now intervals) (now chain) ⌝ }
     requires { ⌜ ListedFrom np (now listed) a n ⌝ }
     requires { ⌜ 0 < n ⌝ }
     requires { ⌜ k ≤ a ⌝ }
@@ -195,7 +195,7 @@ fn enter_perimeter(
     n: usize,
 ) -> Faced
     requires { ⌜ Standing np (now points) (now edges) (now chain) k ⌝ }
-    requires { ⌜ ListedRoom np (now listed) (now beside) (now edges) (now intervals) (now chain) ⌝ }
+    requires { ⌜ ListedRoom (now listed) (now beside) (now edges) (now intervals) (now chain) ⌝ }
     requires { ⌜ ListedFrom np (now listed) a n ⌝ }
     requires { ⌜ 0 < n ⌝ }
     requires { ⌜ k ≤ a ⌝ }
@@ -256,7 +256,7 @@ fn enter_face(
     n: usize,
 ) -> Faced
     requires { ⌜ Standing np (now points) (now edges) (now chain) k ⌝ }
-    requires { ⌜ ListedRoom np (now listed) (now beside) (now edges) (now intervals) (now chain) ⌝ }
+    requires { ⌜ ListedRoom (now listed) (now beside) (now edges) (now intervals) (now chain) ⌝ }
     requires { ⌜ Sided (now sides) (now listed) f a n ⌝ }
     requires { ⌜ k ≤ a ⌝ }
     requires { ⌜ f * faceWidth + faceWidth ≤ length (now faces) ⌝ }
@@ -303,7 +303,7 @@ pub fn enter_faces(
     np: usize,
 ) -> Faced
     requires { ⌜ Standing np (now points) (now edges) (now chain) 0 ⌝ }
-    requires { ⌜ ListedRoom np (now listed) (now beside) (now edges) (now intervals) (now chain) ⌝ }
+    requires { ⌜ ListedRoom (now listed) (now beside) (now edges) (now intervals) (now chain) ⌝ }
     requires { ⌜ length (now sides) / 4 ≤ generalLimits .faces ⌝ }
     requires { ⌜ length (now sides) / 4 * faceWidth ≤ length (now faces) ⌝ }
     requires { ⌜ offset (lists [] (now sides) [] []) (length (now sides) / 4) ≡ length (now listed) ⌝ }

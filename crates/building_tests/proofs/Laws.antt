@@ -1,5 +1,4 @@
 -- The loops of building's tests. Assumes nothing.
---     every-none, every-more, every-stop      a test of all numbers below a bound: before the first turn, one turn more, a turn that ends it
 --     sum-none, sum-more, sideSum-none, sideSum-more   sums likewise
 --     size-read, sums-read                    the size and the side sums of a face from its sides
 --     last-first, last-more   the last of b places before one, going round
@@ -37,27 +36,6 @@ use Rattle.building_tests.specs.Lent.{lists, listsIn, limitsOf}
 use Rattle.building_tests.specs.declared.Bounds.{Bounds}
 use Rattle.building_tests.specs.declared.Bounds.the-variants.{General, Refine}
 use Rattle.tables.specs.declared.Sizes.{Sizes}
-
-pub every-none : (test : ℕ → Bool) → every 0 test ≡ true
-unfolding every
-every-none test = refl
-
-pub every-more : (i : ℕ) (test : ℕ → Bool) → every i test ≡ true → test i ≡ true → every (i + 1) test ≡ true
-unfolding every
-every-more i test h t = rw (add-one i, h, t)
-
-and-false : (b : Bool) → (b && false) ≡ false
-and-false true = refl
-and-false false = refl
-
-pub every-stop : (n i : ℕ) (test : ℕ → Bool) → i < n → test i ≡ false → every n test ≡ false
-unfolding every
-every-stop zero i test l t = absurd (omega arith)
-every-stop (suc n) i test l t = go (decLe (suc i) n) (λ g. every-stop n i test g t)
-  where
-    go : Dec (suc i ≤ n) → (i < n → every n test ≡ false) → (every n test && test n) ≡ false
-    go (yes g) rest = rw (rest g)
-    go (no g) rest = let s : n ≡ i = omega arith in rw (s, t) (and-false (every i test))
 
 pub sum-none : (g : ℕ → ℕ) → sumTo 0 g ≡ 0
 unfolding sumTo

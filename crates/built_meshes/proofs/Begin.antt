@@ -185,7 +185,7 @@ roomy-fits l m h (few-edges z) = omega (arith, h .edges-enough)
 -- ---- the sides of all faces are the listed points
 
 -- a sum of four at a time
-sumTo-fours :
+pub sumTo-fours :
     (n : ℕ) (g : ℕ → ℕ) → sumTo (n * 4) g ≡ sumTo n (λ f. g (f * 4 + 0) + g (f * 4 + 1) + g (f * 4 + 2) + g (f * 4 + 3))
 unfolding sumTo
 sumTo-fours zero g = refl

@@ -1,107 +1,109 @@
-// The points of an edge of lists, and the face that runs it the same way before, for the words of the program `explain`. Any lists may be handed
-// in: what is not in them reads as 0.
-// Not here: which edge it is (`text_places`), the places of faces with a contract (`face_places`).
-use tables::index;
+// What is told of an edge by the lists: the points that it runs from and to, and the first face before its own that runs it the same way.
+// Not here: which edge it is (`text_places`), the lists of a text (`text_edges`).
+// Contract: `told_edge`. Definitions: `specs/Told.antt`. Claims: `specs/Claims.antt`, proved in `proofs/Theorem.antt`. Laws: `proofs/Laws.antt`.
+ghost use mathlib.Core.Path.{_≡_};
+ghost use mathlib.Core.Bool.{not, _&&_};
+ghost use mathlib.Core.List.{[]};
+ghost use Prim.Native.Nat.{_+_, _/_, _≤_, _<_};
+ghost use lib.Dec.{eqb};
+ghost use lib.ListN.{length, getD};
+ghost use Rattle.perimeters.specs.Places.{nextPlace};
+ghost use Rattle.audited_meshes.specs.Folds.{every};
+ghost use Rattle.built_meshes.specs.Lists.{offset};
+ghost use Rattle.building_tests.specs.Lent.{lists};
+ghost use Rattle.edge_lookups.specs.Told.{sameWayBefore, toldEdge};
+use building_tests::faces::face_size;
+use perimeters::next_place;
 
-// An edge: the points that it runs from and to, and the first face that runs it the same way.
-pub struct ToldEdge {
-    pub from: u32,
-    pub to: u32,
-    pub face: usize,
+// An edge of a face: there is none, or the points that it runs from and to, and the first face before that runs it the same way, if one does.
+pub enum ToldEdge {
+    Missing,
+    First(u32, u32),
+    Again(u32, u32, usize),
 }
 
-// Sums stop here: no list that is read is so long.
-const MOST: usize = 0x10_0000;
-
-// An entry of a list.
-fn entry(xs: &[u32], k: usize) -> u32 {
-    if k < xs.len() {
-        return xs[k];
+// Whether place j of a face, whose n listed points stand from a on, runs from p to q.
+fn runs(listed: &[u32], a: usize, n: usize, j: usize, p: u32, q: u32) -> bool
+    requires { ⌜ a + n ≤ length (now listed) ⌝ }
+    requires { ⌜ j < n ⌝ }
+    ensures { λ r. ⌜ r ≡ (eqb (getD (now (listed .entry)) (a + j) 0) p && eqb (getD (now (listed .entry)) (a + nextPlace n j) 0) q) ⌝ }
+{
+    let k = next_place(n, j);
+    if listed[a + j] == p {
+        return listed[a + k] == q;
     }
-    0
+    false
 }
 
-// A sum that stops.
-fn more(a: usize, b: u32) -> usize {
-    if a < MOST {
-        return a + index(b);
-    }
-    a
-}
-
-// The sum of two numbers that are not too large, else 0.
-fn sum(a: usize, b: usize) -> usize {
-    if a < MOST {
-        if b < MOST {
-            return a + b;
-        }
-    }
-    0
-}
-
-// Where the places of face f begin among those of all faces: after the listed points of the sides before it.
-fn begin_of(sides: &[u32], f: usize) -> usize {
-    let mut a = 0;
-    let mut k = 0;
-    while k < sides.len() {
-        if k / 4 < f {
-            a = more(a, sides[k]);
-        }
-        k += 1;
-    }
-    a
-}
-
-// The face that has place k of all faces.
-fn face_with(sides: &[u32], k: usize) -> usize {
-    let mut a = 0;
-    let mut s = 0;
-    while s < sides.len() {
-        a = more(a, sides[s]);
-        if k < a {
-            return s / 4;
-        }
-        s += 1;
-    }
-    0
-}
-
-// The place after place k of face f, going round.
-fn next_of(sides: &[u32], f: usize, k: usize) -> usize {
-    if f < MOST {
-        if k < MOST {
-            if k + 1 < begin_of(sides, f + 1) {
-                return k + 1;
-            }
-        }
-    }
-    begin_of(sides, f)
-}
-
-// The face of the first place before place k that runs from one point to another.
-fn face_before(sides: &[u32], listed: &[u32], k: usize, from: u32, to: u32) -> usize {
+// Whether no place of the face runs from p to q.
+fn none_runs(listed: &[u32], a: usize, n: usize, p: u32, q: u32) -> bool
+    requires { ⌜ a + n ≤ length (now listed) ⌝ }
+    ensures { λ r. ⌜
+        r ≡ every n (λ j. not (eqb (getD (now (listed .entry)) (a + j) 0) p && eqb (getD (now (listed .entry)) (a + nextPlace n j) 0) q)) ⌝ }
+{
     let mut j = 0;
-    while j < k {
-        let f = face_with(sides, j);
-        if entry(listed, j) == from {
-            if entry(listed, next_of(sides, f, j)) == to {
-                return f;
-            }
+    while j < n {
+        if runs(listed, a, n, j, p, q) {
+            return false;
         }
         j += 1;
     }
-    0
+    true
 }
 
-// Place i of face f.
-pub fn told_edge(sides: &[u32], listed: &[u32], f: usize, i: usize) -> ToldEdge {
-    let a = begin_of(sides, f);
-    let k = sum(a, i);
-    let from = entry(listed, k);
-    let to = entry(listed, next_of(sides, f, k));
-    ToldEdge {
-        from,
-        to,
-        face: face_before(sides, listed, k, from, to),
+// The edge from p to q as it is told of face f, whose listed points are all there.
+fn same_way_before(sides: &[u32], listed: &[u32], f: usize, p: u32, q: u32) -> ToldEdge
+    requires { ⌜ f ≤ length (now sides) / 4 ⌝ }
+    requires { ⌜ offset (lists [] (now sides) (now listed) []) f ≤ length (now listed) ⌝ }
+    ensures { λ r. ⌜ r ≡ sameWayBefore (lists [] (now (sides .entry)) (now (listed .entry)) []) p q f ⌝ }
+{
+    let mut a = 0;
+    let mut g = 0;
+    while g < f {
+        let n = face_size(sides, g);
+        if !none_runs(listed, a, n, p, q) {
+            return ToldEdge::Again(p, q, g);
+        }
+        a += n;
+        g += 1;
     }
+    ToldEdge::First(p, q)
+}
+
+// Place i of face f, whose listed points stand from a on.
+fn told_from(sides: &[u32], listed: &[u32], f: usize, a: usize, i: usize) -> ToldEdge
+    requires { ⌜ f < length (now sides) / 4 ⌝ }
+    requires { ⌜ a ≡ offset (lists [] (now sides) (now listed) []) f ⌝ }
+    requires { ⌜ a ≤ length (now listed) ⌝ }
+    ensures { λ r. ⌜ r ≡ toldEdge (lists [] (now (sides .entry)) (now (listed .entry)) []) f i ⌝ }
+{
+    let n = face_size(sides, f);
+    if listed.len() - a < n {
+        return ToldEdge::Missing;
+    }
+    if n <= i {
+        return ToldEdge::Missing;
+    }
+    let j = next_place(n, i);
+    same_way_before(sides, listed, f, listed[a + i], listed[a + j])
+}
+
+// Place i of face f of lists of any content.
+pub fn told_edge(sides: &[u32], listed: &[u32], f: usize, i: usize) -> ToldEdge
+    ensures { λ r. ⌜ r ≡ toldEdge (lists [] (now (sides .entry)) (now (listed .entry)) []) f i ⌝ }
+{
+    if sides.len() / 4 <= f {
+        return ToldEdge::Missing;
+    }
+    let mut a = 0;
+    let mut g = 0;
+    while g < f {
+        let n = face_size(sides, g);
+        if listed.len() - a < n {
+            return ToldEdge::Missing;
+        }
+        a += n;
+        g += 1;
+    }
+    told_from(sides, listed, f, a, i)
 }

@@ -1,19 +1,20 @@
--- The laws of chains, and of the first edge between two points. Assumes nothing.
---     edgeBetween-table       it is found in the table of edges alone
---     edgeBetween-swap        whichever point is named first
---     edgeBetween-gap         edges that do not touch the point change nothing
+-- The laws of buckets and chains, and of the first edge between two points. Assumes nothing.
+--     bucket-less, bucket-more, bucketOf-below    the bucket of two points as the code finds it, and that it is one of the buckets
+--     edgeBetween-table       the first edge between two points is found in the table of edges alone
+--     edgeBetween-gap         edges of other buckets change nothing
 --     edgeBetween-below       what is found is an edge below the bound
---     newest-kept, newest-more, newest-top    the newest edge where ends stay, one edge more that does not touch the point, and one that does
---     older-newest            the next link of a chain goes to the newest edge below
+--     newest-kept, newest-more, newest-top    the newest edge where ends stay, one edge more of another bucket, and one of the bucket
 --     standing-ends           what stands, still stands while the ends of the edges stay
 --     linkTo-edge             the edge of a link that is not 0
 --     filled-triple, filled-same-way, filled-made    what an entry at an edge that exists answers
 --     entered-found, entered-new, standing-filled    a place entered, at an edge that exists and at a new one, and what stands then
 --     ends-refl, ends-trans, set-ends         tables in which every edge has the same ends
 use mathlib.Core.Path.{_≡_, refl, sym, _∙_, ap, subst}
-use mathlib.Core.Bool.{Bool, true, false, _&&_, _||_, cond, false≢true}
+use mathlib.Core.Bool.{Bool, true, false, _&&_, _||_, false≢true}
 use mathlib.Core.List.{List}
-use Prim.Native.Nat.{ℕ, zero, suc, _+_, _-_, _*_, _≤_, _<_}
+use mathlib.Core.Logic.{_≢_}
+use Prim.Native.Nat.{ℕ, zero, suc, _+_, _-_, _*_, _%_, _≤_, _<_}
+use native.Mathlib.Nat.{mod-lt}
 use native.Mathlib.Numerals.{add-one}
 use native.Mathlib.Omega.{arith}
 use native.Mathlib.Decide.{decLe}
@@ -21,64 +22,95 @@ use lib.Dec.{eqb}
 use lib.Ieee.{Float}
 use lib.ListN.{length, getD, set}
 use lib.Seq.{getD-set-other}
-use borrow.Author.Tests.{eqb-true, eq-eqb, ne-eqb}
+use borrow.Author.Tests.{eqb-true, eq-eqb, ne-eqb, lt-ltb, le-ltb}
 use Rattle.tables.specs.Mesh.{Mesh, none, origin, dest, meshOf, edgeTable}
-use Rattle.audited_meshes.specs.Walks.{touches}
 use Rattle.built_meshes.specs.declared.Found.{Found}
 use Rattle.built_meshes.specs.declared.Found.the-variants.{At, Nothing}
 use Rattle.built_meshes.specs.declared.Ground.the-variants.{EdgeTripleFace, SameWay}
 use Rattle.built_meshes.specs.Edges.{joins, orLast, edgeBetween, newEdge, enteredAt, enteredIf, entered, withRightFace}
 use Rattle.built_meshes.proofs.Entering.{Finds, finds, finds-none, found-is}
-use Rattle.edge_search.specs.Chains.{linkTo, EndsKept, Newest, olderLink, Chained, Standing}
+use Rattle.edge_search.specs.Chains.{linkTo, EndsKept, spread, buckets, bucketOf, bucketAt, Newest, Standing}
 use Rattle.edge_search.specs.Places.{edgesAfter, EnteredBy, FilledBy}
 use Rattle.edge_search.specs.declared.Entry.{Entry}
 use Rattle.edge_search.specs.declared.Entry.the-variants.{Made, Refused}
+
+-- ---- buckets
+
+-- the two ways to spread, by a test
+spread-less : (p q : ℕ) → p < q → (p * spread + q) % buckets ≡ bucketOf p q
+unfolding bucketOf
+spread-less p q h = rw (lt-ltb p q h)
+
+spread-more : (p q : ℕ) → q ≤ p → (q * spread + p) % buckets ≡ bucketOf p q
+unfolding bucketOf
+spread-more p q h = rw (le-ltb p q h)
+
+-- the same of the two indices a and b
+pub bucket-less : (p q a b : ℕ) → a ≡ p → b ≡ q → a < b
+    → ((a * spread + b) % buckets ≡ bucketOf p q) × ((a * spread + b) % buckets < buckets)
+bucket-less p q a b s t h = (spread-less a b h ∙ rw (s, t), mod-lt (a * spread + b) (omega arith))
+
+pub bucket-more : (p q a b : ℕ) → a ≡ p → b ≡ q → b ≤ a
+    → ((b * spread + a) % buckets ≡ bucketOf p q) × ((b * spread + a) % buckets < buckets)
+bucket-more p q a b s t h = (spread-more a b h ∙ rw (s, t), mod-lt (b * spread + a) (omega arith))
+
+bucketOf-swap : (p q : ℕ) → bucketOf p q ≡ bucketOf q p
+bucketOf-swap p q = go (decLe (suc p) q) (decLe (suc q) p)
+  where
+    go : Dec (suc p ≤ q) → Dec (suc q ≤ p) → bucketOf p q ≡ bucketOf q p
+    go (yes l) d = sym (spread-less p q l) ∙ spread-more q p (omega arith)
+    go (no n) (yes l) = sym (spread-more p q (omega arith)) ∙ spread-less q p l
+    go (no n) (no m) = let s : p ≡ q = omega arith in rw s
+
+pub bucketOf-below : (p q : ℕ) → bucketOf p q < buckets
+bucketOf-below p q = go (decLe (suc p) q)
+  where
+    go : Dec (suc p ≤ q) → bucketOf p q < buckets
+    go (yes l) = subst (λ b. b < buckets) (spread-less p q l) (mod-lt (p * spread + q) (omega arith))
+    go (no n) = subst (λ b. b < buckets) (spread-more p q (omega arith)) (mod-lt (q * spread + p) (omega arith))
+
+-- an edge that joins two points is of their bucket
+joined-bucket : (o d p q : ℕ) → (eqb o p && eqb d q || eqb o q && eqb d p) ≡ true → bucketOf o d ≡ bucketOf p q
+joined-bucket o d p q h = go (eqb o p) (eqb d q) (eqb o q) (eqb d p) refl refl refl refl h
+  where
+    go : (a b c e : Bool) → eqb o p ≡ a → eqb d q ≡ b → eqb o q ≡ c → eqb d p ≡ e → (a && b || c && e) ≡ true → bucketOf o d ≡ bucketOf p q
+    go true true c e i j k l h = rw (eqb-true o p i, eqb-true d q j)
+    go true false true true i j k l h = rw (eqb-true o q k, eqb-true d p l) (bucketOf-swap q p)
+    go true false true false i j k l h = absurd (false≢true h)
+    go true false false e i j k l h = absurd (false≢true h)
+    go false b true true i j k l h = rw (eqb-true o q k, eqb-true d p l) (bucketOf-swap q p)
+    go false b true false i j k l h = absurd (false≢true h)
+    go false b false e i j k l h = absurd (false≢true h)
+
+not-joined : (es : List ℕ) (p q e : ℕ) → bucketAt es e ≢ bucketOf p q → joins (edgeTable es) p q e ≡ false
+not-joined es p q e n = go (joins (edgeTable es) p q e) refl
+  where
+    go : (b : Bool) → joins (edgeTable es) p q e ≡ b → b ≡ false
+    go true h = absurd (n (joined-bucket (origin (edgeTable es) e) (dest (edgeTable es) e) p q h))
+    go false h = refl
+
+-- ---- the first edge between two points
 
 pub edgeBetween-table : (m : Mesh) (k p q : ℕ) → edgeBetween m k p q ≡ edgeBetween (edgeTable (m .edges)) k p q
 unfolding edgeBetween
 edgeBetween-table m zero p q = refl
 edgeBetween-table m (suc k) p q = ap (λ (x : Found). orLast x (joins m p q k) k) (edgeBetween-table m k p q)
 
-or-swap : (a b c d : Bool) → (a && b || c && d) ≡ (c && d || a && b)
-or-swap true true true true = refl
-or-swap true true true false = refl
-or-swap true true false d = refl
-or-swap true false true true = refl
-or-swap true false true false = refl
-or-swap true false false d = refl
-or-swap false b true true = refl
-or-swap false b true false = refl
-or-swap false b false d = refl
-
-pub edgeBetween-swap : (m : Mesh) (k p q : ℕ) → edgeBetween m k p q ≡ edgeBetween m k q p
-unfolding edgeBetween
-edgeBetween-swap m zero p q = refl
-edgeBetween-swap m (suc k) p q =
-    rw (
-      edgeBetween-swap m k p q,
-      or-swap (eqb (origin m k) p) (eqb (dest m k) q) (eqb (origin m k) q) (eqb (dest m k) p),
-    )
-
-not-joined : (a b c d : Bool) → (a || d) ≡ false → (a && b || c && d) ≡ false
-not-joined true b c d h = absurd (false≢true (sym h))
-not-joined false b true d h = h
-not-joined false b false d h = refl
-
 orLast-none : (x : Found) (k : ℕ) → orLast x false k ≡ x
 orLast-none (At e) k = refl
 orLast-none Nothing k = refl
 
-pub edgeBetween-gap : (m : Mesh) (p q l b : ℕ) → l ≤ b → ((e : ℕ) → l ≤ e → e < b → touches m p e ≡ false)
-    → edgeBetween m b p q ≡ edgeBetween m l p q
+pub edgeBetween-gap : (es : List ℕ) (p q l b : ℕ) → l ≤ b → ((e : ℕ) → l ≤ e → e < b → bucketAt es e ≢ bucketOf p q)
+    → edgeBetween (edgeTable es) b p q ≡ edgeBetween (edgeTable es) l p q
 unfolding edgeBetween
-edgeBetween-gap m p q l zero h n = let s : 0 ≡ l = omega arith in ap (λ (i : ℕ). edgeBetween m i p q) s
-edgeBetween-gap m p q l (suc b) h n = go (decLe l b) (λ g. edgeBetween-gap m p q l b g (λ e i j. n e i (omega arith)))
+edgeBetween-gap es p q l zero h n = let s : 0 ≡ l = omega arith in ap (λ (i : ℕ). edgeBetween (edgeTable es) i p q) s
+edgeBetween-gap es p q l (suc b) h n = go (decLe l b) (λ g. edgeBetween-gap es p q l b g (λ e i j. n e i (omega arith)))
   where
-    go : Dec (l ≤ b) → (l ≤ b → edgeBetween m b p q ≡ edgeBetween m l p q) → edgeBetween m (suc b) p q ≡ edgeBetween m l p q
+    go : Dec (l ≤ b) → (l ≤ b → edgeBetween (edgeTable es) b p q ≡ edgeBetween (edgeTable es) l p q)
+        → edgeBetween (edgeTable es) (suc b) p q ≡ edgeBetween (edgeTable es) l p q
     go (yes g) rest =
-        rw (not-joined (eqb (origin m b) p) (eqb (dest m b) q) (eqb (origin m b) q) (eqb (dest m b) p) (n b g (omega arith)))
-        (orLast-none (edgeBetween m b p q) b ∙ rest g)
-    go (no g) rest = let s : suc b ≡ l = omega arith in ap (λ (i : ℕ). edgeBetween m i p q) s
+        rw (not-joined es p q b (n b g (omega arith))) (orLast-none (edgeBetween (edgeTable es) b p q) b ∙ rest g)
+    go (no g) rest = let s : suc b ≡ l = omega arith in ap (λ (i : ℕ). edgeBetween (edgeTable es) i p q) s
 
 pub edgeBetween-below : (m : Mesh) (k p q e : ℕ) → edgeBetween m k p q ≡ At e → e < k
 edgeBetween-below m k p q e h = below (edgeBetween m k p q) (found-is m k p q) h
@@ -89,44 +121,34 @@ edgeBetween-below m k p q e h = below (edgeBetween m k p q) (found-is m k p q) h
 
 -- ---- the newest edge
 
-pub newest-kept : (es new : List ℕ) (p b l : ℕ) → Newest es p b l
-    → ((e : ℕ) → e < b → touches (edgeTable new) p e ≡ touches (edgeTable es) p e) → Newest new p b l
-newest-kept es new p b l h same =
+pub newest-kept : (es new : List ℕ) (b k l : ℕ) → Newest es b k l → ((e : ℕ) → e < k → bucketAt new e ≡ bucketAt es e)
+    → Newest new b k l
+newest-kept es new b k l h same =
     record {
       below = h .below;
-      touching = λ e s. let lt : l ≤ b = h .below in same e (omega arith) ∙ h .touching e s;
-      none-between = λ e i j. same e j ∙ h .none-between e i j;
+      within = λ e s. let lt : l ≤ k = h .below in same e (omega arith) ∙ h .within e s;
+      none-between = λ e i j s. h .none-between e i j (sym (same e j) ∙ s);
     }
 
-pub newest-more : (es : List ℕ) (p k l : ℕ) → Newest es p k l → touches (edgeTable es) p k ≡ false → Newest es p (k + 1) l
-newest-more es p k l h n =
+pub newest-more : (es : List ℕ) (b k l : ℕ) → Newest es b k l → bucketAt es k ≢ b → Newest es b (k + 1) l
+newest-more es b k l h n =
     record {
       below = let lt : l ≤ k = h .below in omega arith;
-      touching = h .touching;
+      within = h .within;
       none-between = λ e i j. go e i j (decLe (suc e) k);
     }
   where
-    go : (e : ℕ) → l ≤ e → e < k + 1 → Dec (suc e ≤ k) → touches (edgeTable es) p e ≡ false
+    go : (e : ℕ) → l ≤ e → e < k + 1 → Dec (suc e ≤ k) → bucketAt es e ≢ b
     go e i j (yes g) = h .none-between e i g
-    go e i j (no g) = let s : k ≡ e = omega arith in subst (λ e. touches (edgeTable es) p e ≡ false) s n
+    go e i j (no g) = let s : k ≡ e = omega arith in subst (λ e. bucketAt es e ≢ b) s n
 
-pub newest-top : (es : List ℕ) (p k : ℕ) → touches (edgeTable es) p k ≡ true → Newest es p (k + 1) (k + 1)
-newest-top es p k t =
+pub newest-top : (es : List ℕ) (b k : ℕ) → bucketAt es k ≡ b → Newest es b (k + 1) (k + 1)
+newest-top es b k t =
     record {
       below = omega arith;
-      touching = λ e s. let i : k ≡ e = omega arith in subst (λ e. touches (edgeTable es) p e ≡ true) i t;
+      within = λ e s. let i : k ≡ e = omega arith in subst (λ e. bucketAt es e ≡ b) i t;
       none-between = λ e i j. absurd (omega arith);
     }
-
-pub older-newest : (np : ℕ) (es ch : List ℕ) (k p e : ℕ) → Chained np es ch k → e < k → touches (edgeTable es) p e ≡ true
-    → Newest es p e (olderLink np es ch p e)
-older-newest np es ch k p e h l t = go (eqb (origin (edgeTable es) e) p) (eqb (dest (edgeTable es) e) p) refl refl t
-  where
-    go : (a b : Bool) → eqb (origin (edgeTable es) e) p ≡ a → eqb (dest (edgeTable es) e) p ≡ b → (a || b) ≡ true
-        → Newest es p e (cond a (getD ch (np + e * 2) 0) (getD ch (np + e * 2 + 1) 0))
-    go true b i j s = subst (λ p. Newest es p e (getD ch (np + e * 2) 0)) (eqb-true _ _ i) (h .older-origin e l)
-    go false true i j s = subst (λ p. Newest es p e (getD ch (np + e * 2 + 1) 0)) (eqb-true _ _ j) (h .older-dest e l)
-    go false false i j s = absurd (false≢true s)
 
 -- ---- tables in which every edge has the same ends
 
@@ -145,8 +167,8 @@ set-ends es e f =
       dests = λ i. getD-set-other es (e * 8 + 3) (i * 8 + 1) f 0 (λ h. omega arith);
     }
 
-touches-ends : (es new : List ℕ) (p e : ℕ) → EndsKept es new → touches (edgeTable new) p e ≡ touches (edgeTable es) p e
-touches-ends es new p e h = rw (h .origins e, h .dests e)
+bucket-ends : (es new : List ℕ) (e : ℕ) → EndsKept es new → bucketAt new e ≡ bucketAt es e
+bucket-ends es new e h = rw (h .origins e, h .dests e)
 
 pub standing-ends : (np : ℕ) (pts es new ch : List ℕ) (k : ℕ) → EndsKept es new → length new ≡ length es
     → Standing np pts es ch k → Standing np pts new ch k
@@ -156,18 +178,12 @@ standing-ends np pts es new ch k s n h =
       edges-fit = rw n (h .edges-fit);
       links-fit = h .links-fit;
       valences = h .valences;
-      newest = λ p l. newest-kept es new p k (getD ch p 0) (h .newest p l) (λ e i. touches-ends es new p e s);
-      chained =
-          record {
-            older-origin =
-                λ e l. rw (s .origins e) (kept (origin (edgeTable es) e) e (getD ch (np + e * 2) 0) (h .chained .older-origin e l));
-            older-dest =
-                λ e l. rw (s .dests e) (kept (dest (edgeTable es) e) e (getD ch (np + e * 2 + 1) 0) (h .chained .older-dest e l));
-          };
+      newest = λ b l. kept b k (getD ch b 0) (h .newest b l);
+      chained = λ e l. rw (bucket-ends es new e s) (kept (bucketAt es e) e (getD ch (buckets + e) 0) (h .chained e l));
     }
   where
-    kept : (p b l : ℕ) → Newest es p b l → Newest new p b l
-    kept p b l g = newest-kept es new p b l g (λ e i. touches-ends es new p e s)
+    kept : (b k l : ℕ) → Newest es b k l → Newest new b k l
+    kept b k l g = newest-kept es new b k l g (λ e i. bucket-ends es new e s)
 
 -- ---- links
 

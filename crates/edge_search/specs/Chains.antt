@@ -1,26 +1,28 @@
--- Chains of edges, by which the edge between two points is found without looking at all edges. A link is 0 for no edge, or an
--- edge and 1 more. The words of a list of links, for a mesh of np points:
---     at p                    the link to the newest edge that touches point p
---     at np + e * 2           the link to the newest edge before e that touches the origin of e
---     at np + e * 2 + 1       the link to the newest edge before e that touches the destination of e
+-- Chains of edges, by which the edge between two points is found without looking at all edges. Every edge is in the bucket that its
+-- ends choose, and the edges of one bucket are chained, the newest first. A link is 0 for no edge, or an edge and 1 more. The words
+-- of a list of links:
+--     at b                    the link to the newest edge of the bucket b
+--     at buckets + e          the link to the newest edge before e of the bucket of e
 --     EndsKept                every edge has the same ends in two tables
 --     linkTo l                the edge of a link
---     Newest es p b l         the link l goes to the newest of the edges below b that touch point p
---     olderLink np es ch p e  the next link of the chain of point p, behind its edge e
---     chainedEdge np ch k p q the links with a new edge k from p to q
---     Chained                 the links behind each of k edges
+--     buckets, spread         how many buckets there are, and what the lesser of two points is multiplied by
+--     bucketOf p q            the bucket of the edges between the points p and q
+--     bucketAt es e           the bucket of the edge e
+--     Newest es b k l         the link l goes to the newest of the edges below k of the bucket b
+--     chainedEdge ch k b      the links with a new edge k of the bucket b
+--     Headed, Chained         the links to the newest of k edges of each bucket, and those behind each of k edges
 --     Standing                what holds of the tables of points and edges and of the links while k edges stand
---     EdgeRoom                there is a row and links for an edge k
+--     EdgeRoom                there is a row and a link for an edge k
 use mathlib.Core.Path.{_≡_}
-use mathlib.Core.Bool.{true, false, cond}
-use mathlib.Core.List.{List, []}
-use Prim.Native.Nat.{ℕ, zero, suc, _+_, _*_, _≤_, _<_}
-use lib.Dec.{eqb}
+use mathlib.Core.Bool.{cond}
+use mathlib.Core.List.{List}
+use mathlib.Core.Logic.{_≢_}
+use Prim.Native.Nat.{ℕ, zero, suc, _+_, _*_, _%_, _≤_, _<_}
+use lib.Dec.{ltb}
 use lib.ListN.{length, getD, set}
 use lib.Ieee.{Float}
 use Rattle.tables.specs.Layout.{pointWidth, edgeWidth}
 use Rattle.tables.specs.Mesh.{origin, dest, edgeTable}
-use Rattle.audited_meshes.specs.Walks.{touches}
 use Rattle.built_meshes.specs.declared.Found.{Found}
 use Rattle.built_meshes.specs.declared.Found.the-variants.{At, Nothing}
 
@@ -33,33 +35,45 @@ abbrev pub linkTo : ℕ → Found
 linkTo zero = Nothing
 linkTo (suc e) = At e
 
-pub record Newest (es : List ℕ) (p b l : ℕ) : Type 0 where
-  pub below : l ≤ b
-  pub touching : (e : ℕ) → l ≡ suc e → touches (edgeTable es) p e ≡ true
-  pub none-between : (e : ℕ) → l ≤ e → e < b → touches (edgeTable es) p e ≡ false
+abbrev pub buckets : ℕ
+buckets = 16384
 
-abbrev pub olderLink : ℕ → List ℕ → List ℕ → ℕ → ℕ → ℕ
-olderLink np es ch p e = cond (eqb (origin (edgeTable es) e) p) (getD ch (np + e * 2) 0) (getD ch (np + e * 2 + 1) 0)
+abbrev pub spread : ℕ
+spread = 10125
 
-unfoldable pub chainedEdge : ℕ → List ℕ → ℕ → ℕ → ℕ → List ℕ
-chainedEdge np ch k p q =
-    set (set (set (set ch (np + k * 2) (getD ch p 0)) (np + k * 2 + 1) (getD ch q 0)) p (k + 1)) q (k + 1)
+-- the lesser point is spread, so that it is the same whichever is named first
+unfoldable pub bucketOf : ℕ → ℕ → ℕ
+bucketOf p q = cond (ltb p q) ((p * spread + q) % buckets) ((q * spread + p) % buckets)
+
+abbrev pub bucketAt : List ℕ → ℕ → ℕ
+bucketAt es e = bucketOf (origin (edgeTable es) e) (dest (edgeTable es) e)
+
+pub record Newest (es : List ℕ) (b k l : ℕ) : Type 0 where
+  pub below : l ≤ k
+  pub within : (e : ℕ) → l ≡ suc e → bucketAt es e ≡ b
+  pub none-between : (e : ℕ) → l ≤ e → e < k → bucketAt es e ≢ b
+
+unfoldable pub chainedEdge : List ℕ → ℕ → ℕ → List ℕ
+chainedEdge ch k b = set (set ch (buckets + k) (getD ch b 0)) b (k + 1)
+
+-- the links to the newest of k edges of each bucket
+abbrev pub Headed : List ℕ → List ℕ → ℕ → Type 0
+Headed es ch k = (b : ℕ) → b < buckets → Newest es b k (getD ch b 0)
 
 -- the links behind each of k edges
-pub record Chained (np : ℕ) (es ch : List ℕ) (k : ℕ) : Type 0 where
-  pub older-origin : (e : ℕ) → e < k → Newest es (origin (edgeTable es) e) e (getD ch (np + e * 2) 0)
-  pub older-dest : (e : ℕ) → e < k → Newest es (dest (edgeTable es) e) e (getD ch (np + e * 2 + 1) 0)
+abbrev pub Chained : List ℕ → List ℕ → ℕ → Type 0
+Chained es ch k = (e : ℕ) → e < k → Newest es (bucketAt es e) e (getD ch (buckets + e) 0)
 
 pub record Standing (np : ℕ) (pts es ch : List ℕ) (k : ℕ) : Type 0 where
   pub points-fit : np * pointWidth ≤ length pts
   pub edges-fit : k * edgeWidth ≤ length es
-  pub links-fit : np + k * 2 ≤ length ch
+  pub links-fit : buckets + k ≤ length ch
   pub valences : (p : ℕ) → p < np → getD pts (p * pointWidth) 0 ≤ k * 2
-  pub newest : (p : ℕ) → p < np → Newest es p k (getD ch p 0)
-  pub chained : Chained np es ch k
+  pub newest : Headed es ch k
+  pub chained : Chained es ch k
 
-pub record EdgeRoom (np : ℕ) (es : List ℕ) (is : List Float) (ch : List ℕ) (k : ℕ) : Type 0 where
+pub record EdgeRoom (es : List ℕ) (is : List Float) (ch : List ℕ) (k : ℕ) : Type 0 where
   pub edge-row : k * edgeWidth + edgeWidth ≤ length es
   pub interval-row : k < length is
-  pub links-row : np + k * 2 + 2 ≤ length ch
+  pub links-row : buckets + k + 1 ≤ length ch
   pub few : k < 1073741824

@@ -1,7 +1,7 @@
-// The edge between two points, found along the chain of the edges that touch one of them, and one place of a perimeter entered
-// with it: an edge is made, or the right side of one is filled.
-// Carries over what `try_new` of t_nurcc/mod.rs does for one edge. No search looks at all edges: it looks at as many as the
-// point with fewer edges has.
+// The edge between two points, found along the chain of the edges of one bucket, which the two points choose, and one place of a
+// perimeter entered with it: an edge is made, or the right side of one is filled.
+// Carries over what `try_new` of t_nurcc/mod.rs does for one edge. No search looks at all edges: it looks at those of the bucket,
+// however many edges the points have.
 // Not here: a whole perimeter (`building_faces`).
 // Definitions: `specs/Chains.antt`, `specs/Places.antt`, and `Perimeters` of `built_meshes`. Laws: `proofs/Chains.antt`.
 ghost use mathlib.Core.Path.{_≡_};
@@ -14,7 +14,7 @@ ghost use lib.ListN.{length, getD};
 ghost use Rattle.tables.specs.Layout.{pointWidth, edgeWidth};
 ghost use Rattle.tables.specs.Mesh.{Mesh, meshOf, none, edgeTable};
 ghost use Rattle.built_meshes.specs.Edges.{joins, edgeBetween, touched, newEdge};
-ghost use Rattle.edge_search.specs.Chains.{linkTo, Newest, olderLink, chainedEdge, Chained, Standing, EdgeRoom};
+ghost use Rattle.edge_search.specs.Chains.{buckets, bucketOf, linkTo, Newest, chainedEdge, Headed, Chained, Standing, EdgeRoom};
 ghost use Rattle.edge_search.specs.Places.{edgesAfter, EnteredBy, FilledBy};
 use built_meshes::Found;
 use built_meshes::Ground;
@@ -57,17 +57,26 @@ fn joins_points(edges: &[u32], e: usize, p: u32, q: u32) -> bool
     are(origin, dest, q, p)
 }
 
-// The next link of the chain of point p, behind its edge e.
-fn older_link(edges: &[u32], chain: &[u32], np: usize, p: u32, e: usize) -> u32
-    requires { ⌜ e * edgeWidth + edgeWidth ≤ length (now edges) ⌝ }
-    requires { ⌜ np + e * 2 + 2 ≤ length (now chain) ⌝ }
-    ensures { λ r. ⌜ r ≡ olderLink np (now (edges .entry)) (now (chain .entry)) p e ⌝ }
+// How many buckets there are, each with a chain.
+pub const BUCKETS: usize = 16384;
+
+// What the lesser of two points is multiplied by to find their bucket: an odd number near the buckets divided by the golden ratio,
+// so that the multiples of any number of points lie evenly among the buckets, and the greater point chooses between two of them.
+// An edge of a torus, of a bipyramid, or of two halves of points all joined to each other, in order or shuffled, has less than one
+// other in its bucket on the mean; no bucket has more than 518 pairs of 4,096 points. Nothing that is proved rests on it.
+const SPREAD: usize = 10125;
+
+// The bucket of the edges between the points p and q, whichever is named first.
+fn bucket(p: u32, q: u32) -> usize
+    ensures { λ r. ⌜ r ≡ bucketOf p q ⌝ }
+    ensures { λ r. ⌜ r < buckets ⌝ }
 {
-    let b = np + e * 2;
-    if edges[e * EDGE_WIDTH] == p {
-        return chain[b];
+    let a = index(p);
+    let b = index(q);
+    if a < b {
+        return (a * SPREAD + b) % BUCKETS;
     }
-    chain[b + 1]
+    (b * SPREAD + a) % BUCKETS
 }
 
 // The one of two links that a test chooses.
@@ -77,12 +86,12 @@ fn chosen(test: bool, link: u32, other: u32) -> u32
     if test { link } else { other }
 }
 
-// The link to the first of the k edges that join the points p and q, found along the chain of p, which begins with the link from.
-fn search(edges: &[u32], chain: &[u32], np: usize, k: u32, from: u32, p: u32, q: u32) -> u32
+// The link to the first of the k edges that join the points p and q, found along the chain that begins with the link from.
+fn search(edges: &[u32], chain: &[u32], k: u32, from: u32, p: u32, q: u32) -> u32
     requires { ⌜ k * edgeWidth ≤ length (now edges) ⌝ }
-    requires { ⌜ np + k * 2 ≤ length (now chain) ⌝ }
-    requires { ⌜ Chained np (now edges) (now chain) k ⌝ }
-    requires { ⌜ Newest (now edges) p k from ⌝ }
+    requires { ⌜ buckets + k ≤ length (now chain) ⌝ }
+    requires { ⌜ Chained (now edges) (now chain) k ⌝ }
+    requires { ⌜ Newest (now edges) (bucketOf p q) k from ⌝ }
     ensures { λ r. ⌜ linkTo r ≡ edgeBetween (edgeTable (now (edges .entry))) k p q ⌝ }
     ensures { λ r. ⌜ r ≤ k ⌝ }
 {
@@ -91,7 +100,7 @@ fn search(edges: &[u32], chain: &[u32], np: usize, k: u32, from: u32, p: u32, q:
     while 0 < link {
         let e = index(link - 1);
         found = chosen(joins_points(edges, e, p, q), link, found);
-        link = older_link(edges, chain, np, p, e);
+        link = chain[BUCKETS + e];
     }
     found
 }
@@ -106,45 +115,26 @@ fn edge_of(link: u32) -> Found
     Found::At(link - 1)
 }
 
-// The first of the k edges that join the points p and q, from the one that has fewer edges.
-fn find_edge(
-    points: &[u32],
-    edges: &[u32],
-    chain: &[u32],
-    np: usize,
-    k: u32,
-    p: u32,
-    q: u32,
-) -> Found
-    requires { ⌜ Standing np (now points) (now edges) (now chain) k ⌝ }
-    requires { ⌜ p < np ⌝ }
-    requires { ⌜ q < np ⌝ }
+// The first of the k edges that join the points p and q.
+fn find_edge(edges: &[u32], chain: &[u32], k: u32, p: u32, q: u32) -> Found
+    requires { ⌜ k * edgeWidth ≤ length (now edges) ⌝ }
+    requires { ⌜ buckets + k ≤ length (now chain) ⌝ }
+    requires { ⌜ Chained (now edges) (now chain) k ⌝ }
+    requires { ⌜ Headed (now edges) (now chain) k ⌝ }
     ensures { λ r. ⌜ r ≡ edgeBetween (edgeTable (now (edges .entry))) k p q ⌝ }
 {
-    let a = index(p);
-    let b = index(q);
-    if points[a * POINT_WIDTH] <= points[b * POINT_WIDTH] {
-        return edge_of(search(edges, chain, np, k, chain[a], p, q));
-    }
-    edge_of(search(edges, chain, np, k, chain[b], q, p))
+    edge_of(search(edges, chain, k, chain[bucket(p, q)], p, q))
 }
 
-// Chains a new edge k from p to q.
-fn chain_edge(chain: &mut [u32], np: usize, k: u32, p: u32, q: u32)
-    requires { ⌜ p < np ⌝ }
-    requires { ⌜ q < np ⌝ }
-    requires { ⌜ np + k * 2 + 2 ≤ length (now chain) ⌝ }
+// Chains a new edge k between p and q.
+fn chain_edge(chain: &mut [u32], k: u32, p: u32, q: u32)
+    requires { ⌜ buckets + k + 1 ≤ length (now chain) ⌝ }
     requires { ⌜ k < 1073741824 ⌝ }
-    ensures { λ _. ⌜ now (chain .exit) ≡ chainedEdge np (now (chain .entry)) k p q ⌝ }
+    ensures { λ _. ⌜ now (chain .exit) ≡ chainedEdge (now (chain .entry)) k (bucketOf p q) ⌝ }
 {
-    let a = index(p);
-    let b = index(q);
-    let c = np + index(k) * 2;
-    let from = chain[a];
-    let to = chain[b];
-    chain[c] = from;
-    chain[c + 1] = to;
-    chain[a] = k + 1;
+    let b = bucket(p, q);
+    let from = chain[b];
+    chain[BUCKETS + index(k)] = from;
     chain[b] = k + 1;
 }
 
@@ -159,7 +149,7 @@ fn touch(points: &mut [u32], p: u32, e: u32)
     points[b + START_WORD] = e;
 }
 
-// Makes the edge k from p to q, with face f on its left.
+// Makes the edge k from p to q, with face f on its left. The contract alone looks at np, the number of points.
 fn make_edge(
     points: &mut [u32],
     edges: &mut [u32],
@@ -173,7 +163,7 @@ fn make_edge(
     v: f64,
 )
     requires { ⌜ Standing np (now points) (now edges) (now chain) k ⌝ }
-    requires { ⌜ EdgeRoom np (now edges) (now intervals) (now chain) k ⌝ }
+    requires { ⌜ EdgeRoom (now edges) (now intervals) (now chain) k ⌝ }
     requires { ⌜ p < np ⌝ }
     requires { ⌜ q < np ⌝ }
     ensures { λ _. ⌜
@@ -182,7 +172,7 @@ fn make_edge(
         p q v)) ⌝ }
     ensures { λ _. ⌜ Standing np (now (points .exit)) (now (edges .exit)) (now (chain .exit)) (k + 1) ⌝ }
 {
-    chain_edge(chain, np, k, p, q);
+    chain_edge(chain, k, p, q);
     touch(points, p, k);
     touch(points, q, k);
     store_edge(
@@ -216,7 +206,7 @@ fn fill_edge(edges: &mut [u32], k: u32, f: u32, e: u32, p: u32) -> Entry
     Entry::Made { edges: k, edge: e }
 }
 
-// Enters a place of face f, from p to q with the interval v, while k edges stand.
+// Enters a place of face f, from p to q with the interval v, while k edges stand. The contract alone looks at np, as above.
 pub fn enter(
     points: &mut [u32],
     edges: &mut [u32],
@@ -230,7 +220,7 @@ pub fn enter(
     v: f64,
 ) -> Entry
     requires { ⌜ Standing np (now points) (now edges) (now chain) k ⌝ }
-    requires { ⌜ EdgeRoom np (now edges) (now intervals) (now chain) k ⌝ }
+    requires { ⌜ EdgeRoom (now edges) (now intervals) (now chain) k ⌝ }
     requires { ⌜ p < np ⌝ }
     requires { ⌜ q < np ⌝ }
     ensures { λ r. ⌜
@@ -238,7 +228,7 @@ pub fn enter(
         (now (intervals .entry)) fs) (meshOf ps (now (points .exit)) (now (edges .exit)) (now (intervals .exit)) fs) k f p q v) ⌝ }
     ensures { λ r. ⌜ Standing np (now (points .exit)) (now (edges .exit)) (now (chain .exit)) (edgesAfter r k) ⌝ }
 {
-    match find_edge(points, edges, chain, np, k, p, q) {
+    match find_edge(edges, chain, k, p, q) {
         Found::At(e) => fill_edge(edges, k, f, e, p),
         Found::Nothing => {
             make_edge(points, edges, intervals, chain, np, k, f, p, q, v);

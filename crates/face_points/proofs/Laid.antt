@@ -2,27 +2,31 @@
 --     laid-never-lost         the walk comes back
 --     laid-edges-fit          its edges are there
 --     laid-points-fit         its points are there, the first four again too
+--     laid-four-again         the first four of its points stand again behind the last
 --     facePoint-of-laid       the sum over the windows of that border gives the face point
 use mathlib.Core.Path.{_≡_, refl, sym, _∙_, ap, fun-ext}
 use mathlib.Core.List.{List}
 use Prim.Native.Nat.{ℕ, _+_, _<_}
 use native.Mathlib.Omega.{arith}
-use lib.ListN.{getD}
+use lib.ListN.{getD, length}
 use lib.Ieee.{Float}
 use Rattle.perimeters.specs.Places.{around}
 use Rattle.perimeters.proofs.Laws.{around-below}
 use Rattle.tables.specs.Parts.{faceTables, withoutPoints}
 use Rattle.tables.specs.Records.{positionAt}
-use Rattle.walks.specs.Border.{border, BorderLaid}
+use Rattle.walks.specs.Border.{borderOf, border, BorderLaid}
+use Rattle.walks.specs.Steps.{passedBy}
 use Rattle.walks.specs.declared.FaceBorder.{FaceBorder}
 use Rattle.walks.specs.declared.Passed.{Passed}
 use Rattle.walks.specs.declared.Passed.the-variants as Passed
 use Rattle.walks.proofs.Border.{laid-passed, laid-edge, laid-point}
+use Rattle.walks.proofs.Laws.{border-walk, border-point-again}
 use Rattle.refined_meshes.proofs.Turns.{turns-cong}
 use Rattle.position_rules.specs.declared.WeightedSum.{WeightedSum}
 use Rattle.position_rules.specs.Sums.{withTerm}
 use Rattle.position_rules.specs.FacePoint.{noWindows, windowWeight, windowSum, overWeight, facePointIn}
 use Rattle.position_rules.specs.Fits.{BorderFits, PointsFit, FacePointFits}
+use Rattle.face_points.specs.Terms.{FourAgain}
 use Rattle.position_rules.proofs.FacePoint.{never-lost, border-edges-fit, border-points-fit, facePoint-of-border}
 
 -- the sum over the windows looks at the first n + 4 points alone
@@ -78,6 +82,24 @@ module _ (ps : List Float) (es : List ℕ) (is : List Float) (fs : List ℕ) (ne
     laid-points-fit = record {
       points-there = λ j l. rw (point-is j l) (border-points-fit ps es is fs ne f h B refl back-is .points-there j l);
     }
+
+    same-count : {k : ℕ} → Passed.Back n ≡ Passed.Back k → n ≡ k
+    same-count q = cc
+
+    count : n ≡ length (h .border)
+    count = same-count (sym came ∙ laid .answered ∙ ap passedBy (h .walked))
+
+    -- the first four again in the border of the definition
+    first-four : (j : ℕ) → j < 4 → getD (B .points) (n + j) 0 ≡ getD (B .points) j 0
+    first-four j l =
+        let stands = border-walk (faceTables es fs) ne f ∙ ap (borderOf (faceTables es fs) f) (h .walked) in
+        ap (λ (k : ℕ). getD (B .points) (k + j) 0) count
+        ∙ ap (λ (b : FaceBorder). getD (b .points) (length (h .border) + j) 0) stands
+        ∙ border-point-again (faceTables es fs) f (h .border) j (omega (arith, h .at-least-3)) l
+        ∙ sym (ap (λ (b : FaceBorder). getD (b .points) j 0) stands)
+
+    pub laid-four-again : FourAgain qs n
+    laid-four-again = record { again = λ j l. point-is (n + j) (omega arith) ∙ first-four j l ∙ sym (point-is j (omega arith)) }
 
     pub facePoint-of-laid : (s : WeightedSum) → s ≡ windowSum ps es is (λ j. getD qs j 0) (λ j. getD xs (around n j) 0) n
         → overWeight s ≡ facePointIn (withoutPoints ps es is fs) ne f

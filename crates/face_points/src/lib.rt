@@ -12,7 +12,7 @@ ghost use Rattle.positions.specs.Position.{placedAt};
 ghost use Rattle.position_rules.specs.FacePoint.{windowSum, facePointIn};
 ghost use Rattle.tables.specs.Parts.{withoutPoints};
 ghost use Rattle.position_rules.specs.Fits.{EdgeFits, BorderFits, PointsFit, FacePointFits};
-ghost use Rattle.face_points.specs.Terms.{termsAbout, six};
+ghost use Rattle.face_points.specs.Terms.{termsAbout, six, FourAgain};
 use perimeters::next_place;
 use position_rules::WeightedSum;
 use position_rules::intervals::a2;
@@ -72,7 +72,8 @@ fn terms_at(
 
 // The sum of the middle points of n windows at their weights. The weight of the window p0 .. p4 is p2p3 about p3, then p0p1
 // about p0; times p1p2 about p1, then p3p4 about p4. Two of these four are those of the window before it: p0p1 about p0 was its
-// p1p2 about p1, and p2p3 about p3 its p3p4 about p4; k is the place of p2p3. The Rust sums the weights from -0.
+// p1p2 about p1, and p2p3 about p3 its p3p4 about p4; k is the place of p2p3. The other two of the last window are those two of the
+// first, as the border comes round. The Rust sums the weights from -0.
 fn window_sum(
     positions: &[f64],
     edges: &[u32],
@@ -83,17 +84,21 @@ fn window_sum(
 ) -> WeightedSum
     requires { ⌜ BorderFits (now edges) (now intervals) (now border) n ⌝ }
     requires { ⌜ PointsFit (now positions) (now points) n ⌝ }
+    requires { ⌜ FourAgain (now points) n ⌝ }
     ensures { λ r. ⌜ r ≡ windowSum (now (positions .entry)) (now (edges .entry)) (now (intervals .entry)) (λ j. getD (now (points .entry)) j 0) (λ j. getD (now (border .entry)) (around n j) 0) n ⌝ }
 {
     let mut s = WeightedSum {
         sum: Position::origin(),
         weight: -0.0,
     };
-    let mut first = terms_at(edges, intervals, border, points[0], 0);
-    let mut third = terms_at(edges, intervals, border, points[3], 2);
+    let start = terms_at(edges, intervals, border, points[0], 0);
+    let ahead = terms_at(edges, intervals, border, points[3], 2);
+    let last = n - 1;
+    let mut first = start;
+    let mut third = ahead;
     let mut k = 2;
     let mut i = 0;
-    while i < n {
+    while i < last {
         let second = terms_at(edges, intervals, border, points[i + 1], next_place(n, i));
         k = next_place(n, k);
         let fourth = terms_at(edges, intervals, border, points[i + 4], k);
@@ -104,7 +109,8 @@ fn window_sum(
         third = fourth;
         i += 1;
     }
-    s
+    let w = six_terms(third, first) * six_terms(start, ahead);
+    s.with_term(load_position(positions, index(points[last + 2])), w)
 }
 
 // The face point of face f, by the walk about it along the edges below ne. The border of the face is laid into the lent arrays, which may

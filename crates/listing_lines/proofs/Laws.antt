@@ -15,7 +15,7 @@ use Rattle.text_numbers.specs.declared.Number.the-variants as Number
 use Rattle.text_numbers.proofs.Laws.{onward-found, length-times, Takes, total, length-total, takes-none, takes-pure, takes-bind, takes-choose, takes-times, takes-literal, takes-decimal}
 use Rattle.mesh_lines.specs.Grammar.{coordinateForm}
 use Rattle.mesh_lines.proofs.Laws.{takes-coordinate}
-use Rattle.listings.specs.Printing.{Row, last, Fits}
+use Rattle.listings.specs.Printing.{ListedRow, last, Fits}
 use Rattle.listings.specs.Grammar.{wordForm, pointRowForm, edgeRowForm, faceRowForm}
 use Rattle.listings.proofs.Exact.{Exact, exact-word}
 use Rattle.listings.proofs.Lines.{exact-point, exact-edge, exact-face}
@@ -87,11 +87,11 @@ module _ (s : List ℕ) where
       takes-pure s _ _ _ (omega arith)
 
   -- the numbers and words of a row
-  pub fits-point : (at : ℕ) (r : Row) (n : ℕ) → pointRowForm s at ≡ parsed r n → Fits 3 3 r
+  pub fits-point : (at : ℕ) (r : ListedRow) (n : ℕ) → pointRowForm s at ≡ parsed r n → Fits 3 3 r
   fits-point at r n e = exact-point s .sound at r n e .0 .0
 
-  pub fits-edge : (at : ℕ) (r : Row) (n : ℕ) → edgeRowForm s at ≡ parsed r n → Fits 1 8 r
+  pub fits-edge : (at : ℕ) (r : ListedRow) (n : ℕ) → edgeRowForm s at ≡ parsed r n → Fits 1 8 r
   fits-edge at r n e = exact-edge s .sound at r n e .0
 
-  pub fits-face : (at : ℕ) (r : Row) (n : ℕ) → faceRowForm s at ≡ parsed r n → Fits 0 5 r
+  pub fits-face : (at : ℕ) (r : ListedRow) (n : ℕ) → faceRowForm s at ≡ parsed r n → Fits 0 5 r
   fits-face at r n e = exact-face s .sound at r n e .0

@@ -20,16 +20,16 @@ use Rattle.mesh_lines.specs.declared.Place.{Place}
 use Rattle.mesh_lines.specs.declared.Place.the-variants as Place
 use Rattle.mesh_lines.specs.declared.Run.the-variants as Run
 use Rattle.mesh_lines.proofs.Answers.{place-at, place-none, runFrom, run-next, run-start, stored-next}
-use Rattle.listings.specs.Printing.{Row}
+use Rattle.listings.specs.Printing.{ListedRow}
 
-module _ (s t : List ℕ) (p : Form Row) (c at : ℕ) where
+module _ (s t : List ℕ) (p : Form ListedRow) (c at : ℕ) where
   pub record Progress (i k : ℕ) : Type 0 where
     pub inside : i ≤ length s
     pub counted : k ≤ i
     pub far : k * c ≤ i
     pub run : runFrom length k (many s t p (length s - k) i) ≡ runAnswer length (many s t p (length s) at)
 
-  pub record Table {B : Type 0} (G : Row → List B) (w : ℕ) (xs₀ xs : List B) (i k : ℕ) : Type 0 where
+  pub record Table {B : Type 0} (G : ListedRow → List B) (w : ℕ) (xs₀ xs : List B) (i k : ℕ) : Type 0 where
     pub list : stored (flat G) xs (k * w) (many s t p (length s - k) i) ≡ stored (flat G) xs₀ 0 (many s t p (length s) at)
 
   pub start : at ≤ length s → Progress at 0
@@ -38,7 +38,7 @@ module _ (s t : List ℕ) (p : Form Row) (c at : ℕ) where
       let z : 0 * c ≡ 0 = omega arith in
       record { inside = h; counted = omega arith; far = rw z (omega arith); run = rw e (run-start length (many s t p (length s) at)) }
 
-  pub table-start : {B : Type 0} (G : Row → List B) (w : ℕ) (xs₀ : List B) → Table G w xs₀ xs₀ at 0
+  pub table-start : {B : Type 0} (G : ListedRow → List B) (w : ℕ) (xs₀ : List B) → Table G w xs₀ xs₀ at 0
   table-start G w xs₀ =
       let e : length s - 0 ≡ length s = omega arith in
       let z : 0 * w ≡ 0 = omega arith in
@@ -48,7 +48,7 @@ module _ (s t : List ℕ) (p : Form Row) (c at : ℕ) where
     pub end : Progress i k → Run.Of k i ≡ runAnswer length (many s t p (length s) at)
     end inv = ap (λ v. Run.Of v i) (sym (add-zero k)) ∙ (rw (many-stop s t p i (length s - k) e) at (inv .run))
 
-    pub table-end : {B : Type 0} (G : Row → List B) (w : ℕ) {xs₀ xs : List B} → Table G w xs₀ xs i k → xs ≡ stored (flat G) xs₀ 0 (many s t p (length s) at)
+    pub table-end : {B : Type 0} (G : ListedRow → List B) (w : ℕ) {xs₀ xs : List B} → Table G w xs₀ xs i k → xs ≡ stored (flat G) xs₀ 0 (many s t p (length s) at)
     unfolding flat
     table-end G w inv = rw (many-stop s t p i (length s - k) e) at (inv .list)
 
@@ -63,7 +63,7 @@ module _ (s t : List ℕ) (p : Form Row) (c at : ℕ) where
     stop {r} er en = rw (fuel, many-none s t p i (length s - (k + 1)) e (place-none (p (i + length t)) (sym er ∙ en))) at (inv .run)
 
     module _ {r : Place} {j : ℕ} (er : r ≡ placeAnswer (p (i + length t))) (ej : r ≡ Place.At j) where
-      line : (a : Row) × (p (i + length t) ≡ parsed a j)
+      line : (a : ListedRow) × (p (i + length t) ≡ parsed a j)
       line = place-at (p (i + length t)) (sym er ∙ ej)
 
       pub line-longer : Takes s 0 (λ a. c) p → (i + length t + c ≤ j) × (j ≤ length s)
@@ -85,7 +85,7 @@ module _ (s t : List ℕ) (p : Form Row) (c at : ℕ) where
                 ∙ (rw (fuel, many-found s t p i (length s - (k + 1)) e (line .1)) at (inv .run));
           }
 
-      pub table-turn : {B : Type 0} (G : Row → List B) (w : ℕ) → ((a : Row) (n : ℕ) → p (i + length t) ≡ parsed a n → length (G a) ≡ w)
+      pub table-turn : {B : Type 0} (G : ListedRow → List B) (w : ℕ) → ((a : ListedRow) (n : ℕ) → p (i + length t) ≡ parsed a n → length (G a) ≡ w)
           → {xs₀ xs ys : List B} → Table G w xs₀ xs i k → AtPlace r (ys ≡ stored G xs (k * w) (p (i + length t))) → Table G w xs₀ ys j (k + 1)
       unfolding flat
       table-turn {B} G w lw {xs₀} {xs} {ys} tb el =
@@ -104,7 +104,7 @@ module _ (s t : List ℕ) (p : Form Row) (c at : ℕ) where
           }
 
       -- the same for one element a row
-      pub table-turn-one : {B : Type 0} (G : Row → List B) → ((a : Row) (n : ℕ) → p (i + length t) ≡ parsed a n → length (G a) ≡ 1)
+      pub table-turn-one : {B : Type 0} (G : ListedRow → List B) → ((a : ListedRow) (n : ℕ) → p (i + length t) ≡ parsed a n → length (G a) ≡ 1)
           → {xs₀ xs ys : List B} → Table G 1 xs₀ xs i k → AtPlace r (ys ≡ stored G xs k (p (i + length t))) → Table G 1 xs₀ ys j (k + 1)
       table-turn-one {B} G lw {xs₀} {xs} {ys} tb el =
           let one : k ≡ k * 1 = omega arith in

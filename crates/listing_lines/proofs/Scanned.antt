@@ -15,21 +15,21 @@ use Rattle.mesh_lines.specs.declared.Run.{Run}
 use Rattle.mesh_lines.specs.declared.Run.the-variants as Run
 use Rattle.mesh_lines.proofs.Answers.{run-of, run-none}
 use Rattle.mesh_text.specs.Text.{ends}
-use Rattle.listings.specs.Printing.{Row}
+use Rattle.listings.specs.Printing.{ListedRow}
 use Rattle.listings.specs.Grammar.{pointRowForm, edgeRowForm, faceRowForm, rows, listing}
 use Rattle.listings.specs.Handing.{numbersIn, wordsIn}
 use Rattle.listing_lines.proofs.Laws.{takes-point, takes-edge, takes-face}
-use Rattle.listing_lines.specs.Parts.{totalOf, AtTotal, Listing, positionsIn, pointsIn, edgesIn, intervalsIn, facesIn}
+use Rattle.listing_lines.specs.Parts.{totalOf, AtTotal, Listing, positionsListed, pointsListed, edgesListed, intervalsListed, facesListed}
 use Rattle.listing_lines.specs.declared.Total.{Total}
 use Rattle.listing_lines.specs.declared.Total.the-variants as Total
 
-abbrev pointLines : List ℕ → Form (List Row)
+abbrev pointLines : List ℕ → Form (List ListedRow)
 pointLines s = many s (bytes "[point") (pointRowForm s) (length s)
 
-abbrev edgeLines : List ℕ → Form (List Row)
+abbrev edgeLines : List ℕ → Form (List ListedRow)
 edgeLines s = many s (bytes "[edge") (edgeRowForm s) (length s)
 
-abbrev faceLines : List ℕ → Form (List Row)
+abbrev faceLines : List ℕ → Form (List ListedRow)
 faceLines s = many s (bytes "[face") (faceRowForm s) (length s)
 
 module _ (s : List ℕ) where
@@ -47,7 +47,7 @@ module _ (s : List ℕ) where
       no-points en = rw (literal-found s (bytes "[mesh 3]\n") 0 h, run-none length (pointLines s 9) (sym er ∙ en))
 
       module _ {p i : ℕ} (ep : r ≡ Run.Of p i) where
-        points-read : (a : List Row) × (pointLines s 9 ≡ parsed a i) × (length a ≡ p)
+        points-read : (a : List ListedRow) × (pointLines s 9 ≡ parsed a i) × (length a ≡ p)
         points-read = run-of length (pointLines s 9) (sym er ∙ ep)
 
         pub points-inside : i ≤ length s
@@ -60,7 +60,7 @@ module _ (s : List ℕ) where
           no-edges en = rw (literal-found s (bytes "[mesh 3]\n") 0 h, points-read .1, run-none length (edgeLines s i) (sym eq ∙ en))
 
           module _ {e j : ℕ} (ee : q ≡ Run.Of e j) where
-            edges-read : (a : List Row) × (edgeLines s i ≡ parsed a j) × (length a ≡ e)
+            edges-read : (a : List ListedRow) × (edgeLines s i ≡ parsed a j) × (length a ≡ e)
             edges-read = run-of length (edgeLines s i) (sym eq ∙ ee)
 
             pub edges-inside : j ≤ length s
@@ -74,7 +74,7 @@ module _ (s : List ℕ) where
                   rw (literal-found s (bytes "[mesh 3]\n") 0 h, points-read .1, edges-read .1, run-none length (faceLines s j) (sym eu ∙ en))
 
               module _ {f k : ℕ} (ef : u ≡ Run.Of f k) where
-                faces-read : (a : List Row) × (faceLines s j ≡ parsed a k) × (length a ≡ f)
+                faces-read : (a : List ListedRow) × (faceLines s j ≡ parsed a k) × (length a ≡ f)
                 faces-read = run-of length (faceLines s j) (sym eu ∙ ef)
 
                 pub faces-inside : k ≤ length s
@@ -95,10 +95,10 @@ module _ (s : List ℕ) where
                     → AtRun q (es′ ≡ stored wordsIn es 0 (edgeLines s i)) → AtRun q (ds′ ≡ stored numbersIn ds 0 (edgeLines s i))
                     → AtRun u (fs′ ≡ stored wordsIn fs 0 (faceLines s j))
                     → (Total.Of p e f ≡ totalOf (listing s))
-                    × ((xs′ ≡ stored positionsIn xs 0 (listing s))
-                    × ((ps′ ≡ stored pointsIn ps 0 (listing s))
-                    × ((es′ ≡ stored edgesIn es 0 (listing s))
-                    × ((ds′ ≡ stored intervalsIn ds 0 (listing s)) × (fs′ ≡ stored facesIn fs 0 (listing s))))))
+                    × ((xs′ ≡ stored positionsListed xs 0 (listing s))
+                    × ((ps′ ≡ stored pointsListed ps 0 (listing s))
+                    × ((es′ ≡ stored edgesListed es 0 (listing s))
+                    × ((ds′ ≡ stored intervalsListed ds 0 (listing s)) × (fs′ ≡ stored facesListed fs 0 (listing s))))))
                 whole en xs ps es ds fs ex ep′ ee′ ed ef′ =
                     let t = read en in (
                       rw (t, points-read .2, edges-read .2, faces-read .2),

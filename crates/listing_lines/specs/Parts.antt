@@ -6,7 +6,7 @@
 --     totalOf x           the answer to what a scan of the whole found
 --     AtTotal t P         what is promised where a listing was found
 --     Listing s           the text is a listing
---     positionsIn pointsIn edgesIn intervalsIn facesIn t     what the rows put into each table
+--     positionsListed pointsListed edgesListed intervalsListed facesListed t     what the rows put into each table
 use mathlib.Core.Path.{_≡_}
 use mathlib.Core.List.{List, map}
 use Prim.Native.Nat.{ℕ}
@@ -16,7 +16,7 @@ use Rattle.text_numbers.specs.Form.{Parsed, parsed, ifParsed}
 use Rattle.text_numbers.specs.Numbers.{float}
 use Rattle.text_numbers.specs.declared.Number.{Number}
 use Rattle.text_numbers.specs.declared.Number.the-variants as Number
-use Rattle.listings.specs.Printing.{Row, Rows, last}
+use Rattle.listings.specs.Printing.{ListedRow, ListedRows, last}
 use Rattle.listings.specs.Grammar.{listing}
 use Rattle.listings.specs.Handing.{numbersIn, wordsIn}
 use Rattle.listing_lines.specs.declared.Total.{Total}
@@ -32,13 +32,13 @@ AtNumber Number.None P = Unit {0}
 abbrev pub same : List ℕ → List ℕ
 same ws = ws
 
-abbrev pub rowNumbers : Row → List Float
+abbrev pub rowNumbers : ListedRow → List Float
 rowNumbers r = map float (r .numbers)
 
-abbrev pub rowWords : Row → List ℕ
+abbrev pub rowWords : ListedRow → List ℕ
 rowWords r = r .words
 
-abbrev pub totalOf : Parsed Rows → Total
+abbrev pub totalOf : Parsed ListedRows → Total
 totalOf x = ifParsed (λ t n. Total.Of (length (t .points)) (length (t .edges)) (length (t .faces))) Total.None x
 
 abbrev pub AtTotal : Total → Type 0 → Type 0
@@ -46,19 +46,19 @@ AtTotal (Total.Of p e f) P = P
 AtTotal Total.None P = Unit {0}
 
 abbrev pub Listing : List ℕ → Type 0
-Listing s = (t : Rows) × (n : ℕ) × (listing s ≡ parsed t n)
+Listing s = (t : ListedRows) × (n : ℕ) × (listing s ≡ parsed t n)
 
-abbrev pub positionsIn : Rows → List Float
-positionsIn t = numbersIn (t .points)
+abbrev pub positionsListed : ListedRows → List Float
+positionsListed t = numbersIn (t .points)
 
-abbrev pub pointsIn : Rows → List ℕ
-pointsIn t = wordsIn (t .points)
+abbrev pub pointsListed : ListedRows → List ℕ
+pointsListed t = wordsIn (t .points)
 
-abbrev pub edgesIn : Rows → List ℕ
-edgesIn t = wordsIn (t .edges)
+abbrev pub edgesListed : ListedRows → List ℕ
+edgesListed t = wordsIn (t .edges)
 
-abbrev pub intervalsIn : Rows → List Float
-intervalsIn t = numbersIn (t .edges)
+abbrev pub intervalsListed : ListedRows → List Float
+intervalsListed t = numbersIn (t .edges)
 
-abbrev pub facesIn : Rows → List ℕ
-facesIn t = wordsIn (t .faces)
+abbrev pub facesListed : ListedRows → List ℕ
+facesListed t = wordsIn (t .faces)

@@ -10,7 +10,7 @@ ghost use Rattle.text_numbers.specs.Answers.{number};
 ghost use Rattle.mesh_lines.specs.Parts.{placeAnswer, runAnswer, stored, AtPlace, AtRun};
 ghost use Rattle.listings.specs.Grammar.{wordForm, pointRowForm, edgeRowForm, faceRowForm, listing};
 ghost use Rattle.listings.specs.Handing.{numbersIn, wordsIn};
-ghost use Rattle.listing_lines.specs.Parts.{lastWord, AtNumber, same, rowNumbers, rowWords, totalOf, AtTotal, Listing, positionsIn, pointsIn, edgesIn, intervalsIn, facesIn};
+ghost use Rattle.listing_lines.specs.Parts.{lastWord, AtNumber, same, rowNumbers, rowWords, totalOf, AtTotal, Listing, positionsListed, pointsListed, edgesListed, intervalsListed, facesListed};
 use mesh_lines::Place;
 use mesh_lines::Run;
 use mesh_lines::coordinates;
@@ -185,11 +185,11 @@ fn scan(
     fs: &mut [u32],
 ) -> Total
     ensures sizes { λ r. ⌜ r ≡ totalOf (listing (now (s .entry))) ⌝ }
-    ensures positions { λ r. ⌜ AtTotal r (now (xs .exit) ≡ stored positionsIn (now (xs .entry)) 0 (listing (now (s .entry)))) ⌝ }
-    ensures points { λ r. ⌜ AtTotal r (now (ps .exit) ≡ stored pointsIn (now (ps .entry)) 0 (listing (now (s .entry)))) ⌝ }
-    ensures edges { λ r. ⌜ AtTotal r (now (es .exit) ≡ stored edgesIn (now (es .entry)) 0 (listing (now (s .entry)))) ⌝ }
-    ensures intervals { λ r. ⌜ AtTotal r (now (ds .exit) ≡ stored intervalsIn (now (ds .entry)) 0 (listing (now (s .entry)))) ⌝ }
-    ensures faces { λ r. ⌜ AtTotal r (now (fs .exit) ≡ stored facesIn (now (fs .entry)) 0 (listing (now (s .entry)))) ⌝ }
+    ensures positions { λ r. ⌜ AtTotal r (now (xs .exit) ≡ stored positionsListed (now (xs .entry)) 0 (listing (now (s .entry)))) ⌝ }
+    ensures points { λ r. ⌜ AtTotal r (now (ps .exit) ≡ stored pointsListed (now (ps .entry)) 0 (listing (now (s .entry)))) ⌝ }
+    ensures edges { λ r. ⌜ AtTotal r (now (es .exit) ≡ stored edgesListed (now (es .entry)) 0 (listing (now (s .entry)))) ⌝ }
+    ensures intervals { λ r. ⌜ AtTotal r (now (ds .exit) ≡ stored intervalsListed (now (ds .entry)) 0 (listing (now (s .entry)))) ⌝ }
+    ensures faces { λ r. ⌜ AtTotal r (now (fs .exit) ≡ stored facesListed (now (fs .entry)) 0 (listing (now (s .entry)))) ⌝ }
 {
     if !stands(s, 0, b"[mesh 3]\n") {
         return Total::None;
@@ -231,11 +231,11 @@ pub fn store_rows(
     fs: &mut [u32],
 )
     requires { ⌜ Listing (now s) ⌝ }
-    ensures positions { λ _. ⌜ now (xs .exit) ≡ stored positionsIn (now (xs .entry)) 0 (listing (now (s .entry))) ⌝ }
-    ensures points { λ _. ⌜ now (ps .exit) ≡ stored pointsIn (now (ps .entry)) 0 (listing (now (s .entry))) ⌝ }
-    ensures edges { λ _. ⌜ now (es .exit) ≡ stored edgesIn (now (es .entry)) 0 (listing (now (s .entry))) ⌝ }
-    ensures intervals { λ _. ⌜ now (ds .exit) ≡ stored intervalsIn (now (ds .entry)) 0 (listing (now (s .entry))) ⌝ }
-    ensures faces { λ _. ⌜ now (fs .exit) ≡ stored facesIn (now (fs .entry)) 0 (listing (now (s .entry))) ⌝ }
+    ensures positions { λ _. ⌜ now (xs .exit) ≡ stored positionsListed (now (xs .entry)) 0 (listing (now (s .entry))) ⌝ }
+    ensures points { λ _. ⌜ now (ps .exit) ≡ stored pointsListed (now (ps .entry)) 0 (listing (now (s .entry))) ⌝ }
+    ensures edges { λ _. ⌜ now (es .exit) ≡ stored edgesListed (now (es .entry)) 0 (listing (now (s .entry))) ⌝ }
+    ensures intervals { λ _. ⌜ now (ds .exit) ≡ stored intervalsListed (now (ds .entry)) 0 (listing (now (s .entry))) ⌝ }
+    ensures faces { λ _. ⌜ now (fs .exit) ≡ stored facesListed (now (fs .entry)) 0 (listing (now (s .entry))) ⌝ }
 {
     scan(s, xs, ps, es, ds, fs);
 }

@@ -14,7 +14,7 @@ use Rattle.tables.specs.Mesh.{meshOf}
 use Rattle.mesh_lines.specs.Grammar.{flat}
 use Rattle.mesh_answers.specs.Lines.{decimalDigits, numberField, bitsField}
 use Rattle.mesh_answers.proofs.Laws.{length-number, length-bits}
-use Rattle.listings.specs.Printing.{Row, pointLine, edgeLine, faceLine}
+use Rattle.listings.specs.Printing.{ListedRow, pointLine, edgeLine, faceLine}
 use Rattle.listings.specs.Handing.{upTo, pointLineRow, edgeLineRow, faceLineRow}
 use Rattle.listing_printing.specs.Fields.{part, wordFields}
 use Rattle.listings.proofs.Parts.{flat-append, flat-one, cells, part-cells}
@@ -71,7 +71,7 @@ words-row ws b w h =
     ∙ length-append (flat numberField (take b ws)) (flat numberField (take w (drop b ws)))
     ∙ ap (λ (l : List ℕ). length (flat numberField (take b ws)) + length (flat numberField l)) (part-cells 0 ws b w h)
 
-lines-length : (f : Row → List ℕ) (g : ℕ → Row) (c w : ℕ) (ws : List ℕ)
+lines-length : (f : ListedRow → List ℕ) (g : ℕ → ListedRow) (c w : ℕ) (ws : List ℕ)
     → ((p : ℕ) → length (f (g p)) ≡ c + length (flat numberField (cells 0 ws (p * w) w)))
     → (n : ℕ) → n * w ≤ length ws → length (flat f (upTo n g)) ≡ n * c + length (wordFields ws 0 (n * w))
 unfolding upTo flat
@@ -88,21 +88,21 @@ lines-length f g c w ws e (suc n) h =
     let one = e n in
     omega arith
 
-point-length : (r : Row) → length (r .numbers) ≡ 3 → length (pointLine r) ≡ 59 + length (flat numberField (r .words))
+point-length : (r : ListedRow) → length (r .numbers) ≡ 3 → length (pointLine r) ≡ 59 + length (flat numberField (r .words))
 point-length r h =
     let b = bits-length (r .numbers) in
     let a1 = length-append (flat bitsField (r .numbers)) (flat numberField (r .words)) in
     let a2 = length-append (flat bitsField (r .numbers) ++ flat numberField (r .words)) (bytes "]\n") in
     omega arith
 
-edge-length : (r : Row) → length (r .numbers) ≡ 1 → length (edgeLine r) ≡ 24 + length (flat numberField (r .words))
+edge-length : (r : ListedRow) → length (r .numbers) ≡ 1 → length (edgeLine r) ≡ 24 + length (flat numberField (r .words))
 edge-length r h =
     let b = bits-length (r .numbers) in
     let a1 = length-append (flat numberField (r .words)) (flat bitsField (r .numbers)) in
     let a2 = length-append (flat numberField (r .words) ++ flat bitsField (r .numbers)) (bytes "]\n") in
     omega arith
 
-face-length : (r : Row) → length (faceLine r) ≡ 7 + length (flat numberField (r .words))
+face-length : (r : ListedRow) → length (faceLine r) ≡ 7 + length (flat numberField (r .words))
 face-length r = let a = length-append (flat numberField (r .words)) (bytes "]\n") in omega arith
 
 module _ (n : ℕ) where

@@ -17,19 +17,19 @@ use Rattle.tables.specs.Counted.{rowsFor, zeroedRows}
 use Rattle.steps.specs.Step.{withinCeilings}
 use Rattle.mesh_lines.specs.Parts.{stored}
 use Rattle.mesh_lines.specs.Grammar.{flat}
-use Rattle.listings.specs.Printing.{Row, Rows, FitPoint, FitEdge, FitFace, FitRows}
+use Rattle.listings.specs.Printing.{ListedRow, ListedRows, FitPoint, FitEdge, FitFace, FitRows}
 use Rattle.listings.proofs.Parts.{all-to, numbers-count, length-flat}
 use Rattle.listings.proofs.Theorem.{accepted}
 use Rattle.listings.proofs.Whole.{printed-of-listing}
 use Rattle.listings.specs.Grammar.{listing}
 use Rattle.listings.specs.Handing.{listedCounts, withListing as storedRows, passesAudit, ReadingOutcome, readRows, readFound, readListing}
 use Rattle.listings.specs.declared.Reading.the-variants as Reading
-use Rattle.listing_lines.specs.Parts.{totalOf, Listing, positionsIn, pointsIn, edgesIn, intervalsIn, facesIn}
+use Rattle.listing_lines.specs.Parts.{totalOf, Listing, positionsListed, pointsListed, edgesListed, intervalsListed, facesListed}
 use Rattle.listing_lines.specs.declared.Total.{Total}
 use Rattle.listing_lines.specs.declared.Total.the-variants as Total
 
-total-of : (x : Parsed Rows) {p e f : ℕ} → totalOf x ≡ Total.Of p e f
-    → (t : Rows) × (n : ℕ) × (x ≡ parsed t n) × (listedCounts t ≡ record { points = p; edges = e; faces = f })
+total-of : (x : Parsed ListedRows) {p e f : ℕ} → totalOf x ≡ Total.Of p e f
+    → (t : ListedRows) × (n : ℕ) × (x ≡ parsed t n) × (listedCounts t ≡ record { points = p; edges = e; faces = f })
 total-of (parsed t n) {p} {e} {f} g =
     let ep : length (t .points) ≡ p = cc in
     let ee : length (t .edges) ≡ e = cc in
@@ -37,7 +37,7 @@ total-of (parsed t n) {p} {e} {f} g =
     (t, n, refl, λ i. record { points = ep i; edges = ee i; faces = ef i })
 total-of unparsed g = let z : _≡_ {A = ℕ} 0 1 = cc in absurd (omega arith)
 
-total-none : (x : Parsed Rows) → totalOf x ≡ Total.None → x ≡ unparsed
+total-none : (x : Parsed ListedRows) → totalOf x ≡ Total.None → x ≡ unparsed
 total-none (parsed t n) e = cc
 total-none unparsed e = refl
 
@@ -50,30 +50,30 @@ zeroed-sets : {A : Type 0} (n : ℕ) (z : A) (xs vs : List A) → length vs ≡ 
 unfolding zeroed
 zeroed-sets n z xs vs e = ap (λ l. replicate n z ++ l) (drop-sets vs xs 0 n (omega arith))
 
-zeroed-stored : (t : Rows) (m : Mesh) → FitRows t → zeroedRows (listedCounts t) (storedRows t m) ≡ zeroedRows (listedCounts t) m
+zeroed-stored : (t : ListedRows) (m : Mesh) → FitRows t → zeroedRows (listedCounts t) (storedRows t m) ≡ zeroedRows (listedCounts t) m
 unfolding zeroedRows
 zeroed-stored t m f =
-    let a = zeroed-sets (length (t .points) * 3) (ofBits binary64 0) (m .positions) (positionsIn t)
-    (length-flat (λ (r : Row). map float (r .numbers)) 3 (t .points)
-    (all-to FitPoint (λ (r : Row). length (map float (r .numbers)) ≡ 3) (λ r o. numbers-count r (o .0)) (t .points)
+    let a = zeroed-sets (length (t .points) * 3) (ofBits binary64 0) (m .positions) (positionsListed t)
+    (length-flat (λ (r : ListedRow). map float (r .numbers)) 3 (t .points)
+    (all-to FitPoint (λ (r : ListedRow). length (map float (r .numbers)) ≡ 3) (λ r o. numbers-count r (o .0)) (t .points)
     (f .points-fit))) in
-    let b = zeroed-sets (length (t .points) * 3) 0 (m .points) (pointsIn t)
-    (length-flat (λ (r : Row). r .words) 3 (t .points)
-    (all-to FitPoint (λ (r : Row). length (r .words) ≡ 3) (λ r o. o .0 .word-count) (t .points) (f .points-fit))) in
-    let c = zeroed-sets (length (t .edges) * 8) 0 (m .edges) (edgesIn t)
-    (length-flat (λ (r : Row). r .words) 8 (t .edges)
-    (all-to FitEdge (λ (r : Row). length (r .words) ≡ 8) (λ r o. o .word-count) (t .edges) (f .edges-fit))) in
-    let d1 = length-flat (λ (r : Row). map float (r .numbers)) 1 (t .edges)
-    (all-to FitEdge (λ (r : Row). length (map float (r .numbers)) ≡ 1) (λ r o. numbers-count r o) (t .edges)
+    let b = zeroed-sets (length (t .points) * 3) 0 (m .points) (pointsListed t)
+    (length-flat (λ (r : ListedRow). r .words) 3 (t .points)
+    (all-to FitPoint (λ (r : ListedRow). length (r .words) ≡ 3) (λ r o. o .0 .word-count) (t .points) (f .points-fit))) in
+    let c = zeroed-sets (length (t .edges) * 8) 0 (m .edges) (edgesListed t)
+    (length-flat (λ (r : ListedRow). r .words) 8 (t .edges)
+    (all-to FitEdge (λ (r : ListedRow). length (r .words) ≡ 8) (λ r o. o .word-count) (t .edges) (f .edges-fit))) in
+    let d1 = length-flat (λ (r : ListedRow). map float (r .numbers)) 1 (t .edges)
+    (all-to FitEdge (λ (r : ListedRow). length (map float (r .numbers)) ≡ 1) (λ r o. numbers-count r o) (t .edges)
     (f .edges-fit)) in
-    let d = zeroed-sets (length (t .edges)) (ofBits binary64 0) (m .intervals) (intervalsIn t) (omega arith) in
-    let e = zeroed-sets (length (t .faces) * 5) 0 (m .faces) (facesIn t)
-    (length-flat (λ (r : Row). r .words) 5 (t .faces)
-    (all-to FitFace (λ (r : Row). length (r .words) ≡ 5) (λ r o. o .word-count) (t .faces) (f .faces-fit))) in
+    let d = zeroed-sets (length (t .edges)) (ofBits binary64 0) (m .intervals) (intervalsListed t) (omega arith) in
+    let e = zeroed-sets (length (t .faces) * 5) 0 (m .faces) (facesListed t)
+    (length-flat (λ (r : ListedRow). r .words) 5 (t .faces)
+    (all-to FitFace (λ (r : ListedRow). length (r .words) ≡ 5) (λ r o. o .word-count) (t .faces) (f .faces-fit))) in
     λ i. record { positions = a i; points = b i; edges = c i; intervals = d i; faces = e i }
 
 -- rows that fail the audit are zeroed
-refused : (a b d : Bool) (t : Rows) (m : Mesh) → a ≡ true → b ≡ true → d ≡ false
+refused : (a b d : Bool) (t : ListedRows) (m : Mesh) → a ≡ true → b ≡ true → d ≡ false
     → readRows a b d t m ≡ record { answer = Reading.NotClosed; tables = zeroedRows (listedCounts t) m }
 refused a b d t m ea eb ed = rw (ea, eb, ed)
 
@@ -99,17 +99,17 @@ module _ (s : List ℕ) (m : Mesh) {r : Total} (er : r ≡ totalOf (listing s)) 
 
       module _ (em : rowsFor (record { points = p; edges = e; faces = f }) m ≡ true)
           (xs : List Float) (ps es : List ℕ) (ds : List Float) (fs : List ℕ)
-          (ex : xs ≡ stored positionsIn (m .positions) 0 (listing s)) (epp : ps ≡ stored pointsIn (m .points) 0 (listing s))
-          (ee : es ≡ stored edgesIn (m .edges) 0 (listing s)) (ed : ds ≡ stored intervalsIn (m .intervals) 0 (listing s))
-          (ef : fs ≡ stored facesIn (m .faces) 0 (listing s)) where
+          (ex : xs ≡ stored positionsListed (m .positions) 0 (listing s)) (epp : ps ≡ stored pointsListed (m .points) 0 (listing s))
+          (ee : es ≡ stored edgesListed (m .edges) 0 (listing s)) (ed : ds ≡ stored intervalsListed (m .intervals) 0 (listing s))
+          (ef : fs ≡ stored facesListed (m .faces) 0 (listing s)) where
         -- the second scan has stored the rows
-        scanned : (t : Rows) (n : ℕ) → listing s ≡ parsed t n → meshOf xs ps es ds fs ≡ storedRows t m
+        scanned : (t : ListedRows) (n : ℕ) → listing s ≡ parsed t n → meshOf xs ps es ds fs ≡ storedRows t m
         scanned t n et =
-            let ax : xs ≡ sets (m .positions) 0 (positionsIn t) = rw et at ex in
-            let ap′ : ps ≡ sets (m .points) 0 (pointsIn t) = rw et at epp in
-            let ae : es ≡ sets (m .edges) 0 (edgesIn t) = rw et at ee in
-            let ad : ds ≡ sets (m .intervals) 0 (intervalsIn t) = rw et at ed in
-            let af : fs ≡ sets (m .faces) 0 (facesIn t) = rw et at ef in
+            let ax : xs ≡ sets (m .positions) 0 (positionsListed t) = rw et at ex in
+            let ap′ : ps ≡ sets (m .points) 0 (pointsListed t) = rw et at epp in
+            let ae : es ≡ sets (m .edges) 0 (edgesListed t) = rw et at ee in
+            let ad : ds ≡ sets (m .intervals) 0 (intervalsListed t) = rw et at ed in
+            let af : fs ≡ sets (m .faces) 0 (facesListed t) = rw et at ef in
             λ i. record { positions = ax i; points = ap′ i; edges = ae i; intervals = ad i; faces = af i }
 
         pub read : passesAudit (meshOf xs ps es ds fs) (record { points = p; edges = e; faces = f }) ≡ true
@@ -119,7 +119,7 @@ module _ (s : List ℕ) (m : Mesh) {r : Total} (er : r ≡ totalOf (listing s)) 
             let (t, n, et, ec) = total-of (listing s) (sym er ∙ ep) in
             let es′ = scanned t n et in
             let ea′ : passesAudit (storedRows t m) (record { points = p; edges = e; faces = f }) ≡ true = rw es′ at ea in
-            sym (ap (λ (x : Parsed Rows). readFound x m) et
+            sym (ap (λ (x : Parsed ListedRows). readFound x m) et
             ∙ accepted (withinCeilings (listedCounts t)) (rowsFor (listedCounts t) m) (passesAudit (storedRows t m) (listedCounts t)) t m
             (ap withinCeilings ec ∙ ew) (ap (λ (k : Counts). rowsFor k m) ec ∙ em) (ap (passesAudit (storedRows t m)) ec ∙ ea′)
             ∙ (λ i. record { answer = Reading.Read (ec i); tables = sym es′ i }))
@@ -136,7 +136,7 @@ module _ (s : List ℕ) (m : Mesh) {r : Total} (er : r ≡ totalOf (listing s)) 
             let z : m′ ≡ zeroedRows (listedCounts t) m =
             e′ ∙ ap (zeroedRows (record { points = p; edges = e; faces = f })) es′ ∙ ap (λ (c : Counts). zeroedRows c (storedRows t m)) (sym ec)
             ∙ zeroed-stored t m fit in
-            sym (ap (λ (x : Parsed Rows). readFound x m) et
+            sym (ap (λ (x : Parsed ListedRows). readFound x m) et
             ∙ refused (withinCeilings (listedCounts t)) (rowsFor (listedCounts t) m) (passesAudit (storedRows t m) (listedCounts t)) t m
             (ap withinCeilings ec ∙ ew) (ap (λ (k : Counts). rowsFor k m) ec ∙ em) (ap (passesAudit (storedRows t m)) ec ∙ ea′)
             ∙ (λ i. record { answer = Reading.NotClosed; tables = sym z i }))

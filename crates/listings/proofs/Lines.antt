@@ -15,19 +15,19 @@ use Rattle.text_numbers.proofs.Laws.{onward-found}
 use Rattle.text_numbers.proofs.Turns.{literal-found}
 use Rattle.mesh_lines.specs.Grammar.{coordinateForm, flat}
 use Rattle.mesh_answers.specs.Lines.{numberField, bitsField}
-use Rattle.listings.specs.Printing.{Row, All, last, Fits, FitPoint, FitEdge, FitFace}
+use Rattle.listings.specs.Printing.{ListedRow, All, last, Fits, FitPoint, FitEdge, FitFace}
 use Rattle.listings.specs.Grammar.{wordForm, pointRowForm, edgeRowForm, faceRowForm}
 use Rattle.listings.proofs.Exact.{Exact, Prints, Leads, NoDigit, prints-same, stands-both, stands-parts}
 use Rattle.listings.proofs.Exact.{stands-at, first-stands, literal-stands, leads-flat, leads-word}
 use Rattle.listings.proofs.Exact.{leads-coordinate, exact-word, exact-coordinate, exact-times}
 
-abbrev pub pointFields : Row → List ℕ
+abbrev pub pointFields : ListedRow → List ℕ
 pointFields r = (flat bitsField (r .numbers) ++ flat numberField (r .words)) ++ bytes "]\n"
 
-abbrev pub edgeFields : Row → List ℕ
+abbrev pub edgeFields : ListedRow → List ℕ
 edgeFields r = (flat numberField (r .words) ++ flat bitsField (r .numbers)) ++ bytes "]\n"
 
-abbrev pub faceFields : Row → List ℕ
+abbrev pub faceFields : ListedRow → List ℕ
 faceFields r = flat numberField (r .words) ++ bytes "]\n"
 
 module _ (s : List ℕ) where
@@ -69,7 +69,7 @@ module _ (s : List ℕ) where
   unfolding pointRowForm
   exact-point = record { sound = sound; complete = complete }
     where
-      ended : (at m m1 n : ℕ) (xs ws : List ℕ) (r : Row) → times 3 (coordinateForm s) at ≡ parsed xs m → times 3 (wordForm s) m ≡ parsed ws m1 → (b : Bool) → ltb (last 0 ws) 2 ≡ b
+      ended : (at m m1 n : ℕ) (xs ws : List ℕ) (r : ListedRow) → times 3 (coordinateForm s) at ≡ parsed xs m → times 3 (wordForm s) m ≡ parsed ws m1 → (b : Bool) → ltb (last 0 ws) 2 ≡ b
           → onward (λ z. pure (record { numbers = xs; words = ws })) (choose b (literal s (bytes "]\n")) (λ i. unparsed) m1) ≡ parsed r n
           → Prints s pointFields FitPoint at n r
       ended at m m1 n xs ws r ex ew true eb e =
@@ -84,13 +84,13 @@ module _ (s : List ℕ) where
           ((record { number-count = oo .0 .0; word-count = oo .1 .0; numbers-below = oo .0 .1; words-below = oo .1 .1 }, ltb-true (last 0 ws) 2 eb), sr, en)
       ended at m m1 n xs ws r ex ew false eb e = let z : _≡_ {A = ℕ} 0 1 = cc in absurd (omega arith)
 
-      sound : (at : ℕ) (r : Row) (n : ℕ) → pointRowForm s at ≡ parsed r n → Prints s pointFields FitPoint at n r
+      sound : (at : ℕ) (r : ListedRow) (n : ℕ) → pointRowForm s at ≡ parsed r n → Prints s pointFields FitPoint at n r
       sound at r n e =
           let (xs, m, ex, e1) = onward-found _ (times 3 (coordinateForm s) at) e in
           let (ws, m1, ew, e2) = onward-found _ (times 3 (wordForm s) m) e1 in
           ended at m m1 n xs ws r ex ew (ltb (last 0 ws) 2) refl e2
 
-      complete : (at : ℕ) (r : Row) → FitPoint r → stands s at (pointFields r) ≡ true → NoDigit s (at + length (pointFields r)) → pointRowForm s at ≡ parsed r (at + length (pointFields r))
+      complete : (at : ℕ) (r : ListedRow) → FitPoint r → stands s at (pointFields r) ≡ true → NoDigit s (at + length (pointFields r)) → pointRowForm s at ≡ parsed r (at + length (pointFields r))
       complete at r (o, h) e g =
           let xs = r .numbers in
           let ws = r .words in
@@ -113,7 +113,7 @@ module _ (s : List ℕ) where
   unfolding edgeRowForm
   exact-edge = record { sound = sound; complete = complete }
     where
-      sound : (at : ℕ) (r : Row) (n : ℕ) → edgeRowForm s at ≡ parsed r n → Prints s edgeFields FitEdge at n r
+      sound : (at : ℕ) (r : ListedRow) (n : ℕ) → edgeRowForm s at ≡ parsed r n → Prints s edgeFields FitEdge at n r
       sound at r n e =
           let (ws, m, ew, e1) = onward-found _ (times 8 (wordForm s) at) e in
           let (xs, m1, ex, e2) = onward-found _ (times 1 (coordinateForm s) m) e1 in
@@ -127,7 +127,7 @@ module _ (s : List ℕ) where
           prints-same s edgeFields FitEdge at n (record { numbers = xs; words = ws }) r rr
           (record { number-count = oo .1 .0; word-count = oo .0 .0; numbers-below = oo .1 .1; words-below = oo .0 .1 }, sr, en)
 
-      complete : (at : ℕ) (r : Row) → FitEdge r → stands s at (edgeFields r) ≡ true → NoDigit s (at + length (edgeFields r)) → edgeRowForm s at ≡ parsed r (at + length (edgeFields r))
+      complete : (at : ℕ) (r : ListedRow) → FitEdge r → stands s at (edgeFields r) ≡ true → NoDigit s (at + length (edgeFields r)) → edgeRowForm s at ≡ parsed r (at + length (edgeFields r))
       complete at r o e g =
           let xs = r .numbers in
           let ws = r .words in
@@ -148,7 +148,7 @@ module _ (s : List ℕ) where
       words : Exact s (times 5 (wordForm s)) (flat numberField) (λ l. (length l ≡ 5) × All (λ v. v < 4294967296) l)
       words = exact-times s (wordForm s) numberField _ (exact-word s) (leads-word s) 5
 
-      sound : (at : ℕ) (r : Row) (n : ℕ) → faceRowForm s at ≡ parsed r n → Prints s faceFields FitFace at n r
+      sound : (at : ℕ) (r : ListedRow) (n : ℕ) → faceRowForm s at ≡ parsed r n → Prints s faceFields FitFace at n r
       sound at r n e =
           let (ws, m, ew, e1) = onward-found _ (times 5 (wordForm s) at) e in
           let (z, m2, ez, er) = onward-found (λ z. pure (record { numbers = []; words = ws }))
@@ -164,7 +164,7 @@ module _ (s : List ℕ) where
             omega arith,
           )
 
-      complete : (at : ℕ) (r : Row) → FitFace r → stands s at (faceFields r) ≡ true → NoDigit s (at + length (faceFields r)) → faceRowForm s at ≡ parsed r (at + length (faceFields r))
+      complete : (at : ℕ) (r : ListedRow) → FitFace r → stands s at (faceFields r) ≡ true → NoDigit s (at + length (faceFields r)) → faceRowForm s at ≡ parsed r (at + length (faceFields r))
       complete at r o e g =
           let ws = r .words in
           let (sw, se) = stands-parts s (flat numberField ws) (bytes "]\n") at e in

@@ -13,7 +13,7 @@ use lib.ListN.{length, getD, take, drop, length-append, length-map}
 use lib.Seq.{drop-cons}
 use Rattle.text_numbers.specs.Numbers.{float}
 use Rattle.mesh_lines.specs.Grammar.{flat}
-use Rattle.listings.specs.Printing.{Row, All, Fits}
+use Rattle.listings.specs.Printing.{ListedRow, All, Fits}
 
 module _ {A B : Type 0} (f : A → List B) where
   pub flat-append : (xs ys : List A) → flat f (xs ++ ys) ≡ flat f xs ++ flat f ys
@@ -30,7 +30,7 @@ all-to P Q h [] a = tt
 all-to P Q h (x ∷ l) a = (h x (a .0), all-to P Q h l (a .1))
 
 -- a row has as many numbers as patterns
-pub numbers-count : {nn nw : ℕ} (r : Row) → Fits nn nw r → length (map float (r .numbers)) ≡ nn
+pub numbers-count : {nn nw : ℕ} (r : ListedRow) → Fits nn nw r → length (map float (r .numbers)) ≡ nn
 numbers-count r o = length-map (r .numbers) float ∙ o .number-count
 
 pub length-flat : {A B : Type 0} (f : A → List B) (w : ℕ) (l : List A) → All (λ a. length (f a) ≡ w) l → length (flat f l) ≡ length l * w

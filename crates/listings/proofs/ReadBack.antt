@@ -29,7 +29,7 @@ use Rattle.tables.specs.Counted.{firstRows, overRows, rowsFor}
 use Rattle.steps.specs.Rows.{Room}
 use Rattle.steps.proofs.Rows.{room-of-rows, exact-firstRows, same-firstRows, holds-same, room-firstRows, same-overRows, room-overRows}
 use Rattle.mesh_lines.specs.Grammar.{flat}
-use Rattle.listings.specs.Printing.{Row, Rows, All, FitPoint, FitEdge, FitFace, FitRows}
+use Rattle.listings.specs.Printing.{ListedRow, ListedRows, All, FitPoint, FitEdge, FitFace, FitRows}
 use Rattle.listings.specs.Handing.{upTo, bitsOf, pointLineRow, edgeLineRow, faceLineRow, listingRows, listedCounts, numbersIn, wordsIn, withListing, passesAudit}
 use Rattle.listings.specs.Claims.{Held}
 use Rattle.listings.proofs.Parts.{flat-append, flat-one, cells, part-cells}
@@ -116,7 +116,7 @@ module _ (m : Mesh) (c : Counts) (h : Held m) where
       λ i. record { points = p i; edges = e i; faces = f i }
 
 -- what rows of w elements put side by side are
-rows-part : {B : Type 0} (d : B) (G : Row → List B) (g : ℕ → Row) (xs : List B) (w : ℕ) → ((p : ℕ) → G (g p) ≡ cells d xs (p * w) w)
+rows-part : {B : Type 0} (d : B) (G : ListedRow → List B) (g : ℕ → ListedRow) (xs : List B) (w : ℕ) → ((p : ℕ) → G (g p) ≡ cells d xs (p * w) w)
     → (n : ℕ) → n * w ≤ length xs → flat G (upTo n g) ≡ take (n * w) xs
 unfolding upTo flat
 rows-part d G g xs w e zero h = let z : 0 * w ≡ 0 = omega arith in rw z
@@ -138,7 +138,7 @@ module _ (m m′ : Mesh) (c : Counts) (h : Held m) (r : Room c m) (r′ : Room c
   number-again : (v : Float) → T (fits binary64 v) → float (bitsOf v) ≡ v
   number-again v k = ofBits-toBits binary64 v k
 
-  table : {B : Type 0} (d : B) (G : Row → List B) (g : ℕ → Row) (xs xs′ : List B) (w n : ℕ) → ((p : ℕ) → G (g p) ≡ cells d xs (p * w) w) → n * w ≤ length xs
+  table : {B : Type 0} (d : B) (G : ListedRow → List B) (g : ℕ → ListedRow) (xs xs′ : List B) (w n : ℕ) → ((p : ℕ) → G (g p) ≡ cells d xs (p * w) w) → n * w ≤ length xs
       → n * w ≤ length xs′ → sets xs′ 0 (flat G (upTo n g)) ≡ over (n * w) (take (n * w) xs) xs′
   table d G g xs xs′ w n e k k′ =
       ap (sets xs′ 0) (rows-part d G g xs w e n k) ∙ sets-over (n * w) (take (n * w) xs) xs′ (length-take-le (n * w) xs k) k′

@@ -18,7 +18,7 @@ use Rattle.text_numbers.proofs.Laws.{and-both, onward-found}
 use Rattle.text_numbers.proofs.Turns.{literal-found}
 use Rattle.mesh_lines.specs.Grammar.{flat}
 use Rattle.mesh_text.specs.Text.{ends}
-use Rattle.listings.specs.Printing.{Row, Rows, FitRows, FitPoint, FitEdge, FitFace, pointLine, edgeLine, faceLine, printed}
+use Rattle.listings.specs.Printing.{ListedRow, ListedRows, FitRows, FitPoint, FitEdge, FitFace, pointLine, edgeLine, faceLine, printed}
 use Rattle.listings.specs.Grammar.{pointRowForm, edgeRowForm, faceRowForm, rows, listing}
 use Rattle.listings.proofs.Exact.{NoDigit, Leads, stands-both, stands-parts, stands-at, first-stands, literal-stands, sound-many, complete-many}
 use Rattle.listings.proofs.Lines.{pointFields, edgeFields, faceFields, exact-point, exact-edge, exact-face}
@@ -76,23 +76,23 @@ module _ (s : List ℕ) where
   line-leads b t pr at a e = bracket-leads at (first-stands s at 91 ((b ∷ t) ++ pr a) e .0)
 
   -- what stands after the lines of a kind begins another line
-  module _ (n : ℕ) (fs : List Row) where
+  module _ (n : ℕ) (fs : List ListedRow) where
     after-edges : stands s n (flat faceLine fs ++ bytes "[end]\n") ≡ true → NoDigit s n × (stands s n (bytes "[edge") ≡ false)
     unfolding flat stands
     after-edges e = go fs e
       where
-        go : (fs : List Row) → stands s n (flat faceLine fs ++ bytes "[end]\n") ≡ true → NoDigit s n × (stands s n (bytes "[edge") ≡ false)
+        go : (fs : List ListedRow) → stands s n (flat faceLine fs ++ bytes "[end]\n") ≡ true → NoDigit s n × (stands s n (bytes "[edge") ≡ false)
         go [] e = let (e0, e1, e2) = head n 91 101 110 (100 ∷ 93 ∷ 10 ∷ []) e in (bracket-leads n e0, rw (e0, e1, e2))
         go (f ∷ fs) e =
             let (h, r) = stands-parts s (bytes "[face") (faceFields f) n (stands-parts s (faceLine f) (flat faceLine fs) n (stands-parts s (flat faceLine (f ∷ fs)) (bytes "[end]\n") n e .0) .0) in
             let (e0, e1, e2) = head n 91 102 97 (99 ∷ 101 ∷ []) h in
             (bracket-leads n e0, rw (e0, e1))
 
-    after-points : (es : List Row) → stands s n (flat edgeLine es ++ (flat faceLine fs ++ bytes "[end]\n")) ≡ true → NoDigit s n × (stands s n (bytes "[point") ≡ false)
+    after-points : (es : List ListedRow) → stands s n (flat edgeLine es ++ (flat faceLine fs ++ bytes "[end]\n")) ≡ true → NoDigit s n × (stands s n (bytes "[point") ≡ false)
     unfolding flat stands
     after-points [] e = go fs e
       where
-        go : (fs : List Row) → stands s n (flat faceLine fs ++ bytes "[end]\n") ≡ true → NoDigit s n × (stands s n (bytes "[point") ≡ false)
+        go : (fs : List ListedRow) → stands s n (flat faceLine fs ++ bytes "[end]\n") ≡ true → NoDigit s n × (stands s n (bytes "[point") ≡ false)
         go [] e = let (e0, e1, e2) = head n 91 101 110 (100 ∷ 93 ∷ 10 ∷ []) e in (bracket-leads n e0, rw (e0, e1))
         go (f ∷ fs) e =
             let (h, r) = stands-parts s (bytes "[face") (faceFields f) n (stands-parts s (faceLine f) (flat faceLine fs) n (stands-parts s (flat faceLine (f ∷ fs)) (bytes "[end]\n") n e .0) .0) in
@@ -121,7 +121,7 @@ module _ (s : List ℕ) where
   ends-of-end n a e = rw (a, eq-eqb (n + 6) (length s) e)
 
   -- the parts of a listing, one after the other
-  parts-print : (ps es fs : List Row) (i j k : ℕ) → stands s 0 (bytes "[mesh 3]\n") ≡ true
+  parts-print : (ps es fs : List ListedRow) (i j k : ℕ) → stands s 0 (bytes "[mesh 3]\n") ≡ true
       → (stands s 9 (flat pointLine ps) ≡ true) × (i ≡ 9 + length (flat pointLine ps))
       → (stands s i (flat edgeLine es) ≡ true) × (j ≡ i + length (flat edgeLine es))
       → (stands s j (flat faceLine fs) ≡ true) × (k ≡ j + length (flat faceLine fs))
@@ -138,7 +138,7 @@ module _ (s : List ℕ) where
       (stands-both s (bytes "[mesh 3]\n") (flat pointLine ps ++ (flat edgeLine es ++ (flat faceLine fs ++ bytes "[end]\n"))) 0 h p)
       (omega arith)
 
-  pub printed-of-listing : (t : Rows) (n : ℕ) → listing s ≡ parsed t n → FitRows t × (s ≡ printed t)
+  pub printed-of-listing : (t : ListedRows) (n : ℕ) → listing s ≡ parsed t n → FitRows t × (s ≡ printed t)
   unfolding listing rows
   printed-of-listing t n e =
       let (z, m, ez, e1) = onward-found _ (literal s (bytes "[mesh 3]\n") 0) e in
@@ -154,19 +154,19 @@ module _ (s : List ℕ) where
       parts-print ps es fs i j k st (stands-at s (flat pointLine ps) em sp, moved m i ps em ip) (se, je) (sf, kf) (end-of-ends k en) in
       same (record { points = ps; edges = es; faces = fs }) et (record { points-fit = fp; edges-fit = fe; faces-fit = ff }) all
     where
-      moved : (m i : ℕ) (ps : List Row) → m ≡ 9 → i ≡ m + length (flat pointLine ps) → i ≡ 9 + length (flat pointLine ps)
+      moved : (m i : ℕ) (ps : List ListedRow) → m ≡ 9 → i ≡ m + length (flat pointLine ps) → i ≡ 9 + length (flat pointLine ps)
       moved m i ps em ip = omega arith
 
-      ended : (ps es fs : List Row) (k : ℕ) (b : Bool) → ends s k ≡ b
+      ended : (ps es fs : List ListedRow) (k : ℕ) (b : Bool) → ends s k ≡ b
           → choose b (pure (record { points = ps; edges = es; faces = fs })) (λ v. unparsed) k ≡ parsed t n
           → (ends s k ≡ true) × (record { points = ps; edges = es; faces = fs } ≡ t)
       ended ps es fs k true eb g = (eb, cc)
       ended ps es fs k false eb g = let z : _≡_ {A = ℕ} 0 1 = cc in absurd (omega arith)
 
-      same : (r : Rows) → r ≡ t → FitRows r → s ≡ printed r → FitRows t × (s ≡ printed t)
+      same : (r : ListedRows) → r ≡ t → FitRows r → s ≡ printed r → FitRows t × (s ≡ printed t)
       same r er f e = (rw er at f, rw er at e)
 
-pub listing-at : (s : List ℕ) (t : Rows) → FitRows t → s ≡ printed t → (n : ℕ) × (listing s ≡ parsed t n)
+pub listing-at : (s : List ℕ) (t : ListedRows) → FitRows t → s ≡ printed t → (n : ℕ) × (listing s ≡ parsed t n)
 unfolding listing rows
 listing-at s t f es =
     let ps = t .points in

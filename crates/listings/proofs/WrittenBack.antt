@@ -20,7 +20,7 @@ use Rattle.audited_meshes.specs.Audited.{Audited}
 use Rattle.intervals.proofs.Laws.{finite-number}
 use Rattle.steps.specs.Rows.{Room}
 use Rattle.mesh_lines.specs.Grammar.{flat}
-use Rattle.listings.specs.Printing.{Row, Rows, All, FitPoint, FitEdge, FitFace, FitRows}
+use Rattle.listings.specs.Printing.{ListedRow, ListedRows, All, FitPoint, FitEdge, FitFace, FitRows}
 use Rattle.listings.specs.Handing.{upTo, bitsOf, pointLineRow, edgeLineRow, faceLineRow, listingRows, listedCounts, withListing}
 use Rattle.listings.proofs.Parts.{all-to, numbers-count, length-flat, cells, part-cells}
 use Rattle.listings.proofs.ReadBack.{length-upTo, finite-fit}
@@ -51,11 +51,11 @@ sets-front : {B : Type 0} (xs vs : List B) (i : ℕ) (d : B) → length vs ≤ l
 sets-front xs vs i d h k =
     ap (λ l. getD l i d) (sets-eq vs xs 0 (omega arith)) ∙ List·getD-append vs (drop (0 + length vs) xs) d i k
 
-module _ {B : Type 0} (G : Row → List B) (w : ℕ) (d : B) (r0 : Row) where
-  abbrev Wide : Row → Type 0
+module _ {B : Type 0} (G : ListedRow → List B) (w : ℕ) (d : B) (r0 : ListedRow) where
+  abbrev Wide : ListedRow → Type 0
   Wide r = length (G r) ≡ w
 
-  flat-cell : (l : List Row) → All Wide l → (p j : ℕ) → p < length l → j < w → getD (flat G l) (p * w + j) d ≡ getD (G (getD l p r0)) j d
+  flat-cell : (l : List ListedRow) → All Wide l → (p j : ℕ) → p < length l → j < w → getD (flat G l) (p * w + j) d ≡ getD (G (getD l p r0)) j d
   unfolding flat
   flat-cell [] a p j h k = absurd (omega arith)
   flat-cell (r ∷ l) a zero j h k =
@@ -68,7 +68,7 @@ module _ {B : Type 0} (G : Row → List B) (w : ℕ) (d : B) (r0 : Row) where
       let q : suc p * w + j ≡ length (G r) + (p * w + j) = omega arith in
       ap (λ i. getD (G r ++ flat G l) i d) q ∙ getD-append-add (G r) (flat G l) (p * w + j) d ∙ flat-cell l (a .1) p j (omega arith) k
 
-  wide-at : (l : List Row) → All Wide l → (p : ℕ) → p < length l → length (G (getD l p r0)) ≡ w
+  wide-at : (l : List ListedRow) → All Wide l → (p : ℕ) → p < length l → length (G (getD l p r0)) ≡ w
   wide-at [] a p h = absurd (omega arith)
   wide-at (r ∷ l) a zero h = a .0
   wide-at (r ∷ l) a (suc p) h = wide-at l (a .1) p (omega arith)
@@ -80,7 +80,7 @@ module _ {B : Type 0} (G : Row → List B) (w : ℕ) (d : B) (r0 : Row) where
       let m : suc p * w ≤ n * w = mul-le-mul-right w h in
       omega arith
 
-  row-again : (xs : List B) (l : List Row) → All Wide l → length l * w ≤ length xs → (p : ℕ) → p < length l
+  row-again : (xs : List B) (l : List ListedRow) → All Wide l → length l * w ≤ length xs → (p : ℕ) → p < length l
       → cells d (sets xs 0 (flat G l)) (p * w) w ≡ G (getD l p r0)
   row-again xs l a h p k =
       let ys = sets xs 0 (flat G l) in
@@ -109,10 +109,10 @@ all-at P d [] a p h = absurd (omega arith)
 all-at P d (x ∷ l) a zero h = a .0
 all-at P d (x ∷ l) a (suc p) h = all-at P d l (a .1) p (omega arith)
 
-none : Row
+none : ListedRow
 none = record { numbers = []; words = [] }
 
-module _ (t : Rows) (m : Mesh) (f : FitRows t) (r : Room (listedCounts t) m) (a : Audited (withListing t m) (length (t .points)) (length (t .edges)) (length (t .faces))) where
+module _ (t : ListedRows) (m : Mesh) (f : FitRows t) (r : Room (listedCounts t) m) (a : Audited (withListing t m) (length (t .points)) (length (t .edges)) (length (t .faces))) where
   point-again : (p : ℕ) → p < length (t .points) → pointLineRow (withListing t m) p ≡ getD (t .points) p none
   point-again p h =
       let l = t .points in

@@ -19,21 +19,21 @@ use Rattle.tables.specs.declared.Counts.{Counts}
 use Rattle.tables.specs.Counted.{rowsFor, firstRows, overRows}
 use Rattle.steps.specs.Step.{withinCeilings}
 use Rattle.text_numbers.specs.Form.{parsed}
-use Rattle.listings.specs.Printing.{Rows, FitRows, printed}
+use Rattle.listings.specs.Printing.{ListedRows, FitRows, printed}
 use Rattle.listings.specs.Grammar.{listing}
 use Rattle.listings.specs.Handing.{listingOf, listedCounts, withListing, passesAudit, readRows, readListing}
 use Rattle.listings.specs.declared.Reading.the-variants as Reading
 
 abbrev pub Listing-exactly : Type 0
-Listing-exactly = (s : List ℕ) (t : Rows) → ((n : ℕ) × (listing s ≡ parsed t n)) ↔ (FitRows t × (s ≡ printed t))
+Listing-exactly = (s : List ℕ) (t : ListedRows) → ((n : ℕ) × (listing s ≡ parsed t n)) ↔ (FitRows t × (s ≡ printed t))
 
 abbrev pub Not-listing-exactly : Type 0
 Not-listing-exactly =
-    (s : List ℕ) (m : Mesh) → (readListing s m .answer ≡ Reading.NotListing) ↔ ((t : Rows) → FitRows t → s ≡ printed t → ⊥)
+    (s : List ℕ) (m : Mesh) → (readListing s m .answer ≡ Reading.NotListing) ↔ ((t : ListedRows) → FitRows t → s ≡ printed t → ⊥)
 
 abbrev pub Reads-rows : Type 0
 Reads-rows =
-    (t : Rows) (m : Mesh) → FitRows t →
+    (t : ListedRows) (m : Mesh) → FitRows t →
     readListing (printed t) m
     ≡ readRows (withinCeilings (listedCounts t)) (rowsFor (listedCounts t) m) (passesAudit (withListing t m) (listedCounts t)) t m
 

@@ -11,14 +11,14 @@ use Rattle.text_numbers.specs.Form.{bytes, Parsed, unparsed, Form, _>>=_, _>>_,
 use Rattle.text_numbers.specs.Numbers.{decimal}
 use Rattle.mesh_lines.specs.Grammar.{coordinateForm}
 use Rattle.mesh_text.specs.Text.{ends}
-use Rattle.listings.specs.Printing.{Row, Rows, last}
+use Rattle.listings.specs.Printing.{ListedRow, ListedRows, last}
 
 module _ (s : List ℕ) where
   unfoldable pub wordForm : Form ℕ
   wordForm = literal s (bytes " ") >> decimal s
 
   -- after `[point`; the last word, the mark, is 0 or 1
-  unfoldable pub pointRowForm : Form Row
+  unfoldable pub pointRowForm : Form ListedRow
   pointRowForm = do
     xs ← times 3 (coordinateForm s)
     ws ← times 3 wordForm
@@ -26,7 +26,7 @@ module _ (s : List ℕ) where
     pure (record { numbers = xs; words = ws })
 
   -- after `[edge`
-  unfoldable pub edgeRowForm : Form Row
+  unfoldable pub edgeRowForm : Form ListedRow
   edgeRowForm = do
     ws ← times 8 wordForm
     xs ← times 1 (coordinateForm s)
@@ -34,13 +34,13 @@ module _ (s : List ℕ) where
     pure (record { numbers = xs; words = ws })
 
   -- after `[face`
-  unfoldable pub faceRowForm : Form Row
+  unfoldable pub faceRowForm : Form ListedRow
   faceRowForm = do
     ws ← times 5 wordForm
     literal s (bytes "]\n")
     pure (record { numbers = []; words = ws })
 
-  unfoldable pub rows : Form Rows
+  unfoldable pub rows : Form ListedRows
   rows = do
     literal s (bytes "[mesh 3]\n")
     ps ← many s (bytes "[point") pointRowForm (length s)
@@ -48,5 +48,5 @@ module _ (s : List ℕ) where
     fs ← many s (bytes "[face") faceRowForm (length s)
     λ at. choose (ends s at) (pure (record { points = ps; edges = es; faces = fs })) (λ n. unparsed) at
 
-  unfoldable pub listing : Parsed Rows
+  unfoldable pub listing : Parsed ListedRows
   listing = rows 0

@@ -27,7 +27,7 @@ use Rattle.listings.specs.declared.Writing.{Writing}
 use Rattle.listings.specs.declared.Writing.the-variants as Writing
 use Rattle.listings.specs.declared.Reading.{Reading}
 use Rattle.listings.specs.declared.Reading.the-variants as Reading
-use Rattle.listings.specs.Printing.{Row, Rows, printed}
+use Rattle.listings.specs.Printing.{ListedRow, ListedRows, printed}
 use Rattle.listings.specs.Grammar.{listing}
 
 unfoldable pub upTo : {A : Type 0} → ℕ → (ℕ → A) → List A
@@ -37,13 +37,13 @@ upTo (suc n) f = upTo n f ++ (f n ∷ [])
 abbrev pub bitsOf : Float → ℕ
 bitsOf v = toBits binary64 v
 
-abbrev pub pointLineRow : Mesh → ℕ → Row
+abbrev pub pointLineRow : Mesh → ℕ → ListedRow
 pointLineRow m p = record {
   numbers = bitsOf (x m p) ∷ bitsOf (y m p) ∷ bitsOf (z m p) ∷ [];
   words = valence m p ∷ start m p ∷ mark m p ∷ [];
 }
 
-abbrev pub edgeLineRow : Mesh → ℕ → Row
+abbrev pub edgeLineRow : Mesh → ℕ → ListedRow
 edgeLineRow m e = record {
   numbers = bitsOf (interval m e) ∷ [];
   words =
@@ -51,13 +51,13 @@ edgeLineRow m e = record {
       ∷ leftCw m e ∷ leftAcw m e ∷ rightCw m e ∷ rightAcw m e ∷ [];
 }
 
-abbrev pub faceLineRow : Mesh → ℕ → Row
+abbrev pub faceLineRow : Mesh → ℕ → ListedRow
 faceLineRow m f = record {
   numbers = [];
   words = faceStart m f ∷ corner m f 0 ∷ corner m f 1 ∷ corner m f 2 ∷ corner m f 3 ∷ [];
 }
 
-abbrev pub listingRows : Mesh → Counts → Rows
+abbrev pub listingRows : Mesh → Counts → ListedRows
 listingRows m c = record {
   points = upTo (c .points) (pointLineRow m);
   edges = upTo (c .edges) (edgeLineRow m);
@@ -67,16 +67,16 @@ listingRows m c = record {
 abbrev pub listingOf : Mesh → Counts → List ℕ
 listingOf m c = printed (listingRows m c)
 
-abbrev pub listedCounts : Rows → Counts
+abbrev pub listedCounts : ListedRows → Counts
 listedCounts t = record { points = length (t .points); edges = length (t .edges); faces = length (t .faces) }
 
-abbrev pub numbersIn : List Row → List Float
-numbersIn rs = flat (λ (r : Row). map float (r .numbers)) rs
+abbrev pub numbersIn : List ListedRow → List Float
+numbersIn rs = flat (λ (r : ListedRow). map float (r .numbers)) rs
 
-abbrev pub wordsIn : List Row → List ℕ
-wordsIn rs = flat (λ (r : Row). r .words) rs
+abbrev pub wordsIn : List ListedRow → List ℕ
+wordsIn rs = flat (λ (r : ListedRow). r .words) rs
 
-abbrev pub withListing : Rows → Mesh → Mesh
+abbrev pub withListing : ListedRows → Mesh → Mesh
 withListing t m = record {
   positions = sets (m .positions) 0 (numbersIn (t .points));
   points = sets (m .points) 0 (wordsIn (t .points));
@@ -109,14 +109,14 @@ pub record ReadingOutcome : Type 0 where
   pub tables : Mesh
 
 -- by whether the rows are within the ceilings, whether the tables have room for them, and whether they pass the audit there
-abbrev pub readRows : Bool → Bool → Bool → Rows → Mesh → ReadingOutcome
+abbrev pub readRows : Bool → Bool → Bool → ListedRows → Mesh → ReadingOutcome
 readRows false room closed t m = record { answer = Reading.OverCeilings; tables = m }
 readRows true false closed t m = record { answer = Reading.NoRoom; tables = m }
 readRows true true false t m = record { answer = Reading.NotClosed; tables = zeroedRows (listedCounts t) m }
 readRows true true true t m = record { answer = Reading.Read (listedCounts t); tables = withListing t m }
 
 -- the form of the whole text is tested before anything is counted
-unfoldable pub readFound : Parsed Rows → Mesh → ReadingOutcome
+unfoldable pub readFound : Parsed ListedRows → Mesh → ReadingOutcome
 readFound x m =
     ifParsed (λ t n. readRows (withinCeilings (listedCounts t)) (rowsFor (listedCounts t) m) (passesAudit (withListing t m) (listedCounts t)) t m)
     (record { answer = Reading.NotListing; tables = m })

@@ -24,8 +24,8 @@ use Rattle.refined_meshes.specs.State.{State, stateOf, withPositions, copied}
 use Rattle.refined_meshes.specs.Fits.{RoomFor}
 use Rattle.refined_meshes.specs.Refines.{Refines}
 use Rattle.refined_meshes.specs.Visits.{refinedRows}
-use Rattle.refined_meshes.specs.Starts.{settledStarts, pointsIn}
-use Rattle.refined_meshes.specs.Settled.{neighbourAt, intervalsIn, settled, settledRows}
+use Rattle.refined_meshes.specs.Starts.{settledStarts, pointsOfEdition}
+use Rattle.refined_meshes.specs.Settled.{neighbourAt, intervalsOfEdition, settled, settledRows}
 use Rattle.refined_meshes.proofs.Refines.{first-refines}
 use Rattle.refined_meshes.proofs.Fits.{all-taken}
 use Rattle.refined_meshes.proofs.Starts.{joins-below}
@@ -221,8 +221,8 @@ module _ (m : Mesh) (c : Counts) (order : List ℕ) (t : Mesh) (ready : Ready m 
 -- The visits made the rows s, the intervals js and the points qs were settled, and the loops over the points came so far.
 pub made-of-parts : (ed : Edition) (m : Mesh) (c : Counts) (order : List ℕ) (t : Mesh) (s : State) (js : List Float) (qs : List ℕ) (r : Bool) (ps : List Float)
     → s ≡ refinedRows m (c .points) (c .edges) (c .faces) order t
-    → js ≡ intervalsIn ed (edgeTables (m .edges) (m .intervals)) (c .edges) (edgeRowsOf (s .edges) (s .intervals))
-    → qs ≡ pointsIn ed (meshOf [] (m .points) (m .edges) [] (m .faces)) (c .points) (c .edges) (c .faces) (stateOf (s .points) (s .edges) [] (s .faces) 0 0 0)
+    → js ≡ intervalsOfEdition ed (edgeTables (m .edges) (m .intervals)) (c .edges) (edgeRowsOf (s .edges) (s .intervals))
+    → qs ≡ pointsOfEdition ed (meshOf [] (m .points) (m .edges) [] (m .faces)) (c .points) (c .edges) (c .faces) (stateOf (s .points) (s .edges) [] (s .faces) 0 0 0)
     → placedAll ed m c (refinedTables (s .edges) (s .faces)) (t .positions) ≡ came r ps
     → made ed m c order t ≡ madeAs r (meshOf ps qs (s .edges) js (s .faces))
 unfolding made placedRows placedAll settledRows settled settledStarts
@@ -246,14 +246,14 @@ made-of-parts ed m c order t s js qs r ps e i k p =
 
     -- and settling at those of edges and intervals,
     settled-same : (x : Edition)
-        → intervalsIn x m (c .edges) s ≡ intervalsIn x (edgeTables (m .edges) (m .intervals)) (c .edges) (edgeRowsOf (s .edges) (s .intervals))
+        → intervalsOfEdition x m (c .edges) s ≡ intervalsOfEdition x (edgeTables (m .edges) (m .intervals)) (c .edges) (edgeRowsOf (s .edges) (s .intervals))
     settled-same First = refl
     settled-same Second = refl
 
     -- or of points, edges and faces.
     starts-same : (x : Edition)
-        → pointsIn x m (c .points) (c .edges) (c .faces) s
-        ≡ pointsIn x (meshOf [] (m .points) (m .edges) [] (m .faces)) (c .points) (c .edges) (c .faces) (stateOf (s .points) (s .edges) [] (s .faces) 0 0 0)
+        → pointsOfEdition x m (c .points) (c .edges) (c .faces) s
+        ≡ pointsOfEdition x (meshOf [] (m .points) (m .edges) [] (m .faces)) (c .points) (c .edges) (c .faces) (stateOf (s .points) (s .edges) [] (s .faces) 0 0 0)
     starts-same First = refl
     starts-same Second = refl
 

@@ -24,7 +24,7 @@ use Rattle.built_meshes.specs.declared.Version.{Version}
 use Rattle.built_meshes.specs.declared.Version.the-variants.{One, Two}
 use Rattle.built_meshes.specs.declared.Ground.the-variants.{OverCounts, UnfitNumber}
 use Rattle.built_meshes.proofs.Begin.{Counted, counts-is, counts-fail, counted-fits, Numbered, numbers-is, numbers-fail, numbered-fits}
-use Rattle.built_meshes.proofs.Begin.{sides-listed}
+use Rattle.built_meshes.proofs.Begin.{sumTo-fours, sides-listed}
 use Rattle.built_meshes.proofs.Before.{Tests, Triple}
 use Rattle.mended_lists.specs.declared.Mending.the-variants.{Mended, Twisted}
 use Rattle.mended_lists.specs.Reversal.{turnedPoint, turnedInterval, Choice, reversed}
@@ -41,16 +41,8 @@ use Rattle.mended_lists.proofs.Grounds.{noTables, faces-pass, none-met,
 -- ---- lengths
 
 pub sides-sum : (l : Lists) (n : ℕ) → sumTo (n * 4) (λ k. getD (l .sides) k 0) ≡ offset l n
-unfolding offset sumTo
-sides-sum l zero = refl
-sides-sum l (suc n) =
-    let four : suc n * 4 ≡ suc (suc (suc (suc (n * 4)))) = omega arith in
-    let e0 : sideLength l n 0 ≡ getD (l .sides) (n * 4) 0 = ap (λ (k : ℕ). getD (l .sides) k 0) (omega arith) in
-    let e1 : sideLength l n 1 ≡ getD (l .sides) (suc (n * 4)) 0 = ap (λ (k : ℕ). getD (l .sides) k 0) (omega arith) in
-    let e2 : sideLength l n 2 ≡ getD (l .sides) (suc (suc (n * 4))) 0 = ap (λ (k : ℕ). getD (l .sides) k 0) (omega arith) in
-    let e3 : sideLength l n 3 ≡ getD (l .sides) (suc (suc (suc (n * 4)))) 0 = ap (λ (k : ℕ). getD (l .sides) k 0) (omega arith) in
-    let r = sides-sum l n in
-    ap (λ (k : ℕ). sumTo k (λ k. getD (l .sides) k 0)) four ∙ omega arith
+unfolding offset
+sides-sum l n = sumTo-fours n (λ k. getD (l .sides) k 0)
 
 -- ---- intervals
 

@@ -3,14 +3,20 @@
 // Not here: face points (`face_points`), edge points (`edge_points`), the rows of the new points (`placing`).
 // Contract: `old_point`. Definitions: `position_rules`, specs/OldPoint.antt.
 ghost use mathlib.Core.Path.{_≡_};
+ghost use mathlib.Core.Bool.{false, cond};
+ghost use Prim.Native.Nat.{_+_, _*_, _≤_};
+ghost use lib.Dec.{eqb};
 ghost use lib.IntN.{pos};
+ghost use lib.ListN.{length};
 ghost use lib.Ieee.{ofInt, binary64};
 ghost use Rattle.positions.specs.Position.{placedAt};
-ghost use Rattle.t_spline.specs.Edge.{commonFace};
+ghost use Rattle.t_spline.specs.Edge.{none, commonFace};
+ghost use Rattle.tables.specs.Layout.{edgeWidth};
 ghost use Rattle.tables.specs.Records.{edgeAt};
 ghost use Rattle.position_rules.specs.OldPoint.{edgeWeight, faceWeight, radialTerms, radialSum, moved, oldPoint};
 ghost use Rattle.position_rules.specs.Places.{edgePointAt, facePointAt};
 ghost use Rattle.position_rules.specs.Fits.{EdgeFits, RadialFits, OldPointFits};
+ghost use Rattle.old_points.specs.Sides.{hasFace, likelyFace};
 use position_rules::WeightedSum;
 use position_rules::intervals::a1;
 use position_rules::intervals::a2;
@@ -24,6 +30,9 @@ use positions::Position;
 use positions::is_small;
 use records::load_edge;
 use records::load_point;
+use t_spline::NONE;
+use tables::EDGE_WIDTH;
+use tables::LEFT_FACE_WORD;
 use tables::index;
 
 // 0.5 (A1 + C1) (A2 + C2) of edge r about p.
@@ -45,12 +54,55 @@ fn face_weight(edges: &[u32], intervals: &[f64], p: usize, r: usize, next: usize
     a1(edges, intervals, p, r) * c1(edges, intervals, p, next)
 }
 
+// 0 if the test holds, else 1.
+fn number_of(test: bool) -> usize
+    ensures { λ s. ⌜ s ≡ cond test 0 1 ⌝ }
+{
+    if test { 0 } else { 1 }
+}
+
+// Whether edge e has the face f on a side. The side is a number, so that no branch depends on it.
+fn has_face(edges: &[u32], e: usize, f: u32) -> bool
+    requires { ⌜ e * edgeWidth + edgeWidth ≤ length (now edges) ⌝ }
+    ensures { λ r. ⌜ r ≡ hasFace (now (edges .entry)) e f ⌝ }
+{
+    let b = e * EDGE_WIDTH + LEFT_FACE_WORD;
+    let s = number_of(f == edges[b]);
+    f == edges[b + s]
+}
+
+// The left face of edge r if the next edge has it, else the right one.
+fn likely_face(edges: &[u32], r: usize, next: usize) -> u32
+    requires { ⌜ r * edgeWidth + edgeWidth ≤ length (now edges) ⌝ }
+    requires { ⌜ next * edgeWidth + edgeWidth ≤ length (now edges) ⌝ }
+    ensures { λ f. ⌜ f ≡ likelyFace (now (edges .entry)) r next ⌝ }
+{
+    let b = r * EDGE_WIDTH + LEFT_FACE_WORD;
+    let s = number_of(has_face(edges, next, edges[b]));
+    edges[b + s]
+}
+
+// Whether f is a face, and edge e has it.
+fn borders(edges: &[u32], e: usize, f: u32) -> bool
+    requires { ⌜ e * edgeWidth + edgeWidth ≤ length (now edges) ⌝ }
+    ensures { λ r. ⌜ r ≡ cond (eqb f none) false (hasFace (now (edges .entry)) e f) ⌝ }
+{
+    if f == NONE {
+        return false;
+    }
+    has_face(edges, e, f)
+}
+
 // The face that edge r has in common with the next edge.
 fn face_between(edges: &[u32], intervals: &[f64], r: usize, next: usize) -> usize
     requires { ⌜ EdgeFits (now edges) (now intervals) r ⌝ }
     requires { ⌜ EdgeFits (now edges) (now intervals) next ⌝ }
     ensures { λ f. ⌜ f ≡ commonFace (edgeAt (now (edges .entry)) (now (intervals .entry)) r) (edgeAt (now (edges .entry)) (now (intervals .entry)) next) ⌝ }
 {
+    let f = likely_face(edges, r, next);
+    if borders(edges, next, f) {
+        return index(f);
+    }
     index(load_edge(edges, intervals, r).common_face(load_edge(edges, intervals, next)))
 }
 

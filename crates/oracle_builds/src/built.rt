@@ -8,7 +8,7 @@ use building_tests::Bounds;
 use built_meshes::Built;
 use built_meshes::Version;
 use mesh_text::read_text;
-use oracle_tables::fields::least;
+use oracle_tables::fields::at_most;
 use oracle_tables::held::Lent;
 use oracle_tables::held::Tables;
 use oracle_tables::held::filled;
@@ -63,11 +63,11 @@ fn build_lent(
     intervals: &mut [f64],
     faces: &mut [u32],
 ) -> Answer {
-    let a = least(lent.positions, positions.len());
-    let b = least(lent.points, points.len());
-    let c = least(lent.edges, edges.len());
-    let d = least(lent.intervals, intervals.len());
-    let e = least(lent.faces, faces.len());
+    let a = at_most(lent.positions, positions.len());
+    let b = at_most(lent.points, points.len());
+    let c = at_most(lent.edges, edges.len());
+    let d = at_most(lent.intervals, intervals.len());
+    let e = at_most(lent.faces, faces.len());
     let built = build_text(
         text,
         bounds,
@@ -122,10 +122,10 @@ pub fn build_lists(
     faces: &mut [u32],
     bounds: Bounds,
 ) -> Answer {
-    let a = least(lengths.coordinates, coordinates.len());
-    let b = least(lengths.sides, sides.len());
-    let c = least(lengths.listed, listed.len());
-    let d = least(lengths.beside, beside.len());
+    let a = at_most(lengths.coordinates, coordinates.len());
+    let b = at_most(lengths.sides, sides.len());
+    let c = at_most(lengths.listed, listed.len());
+    let d = at_most(lengths.beside, beside.len());
     let firsts = [0u32; 0];
     match build(
         Version::One,

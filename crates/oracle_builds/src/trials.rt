@@ -8,7 +8,7 @@ use crate::built::build_bytes;
 use crate::built::build_lists;
 use building_tests::Bounds;
 use libc::STDOUT_FILENO;
-use oracle_tables::fields::least;
+use oracle_tables::fields::at_most;
 use oracle_tables::held::Lent;
 use oracle_tables::held::NUMBER;
 use oracle_tables::held::WORD;
@@ -87,7 +87,7 @@ fn count_changes_in(text: &mut [u8], byte: u8) -> usize {
 fn copy_bytes(text: &[u8], copied: &mut [u8]) -> usize
     ensures { λ r. ⌜ (r ≤ length (now (copied .entry))) × (length (now (copied .exit)) ≡ length (now (copied .entry))) ⌝ }
 {
-    let n = least(text.len(), copied.len());
+    let n = at_most(text.len(), copied.len());
     let mut i = 0;
     while i < n {
         copied[i] = text[i];
@@ -129,8 +129,8 @@ fn build_zeros(
     let ds = [0.0f64; 16400];
     ls[0] = listed;
     let lengths = Lengths {
-        coordinates: least(np, 4100) * POSITION_WIDTH,
-        sides: least(nf, 4100) * 4,
+        coordinates: at_most(np, 4100) * POSITION_WIDTH,
+        sides: at_most(nf, 4100) * 4,
         listed: listed as usize,
         beside: listed as usize,
     };

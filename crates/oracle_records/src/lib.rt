@@ -30,8 +30,8 @@ use oracle_builds::trials::tell_tried;
 use oracle_builds::trials::tell_zeros;
 use oracle_steps::Stage;
 use oracle_steps::tell_steps;
+use oracle_tables::fields::at_most;
 use oracle_tables::fields::field;
-use oracle_tables::fields::least;
 use oracle_tables::fields::word;
 use oracle_tables::held::Tables;
 use oracle_tables::held::lent_by;
@@ -168,7 +168,7 @@ pub fn tell(bytes: &[u8])
     let head = LABEL_BYTES;
     io::write_all(STDOUT_FILENO, &bytes[..head]);
     io::write_all(STDOUT_FILENO, b"\n");
-    let n = least(field(bytes, head, 1), bytes.len() - HEAD_BYTES);
+    let n = at_most(field(bytes, head, 1), bytes.len() - HEAD_BYTES);
     let more = HEAD_BYTES + n;
     tell_kind(bytes, head, &bytes[HEAD_BYTES..more], more);
 }

@@ -5,9 +5,9 @@ ghost use mathlib.Core.Path.{_≡_};
 ghost use Prim.Native.Nat.{_+_, _≤_};
 ghost use lib.ListN.{length};
 use answer_numbers::step_number;
+use oracle_tables::fields::at_most;
 use oracle_tables::fields::cut;
 use oracle_tables::fields::field;
-use oracle_tables::fields::least;
 use oracle_tables::fields::word;
 use oracle_tables::held::Lent;
 use oracle_tables::held::Tables;
@@ -94,16 +94,16 @@ fn step_lent(
     newintervals: &mut [f64],
     newfaces: &mut [u32],
 ) -> Stepped {
-    let a = least(held.positions, positions.len());
-    let b = least(held.points, points.len());
-    let c = least(held.edges, edges.len());
-    let d = least(held.intervals, intervals.len());
-    let e = least(held.faces, faces.len());
-    let f = least(scratch.positions, newpositions.len());
-    let g = least(scratch.points, newpoints.len());
-    let h = least(scratch.edges, newedges.len());
-    let i = least(scratch.intervals, newintervals.len());
-    let j = least(scratch.faces, newfaces.len());
+    let a = at_most(held.positions, positions.len());
+    let b = at_most(held.points, points.len());
+    let c = at_most(held.edges, edges.len());
+    let d = at_most(held.intervals, intervals.len());
+    let e = at_most(held.faces, faces.len());
+    let f = at_most(scratch.positions, newpositions.len());
+    let g = at_most(scratch.points, newpoints.len());
+    let h = at_most(scratch.edges, newedges.len());
+    let i = at_most(scratch.intervals, newintervals.len());
+    let j = at_most(scratch.faces, newfaces.len());
     step(
         &mut positions[..a],
         &mut points[..b],
@@ -211,7 +211,7 @@ fn order_length(bytes: &[u8], listed: bool, at: usize, faces: usize) -> usize
     if listed {
         return cut(bytes, at, 1, 400);
     }
-    least(faces, 400)
+    at_most(faces, 400)
 }
 
 // The edition of the next step: the first, or, if orders are listed, the one that the number at a place says.

@@ -2,11 +2,11 @@
 ghost use mathlib.Core.Path.{_≡_};
 ghost use Prim.Native.Nat.{_≤_, _<_};
 
-// The least of two numbers.
-pub fn least(a: usize, b: usize) -> usize
-    ensures { λ r. ⌜ (r ≤ a) × (r ≤ b) ⌝ }
+// A number, or the most that is allowed if it is over that.
+pub fn at_most(n: usize, most: usize) -> usize
+    ensures { λ r. ⌜ (r ≤ n) × (r ≤ most) ⌝ }
 {
-    if a < b { a } else { b }
+    if n < most { n } else { most }
 }
 
 // A byte as a number.
@@ -74,5 +74,5 @@ pub fn cut(bytes: &[u8], at: usize, k: usize, most: usize) -> usize
     requires { ⌜ k ≤ 65536 ⌝ }
     ensures { λ r. ⌜ r ≤ most ⌝ }
 {
-    least(field(bytes, at, k), most)
+    at_most(field(bytes, at, k), most)
 }

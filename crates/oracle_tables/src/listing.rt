@@ -2,7 +2,7 @@
 // It goes to the output, or its bytes are read as the digits of a number and only a remainder of that is written.
 ghost use mathlib.Core.Path.{_≡_};
 ghost use Prim.Native.Nat.{_≤_, _<_};
-use crate::fields::least;
+use crate::fields::at_most;
 use crate::fields::wide;
 use crate::held::Tables;
 use libc::STDOUT_FILENO;
@@ -129,7 +129,7 @@ fn put_face(s: Sink, faces: &[u32], f: usize) -> Sink
 
 // The lines of so many points.
 fn put_points(s: Sink, positions: &[f64], points: &[u32], n: usize) -> Sink {
-    let most = least(n, 65536);
+    let most = at_most(n, 65536);
     let mut s = s;
     let mut p = 0;
     while p < most {
@@ -141,7 +141,7 @@ fn put_points(s: Sink, positions: &[f64], points: &[u32], n: usize) -> Sink {
 
 // The lines of so many edges.
 fn put_edges(s: Sink, edges: &[u32], intervals: &[f64], n: usize) -> Sink {
-    let most = least(n, 65536);
+    let most = at_most(n, 65536);
     let mut s = s;
     let mut e = 0;
     while e < most {
@@ -153,7 +153,7 @@ fn put_edges(s: Sink, edges: &[u32], intervals: &[f64], n: usize) -> Sink {
 
 // The lines of so many faces.
 fn put_faces(s: Sink, faces: &[u32], n: usize) -> Sink {
-    let most = least(n, 65536);
+    let most = at_most(n, 65536);
     let mut s = s;
     let mut f = 0;
     while f < most {

@@ -3,7 +3,7 @@ ghost use mathlib.Core.Path.{_≡_};
 ghost use Prim.Native.Nat.{_≤_, _-_};
 ghost use lib.ListN.{length, drop};
 ghost use Rattle.oracle_tables.specs.Kept.{keptWords, keptNumbers, kept};
-use crate::fields::least;
+use crate::fields::at_most;
 use crate::held::NUMBER;
 use crate::held::Tables;
 use crate::held::WORD;
@@ -110,9 +110,9 @@ pub fn tell_slices(
     faces: &[u32],
     counts: Counts,
 ) {
-    let np = least(counts.points, 65536);
-    let ne = least(counts.edges, 65536);
-    let nf = least(counts.faces, 65536);
+    let np = at_most(counts.points, 65536);
+    let ne = at_most(counts.edges, 65536);
+    let nf = at_most(counts.faces, 65536);
     io::write_all(STDOUT_FILENO, head);
     let a = tell_numbers(positions, np * POSITION_WIDTH);
     let b = tell_words(points, np * POINT_WIDTH);

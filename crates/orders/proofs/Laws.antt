@@ -115,19 +115,6 @@ module _ (base : ℕ) (ks : List ℕ) (n : ℕ) (seen : List ℕ) (marks : Marks
       go (no g) (no h) =
           false≢true (sym old ∙ rw (le-ltb (getD ks n 0) base (omega arith), le-ltb (getD ks n 0 - base) window (omega arith)) refl)
 
--- ---- tests of each number below a bound
-
-pub every-more : (i : ℕ) (test : ℕ → Bool) → every i test ≡ true → test i ≡ true → every (i + 1) test ≡ true
-unfolding every
-every-more i test h t = rw (add-one i, h, t)
-
-pub every-fails : (n : ℕ) (test : ℕ → Bool) (i : ℕ) → i < n → test i ≡ false → every n test ≡ false
-every-fails n test i l t = go (every n test) refl
-  where
-    go : (b : Bool) → every n test ≡ b → every n test ≡ false
-    go false e = e
-    go true e = absurd (false≢true (sym t ∙ every-is n (λ k. self-is (test k)) .0 e i l))
-
 -- ---- all windows together
 
 -- Entries below the number of passes times the window are apart if they are so in each window.

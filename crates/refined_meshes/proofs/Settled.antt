@@ -29,7 +29,7 @@ use Rattle.refined_meshes.specs.declared.Edition.the-variants.{First, Se
 use Rattle.refined_meshes.specs.Turns.{turns}
 use Rattle.refined_meshes.specs.State.{State, withPositions, edgeOf}
 use Rattle.refined_meshes.specs.Visits.{refinedRows}
-use Rattle.refined_meshes.specs.Settled.{neighbourAt, quarter, quarterAt, settledSide, settledIntervals, intervalsIn, settled, settledRows}
+use Rattle.refined_meshes.specs.Settled.{neighbourAt, quarter, quarterAt, settledSide, settledIntervals, intervalsOfEdition, settled, settledRows}
 use Rattle.refined_meshes.specs.Refines.{Refines, VisitsRefine}
 use Rattle.refined_meshes.proofs.Turns.{turns-view, turns-other, turns-same}
 use Rattle.refined_meshes.proofs.Refines.{first-refines}
@@ -108,7 +108,7 @@ length-both es is es' n js =
     length-side es is es' rightCwWord rightAcwWord rightCwWord n (settledSide es is es' leftAcwWord leftAcwWord leftCwWord n js)
     ∙ length-side es is es' leftAcwWord leftAcwWord leftCwWord n js
 
-pub length-settled : (ed : Edition) (m : Mesh) (ne : ℕ) (s : State) → length (intervalsIn ed m ne s) ≡ length (s .intervals)
+pub length-settled : (ed : Edition) (m : Mesh) (ne : ℕ) (s : State) → length (intervalsOfEdition ed m ne s) ≡ length (s .intervals)
 length-settled First m ne s = refl
 length-settled Second m ne s = length-both (m .edges) (m .intervals) (s .edges) ne (s .intervals)
 
@@ -117,7 +117,7 @@ module _
     (m : Mesh) (ne : ℕ) (s s' : State) (room : 4 * ne ≤ length (s .intervals)) (room' : 4 * ne ≤ length (s' .intervals))
     (same : (e : ℕ) → e < 4 * ne → edgeOf s' e ≡ edgeOf s e)
   where
-    intervals-alike : (ed : Edition) (e : ℕ) → e < 4 * ne → getD (intervalsIn ed m ne s') e nan ≡ getD (intervalsIn ed m ne s) e nan
+    intervals-alike : (ed : Edition) (e : ℕ) → e < 4 * ne → getD (intervalsOfEdition ed m ne s') e nan ≡ getD (intervalsOfEdition ed m ne s) e nan
     unfolding settledIntervals
     intervals-alike First e l = ap (λ (r : TnurccEdge). r .«knot_interval») (same e l)
     intervals-alike Second e l =

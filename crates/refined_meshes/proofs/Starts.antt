@@ -30,7 +30,7 @@ use Rattle.refined_meshes.specs.declared.Edition.{Edition}
 use Rattle.refined_meshes.specs.declared.Edition.the-variants.{First, Second}
 use Rattle.refined_meshes.specs.Turns.{turns}
 use Rattle.refined_meshes.specs.State.{State, withPositions, edgeOf}
-use Rattle.refined_meshes.specs.Starts.{newHalf, oldStart, centreJoin, startsPut, settledStarts, pointsIn}
+use Rattle.refined_meshes.specs.Starts.{newHalf, oldStart, centreJoin, startsPut, settledStarts, pointsOfEdition}
 use Rattle.refined_meshes.specs.Settled.{settled}
 use Rattle.refined_meshes.specs.Refines.{Refines}
 use Rattle.refined_meshes.proofs.Words.{pointOf, faceOf}
@@ -112,7 +112,7 @@ module _ (m w : Mesh) (np ne nf : ℕ) (ps : List ℕ) where
       ∙ put-other (dest w) (newHalf w) ne olds k (λ i l. h (dest w i))
       ∙ put-other (λ p. p) (oldStart m w) np ps k (λ i l. h i)
 
-pub length-starts : (ed : Edition) (m : Mesh) (np ne nf : ℕ) (s : State) → length (pointsIn ed m np ne nf s) ≡ length (s .points)
+pub length-starts : (ed : Edition) (m : Mesh) (np ne nf : ℕ) (s : State) → length (pointsOfEdition ed m np ne nf s) ≡ length (s .points)
 length-starts First m np ne nf s = refl
 length-starts Second m np ne nf s = length-all m (withPositions [] s) np ne nf (s .points)
 

@@ -9,7 +9,7 @@
 --     settledSide ..           the intervals js with the joining edge in word w of each of the first n rows settled, by the whole
 --                              intervals at the words next and prev
 --     settledIntervals ..      the same for both sides
---     intervalsIn ed m ne s    the intervals in the edition ed, of the rows s that the visits left
+--     intervalsOfEdition ed m ne s    the intervals in the edition ed, of the rows s that the visits left
 --     settled ed m .. s        the rows s settled in the edition ed
 --     settledRows ed ..        the rows of the refined mesh in the edition ed: the visits, and then what is settled
 use mathlib.Core.List.{List}
@@ -23,7 +23,7 @@ use Rattle.refined_meshes.specs.declared.Edition.the-variants.{First, Se
 use Rattle.refined_meshes.specs.Turns.{turns}
 use Rattle.refined_meshes.specs.State.{State, stateOf}
 use Rattle.refined_meshes.specs.Visits.{refinedRows}
-use Rattle.refined_meshes.specs.Starts.{pointsIn}
+use Rattle.refined_meshes.specs.Starts.{pointsOfEdition}
 
 abbrev pub neighbourAt : List ℕ → ℕ → ℕ → ℕ
 neighbourAt es w e = getD es (e * edgeWidth + w) 0
@@ -41,13 +41,13 @@ unfoldable pub settledIntervals : List ℕ → List Float → List ℕ → ℕ �
 settledIntervals es is es' n js =
     settledSide es is es' rightCwWord rightAcwWord rightCwWord n (settledSide es is es' leftAcwWord leftAcwWord leftCwWord n js)
 
-abbrev pub intervalsIn : Edition → Mesh → ℕ → State → List Float
-intervalsIn First m ne s = s .intervals
-intervalsIn Second m ne s = settledIntervals (m .edges) (m .intervals) (s .edges) ne (s .intervals)
+abbrev pub intervalsOfEdition : Edition → Mesh → ℕ → State → List Float
+intervalsOfEdition First m ne s = s .intervals
+intervalsOfEdition Second m ne s = settledIntervals (m .edges) (m .intervals) (s .edges) ne (s .intervals)
 
 unfoldable pub settled : Edition → Mesh → ℕ → ℕ → ℕ → State → State
 settled ed m np ne nf s =
-    stateOf (pointsIn ed m np ne nf s) (s .edges) (intervalsIn ed m ne s) (s .faces) (s .pointsTaken) (s .edgesTaken) (s .facesTaken)
+    stateOf (pointsOfEdition ed m np ne nf s) (s .edges) (intervalsOfEdition ed m ne s) (s .faces) (s .pointsTaken) (s .edgesTaken) (s .facesTaken)
 
 unfoldable pub settledRows : Edition → Mesh → ℕ → ℕ → ℕ → List ℕ → Mesh → State
 settledRows ed m np ne nf order t = settled ed m np ne nf (refinedRows m np ne nf order t)

@@ -7,7 +7,7 @@
 --     centreJoin m w f         the start edge of the face point of f: "the joining edge for its face's old start edge"
 --     startsPut n row edge ps  the start edges edge 0, .., edge (n - 1) stored in the rows row 0, .., row (n - 1) of the points ps
 --     settledStarts ..         all start edges: of old points, of midpoints ("at its destination half"), of face points
---     pointsIn ed ..           the points in the edition ed, of the rows s that the visits left
+--     pointsOfEdition ed ..           the points in the edition ed, of the rows s that the visits left
 use mathlib.Core.Bool.{cond}
 use mathlib.Core.List.{List, []}
 use Prim.Native.Nat.{ℕ, _+_, _*_}
@@ -37,6 +37,6 @@ unfoldable pub settledStarts : Mesh → Mesh → ℕ → ℕ → ℕ → List �
 settledStarts m w np ne nf ps =
     startsPut nf (λ f. corner w f 0) (centreJoin m w) (startsPut ne (dest w) (newHalf w) (startsPut np (λ p. p) (oldStart m w) ps))
 
-abbrev pub pointsIn : Edition → Mesh → ℕ → ℕ → ℕ → State → List ℕ
-pointsIn First m np ne nf s = s .points
-pointsIn Second m np ne nf s = settledStarts m (withPositions [] s) np ne nf (s .points)
+abbrev pub pointsOfEdition : Edition → Mesh → ℕ → ℕ → ℕ → State → List ℕ
+pointsOfEdition First m np ne nf s = s .points
+pointsOfEdition Second m np ne nf s = settledStarts m (withPositions [] s) np ne nf (s .points)

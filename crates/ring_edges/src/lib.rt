@@ -15,7 +15,7 @@ ghost use Rattle.refined_meshes.specs.Turns.{turns};
 ghost use Rattle.refined_meshes.specs.State.{State, putEdge};
 ghost use Rattle.refined_meshes.specs.Ring.{putSide, putJoin, putFirst, putSecond};
 ghost use Rattle.splitting.specs.Scratch.{tablesOf};
-ghost use Rattle.ring_places.specs.Rings.{ring, Small, Rows};
+ghost use Rattle.ring_places.specs.Rings.{ring, Small, EdgesThere};
 use perimeters::next_place;
 use perimeters::prev_place;
 use records::store_edge;
@@ -158,8 +158,8 @@ pub fn put_firsts(
     rows: RingRows,
 )
     requires { ⌜ Small rows ⌝ }
-    requires { ⌜ Rows (now edges) (now perimeter) (rows .size) ⌝ }
-    requires { ⌜ Rows (now newedges) (now firsts) (rows .size) ⌝ }
+    requires { ⌜ EdgesThere (now edges) (now perimeter) (rows .size) ⌝ }
+    requires { ⌜ EdgesThere (now newedges) (now firsts) (rows .size) ⌝ }
     ensures { λ _. ⌜
         ((ms ps fs : List ℕ) (ds is : List Float) (c : Counts) →
         _≡_ {A = State}
@@ -220,8 +220,8 @@ pub fn put_seconds(
     rows: RingRows,
 )
     requires { ⌜ Small rows ⌝ }
-    requires { ⌜ Rows (now edges) (now perimeter) (rows .size) ⌝ }
-    requires { ⌜ Rows (now newedges) (now seconds) (rows .size) ⌝ }
+    requires { ⌜ EdgesThere (now edges) (now perimeter) (rows .size) ⌝ }
+    requires { ⌜ EdgesThere (now newedges) (now seconds) (rows .size) ⌝ }
     ensures { λ _. ⌜
         ((ms ps fs : List ℕ) (ds is : List Float) (c : Counts) →
         _≡_ {A = State}

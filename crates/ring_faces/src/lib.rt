@@ -15,7 +15,7 @@ ghost use Rattle.refined_meshes.specs.Turns.{turns};
 ghost use Rattle.refined_meshes.specs.State.{State};
 ghost use Rattle.refined_meshes.specs.Ring.{faceRow, putNewFace, putFacePoint};
 ghost use Rattle.splitting.specs.Scratch.{tablesOf};
-ghost use Rattle.ring_places.specs.Rings.{ring, Small, Rows};
+ghost use Rattle.ring_places.specs.Rings.{ring, Small, EdgesThere};
 use perimeters::prev_place;
 use records::store_face;
 use ring_places::RingRows;
@@ -82,7 +82,7 @@ pub fn put_new_faces(
     rows: RingRows,
 )
     requires { ⌜ Small rows ⌝ }
-    requires { ⌜ Rows (now edges) (now perimeter) (rows .size) ⌝ }
+    requires { ⌜ EdgesThere (now edges) (now perimeter) (rows .size) ⌝ }
     requires { ⌜ rows .face * faceWidth + faceWidth ≤ length (now newfaces) ⌝ }
     requires { ⌜ (rows .faces + (rows .size - 1)) * faceWidth ≤ length (now newfaces) ⌝ }
     ensures { λ _. ⌜

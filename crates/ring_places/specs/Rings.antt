@@ -1,7 +1,7 @@
 -- The ring of a face as the code holds it: its rows in a struct, and what stands at its places in arrays.
 --     ring rows es hs gs ms ds      the ring with these rows, the perimeter es, first halves hs, second halves gs, midpoints ms, intervals ds
 --     Small rows                    the rows of a ring are below the ceilings, and its places are 1 to 64
---     Rows es xs n                  the first n of xs are rows of the table of edges es
+--     EdgesThere es xs n                  the first n of xs are rows of the table of edges es
 use mathlib.Core.List.{List}
 use Prim.Native.Nat.{ℕ, _+_, _*_, _≤_, _<_}
 use lib.ListN.{length, getD}
@@ -34,5 +34,5 @@ pub record Small (rows : RingRows) : Type 0 where
   pub face-below : rows .face < faceCeiling
   pub few-faces : rows .faces + rows .size ≤ 65537
 
-abbrev pub Rows : List ℕ → List ℕ → ℕ → Type 0
-Rows es xs n = (i : ℕ) → i < n → getD xs i 0 * edgeWidth + edgeWidth ≤ length es
+abbrev pub EdgesThere : List ℕ → List ℕ → ℕ → Type 0
+EdgesThere es xs n = (i : ℕ) → i < n → getD xs i 0 * edgeWidth + edgeWidth ≤ length es

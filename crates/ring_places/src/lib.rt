@@ -13,7 +13,7 @@ ghost use lib.Ieee.{nan};
 ghost use Rattle.tables.specs.Layout.{edgeWidth, destWord, leftFaceWord, leftAcwWord, rightCwWord, longestPerimeter};
 ghost use Rattle.refined_meshes.specs.Turns.{filled};
 ghost use Rattle.refined_meshes.specs.Ring.{faceRow, firstHalfOf, secondHalfOf};
-ghost use Rattle.ring_places.specs.Rings.{ring, Small, Rows};
+ghost use Rattle.ring_places.specs.Rings.{ring, Small, EdgesThere};
 use tables::DEST_WORD;
 use tables::EDGE_WIDTH;
 use tables::LEFT_ACW_WORD;
@@ -94,8 +94,8 @@ pub fn put_places(
     mids: &mut [u32; LONGEST_PERIMETER],
 )
     requires { ⌜ n ≤ longestPerimeter ⌝ }
-    requires { ⌜ Rows (now edges) (now perimeter) n ⌝ }
-    requires { ⌜ Rows (now newedges) (now perimeter) n ⌝ }
+    requires { ⌜ EdgesThere (now edges) (now perimeter) n ⌝ }
+    requires { ⌜ EdgesThere (now newedges) (now perimeter) n ⌝ }
     ensures { λ _. ⌜
         now (firsts .exit) ≡
         filled n (λ i. firstHalfOf (now (edges .entry)) (now (newedges .entry)) f (getD (now (perimeter .entry)) i 0)) (now (firsts .entry)) ⌝ }

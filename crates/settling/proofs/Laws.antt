@@ -11,7 +11,7 @@ use Rattle.tables.specs.Layout.{leftCwWord, leftAcwWord, rightCwWord, rightAcwW
 use Rattle.tables.specs.Parts.{edgeTables}
 use Rattle.refined_meshes.specs.declared.Edition.{Edition}
 use Rattle.refined_meshes.specs.declared.Edition.the-variants.{Second}
-use Rattle.refined_meshes.specs.Settled.{neighbourAt, quarterAt, settledSide, settledIntervals, intervalsIn}
+use Rattle.refined_meshes.specs.Settled.{neighbourAt, quarterAt, settledSide, settledIntervals, intervalsOfEdition}
 use Rattle.refined_meshes.proofs.Turns.{turns-none, turns-turn}
 use Rattle.settling.specs.Settling.{SideFits, edgeRowsOf}
 
@@ -53,8 +53,8 @@ side-fit-length same fit =
 pub both-settled :
     (ed : Edition) → ed ≡ Second → (es : List ℕ) (is : List Float) (ne : ℕ) (es' : List ℕ) (js xs ys : List Float)
     → xs ≡ settledSide es is es' leftAcwWord leftAcwWord leftCwWord ne js → ys ≡ settledSide es is es' rightCwWord rightAcwWord rightCwWord ne xs
-    → ys ≡ intervalsIn ed (edgeTables es is) ne (edgeRowsOf es' js)
+    → ys ≡ intervalsOfEdition ed (edgeTables es is) ne (edgeRowsOf es' js)
 unfolding settledIntervals
 both-settled ed q es is ne es' js xs ys h k =
     k ∙ ap (settledSide es is es' rightCwWord rightAcwWord rightCwWord ne) h
-    ∙ ap (λ e. intervalsIn e (edgeTables es is) ne (edgeRowsOf es' js)) (sym q)
+    ∙ ap (λ e. intervalsOfEdition e (edgeTables es is) ne (edgeRowsOf es' js)) (sym q)

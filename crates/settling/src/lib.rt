@@ -4,7 +4,7 @@
 // Not here: the visits (`visiting`), the positions (`placing`).
 // Contract: `settle_joins`. Definitions: `refined_meshes`, specs/Settled.antt; what the loops ask: specs/Settling.antt.
 ghost use mathlib.Core.Path.{_≡_};
-ghost use Rattle.refined_meshes.specs.Settled.{settledSide, intervalsIn};
+ghost use Rattle.refined_meshes.specs.Settled.{settledSide, intervalsOfEdition};
 ghost use Rattle.tables.specs.Parts.{edgeTables};
 ghost use Rattle.settling.specs.Settling.{SideFits, SidesFit, edgeRowsOf};
 use refined_meshes::Edition;
@@ -55,7 +55,7 @@ pub fn settle_joins(
     requires { ⌜ SidesFit (now edges) (now intervals) ne (now newedges) (now newintervals) ⌝ }
     ensures { λ _. ⌜
         now (newintervals .exit)
-        ≡ intervalsIn edition (edgeTables (now (edges .entry)) (now (intervals .entry))) ne
+        ≡ intervalsOfEdition edition (edgeTables (now (edges .entry)) (now (intervals .entry))) ne
         (edgeRowsOf (now (newedges .entry)) (now (newintervals .entry))) ⌝ }
 {
     match edition {

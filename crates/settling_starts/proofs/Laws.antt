@@ -16,7 +16,7 @@ use Rattle.tables.specs.declared.Counts.{Counts}
 use Rattle.refined_meshes.specs.declared.Edition.{Edition}
 use Rattle.refined_meshes.specs.declared.Edition.the-variants.{Second}
 use Rattle.refined_meshes.specs.State.{stateOf}
-use Rattle.refined_meshes.specs.Starts.{newHalf, oldStart, centreJoin, startsPut, settledStarts, pointsIn}
+use Rattle.refined_meshes.specs.Starts.{newHalf, oldStart, centreJoin, startsPut, settledStarts, pointsOfEdition}
 use Rattle.refined_meshes.proofs.Turns.{turns-none, turns-turn}
 use Rattle.settling_starts.specs.Fits.{MidsFit, CentresFit}
 
@@ -79,10 +79,10 @@ pub all-settled :
     → xs ≡ startsPut (c .points) (λ p. p) (oldStart (meshOf [] ps es [] []) (edgeTable newedges)) newpoints
     → ys ≡ startsPut (c .edges) (dest (edgeTable newedges)) (newHalf (edgeTable newedges)) xs
     → zs ≡ startsPut (c .faces) (λ f. corner (meshOf [] [] [] [] newfaces) f 0) (centreJoin (meshOf [] [] es [] fs) (edgeTable newedges)) ys
-    → zs ≡ pointsIn ed (meshOf [] ps es [] fs) (c .points) (c .edges) (c .faces) (stateOf newpoints newedges [] newfaces 0 0 0)
+    → zs ≡ pointsOfEdition ed (meshOf [] ps es [] fs) (c .points) (c .edges) (c .faces) (stateOf newpoints newedges [] newfaces 0 0 0)
 unfolding settledStarts
 all-settled ed q ps es fs c newedges newfaces newpoints xs ys zs h k j =
     j
     ∙ ap (startsPut (c .faces) (λ f. corner (meshOf [] [] [] [] newfaces) f 0) (centreJoin (meshOf [] [] es [] fs) (edgeTable newedges)))
     (k ∙ ap (startsPut (c .edges) (dest (edgeTable newedges)) (newHalf (edgeTable newedges))) h)
-    ∙ ap (λ e. pointsIn e (meshOf [] ps es [] fs) (c .points) (c .edges) (c .faces) (stateOf newpoints newedges [] newfaces 0 0 0)) (sym q)
+    ∙ ap (λ e. pointsOfEdition e (meshOf [] ps es [] fs) (c .points) (c .edges) (c .faces) (stateOf newpoints newedges [] newfaces 0 0 0)) (sym q)

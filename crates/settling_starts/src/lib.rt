@@ -8,7 +8,7 @@ ghost use mathlib.Core.Path.{_≡_};
 ghost use mathlib.Core.List.{[]};
 ghost use Rattle.tables.specs.Mesh.{meshOf, edgeTable, dest, corner};
 ghost use Rattle.refined_meshes.specs.State.{stateOf};
-ghost use Rattle.refined_meshes.specs.Starts.{newHalf, oldStart, centreJoin, startsPut, pointsIn};
+ghost use Rattle.refined_meshes.specs.Starts.{newHalf, oldStart, centreJoin, startsPut, pointsOfEdition};
 ghost use Rattle.settling_starts.specs.Fits.{HalfFits, OldFits, CentreFits, OldsFit, MidsFit, CentresFit, StartsFit};
 use refined_meshes::Edition;
 use tables::Counts;
@@ -135,7 +135,7 @@ pub fn settle_starts(
     requires { ⌜ StartsFit (now points) (now edges) (now faces) counts (now newedges) (now newfaces) (now newpoints) ⌝ }
     ensures { λ _. ⌜
         now (newpoints .exit)
-        ≡ pointsIn edition (meshOf [] (now (points .entry)) (now (edges .entry)) [] (now (faces .entry))) (counts .points) (counts .edges)
+        ≡ pointsOfEdition edition (meshOf [] (now (points .entry)) (now (edges .entry)) [] (now (faces .entry))) (counts .points) (counts .edges)
         (counts .faces) (stateOf (now (newpoints .entry)) (now (newedges .entry)) [] (now (newfaces .entry)) 0 0 0) ⌝ }
 {
     match edition {

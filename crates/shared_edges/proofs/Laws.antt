@@ -11,6 +11,7 @@ use lib.Dec.{eqb}
 use lib.ListN.{length, getD, set, length-set}
 use lib.Seq.{getD-set-same, getD-set-other}
 use borrow.Author.Tests.{eqb-true, eq-eqb}
+use Rattle.audited_meshes.proofs.Folds.{every-more, every-stop}
 use Rattle.audited_meshes.proofs.Tests.{Is, and-is, or-is, eqb-is, self-is, every-is}
 use Rattle.audited_meshes.specs.Folds.{every}
 use Rattle.mended_lists.specs.Edges.{latest}
@@ -247,16 +248,8 @@ module _ (ls ts heads links mates seconds heads' links' mates' seconds' : List �
 
 -- ---- tests of all places
 
-pub every-more : (n : ℕ) (test : ℕ → Bool) → every n test ≡ true → test n ≡ true → every (n + 1) test ≡ true
-unfolding every
-every-more n test a b = rw (add-one n, a, b)
-
 pub every-fails : (n : ℕ) (test : ℕ → Bool) (i : ℕ) → i < n → test i ≡ false → false ≡ every n test
-every-fails n test i b e = go (every n test) refl
-  where
-    go : (t : Bool) → every n test ≡ t → false ≡ t
-    go true q = absurd (false≢true (sym e ∙ every-is n (λ k. self-is (test k)) .0 q i b))
-    go false q = refl
+every-fails n test i b e = sym (every-stop n i test b e)
 
 pub all-passed : (n k : ℕ) (test : ℕ → Bool) → k ≡ n → every k test ≡ true → true ≡ every n test
 all-passed n k test e t = sym (rw e at t)

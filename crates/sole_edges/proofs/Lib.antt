@@ -1,4 +1,5 @@
 pub mod Joins
+pub mod Rounds
 pub mod Walking
 pub mod Comparing
 pub mod Walked

@@ -1,9 +1,13 @@
 -- Walks about points that come back after their valences pass each edge of their points once, if the valences add up to twice the
 -- edges. Assumes nothing.
+--     round-of-fits, fits-of-round     such a walk is at its start again after its valence, and not before
+--     walked-of-tests                  the points of a mesh of which these tests have passed
+--     sole-of-apart                    where the other ends of the edges passed differ, each is the only one between its two points
 use mathlib.Core.Path.{_≡_, refl, sym, _∙_, ap}
 use mathlib.Core.Bool.{Bool, true, false, false≢true}
 use mathlib.Core.List.{List}
-use Prim.Native.Nat.{ℕ, _*_, _≤_, _<_}
+use mathlib.Core.Logic.{_≢_}
+use Prim.Native.Nat.{ℕ, zero, suc, _*_, _≤_, _<_}
 use native.Mathlib.Omega.{arith}
 use native.Mathlib.Decide.{decLe}
 use lib.Dec.{eqb}
@@ -20,7 +24,10 @@ use Rattle.audited_meshes.proofs.Walks.{passes-on, passes-once}
 use Rattle.audited_meshes.proofs.Sums.{sum-is}
 use Rattle.audited_meshes.proofs.Audited.{touches-is, pointWalk-is}
 use Rattle.audit_tests.specs.Parts.{walkFits}
-use Rattle.sole_edges.specs.Sole.{Ends}
+use Rattle.walks.specs.Steps.{pointAcross}
+use Rattle.sole_edges.specs.Sole.{Ends, edgeOf, Round, Apart, Sole}
+use Rattle.sole_edges.proofs.Joins.{touches-of-joins, other-of-joins, joins-of-same, other-differs, joins-other}
+use Rattle.sole_edges.proofs.Rounds.{steps-of-passes, listed-of-steps, Place, place-of-passed}
 
 -- a walk that came back after v edges
 record Back (w : Walk) (v : ℕ) : Type 0 where
@@ -68,6 +75,32 @@ module _ (m : Mesh) (ne p : ℕ) where
           none (no l) = omega arith
       go lost q b t = omega arith
 
+-- the test of the walk about a point says that it is at its start again after its valence, and not before
+pub round-of-fits : (m : Mesh) (ne p : ℕ) → walkFits m ne p ≡ true → Round m ne p
+round-of-fits m ne p h = go (came-back (about m ne p) (valence m p) h)
+  where
+    go : Back (about m ne p) (valence m p) → Round m ne p
+    go w =
+        let steps = steps-of-passes (acwOfPoint m p) (OnPoint m ne p) (start m p) (start m p) (w .edges)
+        (passes-of-back m ne p (w .edges) (w .came)) in
+        record {
+          on = λ a l. steps .on a (omega (arith, w .many));
+          home = ap (edgeOf m p) (sym (w .many)) ∙ steps .home;
+          away = λ a h l. steps .away a h (omega (arith, w .many));
+        }
+
+pub fits-of-round : (m : Mesh) (ne p : ℕ) → 2 ≤ valence m p → Round m ne p → walkFits m ne p ≡ true
+unfolding pointBack
+fits-of-round m ne p two r = go (valence m p) two refl
+  where
+    go : (v : ℕ) → 2 ≤ v → v ≡ valence m p → walkFits m ne p ≡ true
+    go zero l e = absurd (omega arith)
+    go (suc v) l e =
+        let w = listed-of-steps (acwOfPoint m p) (OnPoint m ne p) (start m p) v (start m p) (λ a k. r .on a (omega (arith, e)))
+        (ap (edgeOf m p) e ∙ r .home) (λ a h k. r .away a h (omega (arith, e))) in
+        ap (pointBack (valence m p)) (pointWalk-is m ne p (valence m p) (w .edges) .1 (w .passes, omega (arith, w .many, e)))
+        ∙ eqb-is (length (w .edges)) (valence m p) .1 (w .many ∙ e)
+
 -- the points of a mesh of which these tests have passed
 pub walked-of-tests : (m : Mesh) (np ne : ℕ) → Ends m np ne → ((p : ℕ) → p < np → 2 ≤ valence m p)
     → eqb (sumTo np (λ p. valence m p)) (2 * ne) ≡ true → every np (λ p. walkFits m ne p) ≡ true
@@ -95,3 +128,20 @@ walked-of-tests m np ne ends two sum fits p l =
     once =
         sum-is np ne (origin m) (dest m) (ends .origin-below) (ends .dest-below) (ends .differ) (λ p. edgesOf (about m ne p))
         (λ p. edge-below m ne p) (λ p. edge-once m ne p) .0 lengths
+
+-- the walk passes each edge of its point, so that it tells all of them apart
+pub sole-of-apart : (m : Mesh) (ne p : ℕ) → ((e : ℕ) → e < ne → origin m e ≢ dest m e) → PointWalked m ne p → Apart m p → Sole m ne p
+sole-of-apart m ne p differ w apart i j li lj t same =
+    let joins = joins-other m p i (differ i li) t in
+    let other = joins-of-same m p (pointAcross m p i) i j same joins in
+    let away = other-differs m p i (differ i li) t in
+    let at = place i li t in
+    let to = place j lj (touches-of-joins m p (pointAcross m p i) j other) in
+    sym (at .is)
+    ∙ apart (at .at) (to .at) (omega (arith, at .below, w .is-valence)) (omega (arith, to .below, w .is-valence))
+    (ap (pointAcross m p) (at .is) ∙ sym (other-of-joins m p (pointAcross m p i) j away other) ∙ ap (pointAcross m p) (sym (to .is)))
+    ∙ to .is
+  where
+    place : (e : ℕ) → e < ne → Touches m p e → Place (acwOfPoint m p) (OnPoint m ne p) (start m p) (start m p) e (length (w .edges))
+    place e l t =
+        place-of-passed (acwOfPoint m p) (OnPoint m ne p) (start m p) (start m p) (w .edges) (w .passes) e (omega (arith, w .each-once e l t))

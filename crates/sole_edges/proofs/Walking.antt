@@ -2,9 +2,9 @@
 -- Assumes nothing.
 use mathlib.Core.Path.{_≡_, refl, sym, _∙_, ap, subst}
 use mathlib.Core.Bool.{Bool, true, false, not, _&&_, cond, false≢true}
-use mathlib.Core.List.{List, [], _∷_}
-use mathlib.Core.Logic.{_⊎_, inl, inr, _≢_}
-use Prim.Native.Nat.{ℕ, zero, suc, _+_, _-_, _*_, _/_, _≤_, _<_}
+use mathlib.Core.List.{List}
+use mathlib.Core.Logic.{_≢_}
+use Prim.Native.Nat.{ℕ, _+_, _-_, _*_, _/_, _≤_, _<_}
 use native.Mathlib.Omega.{arith}
 use native.Mathlib.Decide.{decLt, ℕ-discrete}
 use borrow.Author.Tests.{lt-ltb, le-ltb}
@@ -12,17 +12,15 @@ use lib.Dec.{eqb, ltb}
 use lib.ListN.{length, getD, set, length-set}
 use lib.Seq.{getD-set-same, getD-set-other}
 use Rattle.tables.specs.Mesh.{Mesh, valence, start, origin, dest, edgeTable}
-use Rattle.audited_meshes.specs.Folds.{occurrences}
 use Rattle.audited_meshes.specs.Walks.{touches, acwOfPoint, Touches}
-use Rattle.audited_meshes.specs.Audited.{SameEnds, Passes, last, more, PointWalked}
 use Rattle.audited_meshes.proofs.Tests.{Is, and-is, not-is, eqb-is, ltb-is}
-use Rattle.audited_meshes.proofs.Walks.{in-longer, passes-head, passes-on}
-use Rattle.audited_meshes.proofs.Audited.{touches-is}
-use Rattle.walks.specs.Steps.{otherEnd, pointStep}
+use Rattle.audited_meshes.proofs.Audited.{touches-is, on-point-is}
+use Rattle.walks.specs.Steps.{pointAcross, pointStep}
 use Rattle.walks.specs.declared.Step.the-variants.{To, Lost}
-use Rattle.sole_edges.specs.Sole.{window, second, unseen, noted, SoleIn, Sole, SoleFrom}
-use Rattle.sole_edges.proofs.Joins.{Joins, joins-of-touches, touches-of-joins, other-of-joins, same-of-joins, joins-of-same}
-use Rattle.sole_edges.proofs.Joins.{other-touched, other-differs, joins-other}
+use Rattle.walks.proofs.Steps.{to-is, lost-is}
+use Rattle.sole_edges.specs.Sole.{window, second, unseen, noted, after, edgeOf, Round, ApartIn, Apart, SoleIn, RoundsFrom}
+use Rattle.sole_edges.proofs.Joins.{joins-of-touches, same-of-joins, other-touched, other-differs, joins-other}
+use Rattle.sole_edges.proofs.Rounds.{after-one}
 
 -- ---- one edge noted
 
@@ -83,183 +81,170 @@ module _ (base : ℕ) (seen : List ℕ) (q i : ℕ) where
 
 -- ---- the walk
 
-none-passed : (rest : List ℕ) → length rest ≡ 0 → (j : ℕ) → 0 < occurrences j rest → ⊥
-unfolding occurrences
-none-passed [] e j o = omega arith
-none-passed (x ∷ xs) e j o = omega arith
-
 module _ (m : Mesh) (ne p base : ℕ) where
   -- edge j is noted at its other end, if this is in the window
   abbrev pub Noted : List ℕ → ℕ → Type 0
-  Noted seen j = base ≤ otherEnd m p j → otherEnd m p j < base + window → getD seen (otherEnd m p j - base) 0 ≡ j
+  Noted seen j = base ≤ pointAcross m p j → pointAcross m p j < base + window → getD seen (pointAcross m p j - base) 0 ≡ j
 
   abbrev pub OnPoint : ℕ → Type 0
   OnPoint e = (e < ne) × Touches m p e
 
   pub record Walking (k : ℕ) (seen : List ℕ) (n i : ℕ) : Type 0 where
+    pub many : k ≡ valence m p
     pub within : n ≤ k
     pub room : window ≤ length seen
-    pub rest : List ℕ
-    pub left : length rest ≡ k - n
-    pub ahead : n < k → Passes (acwOfPoint m p) OnPoint (start m p) i rest
-    pub passed : (j : ℕ) → OnPoint j → (0 < occurrences j rest) ⊎ Noted seen j
+    pub here : i ≡ edgeOf m p n
+    pub on : (a : ℕ) → a < n → OnPoint (edgeOf m p a)
+    pub away : (a : ℕ) → 0 < a → a < n → edgeOf m p a ≢ start m p
+    pub passed : (a : ℕ) → a < n → Noted seen (edgeOf m p a)
 
-  pub walking-start : (k i : ℕ) (seen : List ℕ) → PointWalked m ne p → k ≡ valence m p → i ≡ start m p → window ≤ length seen
-      → Walking k seen 0 i
-  walking-start k i seen w a b l = record {
+  pub walking-start : (k i : ℕ) (seen : List ℕ) → k ≡ valence m p → i ≡ start m p → window ≤ length seen → Walking k seen 0 i
+  unfolding after
+  walking-start k i seen a b l = record {
+    many = a;
     within = omega arith;
     room = l;
-    rest = w .edges;
-    left = w .is-valence ∙ sym a ∙ less-none k;
-    ahead = λ _. subst (λ (x : ℕ). Passes (acwOfPoint m p) OnPoint (start m p) x (w .edges)) (sym b) (w .passes);
-    passed = λ j o. inl (omega (arith, w .each-once j (o .0) (o .1)));
+    here = b;
+    on = λ a l. absurd (omega arith);
+    away = λ a h l. absurd (omega arith);
+    passed = λ a l. absurd (omega arith);
   }
+
+  -- what was noted stays, unless a second edge is found
+  noted-kept : (seen : List ℕ) (i j : ℕ) → window ≤ length seen → OnPoint j
+      → unseen m ne base p seen (pointAcross m p i) i ≡ true → Noted seen j → Noted (noted base seen (pointAcross m p i) i) j
+  noted-kept seen i j room oj fresh was lo hi = go (ℕ-discrete (pointAcross m p j) (pointAcross m p i))
     where
-      less-none : (k : ℕ) → k ≡ k - 0
-      less-none k = omega arith
+      go : Dec (pointAcross m p j ≡ pointAcross m p i) → getD (noted base seen (pointAcross m p i) i) (pointAcross m p j - base) 0 ≡ j
+      go (no d) = apart (decLt (pointAcross m p i) base)
+        where
+          apart : Dec (pointAcross m p i < base) → getD (noted base seen (pointAcross m p i) i) (pointAcross m p j - base) 0 ≡ j
+          apart (yes l) =
+              ap (λ (s : List ℕ). getD s (pointAcross m p j - base) 0) (noted-before base seen (pointAcross m p i) i l) ∙ was lo hi
+          apart (no g) = noted-other base seen (pointAcross m p i) i (pointAcross m p j - base) (λ e. d (omega arith)) ∙ was lo hi
+      go (yes e) = same (ℕ-discrete j i)
+        where
+          there : getD seen (pointAcross m p i - base) 0 ≡ j
+          there = ap (λ (x : ℕ). getD seen (x - base) 0) (sym e) ∙ was lo hi
 
-  -- the edge that the walk has come to
-  pub walking-on : (k : ℕ) (seen : List ℕ) (n i : ℕ) → Walking k seen n i → n < k → OnPoint i
-  walking-on k seen n i h l =
-      passes-on (acwOfPoint m p) OnPoint (start m p) i (h .rest) (h .ahead l) i
-      (passes-head (acwOfPoint m p) OnPoint (start m p) i (h .rest) (h .ahead l))
+          touched : Touches m (pointAcross m p i) j
+          touched = subst (λ (x : ℕ). Touches m x j) e (other-touched m p j)
 
-  module _ (differ : (e : ℕ) → e < ne → origin m e ≢ dest m e) where
-    -- what was noted stays, unless a second edge is found
-    noted-kept : (seen : List ℕ) (i j : ℕ) → window ≤ length seen → OnPoint i → OnPoint j
-        → unseen m ne base p seen (otherEnd m p i) i ≡ true → Noted seen j → Noted (noted base seen (otherEnd m p i) i) j
-    noted-kept seen i j room oi oj fresh was lo hi = go (ℕ-discrete (otherEnd m p j) (otherEnd m p i))
+          same : Dec (j ≡ i) → getD (noted base seen (pointAcross m p i) i) (pointAcross m p j - base) 0 ≡ j
+          same (yes s) =
+              ap (λ (x : ℕ). getD (noted base seen (pointAcross m p i) i) (x - base) 0) e
+              ∙ noted-same base seen (pointAcross m p i) i (omega arith) (omega arith) room ∙ sym s
+          same (no d) =
+              absurd (false≢true
+              (sym (unseen-inside m ne base p seen (pointAcross m p i) i (omega arith) (omega arith) fresh)
+              ∙ ap (λ (x : ℕ). second m ne p (pointAcross m p i) i x) there
+              ∙ second-is m ne p (pointAcross m p i) i j .1 (((oj .0, d), oj .1), touched)))
+
+  noted-here : (seen : List ℕ) (i : ℕ) → window ≤ length seen → Noted (noted base seen (pointAcross m p i) i) i
+  noted-here seen i room lo hi = noted-same base seen (pointAcross m p i) i lo (omega arith) room
+
+  module _ (k : ℕ) (seen : List ℕ) (n i : ℕ) (h : Walking k seen n i) where
+    -- the edge that the walk has come to
+    pub walking-lost : n < k → (OnPoint i → ⊥) → Round m ne p → ⊥
+    walking-lost l off r = off (subst OnPoint (sym (h .here)) (r .on n (omega (arith, h .many))))
+
+    -- one edge more, and no second one was noted: its other end is q, the notes are seen' then
+    pub walking-next : n < k → (0 < n → i ≢ start m p) → OnPoint i → (q next : ℕ) (seen' : List ℕ) → q ≡ pointAcross m p i
+        → next ≡ acwOfPoint m p i → unseen m ne base p seen q i ≡ true → seen' ≡ noted base seen q i → Walking k seen' (n + 1) next
+    walking-next l yet oi q next seen' other along fresh notes = record {
+      many = h .many;
+      within = omega arith;
+      room = omega (arith, ap length now, noted-length base seen (pointAcross m p i) i, h .room);
+      here = along ∙ ap (acwOfPoint m p) (h .here) ∙ sym (after-one (acwOfPoint m p) n (start m p));
+      on = λ a b. on-more a b (ℕ-discrete n a);
+      away = λ a b c. away-more a b c (ℕ-discrete n a);
+      passed = λ a b. subst (λ (s : List ℕ). Noted s (edgeOf m p a)) (sym now) (passed-more a b (ℕ-discrete n a));
+    }
       where
-        go : Dec (otherEnd m p j ≡ otherEnd m p i) → getD (noted base seen (otherEnd m p i) i) (otherEnd m p j - base) 0 ≡ j
-        go (no d) = apart (decLt (otherEnd m p i) base)
+        now : seen' ≡ noted base seen (pointAcross m p i) i
+        now = notes ∙ ap (λ (x : ℕ). noted base seen x i) other
+
+        below : (a : ℕ) → a < n + 1 → n ≢ a → a < n
+        below a l d = go (decLt a n)
           where
-            apart : Dec (otherEnd m p i < base) → getD (noted base seen (otherEnd m p i) i) (otherEnd m p j - base) 0 ≡ j
-            apart (yes l) =
-                ap (λ (s : List ℕ). getD s (otherEnd m p j - base) 0) (noted-before base seen (otherEnd m p i) i l) ∙ was lo hi
-            apart (no g) = noted-other base seen (otherEnd m p i) i (otherEnd m p j - base) (λ e. d (omega arith)) ∙ was lo hi
-        go (yes e) = same (ℕ-discrete j i)
-          where
-            there : getD seen (otherEnd m p i - base) 0 ≡ j
-            there = ap (λ (x : ℕ). getD seen (x - base) 0) (sym e) ∙ was lo hi
+            go : Dec (a < n) → a < n
+            go (yes b) = b
+            go (no g) = absurd (d (omega arith))
 
-            touched : Touches m (otherEnd m p i) j
-            touched = subst (λ (x : ℕ). Touches m x j) e (other-touched m p j)
+        on-more : (a : ℕ) → a < n + 1 → Dec (n ≡ a) → OnPoint (edgeOf m p a)
+        on-more a b (yes s) = subst (λ (x : ℕ). OnPoint (edgeOf m p x)) s (subst OnPoint (h .here) oi)
+        on-more a b (no d) = h .on a (below a b d)
 
-            same : Dec (j ≡ i) → getD (noted base seen (otherEnd m p i) i) (otherEnd m p j - base) 0 ≡ j
-            same (yes s) =
-                ap (λ (x : ℕ). getD (noted base seen (otherEnd m p i) i) (x - base) 0) e
-                ∙ noted-same base seen (otherEnd m p i) i (omega arith) (omega arith) room ∙ sym s
-            same (no d) =
-                absurd (false≢true
-                (sym (unseen-inside m ne base p seen (otherEnd m p i) i (omega arith) (omega arith) fresh)
-                ∙ ap (λ (x : ℕ). second m ne p (otherEnd m p i) i x) there
-                ∙ second-is m ne p (otherEnd m p i) i j .1 (((oj .0, d), oj .1), touched)))
+        away-more : (a : ℕ) → 0 < a → a < n + 1 → Dec (n ≡ a) → edgeOf m p a ≢ start m p
+        away-more a b c (yes s) same = yet (omega arith) (h .here ∙ ap (edgeOf m p) s ∙ same)
+        away-more a b c (no d) same = h .away a b (below a c d) same
 
-    noted-here : (seen : List ℕ) (i : ℕ) → window ≤ length seen → Noted (noted base seen (otherEnd m p i) i) i
-    noted-here seen i room lo hi = noted-same base seen (otherEnd m p i) i lo (omega arith) room
+        passed-more : (a : ℕ) → a < n + 1 → Dec (n ≡ a) → Noted (noted base seen (pointAcross m p i) i) (edgeOf m p a)
+        passed-more a b (yes s) =
+            subst (Noted (noted base seen (pointAcross m p i) i)) (h .here ∙ ap (edgeOf m p) s) (noted-here seen i (h .room))
+        passed-more a b (no d) =
+            noted-kept seen i (edgeOf m p a) (h .room) (h .on a (below a b d))
+            (ap (λ (x : ℕ). unseen m ne base p seen x i) (sym other) ∙ fresh) (h .passed a (below a b d))
 
-    pub walking-more : (k : ℕ) (seen : List ℕ) (n i : ℕ) → Walking k seen n i → n < k
-        → unseen m ne base p seen (otherEnd m p i) i ≡ true
-        → Walking k (noted base seen (otherEnd m p i) i) (n + 1) (acwOfPoint m p i)
-    walking-more k seen n i h l fresh = go i (h .rest) (h .ahead l) (h .left) (walking-on k seen n i h l) fresh (h .passed)
-      where
-        room-kept : (i : ℕ) → window ≤ length (noted base seen (otherEnd m p i) i)
-        room-kept i = omega (arith, noted-length base seen (otherEnd m p i) i, h .room)
-
-        -- an edge that is passed before or now
-        on : (i : ℕ) (rest : List ℕ) → OnPoint i → unseen m ne base p seen (otherEnd m p i) i ≡ true
-            → (j : ℕ) → OnPoint j → (0 < occurrences j (i ∷ rest)) ⊎ Noted seen j
-            → (0 < occurrences j rest) ⊎ Noted (noted base seen (otherEnd m p i) i) j
-        on i rest oi fresh j oj (inl o) =
-            in-longer {A = (0 < occurrences j rest) ⊎ Noted (noted base seen (otherEnd m p i) i) j} j i rest o
-            (λ e. inr (subst (λ (x : ℕ). Noted (noted base seen (otherEnd m p i) i) x) e (noted-here seen i (h .room))))
-            (λ o. inl o)
-        on i rest oi fresh j oj (inr was) = inr (noted-kept seen i j (h .room) oi oj fresh was)
-
-        go : (i : ℕ) (rest : List ℕ) → Passes (acwOfPoint m p) OnPoint (start m p) i rest → length rest ≡ k - n → OnPoint i
-            → unseen m ne base p seen (otherEnd m p i) i ≡ true → ((j : ℕ) → OnPoint j → (0 < occurrences j rest) ⊎ Noted seen j)
-            → Walking k (noted base seen (otherEnd m p i) i) (n + 1) (acwOfPoint m p i)
-        go i rest (last {e = e} o b) len oi fresh passed = record {
-          within = omega arith;
-          room = room-kept e;
-          rest = [];
-          left = omega arith;
-          ahead = λ x. absurd (omega arith);
-          passed = λ j oj. on e [] oi fresh j oj (passed j oj);
-        }
-        go i rest (more {e = e} {es = es} o b w) len oi fresh passed = record {
-          within = omega arith;
-          room = room-kept e;
-          rest = es;
-          left = omega arith;
-          ahead = λ _. w;
-          passed = λ j oj. on e es oi fresh j oj (passed j oj);
-        }
-
-    pub walking-stop : (k : ℕ) (seen : List ℕ) (n i : ℕ) → Walking k seen n i → n < k
-        → unseen m ne base p seen (otherEnd m p i) i ≡ false
-        → SoleIn m ne p base → ⊥
-    walking-stop k seen n i h l found sole =
-        let oi = walking-on k seen n i h l in
-        let (lo, hi, again) = seen-inside m ne base p seen (otherEnd m p i) i found in
-        let s = second-is m ne p (otherEnd m p i) i (getD seen (otherEnd m p i - base) 0) .0 again in
+    -- where each edge is the only one between its two points, no second one is found
+    pub walking-stop : ((e : ℕ) → e < ne → origin m e ≢ dest m e) → OnPoint i → (q : ℕ) → q ≡ pointAcross m p i
+        → unseen m ne base p seen q i ≡ false → SoleIn m ne p base → ⊥
+    walking-stop differ oi q other found sole =
+        let (lo, hi, again) = seen-inside m ne base p seen (pointAcross m p i) i (ap (λ (x : ℕ). unseen m ne base p seen x i) (sym other) ∙ found) in
+        let s = second-is m ne p (pointAcross m p i) i (getD seen (pointAcross m p i - base) 0) .0 again in
         let d = differ i (oi .0) in
         let away = other-differs m p i d (oi .1) in
-        let other = joins-of-touches m p (otherEnd m p i) (getD seen (otherEnd m p i - base) 0) away (s .0 .1) (s .1) in
+        let joins = joins-of-touches m p (pointAcross m p i) (getD seen (pointAcross m p i - base) 0) away (s .0 .1) (s .1) in
         s .0 .0 .1
-        (sym (sole i (getD seen (otherEnd m p i - base) 0) (oi .0) (s .0 .0 .0) (oi .1)
-        (same-of-joins m p (otherEnd m p i) i (getD seen (otherEnd m p i - base) 0) (joins-other m p i d (oi .1)) other) lo (omega arith)))
+        (sym (sole i (getD seen (pointAcross m p i - base) 0) (oi .0) (s .0 .0 .0) (oi .1)
+        (same-of-joins m p (pointAcross m p i) i (getD seen (pointAcross m p i - base) 0) (joins-other m p i d (oi .1)) joins) lo (omega arith)))
 
-    pub walking-end : (k : ℕ) (seen : List ℕ) (n i : ℕ) → Walking k seen n i → k ≤ n → SoleIn m ne p base
-    walking-end k seen n i h l a b la lb t same lo hi =
-        let d = differ a la in
-        let away = other-differs m p a d t in
-        let jb = joins-of-same m p (otherEnd m p a) a b same (joins-other m p a d t) in
-        let tb = touches-of-joins m p (otherEnd m p a) b jb in
-        let eb : otherEnd m p b ≡ otherEnd m p a = other-of-joins m p (otherEnd m p a) b away jb in
-        sym (all a (la, t) lo hi) ∙ ap (λ (x : ℕ). getD seen (x - base) 0) (sym eb)
-        ∙ all b (lb, tb) (subst (λ (x : ℕ). base ≤ x) (sym eb) lo) (subst (λ (x : ℕ). x < base + window) (sym eb) hi)
+    -- the walk is at its start again after its valence
+    pub walking-home : n ≡ k → i ≡ start m p → Round m ne p × ApartIn m p base
+    walking-home l home = (
+      record {
+        on = λ a b. h .on a (all a b);
+        home = ap (edgeOf m p) (sym all-passed) ∙ sym (h .here) ∙ home;
+        away = λ a b c. h .away a b (all a c);
+      },
+      λ a b la lb same lo hi.
+          sym (h .passed a (all a la) lo hi) ∙ ap (λ (x : ℕ). getD seen (x - base) 0) same
+          ∙ h .passed b (all b lb) (subst (λ (x : ℕ). base ≤ x) same lo) (subst (λ (x : ℕ). x < base + window) same hi),
+    )
       where
-        all : (j : ℕ) → OnPoint j → Noted seen j
-        all j oj = go (h .passed j oj)
-          where
-            go : (0 < occurrences j (h .rest)) ⊎ Noted seen j → Noted seen j
-            go (inl o) = absurd (none-passed (h .rest) (h .left ∙ less k n l) j o)
-              where
-                less : (k n : ℕ) → k ≤ n → k - n ≡ 0
-                less k n l = omega arith
-            go (inr w) = w
+        all-passed : n ≡ valence m p
+        all-passed = l ∙ h .many
 
-    -- the same by what the code has: the other end q, the next edge, and what noting answered and left
-    module _ (k : ℕ) (seen : List ℕ) (n i : ℕ) (h : Walking k seen n i) (l : n < k) (q : ℕ) (e : q ≡ otherEnd m p i) where
-      pub walking-next : (next : ℕ) (seen' : List ℕ) → next ≡ acwOfPoint m p i → unseen m ne base p seen q i ≡ true
-          → seen' ≡ noted base seen q i → Walking k seen' (n + 1) next
-      walking-next next seen' en fresh es =
-          let more : Walking k (noted base seen (otherEnd m p i) i) (n + 1) (acwOfPoint m p i)
-          = walking-more k seen n i h l (ap (λ (x : ℕ). unseen m ne base p seen x i) (sym e) ∙ fresh) in
-          let there : Walking k (noted base seen (otherEnd m p i) i) (n + 1) next
-          = subst (λ (x : ℕ). Walking k (noted base seen (otherEnd m p i) i) (n + 1) x) (sym en) more in
-          subst (λ (s : List ℕ). Walking k s (n + 1) next) (ap (λ (x : ℕ). noted base seen x i) (sym e) ∙ sym es) there
+        all : (a : ℕ) → a < valence m p → a < n
+        all a b = omega (arith, all-passed)
 
-      pub walking-halt : unseen m ne base p seen q i ≡ false → SoleIn m ne p base → ⊥
-      walking-halt found = walking-stop k seen n i h l (ap (λ (x : ℕ). unseen m ne base p seen x i) (sym e) ∙ found)
+    -- it is there after its valence, if it is there again at all before
+    pub walking-early : 0 < n → i ≡ start m p → Round m ne p → n ≡ k
+    walking-early some home r = go (decLt n k)
+      where
+        go : Dec (n < k) → n ≡ k
+        go (yes l) = absurd (r .away n some (omega (arith, h .many)) (sym (h .here) ∙ home))
+        go (no g) = omega (arith, h .within)
+
+    pub walking-late : k ≤ n → Round m ne p → i ≡ start m p
+    walking-late l r =
+        let all-passed : n ≡ valence m p = omega (arith, h .many, h .within) in
+        h .here ∙ ap (edgeOf m p) all-passed ∙ r .home
 
 -- ---- one step
 
-pub step-to : (es : List ℕ) (ne p i : ℕ) → i < ne → Touches (edgeTable es) p i
-    → pointStep es ne p i ≡ To (otherEnd (edgeTable es) p i) (acwOfPoint (edgeTable es) p i)
-step-to es ne p i l t =
-    let on : (ltb i ne && touches (edgeTable es) p i) ≡ true = and-is (ltb-is i ne) (touches-is (edgeTable es) p i) .1 (l, t) in
-    rw on refl
+-- a step that is made is from an edge of the point, and one that is lost is not
+pub step-made : (es : List ℕ) (ne p i q next : ℕ) → To q next ≡ pointStep es ne p i
+    → ((i < ne) × Touches (edgeTable es) p i) × (q ≡ pointAcross (edgeTable es) p i) × (next ≡ acwOfPoint (edgeTable es) p i)
+step-made es ne p i q next h =
+    let m : Mesh = edgeTable es in
+    let parts = to-is (ltb i ne && touches m p i) (pointAcross m p i) (acwOfPoint m p i) q next h in
+    (on-point-is m ne p i .0 (parts .0), sym (parts .1), sym (parts .2))
 
-pub never-lost : (a b : ℕ) → Lost ≡ To a b → ⊥
-never-lost a b h = let z : _≡_ {A = ℕ} 0 1 = cc in omega arith
-
-pub to-point : (a b c d : ℕ) → To a b ≡ To c d → a ≡ c
-to-point a b c d h = cc
-
-pub to-next : (a b c d : ℕ) → To a b ≡ To c d → b ≡ d
-to-next a b c d h = cc
+pub step-lost : (es : List ℕ) (ne p i : ℕ) → Lost ≡ pointStep es ne p i → ((i < ne) × Touches (edgeTable es) p i) → ⊥
+step-lost es ne p i h on =
+    let m : Mesh = edgeTable es in
+    false≢true (sym (lost-is (ltb i ne && touches m p i) (pointAcross m p i) (acwOfPoint m p i) h) ∙ on-point-is m ne p i .1 on)
 
 -- ---- all windows together
 
@@ -275,29 +260,29 @@ below-more A n all a j l = go (decLt j n)
     go (no g) = subst A (omega arith) a
 
 -- one point more
-pub sole-more : (m : Mesh) (ne from p : ℕ) → SoleFrom m p ne from → Sole m ne p → SoleFrom m (p + 1) ne from
-sole-more m ne from p sole here q a b = go (decLt q p)
+pub rounds-more : (m : Mesh) (ne from p : ℕ) → RoundsFrom m p ne from → Round m ne p × Apart m p → RoundsFrom m (p + 1) ne from
+rounds-more m ne from p rounds here q a b = go (decLt q p)
   where
-    go : Dec (q < p) → Sole m ne q
-    go (yes l) = sole q a l
-    go (no g) = subst (λ (x : ℕ). Sole m ne x) (omega arith) here
+    go : Dec (q < p) → Round m ne q × Apart m q
+    go (yes l) = rounds q a l
+    go (no g) = subst (λ (x : ℕ). Round m ne x × Apart m x) (omega arith) here
 
 -- the points before p, and those from p on
-pub sole-joined : (m : Mesh) (np ne p : ℕ) → SoleFrom m p ne 0 → SoleFrom m np ne p → SoleFrom m np ne 0
-sole-joined m np ne p before behind q a b = go (decLt q p)
+pub rounds-joined : (m : Mesh) (np ne p : ℕ) → RoundsFrom m p ne 0 → RoundsFrom m np ne p → RoundsFrom m np ne 0
+rounds-joined m np ne p before behind q a b = go (decLt q p)
   where
-    go : Dec (q < p) → Sole m ne q
+    go : Dec (q < p) → Round m ne q × Apart m q
     go (yes l) = before q a l
     go (no g) = behind q (omega arith) b
 
-pub sole-of-windows : (m : Mesh) (np ne p : ℕ) → ((i : ℕ) → i < ne → otherEnd m p i < np)
-    → ((k : ℕ) → k < np / window + 1 → SoleIn m ne p (k * window)) → Sole m ne p
-sole-of-windows m np ne p below sole i j li lj t same =
-    let o = otherEnd m p i in
-    let b : o < np = below i li in
-    sole (o / window) (omega arith) i j li lj t same (omega arith) (omega arith)
+pub apart-of-windows : (m : Mesh) (np ne p : ℕ) → ((i : ℕ) → i < ne → pointAcross m p i < np) → Round m ne p
+    → ((k : ℕ) → k < np / window + 1 → ApartIn m p (k * window)) → Apart m p
+apart-of-windows m np ne p below r apart a b la lb same =
+    let o = pointAcross m p (edgeOf m p a) in
+    let l : o < np = below (edgeOf m p a) (r .on a la .0) in
+    apart (o / window) (omega arith) a b la lb same (omega arith) (omega arith)
 
-pub other-below : (m : Mesh) (np p i : ℕ) → origin m i < np → dest m i < np → otherEnd m p i < np
+pub other-below : (m : Mesh) (np p i : ℕ) → origin m i < np → dest m i < np → pointAcross m p i < np
 other-below m np p i a b = go (eqb (origin m i) p)
   where
     go : (t : Bool) → cond t (dest m i) (origin m i) < np

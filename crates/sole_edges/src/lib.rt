@@ -1,32 +1,35 @@
-// Whether no two edges join the same two points (document 01, "Audit"), seen from each point: linear in the edges.
+// Whether the walks about points come back after their valences, and no two edges join the same two points (document 01, "Audit"), in
+// one walk about each point: linear in the edges.
 // The other ends of a point's edges are compared with each other, if they are few. If they are many, each edge is noted in a local
 // table at the place of its other end: an edge that finds another between the same two points noted there is a second one. What
 // other walks left in the table does no harm, since the edge that is found is looked at. Past 32,768 points there is one walk for
 // each window of so many, so that no memory is lent.
-// Not here: the walks themselves (`audit_tests`), the other tests of edges (`audit_edges`).
-// Contract: `are_one_edges`. Definitions: `oneEdge` of `audited_meshes`, specs/Quick.antt; `specs/Sole.antt`.
-// Laws: `proofs/Joins.antt`, `proofs/Walking.antt`, `proofs/Comparing.antt`, `proofs/Walked.antt`, `proofs/OneEdges.antt`.
+// A walk whose other ends are compared takes as many steps as the valence says and must be at its start then: if it were there before, it
+// would pass its first edge twice, and the other end of that edge would not be new. A walk that notes edges finds an edge again without
+// a word, and is asked after each step whether it is at its start.
+// Not here: the other tests of points (`audit_tests`) and of edges (`audit_edges`).
+// Contract: `walks_with_sole_edges`. Definitions: `walkFits` of `audit_tests`; `oneEdge` of `audited_meshes`, specs/Quick.antt;
+// `specs/Sole.antt`. Laws: `proofs/Joins.antt`, `proofs/Rounds.antt`, `proofs/Walking.antt`, `proofs/Comparing.antt`,
+// `proofs/Walked.antt`, `proofs/OneEdges.antt`.
 ghost use mathlib.Core.Path.{_≡_};
-ghost use mathlib.Core.Bool.{true};
+ghost use mathlib.Core.Bool.{true, _&&_};
 ghost use mathlib.Core.List.{[]};
-ghost use mathlib.Core.Logic.{_↔_};
 ghost use Prim.Native.Nat.{ℕ, _+_, _*_, _≤_, _<_};
+ghost use lib.Dec.{eqb};
 ghost use lib.ListN.{length};
+ghost use Rattle.closed_meshes.specs.Renumbering.{sumTo};
 ghost use Rattle.tables.specs.Layout.{pointWidth, edgeWidth};
 ghost use Rattle.tables.specs.Mesh.{valence};
 ghost use Rattle.tables.specs.Parts.{faceTables, pointTables};
 ghost use Rattle.audited_meshes.specs.Folds.{every};
-ghost use Rattle.audited_meshes.specs.Audited.{PointWalked};
 ghost use Rattle.audited_meshes.specs.Quick.{oneEdge};
-ghost use Rattle.sole_edges.specs.Sole.{few, window, second, unseen, noted, newEnd, Ends, SoleIn, Sole, SoleFrom};
-ghost use Rattle.walks.specs.Steps.{otherEnd};
-use tables::DEST_WORD;
-use tables::EDGE_WIDTH;
+ghost use Rattle.audit_tests.specs.Parts.{walkFits};
+ghost use Rattle.sole_edges.specs.Sole.{few, window, second, unseen, noted, newEnd, Ends};
+ghost use Rattle.sole_edges.specs.Sole.{RoundIn, GoodIn, RoundApart, Good, RoundsFrom, GoodFrom};
 use tables::POINT_WIDTH;
 use tables::START_WORD;
 use tables::index;
 use walks::Step;
-use walks::t_nurcc_control_point::acw_of_point;
 use walks::t_nurcc_control_point::touches;
 use walks::t_nurcc_iter::point_step;
 
@@ -73,7 +76,8 @@ fn note(edges: &[u32], seen: &mut [u32], ne: usize, base: usize, p: usize, q: us
     !is_second(edges, ne, p, q, index(i), index(was))
 }
 
-// Whether each edge about point p to a point of the window from base on is the only one between its two points.
+// Whether the walk about point p is at its start again after its valence, and not before, and each of its edges to a point of the window
+// from base on is the only one between its two points.
 fn is_sole_in(
     points: &[u32],
     edges: &[u32],
@@ -87,11 +91,13 @@ fn is_sole_in(
     requires { ⌜ ne * edgeWidth ≤ length (now edges) ⌝ }
     requires { ⌜ window ≤ length (now seen) ⌝ }
     requires { ⌜ Ends (faceTables (now edges) []) np ne ⌝ }
-    requires { ⌜ PointWalked (pointTables (now points) (now edges)) ne p ⌝ }
-    ensures { λ r. ⌜ ((r ≡ true) ↔ SoleIn (faceTables (now (edges .entry)) []) ne p base) ⌝ }
+    requires { ⌜ 0 < valence (pointTables (now points) []) p ⌝ }
+    ensures { λ r. ⌜ (r ≡ true → RoundIn (pointTables (now (points .entry)) (now (edges .entry))) ne p base) ⌝ }
+    ensures { λ r. ⌜ (GoodIn (pointTables (now (points .entry)) (now (edges .entry))) ne p base → r ≡ true) ⌝ }
 {
     let k = index(points[p * POINT_WIDTH]);
-    let mut i = points[p * POINT_WIDTH + START_WORD];
+    let start = points[p * POINT_WIDTH + START_WORD];
+    let mut i = start;
     let mut n = 0;
     while n < k {
         let Step::To { point, next } = point_step(edges, ne, p, index(i)) else {
@@ -100,21 +106,25 @@ fn is_sole_in(
         if !note(edges, seen, ne, base, p, index(point), i) {
             return false;
         }
-        i = next;
         n += 1;
+        if next == start {
+            return n == k;
+        }
+        i = next;
     }
-    true
+    false
 }
 
-// Whether each edge about point p is the only one between its two points.
+// The same of all its edges.
 fn is_sole(points: &[u32], edges: &[u32], seen: &mut [u32], np: usize, ne: usize, p: usize) -> bool
     requires { ⌜ np * pointWidth ≤ length (now points) ⌝ }
     requires { ⌜ p < np ⌝ }
     requires { ⌜ ne * edgeWidth ≤ length (now edges) ⌝ }
     requires { ⌜ window ≤ length (now seen) ⌝ }
     requires { ⌜ Ends (faceTables (now edges) []) np ne ⌝ }
-    requires { ⌜ PointWalked (pointTables (now points) (now edges)) ne p ⌝ }
-    ensures { λ r. ⌜ ((r ≡ true) ↔ Sole (faceTables (now (edges .entry)) []) ne p) ⌝ }
+    requires { ⌜ 0 < valence (pointTables (now points) []) p ⌝ }
+    ensures { λ r. ⌜ (r ≡ true → RoundApart (pointTables (now (points .entry)) (now (edges .entry))) ne p) ⌝ }
+    ensures { λ r. ⌜ (Good (pointTables (now (points .entry)) (now (edges .entry))) ne p → r ≡ true) ⌝ }
 {
     let passes = np / WINDOW + 1;
     let mut k = 0;
@@ -125,18 +135,6 @@ fn is_sole(points: &[u32], edges: &[u32], seen: &mut [u32], np: usize, ne: usize
         k += 1;
     }
     true
-}
-
-// The other end of edge e, which touches point p.
-fn other_end(edges: &[u32], p: usize, e: usize) -> u32
-    requires { ⌜ e * edgeWidth + edgeWidth ≤ length (now edges) ⌝ }
-    ensures { λ r. ⌜ r ≡ otherEnd (faceTables (now (edges .entry)) []) p e ⌝ }
-{
-    let b = e * EDGE_WIDTH;
-    if index(edges[b]) == p {
-        return edges[b + DEST_WORD];
-    }
-    edges[b]
 }
 
 // Whether q stands at none of the first n places of ends.
@@ -154,32 +152,35 @@ fn is_new_end(ends: &[u32], n: usize, q: u32) -> bool
     true
 }
 
-// Whether each edge about point p, which has no more than there are places in ends, is the only one between its two points.
+// Whether the walk about point p, which has no more edges than there are places in ends, is at its start again after its valence, and
+// not before, and each of its edges is the only one between its two points.
 fn few_sole(points: &[u32], edges: &[u32], ends: &mut [u32], np: usize, ne: usize, p: usize) -> bool
     requires { ⌜ p * pointWidth + pointWidth ≤ length (now points) ⌝ }
     requires { ⌜ ne * edgeWidth ≤ length (now edges) ⌝ }
     requires { ⌜ valence (pointTables (now points) []) p ≤ length (now ends) ⌝ }
     requires { ⌜ Ends (faceTables (now edges) []) np ne ⌝ }
-    requires { ⌜ PointWalked (pointTables (now points) (now edges)) ne p ⌝ }
-    ensures { λ r. ⌜ ((r ≡ true) ↔ Sole (faceTables (now (edges .entry)) []) ne p) ⌝ }
+    ensures { λ r. ⌜ (r ≡ true → RoundApart (pointTables (now (points .entry)) (now (edges .entry))) ne p) ⌝ }
+    ensures { λ r. ⌜ (Good (pointTables (now (points .entry)) (now (edges .entry))) ne p → r ≡ true) ⌝ }
 {
     let k = index(points[p * POINT_WIDTH]);
-    let mut i = points[p * POINT_WIDTH + START_WORD];
+    let start = points[p * POINT_WIDTH + START_WORD];
+    let mut i = start;
     let mut n = 0;
     while n < k {
-        let e = index(i);
-        let q = other_end(edges, p, e);
-        if !is_new_end(ends, n, q) {
+        let Step::To { point, next } = point_step(edges, ne, p, index(i)) else {
+            return false;
+        };
+        if !is_new_end(ends, n, point) {
             return false;
         }
-        ends[n] = q;
-        i = acw_of_point(edges, p, e);
+        ends[n] = point;
+        i = next;
         n += 1;
     }
-    true
+    i == start
 }
 
-// Whether each edge about point p is the only one between its two points, be they few or many.
+// The same, be the edges few or many.
 fn point_sole(
     points: &[u32],
     edges: &[u32],
@@ -193,8 +194,8 @@ fn point_sole(
     requires { ⌜ ne * edgeWidth ≤ length (now edges) ⌝ }
     requires { ⌜ window ≤ length (now seen) ⌝ }
     requires { ⌜ Ends (faceTables (now edges) []) np ne ⌝ }
-    requires { ⌜ PointWalked (pointTables (now points) (now edges)) ne p ⌝ }
-    ensures { λ r. ⌜ ((r ≡ true) ↔ Sole (faceTables (now (edges .entry)) []) ne p) ⌝ }
+    ensures { λ r. ⌜ (r ≡ true → RoundApart (pointTables (now (points .entry)) (now (edges .entry))) ne p) ⌝ }
+    ensures { λ r. ⌜ (Good (pointTables (now (points .entry)) (now (edges .entry))) ne p → r ≡ true) ⌝ }
 {
     if index(points[p * POINT_WIDTH]) <= FEW {
         return few_sole(points, edges, seen, np, ne, p);
@@ -216,8 +217,8 @@ fn sole_by_table(
     requires { ⌜ window ≤ length (now seen) ⌝ }
     requires { ⌜ from ≤ np ⌝ }
     requires { ⌜ Ends (faceTables (now edges) []) np ne ⌝ }
-    requires { ⌜ ((p : ℕ) → p < np → PointWalked (pointTables (now points) (now edges)) ne p) ⌝ }
-    ensures { λ r. ⌜ ((r ≡ true) ↔ SoleFrom (faceTables (now (edges .entry)) []) np ne from) ⌝ }
+    ensures { λ r. ⌜ (r ≡ true → RoundsFrom (pointTables (now (points .entry)) (now (edges .entry))) np ne from) ⌝ }
+    ensures { λ r. ⌜ (GoodFrom (pointTables (now (points .entry)) (now (edges .entry))) np ne from → r ≡ true) ⌝ }
 {
     let mut p = from;
     while p < np {
@@ -235,22 +236,21 @@ fn sole_from(points: &[u32], edges: &[u32], np: usize, ne: usize, from: usize) -
     requires { ⌜ ne * edgeWidth ≤ length (now edges) ⌝ }
     requires { ⌜ from ≤ np ⌝ }
     requires { ⌜ Ends (faceTables (now edges) []) np ne ⌝ }
-    requires { ⌜ ((p : ℕ) → p < np → PointWalked (pointTables (now points) (now edges)) ne p) ⌝ }
-    ensures { λ r. ⌜ ((r ≡ true) ↔ SoleFrom (faceTables (now (edges .entry)) []) np ne from) ⌝ }
+    ensures { λ r. ⌜ (r ≡ true → RoundsFrom (pointTables (now (points .entry)) (now (edges .entry))) np ne from) ⌝ }
+    ensures { λ r. ⌜ (GoodFrom (pointTables (now (points .entry)) (now (edges .entry))) np ne from → r ≡ true) ⌝ }
 {
     let mut seen = [0u32; WINDOW];
     sole_by_table(points, edges, &mut seen, np, ne, from)
 }
 
-// Whether each edge about each point is the only one between its two points. Up to the first point with many edges there is no
-// table but the lent places for their other ends.
+// The same of all points. Up to the first point with many edges there is no table but the lent places for their other ends.
 fn all_sole(points: &[u32], edges: &[u32], ends: &mut [u32], np: usize, ne: usize) -> bool
     requires { ⌜ np * pointWidth ≤ length (now points) ⌝ }
     requires { ⌜ ne * edgeWidth ≤ length (now edges) ⌝ }
     requires { ⌜ few ≤ length (now ends) ⌝ }
     requires { ⌜ Ends (faceTables (now edges) []) np ne ⌝ }
-    requires { ⌜ ((p : ℕ) → p < np → PointWalked (pointTables (now points) (now edges)) ne p) ⌝ }
-    ensures { λ r. ⌜ ((r ≡ true) ↔ SoleFrom (faceTables (now (edges .entry)) []) np ne 0) ⌝ }
+    ensures { λ r. ⌜ (r ≡ true → RoundsFrom (pointTables (now (points .entry)) (now (edges .entry))) np ne 0) ⌝ }
+    ensures { λ r. ⌜ (GoodFrom (pointTables (now (points .entry)) (now (edges .entry))) np ne 0 → r ≡ true) ⌝ }
 {
     let mut p = 0;
     while p < np {
@@ -265,13 +265,17 @@ fn all_sole(points: &[u32], edges: &[u32], ends: &mut [u32], np: usize, ne: usiz
     true
 }
 
-// Whether no two of the first ne edges join the same two points, where the walks about the points pass all their edges.
-pub fn are_one_edges(points: &[u32], edges: &[u32], np: usize, ne: usize) -> bool
+// Whether the walk about each of the first np points comes back after its valence, and no two of the first ne edges join the same two
+// points, where the valences add up to twice the edges.
+pub fn walks_with_sole_edges(points: &[u32], edges: &[u32], np: usize, ne: usize) -> bool
     requires { ⌜ np * pointWidth ≤ length (now points) ⌝ }
     requires { ⌜ ne * edgeWidth ≤ length (now edges) ⌝ }
     requires { ⌜ Ends (faceTables (now edges) []) np ne ⌝ }
-    requires { ⌜ ((p : ℕ) → p < np → PointWalked (pointTables (now points) (now edges)) ne p) ⌝ }
-    ensures { λ r. ⌜ r ≡ every ne (λ e. oneEdge (pointTables (now (points .entry)) (now (edges .entry))) ne e) ⌝ }
+    requires { ⌜ ((p : ℕ) → p < np → 2 ≤ valence (pointTables (now points) []) p) ⌝ }
+    requires { ⌜ eqb (sumTo np (λ p. valence (pointTables (now points) []) p)) (2 * ne) ≡ true ⌝ }
+    ensures { λ r. ⌜
+        r ≡ (every np (λ p. walkFits (pointTables (now (points .entry)) (now (edges .entry))) ne p)
+        && every ne (λ e. oneEdge (pointTables (now (points .entry)) (now (edges .entry))) ne e)) ⌝ }
 {
     let mut ends = [0u32; FEW];
     all_sole(points, edges, &mut ends, np, ne)

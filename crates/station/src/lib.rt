@@ -2,11 +2,11 @@
 // functions on pointers and lengths (station/lavyngo.h declares them). Every answer is document 01's number or document 02's: 0 for
 // what is accepted, else that of the ground. Counts stand in an array of three that the caller lends: points, edges, faces.
 // Not here: what the functions do (`building`, `text_building`, `text_mending`, `audit`, `refining`, `depth_finder`,
-// `listing_writing`, `listing_reading`), how an answer is told (`station_answers`, `station_mending`, `station_steps`,
-// `station_listings`).
+// `listing_writing`, `listing_reading`), how an answer is told (`station_building`, `station_mending`, `station_places`,
+// `station_audits`, `station_steps`, `station_listings`). Each function here is one call of a function there.
 // Contracts: `lavyngo_build`, `lavyngo_build_2`, `lavyngo_build_text`, `lavyngo_mend_text`, `lavyngo_explain_text`, `lavyngo_audit`,
 // `lavyngo_step`, `lavyngo_step_published`, `lavyngo_find_depth`, `lavyngo_write_listing`, `lavyngo_read_listing`, `lavyngo_version`.
-// Definitions: `specs/Station.antt`. Laws: `proofs/Laws.antt`.
+// Definitions: `specs/Station.antt`, and those of the crates that tell the answers.
 ghost use mathlib.Core.Path.{_≡_};
 ghost use Rattle.built_meshes.specs.Building.{build};
 ghost use Rattle.built_meshes.specs.Lists.{generalLimits};
@@ -18,7 +18,9 @@ ghost use Rattle.tables.specs.Mesh.{meshOf};
 ghost use Rattle.refined_meshes.specs.declared.Edition.the-variants.{First, Second};
 ghost use Rattle.steps.specs.Step.{step};
 ghost use Rattle.steps.specs.OneStep.{Binary64};
-ghost use Rattle.station.specs.Station.{BuildingTold, built, textBuilt, audited, Finding, found, libraryVersion};
+ghost use Rattle.station.specs.Station.{libraryVersion};
+ghost use Rattle.station_building.specs.Told.{BuildingTold, built, textBuilt};
+ghost use Rattle.station_audits.specs.Told.{audited, Finding, found};
 ghost use Rattle.mended_texts.specs.Mending.{mendText};
 ghost use Rattle.station_mending.specs.Told.{MendingTold, mended};
 ghost use Rattle.station_places.specs.Told.{Explained, explained};
@@ -27,22 +29,17 @@ ghost use Rattle.crossings.specs.Crossings.{find};
 ghost use Rattle.station_answers.specs.Answers.{countsIn};
 ghost use Rattle.listings.specs.Handing.{writeListing, readListing};
 ghost use Rattle.station_listings.specs.Told.{WritingTold, toldWriting, ReadingTold, toldReading};
-use audit::audit;
-use building::build;
-use building_tests::Bounds;
 use built_meshes::Version;
-use depth_finder::find_depth;
 use refined_meshes::Edition;
-use station_answers::load_counts;
-use station_answers::tell_built;
-use station_answers::tell_crossing;
-use station_answers::tell_text_built;
+use station_audits::audit_told;
+use station_audits::find_depth_told;
+use station_building::build_text_told;
+use station_building::build_told;
 use station_listings::read_listing_told;
 use station_listings::write_listing_told;
 use station_mending::mend_text_told;
 use station_places::explain_text_told;
 use station_steps::step_told;
-use text_building::build_text;
 
 // The version of the library: 1 for document 01, and one more for each request of document 02 that is in it. LAVYNGO_VERSION in the
 // header is the same number.
@@ -70,7 +67,7 @@ pub extern "C" fn lavyngo_build(
         (meshOf (now (positions .entry)) (now (points .entry)) (now (edges .entry)) (now (intervals .entry)) (now (faces .entry))))) ⌝ }
 {
     let firsts = [0u32; 0];
-    let answer = build(
+    build_told(
         Version::One,
         coordinates,
         sides,
@@ -82,9 +79,8 @@ pub extern "C" fn lavyngo_build(
         edges,
         intervals,
         faces,
-        Bounds::General,
-    );
-    tell_built(counts, answer)
+        counts,
+    )
 }
 
 // Builds a mesh from lists of version 2 in the lent tables. The counts are written if it is accepted.
@@ -110,7 +106,7 @@ pub extern "C" fn lavyngo_build_2(
         (listsIn Two (now (coordinates .entry)) (now (sides .entry)) (now (firsts .entry)) (now (listed .entry)) (now (beside .entry)))
         (meshOf (now (positions .entry)) (now (points .entry)) (now (edges .entry)) (now (intervals .entry)) (now (faces .entry))))) ⌝ }
 {
-    let answer = build(
+    build_told(
         Version::Two,
         coordinates,
         sides,
@@ -122,9 +118,8 @@ pub extern "C" fn lavyngo_build_2(
         edges,
         intervals,
         faces,
-        Bounds::General,
-    );
-    tell_built(counts, answer)
+        counts,
+    )
 }
 
 // Builds a mesh from a text in the lent tables. The counts are written if it is accepted.
@@ -145,16 +140,7 @@ pub extern "C" fn lavyngo_build_text(
         (buildText General (now (text .entry))
         (meshOf (now (positions .entry)) (now (points .entry)) (now (edges .entry)) (now (intervals .entry)) (now (faces .entry))))) ⌝ }
 {
-    let answer = build_text(
-        text,
-        Bounds::General,
-        positions,
-        points,
-        edges,
-        intervals,
-        faces,
-    );
-    tell_text_built(counts, answer)
+    build_text_told(text, positions, points, edges, intervals, faces, counts)
 }
 
 // Mends a text of version 2 in place: whole faces are turned round so that all neighbours run opposite ways.
@@ -192,18 +178,7 @@ pub extern "C" fn lavyngo_audit(
         (meshOf (now (positions .entry)) (now (points .entry)) (now (edges .entry)) (now (intervals .entry)) (now (faces .entry)))
         (countsIn (now (counts .entry))) ⌝ }
 {
-    if audit(
-        positions,
-        points,
-        edges,
-        intervals,
-        faces,
-        load_counts(counts),
-    ) {
-        0
-    } else {
-        30
-    }
+    audit_told(positions, points, edges, intervals, faces, counts)
 }
 
 // Refines the mesh in the tables once, visiting the faces in the order handed in. `newpositions`, `newpoints`, `newedges`, `newintervals` and
@@ -324,16 +299,16 @@ pub extern "C" fn lavyngo_find_depth(
         (find (meshOf (now (positions .entry)) (now (points .entry)) (now (edges .entry)) (now (intervals .entry)) (now (faces .entry)))
         (countsIn (now (counts .entry))) depth)) ⌝ }
 {
-    let answer = find_depth(
+    find_depth_told(
         positions,
         points,
         edges,
         intervals,
         faces,
-        load_counts(counts),
+        counts,
         depth,
-    );
-    tell_crossing(edge, answer)
+        edge,
+    )
 }
 
 // Writes the listing of a mesh at the front of the output. How many bytes it has is written if it is accepted.

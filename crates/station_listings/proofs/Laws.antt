@@ -1,15 +1,14 @@
 -- What is told of a listing that was written or read. Assumes nothing.
-use mathlib.Core.Path.{_≡_, sym, ap, _∙_}
-use mathlib.Core.List.{List, [], _∷_}
+use mathlib.Core.Path.{_≡_, ap, _∙_}
+use mathlib.Core.List.{List}
 use Prim.Native.Nat.{ℕ}
 use Rattle.tables.specs.Mesh.{Mesh}
-use Rattle.tables.specs.Rows.{putRow}
 use Rattle.tables.specs.declared.Counts.{Counts}
 use Rattle.listings.specs.Handing.{WritingOutcome, ReadingOutcome, writingNumber, readingNumber, writeListing}
 use Rattle.listings.specs.declared.Writing.{Writing}
 use Rattle.listings.specs.declared.Reading.{Reading}
-use Rattle.listings.specs.declared.Reading.the-variants as Reading
-use Rattle.station_listings.specs.Told.{lengthAfter, countsRead, toldWriting, toldReading}
+use Rattle.listing_answers.specs.Answers.{lengthAfter, countsRead}
+use Rattle.station_listings.specs.Told.{toldWriting, toldReading}
 
 -- a is the answer of writing, out what it left
 pub written-told : (n : ℕ) (m : Mesh) (text : List ℕ) {c c′ : Counts} {out : List ℕ} {a : Writing} {r k : ℕ} → c ≡ c′
@@ -23,8 +22,3 @@ pub read-told : (xs : List ℕ) {o : ReadingOutcome} {a : Reading} {m : Mesh} {r
     → record { answer = a; tables = m } ≡ o → r ≡ readingNumber a → ys ≡ countsRead xs a
     → record { answer = r; counts = ys; tables = m } ≡ toldReading xs o
 read-told xs {o} {a} {m} {r} {ys} e er ey = (λ i. record { answer = er i; counts = ey i; tables = m }) ∙ ap (toldReading xs) e
-
--- the counts c of an answer that is `Read c`, written into the array xs
-pub counts-stored : (xs : List ℕ) {ys : List ℕ} {a : Reading} {c : Counts} → a ≡ Reading.Read c → ys ≡ putRow xs 0 (c .points ∷ c .edges ∷ c .faces ∷ [])
-    → ys ≡ countsRead xs a
-counts-stored xs {ys} {a} {c} e q = q ∙ ap (countsRead xs) (sym e)

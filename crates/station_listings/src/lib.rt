@@ -1,68 +1,19 @@
 // The handover listing for stations (document 02, §1): writing and reading, with the answers and the counts as C callers are told
 // them. Every answer is a number: 0 for what is accepted, else that of the ground.
-// Not here: what the functions do (`listing_writing`, `listing_reading`), the C functions (`station`).
+// Not here: what the functions do (`listing_writing`, `listing_reading`), how an answer is told (`listing_answers`), the C functions (`station`).
 // Contracts: `write_listing_told`, `read_listing_told`. Definitions: `specs/Told.antt`. Laws: `proofs/Laws.antt`.
 ghost use mathlib.Core.Path.{_≡_};
 ghost use Rattle.tables.specs.Mesh.{meshOf};
 ghost use Rattle.station_answers.specs.Answers.{countsIn};
-ghost use Rattle.listings.specs.Handing.{writingNumber, readingNumber, writeListing, readListing};
-ghost use Rattle.station_listings.specs.Told.{lengthAfter, countsRead, WritingTold, toldWriting, ReadingTold, toldReading};
+ghost use Rattle.listings.specs.Handing.{writeListing, readListing};
+ghost use Rattle.station_listings.specs.Told.{WritingTold, toldWriting, ReadingTold, toldReading};
+use listing_answers::reading_number;
+use listing_answers::store_length;
+use listing_answers::store_read;
+use listing_answers::writing_number;
 use listing_reading::read_listing;
 use listing_writing::write_listing;
-use listings::Reading;
-use listings::Writing;
 use station_answers::load_counts;
-use station_answers::store_counts;
-
-// The number of an answer to writing.
-fn writing_number(answer: Writing) -> u32
-    ensures { λ r. ⌜ r ≡ writingNumber answer ⌝ }
-{
-    match answer {
-        Writing::Written(_) => 0,
-        Writing::NotClosed => 30,
-        Writing::OverCeilings => 2,
-        Writing::TooShort => 4,
-    }
-}
-
-// Stores how many bytes were written, if any were.
-fn store_length(length: &mut usize, answer: Writing)
-    ensures { λ _. ⌜ now (length .exit) ≡ lengthAfter (now (length .entry)) answer ⌝ }
-{
-    match answer {
-        Writing::Written(n) => *length = n,
-        Writing::NotClosed => {}
-        Writing::OverCeilings => {}
-        Writing::TooShort => {}
-    }
-}
-
-// The number of an answer to reading.
-fn reading_number(answer: Reading) -> u32
-    ensures { λ r. ⌜ r ≡ readingNumber answer ⌝ }
-{
-    match answer {
-        Reading::Read(_) => 0,
-        Reading::NotListing => 40,
-        Reading::OverCeilings => 2,
-        Reading::NoRoom => 4,
-        Reading::NotClosed => 30,
-    }
-}
-
-// Stores the counts of a listing that was read.
-fn store_read(counts: &mut [usize; 3], answer: Reading)
-    ensures { λ _. ⌜ now (counts .exit) ≡ countsRead (now (counts .entry)) answer ⌝ }
-{
-    match answer {
-        Reading::Read(c) => store_counts(counts, c),
-        Reading::NotListing => {}
-        Reading::OverCeilings => {}
-        Reading::NoRoom => {}
-        Reading::NotClosed => {}
-    }
-}
 
 // Writes the listing of a mesh at the front of the output. How many bytes it has is written if it is accepted.
 pub fn write_listing_told(

@@ -15,18 +15,12 @@ use refining::step;
 use steps::Stepped;
 use tables::Counts;
 use tables::index;
+use tables::least;
 
 // What a list of steps answers: the counts of the mesh that it leaves, and how many of the steps were accepted.
 pub struct Ran {
     pub counts: Counts,
     pub accepted: usize,
-}
-
-// The lesser of two numbers.
-fn least(a: usize, b: usize) -> usize
-    ensures { λ r. ⌜ r ≡ min a b ⌝ }
-{
-    if a <= b { a } else { b }
 }
 
 // The counts after a step: those that it answers, or as they were where it is refused.

@@ -1,7 +1,6 @@
 // The mender of version 2 texts (document 02, §8): whole faces turned round in place, so that neighbours run opposite ways.
-// Not here: the reader (`mesh_text`), the choice of faces (`list_mending`), lists turned (`face_turning`), face lines written
-// (`text_printing`), the definition and its claims (`mended_texts`).
-// Contract: `mend_text`. Definitions: `Mending` of `mended_texts`; between the stages `specs/Said.antt`. Laws: `proofs/Laws.antt`.
+// Not here: the reader (`mesh_text`), a text mended by its lists (`text_rewriting`), the definition and its claims (`mended_texts`).
+// Contract: `mend_text`. Definitions: `Mending` of `mended_texts`; between the stages `Said` of `text_rewriting`. Laws: `proofs/Laws.antt`.
 // The lists of a text are local arrays of the sizes that the general limits allow, with those of the choice below 1 MiB of stack.
 ghost use mathlib.Core.Path.{_≡_};
 ghost use mathlib.Core.Bool.{true};
@@ -11,71 +10,18 @@ ghost use Rattle.tables.specs.Layout.{positionWidth};
 ghost use Rattle.text_numbers.specs.Form.{bytes, stands};
 ghost use Rattle.built_meshes.specs.Lists.{generalLimits};
 ghost use Rattle.mended_texts.specs.Mending.{MendOutcome, mendText, textMendingNumber};
-ghost use Rattle.mended_texts.specs.declared.TextMending.the-variants.{Mended};
-ghost use Rattle.text_mending.specs.Said.{Said, Mendable};
+ghost use Rattle.text_rewriting.specs.Said.{Said};
 use building_tests::Bounds;
 use building_tests::MOST_FACES;
 use building_tests::MOST_LISTED;
 use building_tests::MOST_POINTS;
 use built_meshes::Ground;
-use face_turning::turn_faces;
-use list_mending::find_turns;
-use mended_lists::Mending;
 use mended_texts::TextMending;
 use mesh_text::Reading;
 use mesh_text::read_text;
 use tables::POSITION_WIDTH;
 use text_numbers::stands;
-use text_printing::write_face_lines;
-
-// The bytes of a text's head and of a point line.
-const HEAD_BYTES: usize = 9;
-
-const POINT_BYTES: usize = 59;
-
-// Turns the faces in the lists, and writes their lines over those of the text.
-fn rewrite_faces(
-    text: &mut [u8],
-    coordinates: &[f64],
-    sides: &mut [u32],
-    firsts: &mut [u32],
-    listed: &mut [u32],
-    beside: &mut [f64],
-    turned: &[bool],
-)
-    requires { ⌜
-        Mendable (now text) (now coordinates) (now sides) (now firsts) (now listed) (now beside) (now turned) ⌝ }
-    ensures { λ _. ⌜
-        _≡_ {A = MendOutcome} (record { answer = Mended; text = now (text .exit) }) (mendText (now (text .entry))) ⌝ }
-{
-    turn_faces(sides, firsts, listed, beside, turned);
-    let at = HEAD_BYTES + POINT_BYTES * (coordinates.len() / POSITION_WIDTH);
-    write_face_lines(text, at, sides, firsts, listed, beside);
-}
-
-// Mends a text by the lists that it stands for.
-fn mend_by_lists(
-    text: &mut [u8],
-    coordinates: &[f64],
-    sides: &mut [u32],
-    firsts: &mut [u32],
-    listed: &mut [u32],
-    beside: &mut [f64],
-) -> TextMending
-    requires { ⌜ Said (now text) (now coordinates) (now sides) (now firsts) (now listed) (now beside) ⌝ }
-    ensures { λ r. ⌜
-        _≡_ {A = MendOutcome} (record { answer = r; text = now (text .exit) }) (mendText (now (text .entry))) ⌝ }
-{
-    let mut turned = [false; MOST_FACES];
-    match find_turns(coordinates, sides, firsts, listed, beside, &mut turned) {
-        Mending::Mended => {
-            rewrite_faces(text, coordinates, sides, firsts, listed, beside, &turned);
-            TextMending::Mended
-        }
-        Mending::Refused(g) => TextMending::Refused(g),
-        Mending::Twisted => TextMending::Twisted,
-    }
-}
+use text_rewriting::mend_by_lists;
 
 // Mends a text by the first entries of the lists: 3 for each of p points, 4 side lengths and first points for each of f faces, n listed
 // points and intervals.

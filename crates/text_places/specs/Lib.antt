@@ -1,2 +1,1 @@
 pub mod TextPlaces
-pub mod Claims

@@ -1,6 +1,6 @@
 // Where a mesh text of any bytes is refused: the line, the face and the edge of the first check that is met, for the grounds 10 to 15 and 43.
 // Not here: which ground it is (`text_building`), what is met in the faces (`face_grounds`), the definition and its claims (`refusal_places`).
-// Contract: `text_place`. Definitions: `specs/TextPlaces.antt`. Claim: `specs/Claims.antt`, proved in `proofs/Theorem.antt`. Laws: `proofs/Laws.antt`.
+// Contract: `text_place`. Definitions: `specs/TextPlaces.antt`. Claim: that of `explained_texts`. Laws: `proofs/Laws.antt`.
 // The lists of a text and those of its places are local arrays of the sizes that the general limits allow, below 760 KiB of stack.
 ghost use mathlib.Core.Path.{_≡_};
 ghost use mathlib.Core.Bool.{false};

@@ -1,7 +1,7 @@
 // What building answers to a mesh text of any bytes in tables with rows to spare, told without tables: the number of the answer.
 // Not here: where a ground is met (`text_places`), what is met in the faces (`face_grounds`) and in the whole (`whole_tests`), the definition for
 // lists and its claims (`whole_grounds`).
-// Contract: `text_number`. Definitions: `specs/Told.antt`. Claim: `specs/Claims.antt`, proved in `proofs/Theorem.antt`. Laws: `proofs/Laws.antt`.
+// Contract: `text_number`. Definitions: `specs/Told.antt`. Claim: that of `explained_texts`. Laws: `proofs/Laws.antt`.
 // The lists of a text and those of its places are local arrays of the sizes that the general limits allow, below 760 KiB of stack.
 ghost use mathlib.Core.Path.{_≡_};
 ghost use mathlib.Core.Bool.{true, false};

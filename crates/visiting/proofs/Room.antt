@@ -26,7 +26,7 @@ use Rattle.refined_meshes.specs.Visits.{splitAll, ringOf}
 use Rattle.refined_meshes.specs.Fits.{VisitFits, splitSome}
 use Rattle.splitting.specs.Scratch.{tablesOf, scratch, SplitRoom}
 use Rattle.splitting.proofs.Laws.{splitWhole-split, splitWhole-kept, splitAll-none, splitAll-suc, faces-splitAll, points-splitAll-faces, edges-splitAll-faces}
-use Rattle.ring_places.specs.Rings.{Rows}
+use Rattle.ring_places.specs.Rings.{EdgesThere}
 use Rattle.refined_meshes.proofs.Turns.{getD-filled}
 use Rattle.refined_meshes.proofs.Laws.{splitAll-same}
 use Rattle.visiting.specs.Visiting.{Ceilings, RingFits, AlongFits}
@@ -225,5 +225,5 @@ module _ (oe ps es fs pe : List ℕ) (is : List Float) (np f n : ℕ) (taken : C
 
 -- the halves at the places are rows of the table
 pub halves-rows : (es hs lent : List ℕ) (half : ℕ → ℕ) (n : ℕ) → n ≤ 64 → length lent ≡ 64 → hs ≡ filled n half lent
-    → ((i : ℕ) → i < n → half i * 8 + 8 ≤ length es) → Rows es hs n
+    → ((i : ℕ) → i < n → half i * 8 + 8 ≤ length es) → EdgesThere es hs n
 halves-rows es hs lent half n few long is h i l = rw (is, getD-filled n half lent 0 (rw long few) i l) (h i l)

@@ -19,7 +19,7 @@ use Rattle.refined_meshes.specs.Visits.{splitAll, visits}
 use Rattle.refined_meshes.specs.Fits.{VisitFits}
 use Rattle.splitting.specs.Scratch.{InRows, SplitRoom}
 use Rattle.ring_places.specs.declared.RingRows.{RingRows}
-use Rattle.ring_places.specs.Rings.{Small, Rows}
+use Rattle.ring_places.specs.Rings.{Small, EdgesThere}
 use Rattle.refined_meshes.specs.Ring.{firstHalfOf, secondHalfOf}
 
 abbrev pub bare : Mesh → Mesh
@@ -48,15 +48,15 @@ pub record RingFits (oe pe : List ℕ) (rows : RingRows) (ps es : List ℕ) (is 
   pub intervals : rows .joins + rows .size ≤ length is
   pub face : rows .face * faceWidth + faceWidth ≤ length fs
   pub faces : (rows .faces + (rows .size - 1)) * faceWidth ≤ length fs
-  pub mesh-rows : Rows oe pe (rows .size)
-  pub edge-rows : Rows es pe (rows .size)
+  pub mesh-rows : EdgesThere oe pe (rows .size)
+  pub edge-rows : EdgesThere es pe (rows .size)
   pub firsts : (i : ℕ) → i < rows .size → firstHalfOf oe es (rows .face) (getD pe i 0) * edgeWidth + edgeWidth ≤ length es
   pub seconds : (i : ℕ) → i < rows .size → secondHalfOf oe es (rows .face) (getD pe i 0) * edgeWidth + edgeWidth ≤ length es
 
 pub record AlongFits (oe : List ℕ) (np f : ℕ) (pe : List ℕ) (n : ℕ) (s : State) : Type 0 where
   pub some-places : 0 < n
   pub few-places : n ≤ longestPerimeter
-  pub mesh-rows : Rows oe pe n
+  pub mesh-rows : EdgesThere oe pe n
   pub rows : (i : ℕ) → i < n → InRows (s .edges) (s .intervals) (getD pe i 0)
   pub old-points : np * pointWidth ≤ length (s .points)
   pub centre : s .pointsTaken * pointWidth + pointWidth ≤ length (s .points)

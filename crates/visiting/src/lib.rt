@@ -17,7 +17,7 @@ ghost use Rattle.refined_meshes.specs.Ring.{putJoin, putFirst, putSecond};
 ghost use Rattle.refined_meshes.specs.Visits.{ringOf, putRing, visitAlong, visit, visits, refinedRows};
 ghost use Rattle.refined_meshes.specs.Fits.{VisitFits};
 ghost use Rattle.splitting.specs.Scratch.{tablesOf};
-ghost use Rattle.ring_places.specs.Rings.{ring, Small, Rows};
+ghost use Rattle.ring_places.specs.Rings.{ring, Small, EdgesThere};
 ghost use Rattle.visiting.specs.Visiting.{RowsThere, Ceilings, PlacesLent, RingFits, AlongFits, EachVisitFits};
 ghost use Rattle.tables.specs.Mesh.{meshOf};
 use ring_edges::put_firsts;
@@ -56,9 +56,9 @@ fn put_ring_edges(
     requires { ⌜ Small rows ⌝ }
     requires { ⌜ (rows .joins + rows .size) * edgeWidth ≤ length (now newedges) ⌝ }
     requires { ⌜ rows .joins + rows .size ≤ length (now newintervals) ⌝ }
-    requires { ⌜ Rows (now edges) (now perimeter) (rows .size) ⌝ }
-    requires { ⌜ Rows (now newedges) (now firsts) (rows .size) ⌝ }
-    requires { ⌜ Rows (now newedges) (now seconds) (rows .size) ⌝ }
+    requires { ⌜ EdgesThere (now edges) (now perimeter) (rows .size) ⌝ }
+    requires { ⌜ EdgesThere (now newedges) (now firsts) (rows .size) ⌝ }
+    requires { ⌜ EdgesThere (now newedges) (now seconds) (rows .size) ⌝ }
     ensures { λ _. ⌜
         ((ps fs : List ℕ) (c : Counts) →
         _≡_ {A = State}

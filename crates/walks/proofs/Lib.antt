@@ -1,5 +1,6 @@
 pub mod Steps
 pub mod FromEdge
+pub mod Places
 pub mod Walking
 pub mod Counting
 pub mod Seeking

@@ -1,4 +1,5 @@
 pub mod Steps
+pub mod Places
 pub mod Border
 pub mod Neighbour
 pub mod Claims

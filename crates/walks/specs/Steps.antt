@@ -1,5 +1,5 @@
 -- One step of a walk, and what a walk answers.
---     otherEnd m p e           the other end of edge e, which touches point p
+--     pointAcross m p e           the other end of edge e, which touches point p
 --     toIf b p e               a step to edge e that shows point p, if the test b holds
 --     faceStep es ne f e       one step about face f from edge e, if e is below ne and borders f
 --     pointStep es ne p e      one step about point p from edge e, if e is below ne and touches p
@@ -18,8 +18,8 @@ use Rattle.walks.specs.declared.Step.the-variants.{To, Lost}
 use Rattle.walks.specs.declared.Passed.{Passed}
 use Rattle.walks.specs.declared.Passed
 
-abbrev pub otherEnd : Mesh → ℕ → ℕ → ℕ
-otherEnd m p e = cond (eqb (origin m e) p) (dest m e) (origin m e)
+abbrev pub pointAcross : Mesh → ℕ → ℕ → ℕ
+pointAcross m p e = cond (eqb (origin m e) p) (dest m e) (origin m e)
 
 abbrev pub toIf : Bool → ℕ → ℕ → Step
 toIf true p e = To p e
@@ -33,7 +33,7 @@ faceStep es ne f e =
 abbrev pub pointStep : List ℕ → ℕ → ℕ → ℕ → Step
 pointStep es ne p e =
     let m : Mesh = edgeTable es in
-    toIf (ltb e ne && touches m p e) (otherEnd m p e) (acwOfPoint m p e)
+    toIf (ltb e ne && touches m p e) (pointAcross m p e) (acwOfPoint m p e)
 
 abbrev pub passedBy : Walk → Passed
 passedBy (back es) = Passed.Back (length es)

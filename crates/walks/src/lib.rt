@@ -2,13 +2,20 @@
 // Carries over t_nurcc_iter.rs, t_nurcc_control_point.rs and t_nurcc_face.rs. A walk that leaves the rows, loses its face or
 // point, or does not meet its start within its bound is lost, and says so.
 // Not here: whether the mesh is closed (`audit`).
-// Definitions: `specs/Steps.antt`, `specs/Border.antt`. Laws for callers: `proofs/Laws.antt`; `proofs/Border.antt` for borders laid into arrays.
+// Definitions: `specs/Steps.antt`, `specs/Border.antt`, `specs/Places.antt`. Laws for callers: `proofs/Laws.antt`; `proofs/Border.antt` for borders laid into arrays;
+// `proofs/Places.antt` for words that are found by a number.
+ghost use mathlib.Core.Path.{_≡_};
+ghost use Prim.Native.Nat.{_≤_};
+ghost use Rattle.walks.specs.Places.{placeOf};
 use tables::LONGEST_BORDER;
 use tables::LONGEST_PERIMETER;
 
 pub mod t_nurcc_control_point;
 pub mod t_nurcc_face;
 pub mod t_nurcc_iter;
+
+// The neighbours of an edge on one side.
+pub const SIDE_WIDTH: usize = 2;
 
 // One step of a walk: the next edge, and a point of the edge that it leaves (about a face, the point at which the walk came to
 // that edge; about a point, its other end); or the walk is lost.
@@ -35,4 +42,15 @@ pub struct FaceBorder {
     pub passed: Passed,
     pub edges: [u32; LONGEST_PERIMETER],
     pub points: [u32; LONGEST_BORDER],
+}
+
+// The number of the end of an edge, or of its side, that has the row n: 0 if the first has it, else 1.
+pub fn place_of(first: usize, n: usize) -> usize
+    ensures { λ r. ⌜ r ≡ placeOf first n ⌝ }
+    ensures { λ r. ⌜ r ≤ 1 ⌝ }
+{
+    if first == n {
+        return 0;
+    }
+    1
 }

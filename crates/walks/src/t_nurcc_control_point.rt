@@ -11,11 +11,11 @@ ghost use Rattle.walks.specs.Neighbour.{edgeTo};
 use crate::FoundEdge;
 use crate::Passed;
 use crate::Step;
+use crate::place_of;
 use crate::t_nurcc_iter::point_step;
 use crate::t_nurcc_iter::point_walk;
 use records::load_edge_words;
 use t_spline::TnurccVertexEnd;
-use tables::DEST_WORD;
 use tables::EDGE_WIDTH;
 use tables::POINT_WIDTH;
 use tables::START_WORD;
@@ -66,10 +66,8 @@ pub fn touches(edges: &[u32], p: usize, e: usize) -> bool
     ensures { λ r. ⌜ r ≡ touches (faceTables (now (edges .entry)) []) p e ⌝ }
 {
     let b = e * EDGE_WIDTH;
-    if index(edges[b]) == p {
-        return true;
-    }
-    index(edges[b + DEST_WORD]) == p
+    let s = place_of(index(edges[b]), p);
+    index(edges[b + s]) == p
 }
 
 // The first edge about point p, of at most k from its start edge, that touches point q too.

@@ -7,11 +7,15 @@ ghost use Rattle.audited_meshes.specs.Walks.{faceWalk, pointWalk};
 ghost use Rattle.walks.specs.Steps.{faceStep, pointStep, passedBy};
 ghost use Rattle.tables.specs.Parts.{faceTables, pointTables};
 use crate::Passed;
+use crate::SIDE_WIDTH;
 use crate::Step;
+use crate::place_of;
 use records::load_edge_words;
 use t_spline::FaceSide;
-use t_spline::PointEnd;
+use tables::DEST_WORD;
+use tables::EDGE_WIDTH;
 use tables::FACE_WIDTH;
+use tables::LEFT_CW_WORD;
 use tables::LONGEST_PERIMETER;
 use tables::POINT_WIDTH;
 use tables::START_WORD;
@@ -35,7 +39,8 @@ pub fn face_step(edges: &[u32], ne: usize, f: usize, e: usize) -> Step
     }
 }
 
-// One step about point p from edge e, among the edges below ne.
+// One step about point p from edge e, among the edges below ne. The words are found by the number of the end, so that the answer of
+// the comparison with the origin, which no one can foretell, is no branch.
 pub fn point_step(edges: &[u32], ne: usize, p: usize, e: usize) -> Step
     requires { ⌜ ne * edgeWidth ≤ length (now edges) ⌝ }
     ensures { λ r. ⌜ r ≡ pointStep (now (edges .entry)) ne p e ⌝ }
@@ -43,13 +48,14 @@ pub fn point_step(edges: &[u32], ne: usize, p: usize, e: usize) -> Step
     if ne <= e {
         return Step::Lost;
     }
-    let edge = load_edge_words(edges, e);
-    match edge.point_end(p) {
-        PointEnd::At(end) => Step::To {
-            point: edge.point_at_end(end.other()),
-            next: edge.acw_edge_from_end(end),
-        },
-        PointEnd::Nowhere => Step::Lost,
+    let b = e * EDGE_WIDTH;
+    let s = place_of(index(edges[b]), p);
+    if index(edges[b + s]) != p {
+        return Step::Lost;
+    }
+    Step::To {
+        point: edges[b + DEST_WORD - s],
+        next: edges[b + LEFT_CW_WORD + SIDE_WIDTH * s],
     }
 }
 

@@ -28,7 +28,8 @@ use Rattle.mended_lists.specs.Mending.{edgesShared}
 use Rattle.mended_lists.proofs.Reversal.{eqb-false}
 use Rattle.mended_lists.proofs.InTurn.{getD-inTurn}
 use Rattle.mended_lists.proofs.Edges.{places-length, places-at, number-below, Numbered, numbered}
-use Rattle.shared_edges.proofs.Laws.{latest-below, latest-same, every-more, every-fails, all-passed}
+use Rattle.audited_meshes.proofs.Folds.{every-more}
+use Rattle.shared_edges.proofs.Laws.{latest-below, latest-same, every-fails, all-passed}
 use Rattle.face_mending.proofs.Laws.{every-same}
 use Rattle.face_places.specs.Spread.{Spread}
 use Rattle.face_places.proofs.Laws.{same-offset}

@@ -3,10 +3,7 @@ use mathlib.Core.List.{[]}
 use mathlib.Core.Path.{sym, _∙_}
 use borrow.Author.Tests.{not-true, not-false}
 use borrow.Author.Needs.{needs}
-use Rattle.tables.specs.Parts.{pointTables}
-use Rattle.sole_edges.proofs.OneEdges.{ends-with-points}
-use Rattle.sole_edges.proofs.Walked.{walked-of-tests}
-use Rattle.audit.proofs.Whole.{walks-valences, walks-faces, walks-points, walks-edges}
+use Rattle.audit.proofs.Whole.{walks-valences, walks-faces, walks-points}
 use Rattle.audit.proofs.walks_fit.Statement.{statement}
 use Rattle.audit.proofs.walks_fit.Tie as tie
 
@@ -22,35 +19,20 @@ returns-2 c =
     walks-faces [] (a .points .now) (a .edges .now) [] (a .faces .now) (a .counts .points) (a .counts .edges)
     (a .counts .faces) (sym (c .before .face-walks-fit .ensures) ∙ not-true _ (c .if2 .taken))
 
+walks-with-sole-edges-requires : tie.Need-walks-with-sole-edges-requires
+walks-with-sole-edges-requires c κs =
+    let pre = c .before .before .before .before .before .before .before .pre in
+    let sum = sym (c .before .before .before .valences-fit .ensures) ∙ not-false _ (c .before .before .if1 .left) in
+    (pre .0, (pre .1 .0, (pre .1 .1 .1 .0, (pre .1 .1 .1 .1, sum))))
+
 returns-3 : tie.Need-returns-3
 returns-3 c =
-    let a = c .before .before .before .before .before .before .before .before .before .args in
-    walks-points [] (a .points .now) (a .edges .now) [] (a .faces .now) (a .counts .points) (a .counts .edges)
-    (a .counts .faces) (sym (c .before .point-walks-fit .ensures) ∙ not-true _ (c .if3 .taken))
-
-are-one-edges-requires : tie.Need-are-one-edges-requires
-are-one-edges-requires c κs =
-    let c8 = c .before .before .before .before .before .before .before .before in
-    let a = c8 .before .args in
-    let pre = c8 .before .pre in
-    let sum = sym (c .before .before .before .before .before .valences-fit .ensures)
-    ∙ not-false _ (c .before .before .before .before .if1 .left) in
-    let walks = sym (c .before .point-walks-fit .ensures) ∙ not-false _ (c .if3 .left) in
-    let ends = pre .1 .1 .1 .0 in
-    let walked = walked-of-tests (pointTables (a .points .now) (a .edges .now)) (a .counts .points) (a .counts .edges)
-    (ends-with-points _ _ _ _ ends) (pre .1 .1 .1 .1) sum walks in
-    (pre .0, (pre .1 .0, (ends, walked)))
-
-returns-4 : tie.Need-returns-4
-returns-4 c =
-    let a = c .before .before .before .before .before .before .before .before .before .before .args in
-    c .are-one-edges .ensures
-    ∙ walks-edges [] (a .points .now) (a .edges .now) [] (a .faces .now) (a .counts .points) (a .counts .edges)
-    (a .counts .faces) (sym (c .before .before .before .before .before .before .valences-fit .ensures)
-    ∙ not-false _ (c .before .before .before .before .before .if1 .left))
-    (sym (c .before .before .before .before .face-walks-fit .ensures)
-    ∙ not-false _ (c .before .before .before .if2 .left))
-    (sym (c .before .before .point-walks-fit .ensures) ∙ not-false _ (c .before .if3 .left))
+    let a = c .before .before .before .before .before .before .before .before .args in
+    c .walks-with-sole-edges .ensures
+    ∙ walks-points [] (a .points .now) (a .edges .now) [] (a .faces .now) (a .counts .points) (a .counts .edges)
+    (a .counts .faces) (sym (c .before .before .before .before .valences-fit .ensures)
+    ∙ not-false _ (c .before .before .before .if1 .left))
+    (sym (c .before .before .face-walks-fit .ensures) ∙ not-false _ (c .before .if2 .left))
 
 pub walks-fit-spec : {M : Type 1} → statement M
 walks-fit-spec =
@@ -61,7 +43,5 @@ walks-fit-spec =
     returns
     (λ c κs. search needs)
     returns-2
-    (λ c κs. search needs)
-    returns-3
-    are-one-edges-requires
-    returns-4)
+    walks-with-sole-edges-requires
+    returns-3)

@@ -5,7 +5,7 @@ use mathlib.Core.Bool.{Bool, _&&_}
 use mathlib.Core.Path.{sym, _∙_, ap}
 use borrow.Author.Needs.{needs}
 use Rattle.audit_edges.proofs.EdgeTests.{acw-links-is}
-use Rattle.audit_tests.specs.Parts.{linksBack}
+use Rattle.audit_edges.specs.HalfLinks.{cwBack}
 use Rattle.tables.specs.Parts.{faceTables}
 use Rattle.audited_meshes.specs.Walks.{touches}
 use Rattle.audit_edges.proofs.acw_links.Statement.{statement}
@@ -19,7 +19,7 @@ returns c =
     ∙ c .before .if1 .taken in
     c .links-back .ensures
     ∙ sym (acw-links-is (a .edges .now) (a .e) (a .p) (a .f) (a .a)
-    ∙ ap (λ (b : Bool). b && linksBack (a .edges .now) 4 (a .f) (a .a) (a .e)) t)
+    ∙ ap (λ (b : Bool). b && cwBack (faceTables (a .edges .now) []) (a .f) (a .a) (a .e)) t)
 
 returns-2 : tie.Need-returns-2
 returns-2 c =
@@ -27,7 +27,7 @@ returns-2 c =
     let t = ap (λ (w : ℕ). touches (faceTables (a .edges .now) []) w (a .a)) (sym (c .before .before .index .ensures))
     ∙ sym (c .before .touches .ensures) ∙ c .if1 .left in
     sym (acw-links-is (a .edges .now) (a .e) (a .p) (a .f) (a .a)
-    ∙ ap (λ (b : Bool). b && linksBack (a .edges .now) 4 (a .f) (a .a) (a .e)) t)
+    ∙ ap (λ (b : Bool). b && cwBack (faceTables (a .edges .now) []) (a .f) (a .a) (a .e)) t)
 
 pub acw-links-spec : {M : Type 1} → statement M
 acw-links-spec =

@@ -6,7 +6,7 @@ use native.Mathlib.Omega.{arith}
 use borrow.Author.Tests.{lt-ltb, le-ltb}
 use lib.Dec.{ltb}
 use borrow.Author.Needs.{needs}
-use Rattle.audit_tests.proofs.Laws.{and-false}
+use Rattle.audited_meshes.proofs.Folds.{and-false}
 use Rattle.audit_edges.proofs.are_below.Statement.{statement}
 use Rattle.audit_edges.proofs.are_below.Tie as tie
 

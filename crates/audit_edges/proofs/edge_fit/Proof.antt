@@ -3,7 +3,7 @@ use mathlib.Core.List.{[]}
 use mathlib.Core.Path.{sym, _∙_}
 use borrow.Author.Tests.{not-true, not-false}
 use borrow.Author.Needs.{needs}
-use Rattle.audit_edges.proofs.EdgeTests.{edge-range, edge-interval, edge-ends, edge-sides, edge-links, edge-in-range, edge-range-rows, linked-rows}
+use Rattle.audit_edges.proofs.EdgeTests.{edge-range, edge-interval, edge-ends, edge-sides, edge-links, edge-in-range, edge-range-rows, acwLinked-rows}
 use Rattle.audit_edges.proofs.edge_fit.Statement.{statement}
 use Rattle.audit_edges.proofs.edge_fit.Tie as tie
 use Rattle.tables.specs.Parts.{edgeTables, faceTables}
@@ -37,7 +37,7 @@ is-linked-requires c κs =
     let r = edge-in-range (faceTables (a .edges .now) []) (a .np) (a .ne) (a .nf) (a .e)
     (sym (c8 .before .before .edge-in-range .ensures) ∙ not-false _ (c8 .before .if1 .left)) in (
       search needs,
-      (search needs, (r .leftCw-in-range, (r .leftAcw-in-range, (r .rightCw-in-range, r .rightAcw-in-range)))),
+      (search needs, (r .leftAcw-in-range, r .rightAcw-in-range)),
     )
 
 returns-5 : tie.Need-returns-5
@@ -45,7 +45,7 @@ returns-5 c =
     let c8 = c .before .before .before .before .before .before .before .before in
     let a = c8 .before .before .before .before .before .before .args in
     let edge-in-range = c8 .before .before .before .edge-in-range in
-    c .is-linked .ensures ∙ sym (linked-rows _ _ _)
+    c .is-linked .ensures ∙ sym (acwLinked-rows _ _ _)
     ∙ sym (edge-links (edgeTables (a .edges .now) (a .intervals .now)) (a .np) (a .ne) (a .nf) (a .e)
     (edge-range-rows _ _ _ _ _ _ ∙ sym (edge-in-range .ensures) ∙ not-false _ (c8 .before .before .if1 .left))
     (sym (c8 .interval-fits .ensures)

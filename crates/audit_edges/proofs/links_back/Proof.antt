@@ -1,24 +1,22 @@
--- links_back meets its contract: its tests are the definition's.
-use Prim.Native.Nat.{ℕ}
-use mathlib.Core.Path.{ap}
-use borrow.Author.Tests.{eq-eqb, ne-eqb}
-use lib.Dec.{eqb}
+-- links_back meets its contract: the face that is found is f exactly if one of the two sides has it, and its number chooses the link.
+use Rattle.audit_edges.proofs.EdgeTests.{back-nowhere, back-at}
 use borrow.Author.Needs.{needs}
 use Rattle.audit_edges.proofs.links_back.Statement.{statement}
 use Rattle.audit_edges.proofs.links_back.Tie as tie
 
 returns : tie.Need-returns
 returns c =
-    rw (eq-eqb _ _ (c .before .before .if1 .taken))
-    (ap (λ (w : ℕ). eqb w (c .before .before .before .before .before .args .e)) (c .index .ensures))
+    let a = c .before .before .before .before .before .before .before .args in
+    back-nowhere (a .edges .now) (a .f) (a .a) (a .e) (c .before .before .before .before .index .ensures)
+    (c .before .before .before .index2 .ensures) (c .before .before .place-of .ensures .0) (c .if1 .taken)
 
 returns-2 : tie.Need-returns-2
 returns-2 c =
-    rw (ne-eqb _ _ (c .before .before .before .before .if1 .left), eq-eqb _ _ (c .before .before .if2 .taken))
-    (ap (λ (w : ℕ). eqb w (c .before .before .before .before .before .before .before .args .e)) (c .index2 .ensures))
-
-returns-3 : tie.Need-returns-3
-returns-3 c = rw (ne-eqb _ _ (c .before .before .if1 .left), ne-eqb _ _ (c .if2 .left))
+    let a = c .before .before .before .before .before .before .before .before .before .args in
+    back-at (a .edges .now) (a .f) (a .a) (a .e)
+    (c .before .before .before .before .before .before .index .ensures)
+    (c .before .before .before .before .before .index2 .ensures)
+    (c .before .before .before .before .place-of .ensures .0) (c .before .before .if1 .left) (c .index3 .ensures)
 
 pub links-back-spec : {M : Type 1} → statement M
 links-back-spec =
@@ -28,18 +26,18 @@ links-back-spec =
     (λ c. search needs)
     (λ c. search needs)
     (λ c. search needs)
-    (λ c. search needs)
-    (λ c. search needs)
-    (λ c. search needs)
     (λ c κs. search needs)
+    (λ c κs. search needs)
+    (λ c κs. search needs)
+    (λ c. search needs)
+    (λ c. search needs)
+    (λ c. search needs)
+    (λ c. search needs)
     returns
     (λ c. search needs)
     (λ c. search needs)
     (λ c. search needs)
     (λ c. search needs)
     (λ c. search needs)
-    (λ c. search needs)
-    (λ c. search needs)
     (λ c κs. search needs)
-    returns-2
-    returns-3)
+    returns-2)

@@ -7,7 +7,8 @@ use native.Mathlib.Omega.{arith}
 use borrow.Author.Tests.{not-true, not-false}
 use borrow.Author.Needs.{needs}
 use Rattle.audited_meshes.specs.Folds.{every}
-use Rattle.audit_tests.proofs.Laws.{every-none, every-more, every-stop, every-all}
+use Rattle.audited_meshes.proofs.Folds.{every-none, every-more, every-stop}
+use Rattle.audit_tests.proofs.Laws.{every-all}
 use Rattle.audited_meshes.specs.Quick.{faceFit}
 use Rattle.audit_faces.proofs.faces_fit.Statement.{statement}
 use Rattle.audit_faces.proofs.faces_fit.Tie as tie

@@ -6,7 +6,8 @@ use native.Mathlib.Omega.{arith}
 use borrow.Author.Tests.{eq-eqb, ne-eqb}
 use borrow.Author.Needs.{needs}
 use Rattle.audited_meshes.specs.Folds.{every}
-use Rattle.audit_tests.proofs.Laws.{every-none, every-more, every-stop, every-all}
+use Rattle.audited_meshes.proofs.Folds.{every-none, every-more, every-stop}
+use Rattle.audit_tests.proofs.Laws.{every-all}
 use Rattle.audit_tests.specs.Parts.{differAt}
 use Rattle.audit_faces.proofs.is_new.Statement.{statement}
 use Rattle.audit_faces.proofs.is_new.Tie as tie

@@ -1,7 +1,7 @@
 -- build_begun meets its contract: the counted rows are zeroed first.
 use Rattle.tables.specs.Mesh.{meshOf}
 use Rattle.building_tests.specs.Lent.{listsIn}
-use Rattle.building.proofs.Outcomes.{rooms, links-room}
+use Rattle.building.proofs.Outcomes.{rooms, links-room, links-none}
 use borrow.Author.Needs.{needs}
 use Rattle.building.proofs.build_begun.Statement.{statement}
 use Rattle.building.proofs.build_begun.Tie as tie
@@ -26,7 +26,7 @@ build-zeroed-requires c κs =
     let pre = c24 .before .before .before .before .before .before .before .before .pre in
     let m = meshOf (args .positions .now) (args .points .now) (args .edges .now) (args .intervals .now)
     (args .faces .now) in
-    (record { lent = m; begun = pre; zero = c16 .zero-rows .ensures }, links-room)
+    (record { lent = m; begun = pre; zero = c16 .zero-rows .ensures }, (links-room, links-none))
 
 returns : tie.Need-returns
 returns c =

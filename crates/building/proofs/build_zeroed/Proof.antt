@@ -9,36 +9,19 @@ use borrow.Author.Needs.{needs}
 use Rattle.building.proofs.build_zeroed.Statement.{statement}
 use Rattle.building.proofs.build_zeroed.Tie as tie
 
-zero-words-requires : tie.Need-zero-words-requires
-zero-words-requires c κs =
-    let c8 = c .before .before .before .before .before .before .before .before in
-    let args = c8 .before .before .before .before .args in
-    let pre = c8 .before .before .before .before .pre in
-    let few = rooms-of (listsIn (args .version) (args .coordinates .now) (args .sides .now) (args .firsts .now)
-    (args .listed .now) (args .beside .now))
-    (meshOf (args .positions .now) (args .points .now) (args .edges .now) (args .intervals .now) (args .faces .now))
-    (pre .0) .points-few in
-    omega (arith, pre .1)
-
 enter-faces-requires : tie.Need-enter-faces-requires
 unfolding offset
 enter-faces-requires c κs =
     let c8 = c .before .before .before .before .before .before .before .before in
-    let c16 = c8 .before .before .before .before .before .before .before .before in
-    let args = c16 .before .before .before .before .args in
-    let pre = c16 .before .before .before .before .pre in
-    let zero-words = c .before .before .before .before .before .before .before .zero-words in
+    let args = c8 .before .before .before .before .before .before .before .before .args in
+    let pre = c8 .before .before .before .before .before .before .before .before .pre in
     let l = listsIn (args .version) (args .coordinates .now) (args .sides .now) (args .firsts .now) (args .listed .now)
     (args .beside .now) in
     let m = meshOf (args .positions .now) (args .points .now) (args .edges .now) (args .intervals .now)
     (args .faces .now) in
-    let r = rooms-of l m (pre .0) in
-    let few = r .points-few in (
-      standing-none l m (args .chain .now) (zero-words .last .0) (pre .0) (omega (arith, pre .1)) (zero-words .ensures),
-      (
-        lent-rooms l m (zero-words .last .0) r (rw (zero-words .kept .0) (pre .1)),
-        (r .faces-few, (r .faces-fit, (r .all-listed, r .firsts-given))),
-      ),
+    let r = rooms-of l m (pre .0) in (
+      standing-none l m (args .chain .now) (pre .0) (omega (arith, pre .1 .0)) (pre .1 .1),
+      (lent-rooms l m (args .chain .now) r (pre .1 .0), (r .faces-few, (r .faces-fit, (r .all-listed, r .firsts-given)))),
     )
 
 conclude-requires : tie.Need-conclude-requires
@@ -47,8 +30,8 @@ conclude-requires c κs =
     let c16 = c8 .before .before .before .before .before .before .before .before in
     let c24 = c16 .before .before .before .before .before .before .before .before in
     let c32 = c24 .before .before .before .before .before .before .before .before in
-    let args = c32 .before .before .before .before .before .before .before .args in
-    let pre = c32 .before .before .before .before .before .before .before .pre in
+    let args = c32 .before .before .before .args in
+    let pre = c32 .before .before .before .pre in
     let enter-faces = c16 .before .before .enter-faces in
     let r = rooms-of (listsIn (args .version) (args .coordinates .now) (args .sides .now) (args .firsts .now)
     (args .listed .now) (args .beside .now))
@@ -76,8 +59,8 @@ zero-rows-requires c κs =
     let c16 = c8 .before .before .before .before .before .before .before .before in
     let c24 = c16 .before .before .before .before .before .before .before .before in
     let c32 = c24 .before .before .before .before .before .before .before .before in
-    let args = c32 .before .before .before .before .before .before .before .args in
-    let pre = c32 .before .before .before .before .before .before .before .pre in
+    let args = c32 .before .before .before .args in
+    let pre = c32 .before .before .before .pre in
     let enter-faces = c16 .before .before .enter-faces in
     let r = rooms-of (listsIn (args .version) (args .coordinates .now) (args .sides .now) (args .firsts .now)
     (args .listed .now) (args .beside .now))
@@ -103,8 +86,7 @@ returns c =
     let c24 = c16 .before .before .before .before .before .before .before .before in
     let c32 = c24 .before .before .before .before .before .before .before .before in
     let c40 = c32 .before .before .before .before .before .before .before .before in
-    let c48 = c40 .before .before .before .before .before .before .before .before in
-    let args = c48 .before .before .args in
+    let args = c40 .before .before .before .before .before .before .args in
     let enter-faces = c24 .before .before .before .before .before .enter-faces in
     let k = c16 .before .k in
     λ m begun z. on-outcome (listsIn (args .version) (args .coordinates .now) (args .sides .now) (args .firsts .now)
@@ -123,8 +105,7 @@ returns-2 c =
     let c24 = c16 .before .before .before .before .before .before .before .before in
     let c32 = c24 .before .before .before .before .before .before .before .before in
     let c40 = c32 .before .before .before .before .before .before .before .before in
-    let c48 = c40 .before .before .before .before .before .before .before .before in
-    let args = c48 .before .before .args in
+    let args = c40 .before .before .before .before .before .before .args in
     let enter-faces = c24 .before .before .before .before .before .enter-faces in
     let g = c16 .before .g in
     λ m begun z. stopped-outcome (listsIn (args .version) (args .coordinates .now) (args .sides .now)
@@ -140,7 +121,6 @@ pub build-zeroed-spec : {M : Type 1} → statement M
 build-zeroed-spec =
     tie.close
     (tie.spec
-    zero-words-requires
     enter-faces-requires
     (λ c. search needs)
     conclude-requires

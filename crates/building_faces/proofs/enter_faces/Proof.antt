@@ -40,7 +40,7 @@ enter-face-requires c κs =
     let e = h .faces-length in (
       h .standing,
       (
-        lent-same (args .np) (args .listed .now) (args .beside .now) (args .edges .now) (loop .edges)
+        lent-same (args .listed .now) (args .beside .now) (args .edges .now) (loop .edges)
             (args .intervals .now) (loop .intervals) (args .chain .now) (loop .chain) (h .edges-length) (h .intervals-length)
             (h .links-length) (pre .1 .0),
         (

@@ -32,7 +32,7 @@ turn-place-requires c κs =
     let h = loop .inv in (
       h .standing,
       (
-        lent-same (args .np) (args .listed .now) (args .beside .now) (args .edges .now) (loop .edges)
+        lent-same (args .listed .now) (args .beside .now) (args .edges .now) (loop .edges)
             (args .intervals .now) (loop .intervals) (args .chain .now) (loop .chain) (h .edges-length) (h .intervals-length)
             (h .links-length) (pre .1 .0),
         (pre .1 .1 .0, (c .before .before .before .before .loop-test .taken, (h .count, h .closing))),

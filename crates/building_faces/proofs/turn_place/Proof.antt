@@ -71,7 +71,7 @@ enter-requires c κs =
     let w = pre .1 .1 .0 .within in (
       pre .0,
       (
-        room-lent (a .np) (a .listed .now) (a .beside .now) (a .edges .now) (a .intervals .now) (a .chain .now)
+        room-lent (a .listed .now) (a .beside .now) (a .edges .now) (a .intervals .now) (a .chain .now)
             (a .ring .edges) (pre .1 .0) (omega (arith, pre .1 .1 .1 .1 .0, pre .1 .1 .1 .0)),
         (
           placed-point (a .np) (a .listed .now) (a .a) (a .n) (a .i) (pre .1 .1 .0) (pre .1 .1 .1 .0),

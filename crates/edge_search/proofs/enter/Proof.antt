@@ -7,11 +7,16 @@ use borrow.Author.Needs.{needs}
 use Rattle.edge_search.proofs.enter.Statement.{statement}
 use Rattle.edge_search.proofs.enter.Tie as tie
 
+find-edge-requires : tie.Need-find-edge-requires
+find-edge-requires c κs =
+    let h = c .before .before .before .before .before .before .pre .0 in
+    (h .edges-fit, (h .links-fit, (h .chained, h .newest)))
+
 fill-edge-requires : tie.Need-fill-edge-requires
 fill-edge-requires c κs =
     let c8 = c .before .before .before .before .before .before .before .before in
-    let a = c8 .before .before .before .before .args in
-    let pre = c8 .before .before .before .before .pre in
+    let a = c8 .before .before .before .args in
+    let pre = c8 .before .before .before .pre in
     let h = pre .0 .edges-fit in
     let l = edgeBetween-below (edgeTable (a .edges .now)) (a .k) (a .p) (a .q) (c .before .before .e .given .0 .0)
     (sym (c .before .before .before .before .find-edge .ensures) ∙ c .before .before .e .given .1) in
@@ -20,8 +25,8 @@ fill-edge-requires c κs =
 returns : tie.Need-returns
 returns c =
     let c8 = c .before .before .before .before .before .before .before .before in
-    let a = c8 .before .before .before .before .before .before .before .args in
-    let pre = c8 .before .before .before .before .before .before .before .pre in
+    let a = c8 .before .before .before .before .before .before .args in
+    let pre = c8 .before .before .before .before .before .before .pre in
     let e = c .before .before .before .before .before .e in
     let fill-edge = c .before .before .fill-edge in (
       entered-found (a .points .now) (a .edges .now) (a .intervals .now) (a .k) (a .f) (a .p) (a .q) (a .v)
@@ -36,7 +41,7 @@ returns-2 : tie.Need-returns-2
 returns-2 c =
     let c8 = c .before .before .before .before .before .before .before .before in
     let c16 = c8 .before .before .before .before .before .before .before .before in
-    let a = c16 .before .before .before .before .before .before .before .args in
+    let a = c16 .before .before .before .before .before .before .args in
     let find-edge = c8 .before .before .before .before .before .before .before .find-edge in
     let enum-told = c8 .before .before .before .before .before .enum-told in
     let make-edge = c8 .make-edge in (
@@ -49,12 +54,11 @@ pub enter-spec : {M : Type 1} → statement M
 enter-spec =
     tie.close
     (tie.spec
-    (λ c κs. search needs)
+    find-edge-requires
     (λ c. search needs)
     fill-edge-requires
     (λ c. search needs)
     (λ c κs. search needs)
-    (λ c. search needs)
     (λ c. search needs)
     (λ c. search needs)
     (λ c. search needs)

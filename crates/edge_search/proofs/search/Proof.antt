@@ -1,18 +1,17 @@
 -- search meets its contract. The invariant: the edges that the chain has still to pass and the one found so far give what all edges
 -- give; links fall, so the link is the measure.
 use Prim.Native.Nat.{suc}
-use mathlib.Core.Path.{_≡_}
+use mathlib.Core.Path.{_≡_, refl}
 use native.Mathlib.Omega.{arith}
-use Rattle.edge_search.proofs.Searching.{search-less}
-use Rattle.edge_search.proofs.Searching.{Searching, search-start, search-turn, search-end}
+use Rattle.edge_search.proofs.Searching.{Searching, search-start, search-turn, search-less, search-end}
 use Rattle.edge_search.proofs.search.Statement.{statement}
 use Rattle.edge_search.proofs.search.Tie as tie
 
 abbrev Inv-loop : tie.InvT-loop
-Inv-loop edges chain np k from p q link₀ found₀ link found = Searching edges p q k link found
+Inv-loop edges chain k from p q link₀ found₀ link found = Searching edges p q k link found
 
 abbrev μ-loop : tie.MeasureT-loop
-μ-loop edges chain np k from p q link₀ found₀ link found = link
+μ-loop edges chain k from p q link₀ found₀ link found = link
 
 loop-holds : tie.Need-loop-holds Inv-loop μ-loop
 loop-holds c =
@@ -30,10 +29,22 @@ joins-points-requires c κs =
 chosen-requires : tie.Need-chosen-requires Inv-loop μ-loop
 chosen-requires c κs = tt
 
-older-link-requires : tie.Need-older-link-requires Inv-loop μ-loop
-older-link-requires c κs =
+add-link : tie.Need-add-link Inv-loop μ-loop
+add-link c =
     let b = c .before .before .before .before .loop .inv .below in
     omega (arith, c .before .before .index .ensures, c .before .before .before .loop-test .taken)
+
+mul-link : tie.Need-mul-link Inv-loop μ-loop
+mul-link c =
+    let b = c .before .before .before .before .loop .inv .below in
+    omega (arith, c .before .before .index .ensures, c .before .before .before .loop-test .taken)
+
+shared-slice-read-link : tie.Need-shared-slice-read-link Inv-loop μ-loop
+shared-slice-read-link c =
+    let pre = c .before .before .before .before .before .before .before .before .pre in
+    let b = c .before .before .before .before .before .loop .inv .below in
+    let room = pre .1 .0 in
+    omega (arith, c .before .before .before .index .ensures, c .before .before .before .before .loop-test .taken)
 
 loop-less : tie.Need-loop-less Inv-loop μ-loop
 loop-less c =
@@ -43,8 +54,8 @@ loop-less c =
     let index = c .before .before .before .index in
     let s : loop .link ≡ suc (index .result) = omega
     (arith, index .ensures, c .before .before .before .before .loop-test .taken) in
-    search-less (args .edges .now) (args .p) (args .q) (args .k) (args .np) (args .chain .now) (loop .link)
-    (index .result) (loop .found) (c .older-link .result) (pre .1 .1 .0) s (c .older-link .ensures) (loop .inv)
+    search-less (args .edges .now) (args .p) (args .q) (args .k) (args .chain .now) (loop .link) (index .result)
+    (loop .found) _ (pre .1 .1 .0) s refl (loop .inv)
 
 loop-again : tie.Need-loop-again Inv-loop μ-loop
 loop-again c =
@@ -54,9 +65,9 @@ loop-again c =
     let index = c .before .before .before .index in
     let s : loop .link ≡ suc (index .result) = omega
     (arith, index .ensures, c .before .before .before .before .loop-test .taken) in
-    search-turn (args .edges .now) (args .p) (args .q) (args .k) (args .np) (args .chain .now) (loop .link)
-    (index .result) (loop .found) (c .older-link .result) (c .before .chosen .result) (pre .1 .1 .0) s
-    (c .older-link .ensures) (rw (c .before .before .joins-points .ensures) at (c .before .chosen .ensures)) (loop .inv)
+    search-turn (args .edges .now) (args .p) (args .q) (args .k) (args .chain .now) (loop .link) (index .result)
+    (loop .found) _ (c .before .chosen .result) (pre .1 .1 .0) s refl
+    (rw (c .before .before .joins-points .ensures) at (c .before .chosen .ensures)) (loop .inv)
 
 returns : tie.Need-returns Inv-loop μ-loop
 returns c =
@@ -78,7 +89,9 @@ search-spec =
     index-requires
     joins-points-requires
     chosen-requires
-    older-link-requires
+    add-link
+    mul-link
+    shared-slice-read-link
     loop-less
     loop-again
     returns)

@@ -5,35 +5,35 @@ use borrow.Author.Needs.{needs}
 use Rattle.oracle_steps.proofs.step_lent.Statement.{statement}
 use Rattle.oracle_steps.proofs.step_lent.Tie as tie
 
-least-requires : tie.Need-least-requires
-least-requires c κs = search needs
+at-most-requires : tie.Need-at-most-requires
+at-most-requires c κs = search needs
 
-least-requires-2 : tie.Need-least-requires-2
-least-requires-2 c κs = search needs
+at-most-requires-2 : tie.Need-at-most-requires-2
+at-most-requires-2 c κs = search needs
 
-least-requires-3 : tie.Need-least-requires-3
-least-requires-3 c κs = search needs
+at-most-requires-3 : tie.Need-at-most-requires-3
+at-most-requires-3 c κs = search needs
 
-least-requires-4 : tie.Need-least-requires-4
-least-requires-4 c κs = search needs
+at-most-requires-4 : tie.Need-at-most-requires-4
+at-most-requires-4 c κs = search needs
 
-least-requires-5 : tie.Need-least-requires-5
-least-requires-5 c κs = search needs
+at-most-requires-5 : tie.Need-at-most-requires-5
+at-most-requires-5 c κs = search needs
 
-least-requires-6 : tie.Need-least-requires-6
-least-requires-6 c κs = search needs
+at-most-requires-6 : tie.Need-at-most-requires-6
+at-most-requires-6 c κs = search needs
 
-least-requires-7 : tie.Need-least-requires-7
-least-requires-7 c κs = search needs
+at-most-requires-7 : tie.Need-at-most-requires-7
+at-most-requires-7 c κs = search needs
 
-least-requires-8 : tie.Need-least-requires-8
-least-requires-8 c κs = search needs
+at-most-requires-8 : tie.Need-at-most-requires-8
+at-most-requires-8 c κs = search needs
 
-least-requires-9 : tie.Need-least-requires-9
-least-requires-9 c κs = search needs
+at-most-requires-9 : tie.Need-at-most-requires-9
+at-most-requires-9 c κs = search needs
 
-least-requires-10 : tie.Need-least-requires-10
-least-requires-10 c κs = search needs
+at-most-requires-10 : tie.Need-at-most-requires-10
+at-most-requires-10 c κs = search needs
 
 slice-relend-prefix-step : tie.Need-slice-relend-prefix-step
 slice-relend-prefix-step c = search needs
@@ -43,7 +43,7 @@ slice-aggregate-step c =
     let c8 = c .before .before .before .before .before .before .before .before in
     let c16 = c8 .before .before .before .before .before .before .before .before in
     let args = c16 .before .before .before .before .before .before .args in
-    sym (length-take-le _ (args .positions .now) (c8 .before .before .least .ensures .1))
+    sym (length-take-le _ (args .positions .now) (c8 .before .before .at-most .ensures .1))
 
 slice-relend-prefix-step-2 : tie.Need-slice-relend-prefix-step-2
 slice-relend-prefix-step-2 c = search needs
@@ -53,7 +53,7 @@ slice-aggregate-step-2 c =
     let c8 = c .before .before .before .before .before .before .before .before in
     let c16 = c8 .before .before .before .before .before .before .before .before in
     let args = c16 .before .before .before .before .before .before .before .args in
-    sym (length-take-le _ (args .points .now) (c8 .before .before .least2 .ensures .1))
+    sym (length-take-le _ (args .points .now) (c8 .before .before .at-most2 .ensures .1))
 
 slice-relend-prefix-step-3 : tie.Need-slice-relend-prefix-step-3
 slice-relend-prefix-step-3 c = search needs
@@ -63,7 +63,7 @@ slice-aggregate-step-3 c =
     let c8 = c .before .before .before .before .before .before .before .before in
     let c16 = c8 .before .before .before .before .before .before .before .before in
     let args = c16 .before .before .before .before .before .before .before .before .args in
-    sym (length-take-le _ (args .edges .now) (c8 .before .before .least3 .ensures .1))
+    sym (length-take-le _ (args .edges .now) (c8 .before .before .at-most3 .ensures .1))
 
 slice-relend-prefix-step-4 : tie.Need-slice-relend-prefix-step-4
 slice-relend-prefix-step-4 c = search needs
@@ -73,7 +73,7 @@ slice-aggregate-step-4 c =
     let c8 = c .before .before .before .before .before .before .before .before in
     let c16 = c8 .before .before .before .before .before .before .before .before in
     let c24 = c16 .before .before .before .before .before .before .before .before in
-    sym (length-take-le _ (c24 .before .args .intervals .now) (c8 .before .before .least4 .ensures .1))
+    sym (length-take-le _ (c24 .before .args .intervals .now) (c8 .before .before .at-most4 .ensures .1))
 
 slice-relend-prefix-step-5 : tie.Need-slice-relend-prefix-step-5
 slice-relend-prefix-step-5 c = search needs
@@ -83,7 +83,7 @@ slice-aggregate-step-5 c =
     let c8 = c .before .before .before .before .before .before .before .before in
     let c16 = c8 .before .before .before .before .before .before .before .before in
     let c24 = c16 .before .before .before .before .before .before .before .before in
-    sym (length-take-le _ (c24 .before .before .args .faces .now) (c8 .before .before .least5 .ensures .1))
+    sym (length-take-le _ (c24 .before .before .args .faces .now) (c8 .before .before .at-most5 .ensures .1))
 
 slice-relend-prefix-step-6 : tie.Need-slice-relend-prefix-step-6
 slice-relend-prefix-step-6 c = search needs
@@ -94,7 +94,7 @@ slice-aggregate-step-6 c =
     let c16 = c8 .before .before .before .before .before .before .before .before in
     let c24 = c16 .before .before .before .before .before .before .before .before in
     let args = c24 .before .before .before .args in
-    sym (length-take-le _ (args .newpositions .now) (c8 .before .before .least6 .ensures .1))
+    sym (length-take-le _ (args .newpositions .now) (c8 .before .before .at-most6 .ensures .1))
 
 slice-relend-prefix-step-7 : tie.Need-slice-relend-prefix-step-7
 slice-relend-prefix-step-7 c = search needs
@@ -105,7 +105,7 @@ slice-aggregate-step-7 c =
     let c16 = c8 .before .before .before .before .before .before .before .before in
     let c24 = c16 .before .before .before .before .before .before .before .before in
     let args = c24 .before .before .before .before .args in
-    sym (length-take-le _ (args .newpoints .now) (c8 .before .before .least7 .ensures .1))
+    sym (length-take-le _ (args .newpoints .now) (c8 .before .before .at-most7 .ensures .1))
 
 slice-relend-prefix-step-8 : tie.Need-slice-relend-prefix-step-8
 slice-relend-prefix-step-8 c = search needs
@@ -116,7 +116,7 @@ slice-aggregate-step-8 c =
     let c16 = c8 .before .before .before .before .before .before .before .before in
     let c24 = c16 .before .before .before .before .before .before .before .before in
     let args = c24 .before .before .before .before .before .args in
-    sym (length-take-le _ (args .newedges .now) (c8 .before .before .least8 .ensures .1))
+    sym (length-take-le _ (args .newedges .now) (c8 .before .before .at-most8 .ensures .1))
 
 slice-relend-prefix-step-9 : tie.Need-slice-relend-prefix-step-9
 slice-relend-prefix-step-9 c = search needs
@@ -127,7 +127,7 @@ slice-aggregate-step-9 c =
     let c16 = c8 .before .before .before .before .before .before .before .before in
     let c24 = c16 .before .before .before .before .before .before .before .before in
     let args = c24 .before .before .before .before .before .before .args in
-    sym (length-take-le _ (args .newintervals .now) (c8 .before .before .least9 .ensures .1))
+    sym (length-take-le _ (args .newintervals .now) (c8 .before .before .at-most9 .ensures .1))
 
 slice-relend-prefix-step-10 : tie.Need-slice-relend-prefix-step-10
 slice-relend-prefix-step-10 c = search needs
@@ -138,7 +138,7 @@ slice-aggregate-step-10 c =
     let c16 = c8 .before .before .before .before .before .before .before .before in
     let c24 = c16 .before .before .before .before .before .before .before .before in
     let args = c24 .before .before .before .before .before .before .before .args in
-    sym (length-take-le _ (args .newfaces .now) (c8 .before .before .least10 .ensures .1))
+    sym (length-take-le _ (args .newfaces .now) (c8 .before .before .at-most10 .ensures .1))
 
 step-requires : tie.Need-step-requires
 step-requires c κs = search needs
@@ -180,16 +180,16 @@ pub step-lent-spec : {M : Type 1} → statement M
 step-lent-spec =
     tie.close
     (tie.spec
-    least-requires
-    least-requires-2
-    least-requires-3
-    least-requires-4
-    least-requires-5
-    least-requires-6
-    least-requires-7
-    least-requires-8
-    least-requires-9
-    least-requires-10
+    at-most-requires
+    at-most-requires-2
+    at-most-requires-3
+    at-most-requires-4
+    at-most-requires-5
+    at-most-requires-6
+    at-most-requires-7
+    at-most-requires-8
+    at-most-requires-9
+    at-most-requires-10
     slice-relend-prefix-step
     slice-aggregate-step
     slice-relend-prefix-step-2

@@ -7,7 +7,7 @@ use borrow.Author.Tests.{lt-ltb, le-ltb}
 use borrow.Author.Needs.{needs}
 use lib.ListN.{getD}
 use lib.Dec.{ltb}
-use Rattle.orders.proofs.Laws.{every-more, every-fails}
+use Rattle.audited_meshes.proofs.Folds.{every-more, every-stop}
 use Rattle.audited_meshes.specs.Folds.{every}
 use Rattle.orders.proofs.all_below.Statement.{statement}
 use Rattle.orders.proofs.all_below.Tie as tie
@@ -28,7 +28,7 @@ returns c =
     let order = args .order .now in
     let nf = args .nf in
     let past : nf ≤ getD order (loop .i) 0 = omega arith in
-    sym (every-fails nf (λ (k : ℕ). ltb (getD order k 0) nf) (loop .i) (omega arith)
+    sym (every-stop nf (loop .i) (λ (k : ℕ). ltb (getD order k 0) nf) (omega arith)
     (le-ltb (getD order (loop .i) 0) nf past))
 
 loop-again : tie.Need-loop-again Inv-loop μ-loop

@@ -7,7 +7,8 @@ use borrow.Author.Needs.{needs}
 use lib.Dec.{eqb}
 use lib.ListN.{length, getD}
 use Rattle.audited_meshes.specs.Folds.{every}
-use Rattle.shared_edges.proofs.Laws.{every-more, every-fails, all-passed}
+use Rattle.audited_meshes.proofs.Folds.{every-more}
+use Rattle.shared_edges.proofs.Laws.{every-fails, all-passed}
 use Rattle.shared_edges.proofs.are_shared.Statement.{statement}
 use Rattle.shared_edges.proofs.are_shared.Tie as tie
 

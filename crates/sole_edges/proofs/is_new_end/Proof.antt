@@ -5,7 +5,8 @@ use mathlib.Core.Path.{_≡_, sym, ap}
 use native.Mathlib.Omega.{arith}
 use borrow.Author.Tests.{eq-eqb, ne-eqb}
 use borrow.Author.Needs.{needs}
-use Rattle.audit_tests.proofs.Laws.{every-none, every-more, every-stop, every-all}
+use Rattle.audited_meshes.proofs.Folds.{every-none, every-more, every-stop}
+use Rattle.audit_tests.proofs.Laws.{every-all}
 use Rattle.sole_edges.specs.Sole.{newEnd}
 use Rattle.sole_edges.proofs.is_new_end.Statement.{statement}
 use Rattle.sole_edges.proofs.is_new_end.Tie as tie

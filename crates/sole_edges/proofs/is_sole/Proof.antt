@@ -1,22 +1,21 @@
--- is_sole meets its contract. The invariant: the windows passed are sole; the measure is what is left of the passes.
+-- is_sole meets its contract. The invariant: the walk passed with each window before; the measure is what is left of the passes.
 use Prim.Native.Nat.{ℕ, _+_, _-_, _*_, _/_, _≤_, _<_}
 use mathlib.Core.Bool.{false≢true}
-use mathlib.Core.List.{[]}
-use mathlib.Core.Path.{_≡_, refl, sym, _∙_, subst}
+use mathlib.Core.Path.{_≡_, refl, sym, _∙_}
 use native.Mathlib.Omega.{arith}
 use borrow.Author.Tests.{not-true, not-false}
 use borrow.Author.Needs.{needs}
 use lib.ListN.{length}
-use Rattle.tables.specs.Parts.{faceTables}
-use Rattle.sole_edges.specs.Sole.{window, SoleIn}
-use Rattle.sole_edges.proofs.Walking.{below-more, sole-of-windows, other-below}
+use Rattle.tables.specs.Parts.{pointTables}
+use Rattle.sole_edges.specs.Sole.{window, RoundIn}
+use Rattle.sole_edges.proofs.Walking.{below-more, apart-of-windows, other-below}
 use Rattle.sole_edges.proofs.is_sole.Statement.{statement}
 use Rattle.sole_edges.proofs.is_sole.Tie as tie
 
 abbrev Inv-loop : tie.InvT-loop
 Inv-loop points edges seen₀ np ne p passes k₀ seen k =
     (k ≤ passes) × (passes ≡ np / 32768 + 1) × (length seen ≡ length seen₀)
-    × ((j : ℕ) → j < k → SoleIn (faceTables edges []) ne p (j * window))
+    × ((j : ℕ) → j < k → RoundIn (pointTables points edges) ne p (j * window))
 
 abbrev μ-loop : tie.MeasureT-loop
 μ-loop points edges seen₀ np ne p passes k₀ seen k = passes - k
@@ -37,9 +36,8 @@ is-sole-in-requires c κs =
 returns : tie.Need-returns Inv-loop μ-loop
 returns c = (
   λ e. absurd (false≢true e),
-  λ sole.
-      absurd (false≢true (sym (not-true _ (c .if1 .taken))
-      ∙ c .before .before .before .is-sole-in .ensures .1 (λ i j li lj t same lo hi. sole i j li lj t same))),
+  λ good. absurd (false≢true (sym (not-true _ (c .if1 .taken))
+      ∙ c .before .before .before .is-sole-in .ensures .1 (good .0, λ i j li lj t same lo hi. good .1 i j li lj t same))),
 )
 
 loop-again : tie.Need-loop-again Inv-loop μ-loop
@@ -50,19 +48,21 @@ loop-again c =
       omega arith,
       inv .1,
       search needs,
-      below-more (λ (j : ℕ). SoleIn (faceTables (a .edges .now) []) (a .ne) (a .p) (j * window)) (loop .k) (inv .3)
-          (c .before .before .before .is-sole-in .ensures .0 (not-false _ (c .if1 .left))),
+      below-more (λ (j : ℕ). RoundIn (pointTables (a .points .now) (a .edges .now)) (a .ne) (a .p) (j * window)) (loop .k)
+          (inv .3) (c .before .before .before .is-sole-in .ensures .0 (not-false _ (c .if1 .left))),
     )
 
 returns-2 : tie.Need-returns-2 Inv-loop μ-loop
 returns-2 c =
     let a = c .before .before .before .before .before .args in
-    let m = faceTables (a .edges .now) [] in
+    let m = pointTables (a .points .now) (a .edges .now) in
     let inv = c .before .loop .inv in
     let ends = c .before .before .before .before .before .pre .1 .1 .1 .1 .0 in
-    let sole = sole-of-windows m (a .np) (a .ne) (a .p)
-    (λ i l. other-below m (a .np) (a .p) i (ends .origin-below i l) (ends .dest-below i l)) (λ k l. inv .3 k (omega arith)) in
-    (λ e. sole, λ s. refl)
+    let round = inv .3 0 (omega arith) .0 in
+    let apart = apart-of-windows m (a .np) (a .ne) (a .p)
+    (λ i l. other-below m (a .np) (a .p) i (ends .origin-below i l) (ends .dest-below i l)) round
+    (λ k l. inv .3 k (omega arith) .1) in
+    (λ e. (round, apart), λ good. refl)
 
 pub is-sole-spec : {M : Type 1} → statement M
 is-sole-spec =

@@ -11,7 +11,18 @@ few-sole-requires c κs =
       omega (arith, pre .0, pre .1 .0),
       (
         pre .1 .1 .0,
-        (omega (arith, c .before .before .index .ensures, c .before .if1 .taken, rest .0), (rest .1 .0, rest .1 .1)),
+        (omega (arith, c .before .before .index .ensures, c .before .if1 .taken, rest .0), rest .1),
+      ),
+    )
+
+is-sole-requires : tie.Need-is-sole-requires
+is-sole-requires c κs =
+    let pre = c .before .before .before .before .before .before .before .pre in
+    let rest = pre .1 .1 .1 in (
+      pre .0,
+      (
+        pre .1 .0,
+        (pre .1 .1 .0, (rest .0, (rest .1, omega (arith, c .before .before .index .ensures, c .before .if1 .left)))),
       ),
     )
 
@@ -26,6 +37,6 @@ point-sole-spec =
     few-sole-requires
     (λ c. search needs)
     (λ c. search needs)
-    (λ c κs. search needs)
+    is-sole-requires
     (λ c. search needs)
     (λ c. search needs))

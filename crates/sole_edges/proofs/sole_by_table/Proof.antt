@@ -1,21 +1,20 @@
--- sole_by_table meets its contract. The invariant: the points passed are sole; the measure is what is left of np.
-use Prim.Native.Nat.{ℕ, _-_, _≤_, _<_}
+-- sole_by_table meets its contract. The invariant: the points before pass; the measure is what is left of np.
+use Prim.Native.Nat.{_-_, _≤_}
 use mathlib.Core.Bool.{false≢true}
-use mathlib.Core.List.{[]}
 use mathlib.Core.Path.{_≡_, refl, sym, _∙_}
 use native.Mathlib.Omega.{arith}
 use borrow.Author.Tests.{not-true, not-false}
 use borrow.Author.Needs.{needs}
 use lib.ListN.{length}
-use Rattle.tables.specs.Parts.{faceTables}
-use Rattle.sole_edges.specs.Sole.{window, Sole, SoleFrom}
-use Rattle.sole_edges.proofs.Walking.{sole-more}
+use Rattle.tables.specs.Parts.{pointTables}
+use Rattle.sole_edges.specs.Sole.{RoundsFrom}
+use Rattle.sole_edges.proofs.Walking.{rounds-more}
 use Rattle.sole_edges.proofs.sole_by_table.Statement.{statement}
 use Rattle.sole_edges.proofs.sole_by_table.Tie as tie
 
 abbrev Inv-loop : tie.InvT-loop
 Inv-loop points edges seen₀ np ne from p₀ seen p =
-    (p ≤ np) × (from ≤ p) × (length seen ≡ length seen₀) × SoleFrom (faceTables edges []) p ne from
+    (p ≤ np) × (from ≤ p) × (length seen ≡ length seen₀) × RoundsFrom (pointTables points edges) p ne from
 
 abbrev μ-loop : tie.MeasureT-loop
 μ-loop points edges seen₀ np ne from p₀ seen p = np - p
@@ -29,16 +28,15 @@ point-sole-requires c κs =
     let loop = c .before .before .loop in
     let l = c .before .loop-test .taken in
     let room = pre .1 .1 .0 in
-    let rest = pre .1 .1 .1 .1 in
-    (pre .0, (l, (pre .1 .0, (omega (arith, room, loop .inv .2), (rest .0, rest .1 (loop .p) l)))))
+    (pre .0, (l, (pre .1 .0, (omega (arith, room, loop .inv .2), pre .1 .1 .1 .1))))
 
 returns : tie.Need-returns Inv-loop μ-loop
 returns c =
     let loop = c .before .before .before .before .before .before .loop in (
       λ e. absurd (false≢true e),
-      λ sole. absurd (false≢true (sym (not-true _ (c .if1 .taken))
+      λ good. absurd (false≢true (sym (not-true _ (c .if1 .taken))
           ∙ c .before .before .before .point-sole .ensures .1
-          (sole (loop .p) (loop .inv .1) (c .before .before .before .before .before .loop-test .taken)))),
+          (good (loop .p) (loop .inv .1) (c .before .before .before .before .before .loop-test .taken)))),
     )
 
 loop-again : tie.Need-loop-again Inv-loop μ-loop
@@ -49,7 +47,7 @@ loop-again c =
       omega arith,
       omega arith,
       search needs,
-      sole-more (faceTables (a .edges .now) []) (a .ne) (a .from) (loop .p) (inv .3)
+      rounds-more (pointTables (a .points .now) (a .edges .now)) (a .ne) (a .from) (loop .p) (inv .3)
           (c .before .before .before .point-sole .ensures .0 (not-false _ (c .if1 .left))),
     )
 

@@ -10,8 +10,7 @@ use Rattle.sole_edges.proofs.sole_from.Tie as tie
 sole-by-table-requires : tie.Need-sole-by-table-requires
 sole-by-table-requires c κs =
     let pre = c .before .before .before .pre in
-    let rest = pre .1 .1 in
-    (pre .0, (pre .1 .0, (same-at-most _ _ (length-replicate {A = ℕ} window 0), (rest .0, (rest .1 .0, rest .1 .1)))))
+    (pre .0, (pre .1 .0, (same-at-most _ _ (length-replicate {A = ℕ} window 0), (pre .1 .1 .0, pre .1 .1 .1))))
 
 pub sole-from-spec : {M : Type 1} → statement M
 sole-from-spec = tie.close (tie.spec (λ c. search needs) sole-by-table-requires (λ c. search needs))

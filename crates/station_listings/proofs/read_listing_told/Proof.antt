@@ -6,8 +6,8 @@ use Rattle.station_listings.proofs.read_listing_told.Tie as tie
 use Rattle.station_listings.proofs.read_listing_told.Reads as reads
 use Rattle.station_listings.proofs.read_listing_told.Lts as lts
 use Rattle.listing_reading.proofs.read_listing.Reads as read-listing-reads
-use Rattle.station_listings.proofs.reading_number.Reads as reading-number-reads
-use Rattle.station_listings.proofs.store_read.Reads as store-read-reads
+use Rattle.listing_answers.proofs.reading_number.Reads as reading-number-reads
+use Rattle.listing_answers.proofs.store_read.Reads as store-read-reads
 
 -- src/lib.rt:112:9
 read-listing-requires : tie.Need-read-listing-requires

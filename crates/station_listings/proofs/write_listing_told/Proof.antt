@@ -8,8 +8,8 @@ use Rattle.station_listings.proofs.write_listing_told.Reads as reads
 use Rattle.station_listings.proofs.write_listing_told.Lts as lts
 use Rattle.listing_writing.proofs.write_listing.Reads as write-listing-reads
 use Rattle.station_answers.proofs.load_counts.Reads as load-counts-reads
-use Rattle.station_listings.proofs.store_length.Reads as store-length-reads
-use Rattle.station_listings.proofs.writing_number.Reads as writing-number-reads
+use Rattle.listing_answers.proofs.store_length.Reads as store-length-reads
+use Rattle.listing_answers.proofs.writing_number.Reads as writing-number-reads
 
 -- src/lib.rt:88:9
 load-counts-requires : tie.Need-load-counts-requires

@@ -44,7 +44,7 @@ read-and-mend-requires c κs =
     (omega arith, (omega arith, (omega arith, (omega arith, (omega arith, head)))))
 
 same-length-2 : tie.Need-same-length-2
-same-length-2 c = search needs
+same-length-2 c = c .before .before .before .before .before .before .before .read-and-mend .kept .0
 
 returns-2 : tie.Need-returns-2
 returns-2 c =

@@ -56,11 +56,11 @@ enter-faces-requires c κs =
 
 -- src/lib.rt:58:1
 same-length : tie.Need-same-length
-same-length c = search needs
+same-length c = c .before .before .before .before .before .before .enter-faces .kept .1 .1 .1 .1 .1 .1 .1 .1 .0
 
 -- src/lib.rt:58:1
 same-length-2 : tie.Need-same-length-2
-same-length-2 c = search needs
+same-length-2 c = c .before .before .before .before .before .before .enter-faces .kept .1 .1 .1 .1 .1 .1 .1 .1 .1 .0
 
 -- src/lib.rt:58:1
 returns : tie.Need-returns

@@ -8,7 +8,8 @@ use mathlib.Core.Bool.{not, true}
 use borrow.Author.Tests.{eq-eqb}
 use Rattle.audited_meshes.specs.Folds.{every}
 use Rattle.mended_lists.proofs.Reversal.{eqb-false}
-use Rattle.shared_edges.proofs.Laws.{every-more, every-fails, all-passed}
+use Rattle.audited_meshes.proofs.Folds.{every-more}
+use Rattle.shared_edges.proofs.Laws.{every-fails, all-passed}
 use borrow.Author.Needs.{needs}
 use Rattle.whole_tests.proofs.all_begun.Statement.{statement}
 use Rattle.whole_tests.proofs.all_begun.Tie as tie

@@ -7,7 +7,8 @@ use lib.ListN.{length, getD, length-set}
 use mathlib.Core.Bool.{true}
 use borrow.Author.Tests.{not-true, not-false}
 use Rattle.audited_meshes.specs.Folds.{every}
-use Rattle.shared_edges.proofs.Laws.{every-more, every-fails, all-passed}
+use Rattle.audited_meshes.proofs.Folds.{every-more}
+use Rattle.shared_edges.proofs.Laws.{every-fails, all-passed}
 use Rattle.whole_grounds.specs.Turning.{comes}
 use Rattle.whole_tests.specs.Whole.{stepAt}
 use borrow.Author.Needs.{needs}

@@ -8,7 +8,8 @@ use borrow.Author.Needs.{needs}
 use Rattle.audited_meshes.specs.Folds.{every}
 use Rattle.audited_meshes.specs.Quick.{pointFit}
 use Rattle.tables.specs.Parts.{positionTables}
-use Rattle.audit_tests.proofs.Laws.{every-none, every-more, every-stop, every-all}
+use Rattle.audited_meshes.proofs.Folds.{every-none, every-more, every-stop}
+use Rattle.audit_tests.proofs.Laws.{every-all}
 use Rattle.audit_tests.proofs.points.points_fit.Statement.{statement}
 use Rattle.audit_tests.proofs.points.points_fit.Tie as tie
 

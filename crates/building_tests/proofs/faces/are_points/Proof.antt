@@ -9,7 +9,8 @@ use mathlib.Core.Bool.{true}
 use mathlib.Core.Path.{_≡_, sym}
 use Rattle.built_meshes.specs.Faces.{listedInRange}
 use Rattle.audited_meshes.specs.Folds.{every}
-use Rattle.building_tests.proofs.Laws.{every-none, every-more, every-stop, whole}
+use Rattle.audited_meshes.proofs.Folds.{every-none, every-more, every-stop}
+use Rattle.building_tests.proofs.Laws.{whole}
 use Rattle.building_tests.proofs.faces.are_points.Statement.{statement}
 use Rattle.building_tests.proofs.faces.are_points.Tie as tie
 

@@ -8,7 +8,8 @@ use Prim.Native.Nat.{_≤_, _-_, _+_}
 use mathlib.Core.Bool.{true, not}
 use mathlib.Core.Path.{_≡_, sym, ap}
 use Rattle.audited_meshes.specs.Folds.{every}
-use Rattle.building_tests.proofs.Laws.{every-none, every-more, every-stop, whole}
+use Rattle.audited_meshes.proofs.Folds.{every-none, every-more, every-stop}
+use Rattle.building_tests.proofs.Laws.{whole}
 use Rattle.building_tests.proofs.faces.is_new.Statement.{statement}
 use Rattle.building_tests.proofs.faces.is_new.Tie as tie
 

@@ -10,7 +10,8 @@ use mathlib.Core.Bool.{Bool, true, not}
 use mathlib.Core.Path.{_≡_, _∙_, sym}
 use Rattle.built_meshes.specs.Faces.{noPointTwice}
 use Rattle.audited_meshes.specs.Folds.{every}
-use Rattle.building_tests.proofs.Laws.{every-none, every-more, every-stop, whole}
+use Rattle.audited_meshes.proofs.Folds.{every-none, every-more, every-stop}
+use Rattle.building_tests.proofs.Laws.{whole}
 use Rattle.building_tests.proofs.faces.no_point_twice.Statement.{statement}
 use Rattle.building_tests.proofs.faces.no_point_twice.Tie as tie
 

@@ -12,7 +12,8 @@ use Prim.Native.Nat.{ℕ, _≤_, _-_}
 use mathlib.Core.Bool.{Bool, true, not}
 use mathlib.Core.Path.{_≡_, _∙_, sym}
 use Rattle.audited_meshes.specs.Folds.{every}
-use Rattle.building_tests.proofs.Laws.{every-none, every-more, every-stop, whole}
+use Rattle.audited_meshes.proofs.Folds.{every-none, every-more, every-stop}
+use Rattle.building_tests.proofs.Laws.{whole}
 use Rattle.building_whole.proofs.whole.no_missed_edge.Statement.{statement}
 use Rattle.building_whole.proofs.whole.no_missed_edge.Tie as tie
 

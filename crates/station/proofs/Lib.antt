@@ -1,2 +1,0 @@
--- The proofs of the library for stations.
-pub mod Laws

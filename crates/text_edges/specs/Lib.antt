@@ -1,0 +1,2 @@
+pub mod TextEdges
+pub mod Claims
