@@ -14,7 +14,7 @@ use Rattle.audited_meshes.specs.Walks.{touches, borders, cwOfFace}
 use Rattle.audited_meshes.specs.Audit.{edgeInRange, intervalFit, acwLinks}
 use Rattle.audited_meshes.specs.Audited.{EdgeInRange}
 use Rattle.audited_meshes.proofs.Audited.{edgeInRange-is}
-use Rattle.walks.specs.Places.{placeOf}
+use Rattle.walks.specs.Places.{endNumber}
 use Rattle.walks.proofs.Places.{place-one-of, place-choice}
 use Rattle.audited_meshes.proofs.Folds.{and-false}
 use Rattle.audit_tests.proofs.Laws.{and-assoc, and-four}
@@ -56,9 +56,9 @@ module _ (es : List ℕ) where
     linked-2 h = rw h
 
 -- the link back, where i is the left face of edge a, s the number of its side that has face f, and w the face that is found by it
-module _ (es : List ℕ) (f a e : ℕ) {i j s : ℕ} (left : i ≡ getD es (a * 8 + 2) 0) (face : j ≡ f) (at : s ≡ placeOf i j) where
-  side : s ≡ placeOf i f
-  side = at ∙ ap (placeOf i) face
+module _ (es : List ℕ) (f a e : ℕ) {i j s : ℕ} (left : i ≡ getD es (a * 8 + 2) 0) (face : j ≡ f) (at : s ≡ endNumber i j) where
+  side : s ≡ endNumber i f
+  side = at ∙ ap (endNumber i) face
 
   -- whether the face is on a side of the edge
   on-side : {w : ℕ} → w ≡ getD es (a * 8 + 2 + s) 0 → eqb w f ≡ (eqb (getD es (a * 8 + 2) 0) f || eqb (getD es (a * 8 + 3) 0) f)

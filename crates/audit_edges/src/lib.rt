@@ -26,7 +26,7 @@ use tables::RIGHT_CW_WORD;
 use tables::RIGHT_FACE_WORD;
 use tables::index;
 use walks::SIDE_WIDTH;
-use walks::place_of;
+use walks::end_number;
 use walks::t_nurcc_control_point::touches;
 
 // Whether two row numbers are below n and two below k.
@@ -78,7 +78,7 @@ fn links_back(edges: &[u32], f: u32, a: usize, e: usize) -> bool
     ensures { λ r. ⌜ r ≡ cwBack (faceTables (now (edges .entry)) []) f a e ⌝ }
 {
     let b = a * EDGE_WIDTH;
-    let s = place_of(index(edges[b + LEFT_FACE_WORD]), index(f));
+    let s = end_number(index(edges[b + LEFT_FACE_WORD]), index(f));
     if edges[b + LEFT_FACE_WORD + s] != f {
         return false;
     }

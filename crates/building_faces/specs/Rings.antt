@@ -1,9 +1,9 @@
 -- Perimeters and faces, as the code answers them, and what their code asks of what it is lent.
 --     faceStateOf m r         the definition's ring of the tables m and of the code's ring r
 --     faceStateAt m k         the definition's ring before the first place, while k edges stand
---     turnOf m r              the ring after a turn, or its ground, with the tables m as they stand then
+--     turnedState m r              the ring after a turn, or its ground, with the tables m as they stand then
 --     stateAt m k             the state of the tables m in which k edges stand
---     stateOf m r             the state after a face, or its ground, with the tables m as they stand then
+--     facedState m r             the state after a face, or its ground, with the tables m as they stand then
 --     ListedRoom              there is a row and a link for as many edges as points are listed, and an interval beside each
 --     ListedFrom              n points from the place a on are listed and in range
 --     Sided                   face f has its four sides, of n points in all, and as many are listed from the place a on
@@ -35,16 +35,16 @@ faceStateOf m r = record { mesh = m; edges = r .edges; first = r .first; before 
 abbrev pub faceStateAt : Mesh → ℕ → FaceState
 faceStateAt m k = record { mesh = m; edges = k; first = 0; before = 0 }
 
-abbrev pub turnOf : Mesh → Turned → Progress FaceState
-turnOf m (Turns.On r) = on (faceStateOf m r)
-turnOf m (Turns.Stopped g) = stopped g m
+abbrev pub turnedState : Mesh → Turned → Progress FaceState
+turnedState m (Turns.On r) = on (faceStateOf m r)
+turnedState m (Turns.Stopped g) = stopped g m
 
 abbrev pub stateAt : Mesh → ℕ → BuildState
 stateAt m k = record { mesh = m; edges = k }
 
-abbrev pub stateOf : Mesh → Faced → Progress BuildState
-stateOf m (Faces.On k) = on (stateAt m k)
-stateOf m (Faces.Stopped g) = stopped g m
+abbrev pub facedState : Mesh → Faced → Progress BuildState
+facedState m (Faces.On k) = on (stateAt m k)
+facedState m (Faces.Stopped g) = stopped g m
 
 pub record ListedRoom (ls : List ℕ) (be : List Float) (es : List ℕ) (is : List Float) (ch : List ℕ) : Type 0 where
   pub edge-rows : length ls * edgeWidth ≤ length es

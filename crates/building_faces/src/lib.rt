@@ -16,7 +16,7 @@ ghost use Rattle.building_tests.specs.Lent.{lists, listsIn, FirstsGiven};
 ghost use Rattle.edge_search.specs.Chains.{Standing};
 ghost use Rattle.tables.specs.Layout.{positionWidth, faceWidth};
 ghost use Rattle.tables.specs.Mesh.{meshOf};
-ghost use Rattle.building_faces.specs.Rings.{faceStateOf, faceStateAt, turnOf, stateAt, stateOf, ListedRoom, ListedFrom, Sided, Closing, TurnStands, FaceStands};
+ghost use Rattle.building_faces.specs.Rings.{faceStateOf, faceStateAt, turnedState, stateAt, facedState, ListedRoom, ListedFrom, Sided, Closing, TurnStands, FaceStands};
 use building_tests::faces::face_size;
 use building_tests::faces::face_verdict;
 use built_meshes::Ground;
@@ -86,7 +86,7 @@ fn turn_place(
     requires { ⌜ ring .edges ≤ a + i ⌝ }
     requires { ⌜ (0 < i → Closing ring) ⌝ }
     ensures { λ r. ⌜
-        ((cs : List Float) (ss qs : List ℕ) (ps : List Float) (fs : List ℕ) → _≡_ {A = Progress FaceState} (turnOf (meshOf ps
+        ((cs : List Float) (ss qs : List ℕ) (ps : List Float) (fs : List ℕ) → _≡_ {A = Progress FaceState} (turnedState (meshOf ps
         (now (points .exit)) (now (edges .exit)) (now (intervals .exit)) fs) r) (turn (listsIn version cs ss qs (now (listed .entry))
         (now (beside .entry))) f a n i (faceStateOf (meshOf ps (now (points .entry)) (now (edges .entry)) (now (intervals .entry))
         fs) ring))) ⌝ }
@@ -138,7 +138,7 @@ fn enter_places(
     requires { ⌜ 0 < n ⌝ }
     requires { ⌜ k ≤ a ⌝ }
     ensures { λ r. ⌜
-        ((cs : List Float) (ss qs : List ℕ) (ps : List Float) (fs : List ℕ) → _≡_ {A = Progress FaceState} (turnOf (meshOf ps
+        ((cs : List Float) (ss qs : List ℕ) (ps : List Float) (fs : List ℕ) → _≡_ {A = Progress FaceState} (turnedState (meshOf ps
         (now (points .exit)) (now (edges .exit)) (now (intervals .exit)) fs) r) (places n (listsIn version cs ss qs (now (listed .entry))
         (now (beside .entry))) f a n 0 (on (faceStateAt (meshOf ps (now (points .entry)) (now (edges .entry))
         (now (intervals .entry)) fs) k)))) ⌝ }
@@ -201,7 +201,7 @@ fn enter_perimeter(
     requires { ⌜ k ≤ a ⌝ }
     requires { ⌜ f * faceWidth + faceWidth ≤ length (now faces) ⌝ }
     ensures { λ r. ⌜
-        ((cs : List Float) (ss qs : List ℕ) (ps : List Float) → _≡_ {A = Progress BuildState} (stateOf (meshOf ps (now (points .exit))
+        ((cs : List Float) (ss qs : List ℕ) (ps : List Float) → _≡_ {A = Progress BuildState} (facedState (meshOf ps (now (points .exit))
         (now (edges .exit)) (now (intervals .exit)) (now (faces .exit))) r) (closedUp f (places n (listsIn version cs ss qs (now (listed .entry))
         (now (beside .entry))) f a n 0 (on (faceStateAt (meshOf ps (now (points .entry)) (now (edges .entry))
         (now (intervals .entry)) (now (faces .entry))) k))))) ⌝ }
@@ -262,7 +262,7 @@ fn enter_face(
     requires { ⌜ f * faceWidth + faceWidth ≤ length (now faces) ⌝ }
     requires { ⌜ FirstsGiven version (now sides) (now firsts) ⌝ }
     ensures { λ r. ⌜
-        ((cs : List Float) (ps : List Float) → length cs / positionWidth ≡ np → _≡_ {A = Progress BuildState} (stateOf (meshOf ps
+        ((cs : List Float) (ps : List Float) → length cs / positionWidth ≡ np → _≡_ {A = Progress BuildState} (facedState (meshOf ps
         (now (points .exit)) (now (edges .exit)) (now (intervals .exit)) (now (faces .exit))) r) (facePassed (listsIn version cs
         (now (sides .entry)) (now (firsts .entry)) (now (listed .entry)) (now (beside .entry))) f a (stateAt (meshOf ps (now (points .entry))
         (now (edges .entry)) (now (intervals .entry)) (now (faces .entry))) k))) ⌝ }
@@ -309,7 +309,7 @@ pub fn enter_faces(
     requires { ⌜ offset (lists [] (now sides) [] []) (length (now sides) / 4) ≡ length (now listed) ⌝ }
     requires { ⌜ FirstsGiven version (now sides) (now firsts) ⌝ }
     ensures { λ r. ⌜
-        ((cs : List Float) (ps : List Float) → length cs / positionWidth ≡ np → _≡_ {A = Progress BuildState} (stateOf (meshOf ps
+        ((cs : List Float) (ps : List Float) → length cs / positionWidth ≡ np → _≡_ {A = Progress BuildState} (facedState (meshOf ps
         (now (points .exit)) (now (edges .exit)) (now (intervals .exit)) (now (faces .exit))) r) (facesFrom
         (length (now (sides .entry)) / 4) (listsIn version cs (now (sides .entry)) (now (firsts .entry)) (now (listed .entry)) (now (beside .entry))) 0 0 (on
         (stateAt (meshOf ps (now (points .entry)) (now (edges .entry)) (now (intervals .entry)) (now (faces .entry))) 0)))) ⌝ }

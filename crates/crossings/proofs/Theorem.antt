@@ -13,7 +13,7 @@ use Rattle.audited_meshes.specs.Audited.{Audited}
 use Rattle.audited_meshes.proofs.Audited.{audit-is-audited}
 use Rattle.crossings.specs.declared.Crossing.{Crossing}
 use Rattle.crossings.specs.declared.Crossing.the-variants.{At, NotFiniteDepth, NotClosed, Nowhere}
-use Rattle.crossings.specs.Crossings.{crosses, Ready, Finds, firstFrom, find}
+use Rattle.crossings.specs.Crossings.{crosses, Searchable, Finds, firstFrom, find}
 use Rattle.crossings.specs.Claims.{Exactly, Find-finds, Lowest, Lowest-exactly, Joined-found}
 use Rattle.crossings.proofs.First.{FirstOf, first-is}
 use Rattle.crossings.proofs.Joined.{chain-crosses}
@@ -67,7 +67,7 @@ module _ (m : Mesh) (c : Counts) (d : Float) where
   abbrev first : Crossing
   first = firstFrom (λ e. crosses m d e) (c .edges) 0
 
-  pub find-first : Ready m c d → find m c d ≡ first
+  pub find-first : Searchable m c d → find m c d ≡ first
   find-first (f, a) = rw (f, a)
 
   -- r is the first of the edges that cross, or none does
@@ -77,7 +77,7 @@ module _ (m : Mesh) (c : Counts) (d : Float) where
   first-is-first : IsFirst first
   first-is-first = first-is (λ e. crosses m d e) (c .edges) 0
 
-  finds-of-first : (r : Crossing) → Ready m c d → IsFirst r → Finds m c d r
+  finds-of-first : (r : Crossing) → Searchable m c d → IsFirst r → Finds m c d r
   finds-of-first (At e) ready (l, t, none) = (ready, omega arith, t)
   finds-of-first Nowhere ready none = (ready, λ e l. none e (omega arith) (omega arith))
   finds-of-first NotFiniteDepth ready h = absurd h

@@ -20,13 +20,13 @@ use Rattle.tables.specs.declared.Counts.{Counts}
 use Rattle.audited_meshes.specs.Audit.{audit}
 use Rattle.crossings.specs.declared.Crossing.{Crossing}
 use Rattle.crossings.specs.declared.Crossing.the-variants.{At}
-use Rattle.crossings.specs.Crossings.{crosses, numberOf, Ready, Finds, find}
+use Rattle.crossings.specs.Crossings.{crosses, numberOf, Searchable, Finds, find}
 
 pub record Grounds (m : Mesh) (c : Counts) (d : Float) (r : Crossing) : Type 0 where
   pub not-finite : (numberOf r ≡ 42) ↔ (finite d ≡ false)
   pub not-closed : (numberOf r ≡ 30) ↔ ((finite d ≡ true) × (audit m (c .points) (c .edges) (c .faces) ≡ false))
-  pub nowhere : (numberOf r ≡ 41) ↔ (Ready m c d × ((e : ℕ) → e < c .edges → crosses m d e ≡ false))
-  pub somewhere : (numberOf r ≡ 0) ↔ (Ready m c d × ((e : ℕ) × (e < c .edges) × (crosses m d e ≡ true)))
+  pub nowhere : (numberOf r ≡ 41) ↔ (Searchable m c d × ((e : ℕ) → e < c .edges → crosses m d e ≡ false))
+  pub somewhere : (numberOf r ≡ 0) ↔ (Searchable m c d × ((e : ℕ) × (e < c .edges) × (crosses m d e ≡ true)))
 
 abbrev pub Exactly : Type 0
 Exactly = (m : Mesh) (c : Counts) (d : Float) (r : Crossing) → Finds m c d r → Grounds m c d r
@@ -35,7 +35,7 @@ abbrev pub Find-finds : Type 0
 Find-finds = (m : Mesh) (c : Counts) (d : Float) → Finds m c d (find m c d)
 
 pub record Lowest (m : Mesh) (c : Counts) (d : Float) (e : ℕ) : Type 0 where
-  pub ready : Ready m c d
+  pub ready : Searchable m c d
   pub in-range : e < c .edges
   pub crossing : crosses m d e ≡ true
   pub none-lower : (i : ℕ) → i < e → crosses m d i ≡ false
@@ -55,5 +55,5 @@ AllJoined m c = (p q : ℕ) → p < c .points → q < c .points → EdgeChain m 
 
 abbrev pub Joined-found : Type 0
 Joined-found =
-    (m : Mesh) (c : Counts) (d : Float) → Ready m c d → AllJoined m c → (low high : ℕ) → low < c .points → high < c .points
+    (m : Mesh) (c : Counts) (d : Float) → Searchable m c d → AllJoined m c → (low high : ℕ) → low < c .points → high < c .points
     → le (z m low) d ≡ true → le d (z m high) ≡ true → (e : ℕ) × (find m c d ≡ At e)

@@ -3,7 +3,7 @@
 --     spans a b d              of the numbers a and b one is at or above d, the other at or below; both at d will do
 --     crosses m d e            edge e of the mesh m crosses the depth d: its ends span it
 --     numberOf r               the number that is answered: 0 for an edge, else that of the ground
---     Ready m c d              neither 42 nor 30 holds: the depth is finite, and the tables are a closed mesh
+--     Searchable m c d              neither 42 nor 30 holds: the depth is finite, and the tables are a closed mesh
 --     Finds m c d r            r answers the depth d on the mesh m with the counts c; which of several edges it names is free
 --     firstFrom test k e       the first of the k numbers from e on that pass the test
 --     find m c d               the answer of the finder: as `Finds` says, with the lowest-numbered of the edges that cross
@@ -33,15 +33,15 @@ numberOf NotFiniteDepth = 42
 numberOf NotClosed = 30
 numberOf Nowhere = 41
 
-abbrev pub Ready : Mesh → Counts → Float → Type 0
-Ready m c d = (finite d ≡ true) × (audit m (c .points) (c .edges) (c .faces) ≡ true)
+abbrev pub Searchable : Mesh → Counts → Float → Type 0
+Searchable m c d = (finite d ≡ true) × (audit m (c .points) (c .edges) (c .faces) ≡ true)
 
 -- 42 first, then 30, then 41 or an edge
 abbrev pub Finds : Mesh → Counts → Float → Crossing → Type 0
 Finds m c d NotFiniteDepth = finite d ≡ false
 Finds m c d NotClosed = (finite d ≡ true) × (audit m (c .points) (c .edges) (c .faces) ≡ false)
-Finds m c d Nowhere = Ready m c d × ((e : ℕ) → e < c .edges → crosses m d e ≡ false)
-Finds m c d (At e) = Ready m c d × (e < c .edges) × (crosses m d e ≡ true)
+Finds m c d Nowhere = Searchable m c d × ((e : ℕ) → e < c .edges → crosses m d e ≡ false)
+Finds m c d (At e) = Searchable m c d × (e < c .edges) × (crosses m d e ≡ true)
 
 unfoldable pub firstFrom : (ℕ → Bool) → ℕ → ℕ → Crossing
 firstFrom test zero e = Nowhere

@@ -24,12 +24,12 @@ use Rattle.built_meshes.proofs.Begin.{counts-is, counts-fail, sides-listed}
 use Rattle.edge_lookups.specs.declared.ToldEdge.{ToldEdge}
 use Rattle.edge_lookups.specs.declared.ToldEdge.the-variants.{Missing, First, Again}
 use Rattle.edge_lookups.specs.Told.{runsAt, noneRuns, before, sameWayBefore, isListed, toldEdge}
-use Rattle.edge_lookups.specs.Claims.{Listed, FirstFace, Missing-exactly, Again-exactly, First-exactly, Points-told, Same-way-told}
+use Rattle.edge_lookups.specs.Claims.{PlaceListed, FirstFace, Missing-exactly, Again-exactly, First-exactly, Points-told, Same-way-told}
 use Rattle.edge_lookups.proofs.Laws.{offset-more, offset-le}
 
 -- ---- the place
 
-listed-is : (l : Lists) (f i : ℕ) → Is (isListed l f i) (Listed l f i)
+listed-is : (l : Lists) (f i : ℕ) → Is (isListed l f i) (PlaceListed l f i)
 unfolding isListed
 listed-is l f i =
     let z = and-is (ltb-is f (facesOf l)) (and-is (leb-is (offset l f + size l f) (length (l .listed))) (ltb-is i (size l f))) in (
@@ -82,8 +82,8 @@ module _ (l : Lists) (p q : ℕ) where
 
 -- the place is not listed, or what is told is what the search comes to
 data Told (l : Lists) (f i : ℕ) : ToldEdge → Type 0 where
-  missing : ¬ Listed l f i → Told l f i Missing
-  found : Listed l f i → {t : ToldEdge} → Came l (pointOf l f i) (nextOf l f i) f t → Told l f i t
+  missing : ¬ PlaceListed l f i → Told l f i Missing
+  found : PlaceListed l f i → {t : ToldEdge} → Came l (pointOf l f i) (nextOf l f i) f t → Told l f i t
 
 told : (l : Lists) (f i : ℕ) → Told l f i (toldEdge l f i)
 unfolding toldEdge
@@ -108,15 +108,15 @@ first-once l f p q g h x y = go (decLt g h) (decLt h g)
 pub missing-exactly : Missing-exactly
 missing-exactly l f i = (to, from)
   where
-    to : toldEdge l f i ≡ Missing → ¬ Listed l f i
+    to : toldEdge l f i ≡ Missing → ¬ PlaceListed l f i
     to e = go (toldEdge l f i) e (told l f i)
       where
-        go : (t : ToldEdge) → t ≡ Missing → Told l f i t → ¬ Listed l f i
+        go : (t : ToldEdge) → t ≡ Missing → Told l f i t → ¬ PlaceListed l f i
         go t e (missing h) = h
         go t e (found x (none far)) = absurd (let z : _≡_ {A = ℕ} 0 1 = cc in omega arith)
         go t e (found x (some g h)) = absurd (let z : _≡_ {A = ℕ} 0 1 = cc in omega arith)
 
-    from : ¬ Listed l f i → toldEdge l f i ≡ Missing
+    from : ¬ PlaceListed l f i → toldEdge l f i ≡ Missing
     from h = go (toldEdge l f i) (told l f i)
       where
         go : (t : ToldEdge) → Told l f i t → t ≡ Missing
@@ -126,10 +126,10 @@ missing-exactly l f i = (to, from)
 pub again-exactly : Again-exactly
 again-exactly l f i p q g = (to, from)
   where
-    to : toldEdge l f i ≡ Again p q g → Listed l f i × Runs l f i p q × FirstFace l f p q g
+    to : toldEdge l f i ≡ Again p q g → PlaceListed l f i × Runs l f i p q × FirstFace l f p q g
     to e = go (toldEdge l f i) e (told l f i)
       where
-        go : (t : ToldEdge) → t ≡ Again p q g → Told l f i t → Listed l f i × Runs l f i p q × FirstFace l f p q g
+        go : (t : ToldEdge) → t ≡ Again p q g → Told l f i t → PlaceListed l f i × Runs l f i p q × FirstFace l f p q g
         go t e (missing h) = absurd (let z : _≡_ {A = ℕ} 0 1 = cc in omega arith)
         go t e (found x (none far)) = absurd (let z : _≡_ {A = ℕ} 0 1 = cc in omega arith)
         go t e (found x (some h k)) =
@@ -138,7 +138,7 @@ again-exactly l f i p q g = (to, from)
             let d : h ≡ g = cc in
             (x, record { is-place = x .is-place; begins = a; ends = b }, rw (a, b, d) at k)
 
-    from : Listed l f i × Runs l f i p q × FirstFace l f p q g → toldEdge l f i ≡ Again p q g
+    from : PlaceListed l f i × Runs l f i p q × FirstFace l f p q g → toldEdge l f i ≡ Again p q g
     from (x, r, k) = go (toldEdge l f i) (told l f i)
       where
         go : (t : ToldEdge) → Told l f i t → t ≡ Again p q g
@@ -151,10 +151,10 @@ again-exactly l f i p q g = (to, from)
 pub first-exactly : First-exactly
 first-exactly l f i p q = (to, from)
   where
-    to : toldEdge l f i ≡ First p q → Listed l f i × Runs l f i p q × ((g j : ℕ) → g < f → ¬ Runs l g j p q)
+    to : toldEdge l f i ≡ First p q → PlaceListed l f i × Runs l f i p q × ((g j : ℕ) → g < f → ¬ Runs l g j p q)
     to e = go (toldEdge l f i) e (told l f i)
       where
-        go : (t : ToldEdge) → t ≡ First p q → Told l f i t → Listed l f i × Runs l f i p q × ((g j : ℕ) → g < f → ¬ Runs l g j p q)
+        go : (t : ToldEdge) → t ≡ First p q → Told l f i t → PlaceListed l f i × Runs l f i p q × ((g j : ℕ) → g < f → ¬ Runs l g j p q)
         go t e (missing h) = absurd (let z : _≡_ {A = ℕ} 0 1 = cc in omega arith)
         go t e (found x (none far)) =
             let a : pointOf l f i ≡ p = cc in
@@ -162,7 +162,7 @@ first-exactly l f i p q = (to, from)
             (x, record { is-place = x .is-place; begins = a; ends = b }, rw (a, b) at far)
         go t e (found x (some h k)) = absurd (let z : _≡_ {A = ℕ} 0 1 = cc in omega arith)
 
-    from : Listed l f i × Runs l f i p q × ((g j : ℕ) → g < f → ¬ Runs l g j p q) → toldEdge l f i ≡ First p q
+    from : PlaceListed l f i × Runs l f i p q × ((g j : ℕ) → g < f → ¬ Runs l g j p q) → toldEdge l f i ≡ First p q
     from (x, r, k) = go (toldEdge l f i) (told l f i)
       where
         go : (t : ToldEdge) → Told l f i t → t ≡ First p q
@@ -178,10 +178,10 @@ module _ (c : Sizes) (l : Lists) (m : Mesh) (f i : ℕ) where
   edge-runs g (same-way f i h j p q r t e) = (p, q, r)
 
   -- 2 is not met, so that the points of all faces are there
-  edge-listed : (g : Ground) → First-met c l m (edge f i) g → IsPlace l f i → Listed l f i
+  edge-listed : (g : Ground) → First-met c l m (edge f i) g → IsPlace l f i → PlaceListed l f i
   edge-listed g h is = go (countsFit c l) refl
     where
-      go : (t : Bool) → countsFit c l ≡ t → Listed l f i
+      go : (t : Bool) → countsFit c l ≡ t → PlaceListed l f i
       go true e =
           record {
             is-place = is;

@@ -1,5 +1,5 @@
 -- What is claimed of the edge that is told.
---     Listed l f i          face f is one of the lists with all its points, and has a place i
+--     PlaceListed l f i          face f is one of the lists with all its points, and has a place i
 --     FirstFace l f p q g   face g is the first face before face f that has a place from p to q
 --     Missing-exactly       the claim: no edge is told exactly if the place is not listed
 --     Again-exactly         the claim: a face is told exactly if it is the first before that runs the edge the same way
@@ -20,7 +20,7 @@ use Rattle.built_meshes.specs.declared.Ground.the-variants.{SameWay}
 use Rattle.edge_lookups.specs.declared.ToldEdge.the-variants.{Missing, First, Again}
 use Rattle.edge_lookups.specs.Told.{toldEdge}
 
-pub record Listed (l : Lists) (f i : ℕ) : Type 0 where
+pub record PlaceListed (l : Lists) (f i : ℕ) : Type 0 where
   pub is-place : IsPlace l f i
   pub all-there : offset l f + size l f ≤ length (l .listed)
 
@@ -31,16 +31,16 @@ pub record FirstFace (l : Lists) (f p q g : ℕ) : Type 0 where
   pub none-before : (h j : ℕ) → h < g → ¬ Runs l h j p q
 
 abbrev pub Missing-exactly : Type 0
-Missing-exactly = (l : Lists) (f i : ℕ) → (toldEdge l f i ≡ Missing) ↔ (¬ Listed l f i)
+Missing-exactly = (l : Lists) (f i : ℕ) → (toldEdge l f i ≡ Missing) ↔ (¬ PlaceListed l f i)
 
 abbrev pub Again-exactly : Type 0
 Again-exactly =
-    (l : Lists) (f i p q g : ℕ) → (toldEdge l f i ≡ Again p q g) ↔ (Listed l f i × Runs l f i p q × FirstFace l f p q g)
+    (l : Lists) (f i p q g : ℕ) → (toldEdge l f i ≡ Again p q g) ↔ (PlaceListed l f i × Runs l f i p q × FirstFace l f p q g)
 
 abbrev pub First-exactly : Type 0
 First-exactly =
     (l : Lists) (f i p q : ℕ) →
-    (toldEdge l f i ≡ First p q) ↔ (Listed l f i × Runs l f i p q × ((g j : ℕ) → g < f → ¬ Runs l g j p q))
+    (toldEdge l f i ≡ First p q) ↔ (PlaceListed l f i × Runs l f i p q × ((g j : ℕ) → g < f → ¬ Runs l g j p q))
 
 abbrev pub Points-told : Type 0
 Points-told =

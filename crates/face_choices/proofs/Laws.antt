@@ -11,7 +11,7 @@ use lib.ListN.{length, getD, set, length-set}
 use lib.Seq.{getD-set-same, getD-set-other}
 use Rattle.mended_lists.specs.declared.Part.{Part}
 use Rattle.mended_lists.specs.Edges.{Place, placeAt, sameWay, mate}
-use Rattle.mended_lists.specs.Parts.{Parts, differ, alone, joined, metIf, partsTo}
+use Rattle.mended_lists.specs.Parts.{Parts, differ, lonePart, partsJoined, partsMet, partsTo}
 use Rattle.face_parts.specs.Kept.{shifted, Falling, Kept, FoundPart, JoinedParts}
 use Rattle.face_choices.specs.Mates.{MatesFit, Mates, Started, JoinedAt, JoinedTo, Settled, Chosen}
 
@@ -83,7 +83,7 @@ or-joined t = sym (or-false t)
 pub join-none :
     (listed faces mates : List ℕ) (k : ℕ) (ups : List ℕ) (odds : List Bool) → Falling ups odds → getD mates k 0 ≡ 0 →
     JoinedAt listed faces mates k ups odds ups odds false
-unfolding metIf
+unfolding partsMet
 join-none listed faces mates k ups odds falling z =
     record {
       same-length = refl;
@@ -97,7 +97,7 @@ pub join-mate :
     getD mates k 0 ≡ suc j → j < k →
     JoinedParts ups odds ups' odds' (getD faces j 0) (getD faces k 0) (eqb (getD listed j 0) (getD listed k 0)) r →
     JoinedAt listed faces mates k ups odds ups' odds' r
-unfolding metIf
+unfolding partsMet
 join-mate listed faces mates k j ups odds ups' odds' r m less p =
     record {
       same-length = p .same-length;

@@ -11,7 +11,7 @@ use mathlib.Core.List.{List}
 use Prim.Native.Nat.{ℕ, suc, _≤_, _<_}
 use lib.ListN.{length, getD}
 use Rattle.mended_lists.specs.Edges.{Place, placeAt, mate}
-use Rattle.mended_lists.specs.Parts.{Parts, metIf, partsTo}
+use Rattle.mended_lists.specs.Parts.{Parts, partsMet, partsTo}
 use Rattle.face_parts.specs.Kept.{Falling, Kept}
 
 pub record MatesFit (listed faces mates : List ℕ) (nf : ℕ) : Type 0 where
@@ -34,9 +34,9 @@ pub record JoinedAt (listed faces mates : List ℕ) (k : ℕ) (ups : List ℕ) (
   pub falling : Falling ups' odds'
   pub twisted :
       (ps : List Place) → Mates ps listed faces mates (suc k) → (s : Parts) → Kept ups odds s →
-      metIf (mate ps k) ps k s .twisted ≡ (s .twisted || r)
+      partsMet (mate ps k) ps k s .twisted ≡ (s .twisted || r)
   pub kept :
-      (ps : List Place) → Mates ps listed faces mates (suc k) → (s : Parts) → Kept ups odds s → Kept ups' odds' (metIf (mate ps k) ps k s)
+      (ps : List Place) → Mates ps listed faces mates (suc k) → (s : Parts) → Kept ups odds s → Kept ups' odds' (partsMet (mate ps k) ps k s)
 
 pub record JoinedTo (listed faces mates : List ℕ) (n nf : ℕ) (ups : List ℕ) (odds : List Bool) (r : Bool) : Type 0 where
   pub same-length : length ups ≡ nf

@@ -26,13 +26,13 @@ use Rattle.mended_lists.specs.Edges.{Place, placesOf, placeAt, mate, third}
 use Rattle.face_mending.specs.Shown.{FaceRoom, FacesRoom, TosShown}
 use Rattle.face_mending.proofs.Laws.{unfit, from-shown, mate-shown, third-shown}
 use Rattle.face_places.proofs.Laws.{offset-more, offset-le}
-use Rattle.shared_edges.specs.Chains.{lowAt, mateAt, thirdAt, Room, PairRoom, PlacesRoom, Entered, EnteredTo}
+use Rattle.shared_edges.specs.Chains.{lowAt, mateAt, thirdAt, LinksRoom, PairRoom, PlacesRoom, PlacesEntered, EnteredTo}
 use Rattle.shared_edges.proofs.Laws.{mate-below}
 use Rattle.refusal_places.specs.declared.Spot.{Spot}
 use Rattle.refusal_places.specs.declared.Spot.the-variants.{Clear, Face, Edge}
 use Rattle.refusal_places.specs.Spots.{thenSpot, runsWith, runsWithMate, spotAt, edgeSpot, edgesSpot, verdictSpot, faceSpot, facesSpot}
 use Rattle.refusal_places.proofs.Theorem.{Stops, face-stops, edge-stops}
-use Rattle.face_grounds.specs.Found.{runsWithAt, edgeSpotAt, edgesSpotAt, EnteredIf}
+use Rattle.face_grounds.specs.Found.{runsWithAt, edgeSpotAt, edgesSpotAt, FoundIf}
 
 -- ---- what stops
 
@@ -51,7 +51,7 @@ runs-some ls zero k d j e = absurd (d refl)
 runs-some ls (suc n) k d j e = let q : j ≡ n = omega arith in rw q
 
 pub one-room :
-    (ls ts : List ℕ) (nh : ℕ) (links mates seconds : List ℕ) (k : ℕ) → Room ls ts nh links k → PairRoom mates seconds k →
+    (ls ts : List ℕ) (nh : ℕ) (links mates seconds : List ℕ) (k : ℕ) → LinksRoom ls ts nh links k → PairRoom mates seconds k →
     PlacesRoom ls ts nh links mates seconds k 1
 one-room ls ts nh links mates seconds k r p =
     record {
@@ -105,8 +105,8 @@ none-met ls ts f i k r m s a b e q t =
 -- ---- the places of a face
 
 room-like :
-    (ls ts : List ℕ) (np np' : ℕ) (links links' : List ℕ) (k : ℕ) → np' ≡ np → length links' ≡ length links → Room ls ts np links k →
-    Room ls ts np' links' k
+    (ls ts : List ℕ) (np np' : ℕ) (links links' : List ℕ) (k : ℕ) → np' ≡ np → length links' ≡ length links → LinksRoom ls ts np links k →
+    LinksRoom ls ts np' links' k
 room-like ls ts np np' links links' k a b r =
     record {
       listed-fit = r .listed-fit;
@@ -123,11 +123,11 @@ pub record EdgesEntered (ls ts heads₀ links₀ mates₀ seconds₀ heads links
   pub links-length : length links ≡ length links₀
   pub mates-length : length mates ≡ length mates₀
   pub seconds-length : length seconds ≡ length seconds₀
-  pub entered : Entered ls ts heads links mates seconds (a + i)
+  pub entered : PlacesEntered ls ts heads links mates seconds (a + i)
   pub clear : edgesSpotAt ls ts f a i ≡ Clear
 
 pub edges-none :
-    (ls ts heads links mates seconds : List ℕ) (f a n : ℕ) → Entered ls ts heads links mates seconds a →
+    (ls ts heads links mates seconds : List ℕ) (f a n : ℕ) → PlacesEntered ls ts heads links mates seconds a →
     EdgesEntered ls ts heads links mates seconds heads links mates seconds f a n 0
 edges-none ls ts heads links mates seconds f a n e =
     let z : a + 0 ≡ a = omega arith in
@@ -153,7 +153,7 @@ edges-stay ls ts f a s stop k (suc n) b e = go (ℕ-discrete k (suc n)) (λ h. e
 module _ (ls ts heads₀ links₀ mates₀ seconds₀ heads links mates seconds : List ℕ) (f a n i : ℕ)
     (e : EdgesEntered ls ts heads₀ links₀ mates₀ seconds₀ heads links mates seconds f a n i)
     (rooms : PlacesRoom ls ts (length heads₀) links₀ mates₀ seconds₀ a n) (l : i < n) where
-  pub edges-room : Room ls ts (length heads) links (a + i)
+  pub edges-room : LinksRoom ls ts (length heads) links (a + i)
   edges-room = room-like ls ts (length heads₀) (length heads) links₀ links (a + i) (e .heads-length) (e .links-length) (rooms .room i l)
 
   pub edges-pair-room : PairRoom mates seconds (a + i)
@@ -175,7 +175,7 @@ module _ (ls ts heads₀ links₀ mates₀ seconds₀ heads links mates seconds 
     pub edges-more :
         (heads' links' mates' seconds' : List ℕ) → length heads' ≡ length heads → length links' ≡ length links →
         length mates' ≡ length mates → length seconds' ≡ length seconds → r ≡ Clear →
-        EnteredIf ls ts heads' links' mates' seconds' (a + i + 1) r →
+        FoundIf ls ts heads' links' mates' seconds' (a + i + 1) r →
         EdgesEntered ls ts heads₀ links₀ mates₀ seconds₀ heads' links' mates' seconds' f a n (i + 1)
     unfolding edgesSpotAt
     edges-more heads' links' mates' seconds' x y z w q after =
@@ -193,7 +193,7 @@ module _ (ls ts heads₀ links₀ mates₀ seconds₀ heads links mates seconds 
 pub edges-all :
     (ls ts heads₀ links₀ mates₀ seconds₀ heads links mates seconds : List ℕ) (f a n i : ℕ) → n ≤ i →
     EdgesEntered ls ts heads₀ links₀ mates₀ seconds₀ heads links mates seconds f a n i →
-    (Clear ≡ edgesSpotAt ls ts f a n) × Entered ls ts heads links mates seconds (a + n)
+    (Clear ≡ edgesSpotAt ls ts f a n) × PlacesEntered ls ts heads links mates seconds (a + n)
 edges-all ls ts heads₀ links₀ mates₀ seconds₀ heads links mates seconds f a n i b e =
     let s : i ≡ n = omega (arith, e .not-past) in (sym (rw s at (e .clear)), rw s at (e .entered))
 
@@ -292,12 +292,12 @@ pub record FacesEntered (v : Version) (ss fs ls : List ℕ) (is : List Float)
   pub mates-length : length mates ≡ length mates₀
   pub seconds-length : length seconds ≡ length seconds₀
   pub at-is : a ≡ offset (lists [] ss [] []) f
-  pub entered : Entered ls ts heads links mates seconds a
+  pub entered : PlacesEntered ls ts heads links mates seconds a
   pub clear : (cs : List Float) → length cs / positionWidth ≡ np → facesSpot (listsIn v cs ss fs ls is) (placesOf (lists [] ss ls [])) f ≡ Clear
 
 pub faces-start :
     (v : Version) (ss fs ls : List ℕ) (is : List Float) (ts heads links mates seconds : List ℕ) (np : ℕ) →
-    Entered ls ts heads links mates seconds 0 →
+    PlacesEntered ls ts heads links mates seconds 0 →
     FacesEntered v ss fs ls is ts heads links mates seconds heads links mates seconds np 0 0
 faces-start v ss fs ls is ts heads links mates seconds np e =
     record {
@@ -371,7 +371,7 @@ module _ (v : Version) (ss fs ls : List ℕ) (is : List Float) (ts heads₀ link
 
     pub faces-more :
         (heads' links' mates' seconds' : List ℕ) → length heads' ≡ length heads → length links' ≡ length links → length mates' ≡ length mates →
-        length seconds' ≡ length seconds → r ≡ Clear → EnteredIf ls ts heads' links' mates' seconds' (a + n) r →
+        length seconds' ≡ length seconds → r ≡ Clear → FoundIf ls ts heads' links' mates' seconds' (a + n) r →
         FacesEntered v ss fs ls is ts heads₀ links₀ mates₀ seconds₀ heads' links' mates' seconds' np (a + n) (f + 1)
     unfolding facesSpot
     faces-more heads' links' mates' seconds' x y z w e after =
@@ -394,7 +394,7 @@ pub faces-end :
     FacesRoom ss fs ls is ts (length heads₀) links₀ mates₀ seconds₀ np → length ss / 4 ≤ f →
     ((cs : List Float) → length cs / positionWidth ≡ np →
     Clear ≡ facesSpot (listsIn v cs ss fs ls is) (placesOf (lists [] ss ls [])) (length ss / 4))
-    × Entered ls ts heads links mates seconds (length ls)
+    × PlacesEntered ls ts heads links mates seconds (length ls)
 faces-end v ss fs ls is ts heads₀ links₀ mates₀ seconds₀ heads links mates seconds np a f s room e =
     let q : f ≡ length ss / 4 = omega (arith, s .not-past) in
     let r : a ≡ length ls = s .at-is ∙ ap (offset (lists [] ss [] [])) q ∙ room .all-listed in

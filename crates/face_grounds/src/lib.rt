@@ -12,9 +12,9 @@ ghost use Rattle.built_meshes.specs.Faces.{faceVerdict};
 ghost use Rattle.building_tests.specs.Lent.{lists, listsIn};
 ghost use Rattle.mended_lists.specs.Edges.{placesOf};
 ghost use Rattle.face_mending.specs.Shown.{FaceRoom, FacesRoom, TosShown};
-ghost use Rattle.shared_edges.specs.Chains.{mateAt, thirdAt, Room, PairRoom, PlacesRoom, Entered};
+ghost use Rattle.shared_edges.specs.Chains.{mateAt, thirdAt, LinksRoom, PairRoom, PlacesRoom, PlacesEntered};
 ghost use Rattle.refusal_places.specs.Spots.{thenSpot, spotAt, verdictSpot, facesSpot};
-ghost use Rattle.face_grounds.specs.Found.{runsWithAt, edgesSpotAt, EnteredIf};
+ghost use Rattle.face_grounds.specs.Found.{runsWithAt, edgesSpotAt, FoundIf};
 use building_tests::faces::face_size;
 use building_tests::faces::face_verdict;
 use built_meshes::Ground;
@@ -49,14 +49,14 @@ fn enter_edge(
     i: usize,
     k: usize,
 ) -> Spot
-    requires { ⌜ Room (now listed) (now tos) (length (now heads)) (now links) k ⌝ }
+    requires { ⌜ LinksRoom (now listed) (now tos) (length (now heads)) (now links) k ⌝ }
     requires { ⌜ PairRoom (now mates) (now seconds) k ⌝ }
-    requires { ⌜ Entered (now listed) (now tos) (now heads) (now links) (now mates) (now seconds) k ⌝ }
+    requires { ⌜ PlacesEntered (now listed) (now tos) (now heads) (now links) (now mates) (now seconds) k ⌝ }
     ensures { λ r. ⌜
         r ≡ spotAt f i (thirdAt (now (listed .entry)) (now (tos .entry)) k)
         (runsWithAt (now (listed .entry)) (mateAt (now (listed .entry)) (now (tos .entry)) k) k) ⌝ }
     ensures { λ r. ⌜
-        EnteredIf (now (listed .entry)) (now (tos .entry)) (now (heads .exit)) (now (links .exit)) (now (mates .exit))
+        FoundIf (now (listed .entry)) (now (tos .entry)) (now (heads .exit)) (now (links .exit)) (now (mates .exit))
         (now (seconds .exit)) (k + 1) r ⌝ }
 {
     if !enter_places(listed, tos, heads, links, mates, seconds, k, 1) {
@@ -82,10 +82,10 @@ fn enter_edges(
     n: usize,
 ) -> Spot
     requires { ⌜ PlacesRoom (now listed) (now tos) (length (now heads)) (now links) (now mates) (now seconds) a n ⌝ }
-    requires { ⌜ Entered (now listed) (now tos) (now heads) (now links) (now mates) (now seconds) a ⌝ }
+    requires { ⌜ PlacesEntered (now listed) (now tos) (now heads) (now links) (now mates) (now seconds) a ⌝ }
     ensures { λ r. ⌜ r ≡ edgesSpotAt (now (listed .entry)) (now (tos .entry)) f a n ⌝ }
     ensures { λ r. ⌜
-        EnteredIf (now (listed .entry)) (now (tos .entry)) (now (heads .exit)) (now (links .exit)) (now (mates .exit))
+        FoundIf (now (listed .entry)) (now (tos .entry)) (now (heads .exit)) (now (links .exit)) (now (mates .exit))
         (now (seconds .exit)) (a + n) r ⌝ }
 {
     let mut i = 0;
@@ -117,12 +117,12 @@ fn enter_face(
     n: usize,
 ) -> Spot
     requires { ⌜ FaceRoom (now sides) (now firsts) (now listed) (now beside) (now tos) (length (now heads)) (now links) (now mates) (now seconds) np f a n ⌝ }
-    requires { ⌜ Entered (now listed) (now tos) (now heads) (now links) (now mates) (now seconds) a ⌝ }
+    requires { ⌜ PlacesEntered (now listed) (now tos) (now heads) (now links) (now mates) (now seconds) a ⌝ }
     ensures { λ r. ⌜
         ((cs : List Float) → r ≡ thenSpot (verdictSpot f (faceVerdict (listsIn version cs (now (sides .entry)) (now (firsts .entry))
         (now (listed .entry)) (now (beside .entry))) np f a)) (edgesSpotAt (now (listed .entry)) (now (tos .entry)) f a n)) ⌝ }
     ensures { λ r. ⌜
-        EnteredIf (now (listed .entry)) (now (tos .entry)) (now (heads .exit)) (now (links .exit)) (now (mates .exit))
+        FoundIf (now (listed .entry)) (now (tos .entry)) (now (heads .exit)) (now (links .exit)) (now (mates .exit))
         (now (seconds .exit)) (a + n) r ⌝ }
 {
     match face_verdict(version, sides, firsts, listed, beside, np, f, a, n) {
@@ -147,13 +147,13 @@ pub fn enter_faces(
 ) -> Spot
     requires { ⌜ FacesRoom (now sides) (now firsts) (now listed) (now beside) (now tos) (length (now heads)) (now links) (now mates) (now seconds) np ⌝ }
     requires { ⌜ TosShown (now sides) (now listed) (now tos) ⌝ }
-    requires { ⌜ Entered (now listed) (now tos) (now heads) (now links) (now mates) (now seconds) 0 ⌝ }
+    requires { ⌜ PlacesEntered (now listed) (now tos) (now heads) (now links) (now mates) (now seconds) 0 ⌝ }
     ensures { λ r. ⌜
         ((cs : List Float) → length cs / positionWidth ≡ np → r ≡ facesSpot (listsIn version cs (now (sides .entry)) (now (firsts .entry))
         (now (listed .entry)) (now (beside .entry))) (placesOf (lists [] (now (sides .entry)) (now (listed .entry)) []))
         (length (now (sides .entry)) / 4)) ⌝ }
     ensures { λ r. ⌜
-        EnteredIf (now (listed .entry)) (now (tos .entry)) (now (heads .exit)) (now (links .exit)) (now (mates .exit))
+        FoundIf (now (listed .entry)) (now (tos .entry)) (now (heads .exit)) (now (links .exit)) (now (mates .exit))
         (now (seconds .exit)) (length (now (listed .entry))) r ⌝ }
 {
     let nf = sides.len() / 4;

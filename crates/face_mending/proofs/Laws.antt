@@ -30,7 +30,7 @@ use Rattle.mended_lists.proofs.Reversal.{eqb-false}
 use Rattle.mended_lists.proofs.Edges.{places-length, Numbered, numbered}
 use Rattle.shared_edges.proofs.Laws.{latest-same, latest-below}
 use Rattle.face_places.proofs.Laws.{offset-more, offset-le, same-offset}
-use Rattle.shared_edges.specs.Chains.{lowAt, joinsAt, mateAt, hasMateAt, thirdAt, Room, PairRoom, PlacesRoom, Entered}
+use Rattle.shared_edges.specs.Chains.{lowAt, joinsAt, mateAt, hasMateAt, thirdAt, LinksRoom, PairRoom, PlacesRoom, PlacesEntered}
 use Rattle.face_mending.specs.Shown.{FaceRoom, FacesRoom, TosShown, EnteredIf}
 
 pub unfit : (g : Ground) → Unfit g ≡ Fit → ⊥
@@ -160,11 +160,11 @@ pub record FacesEntered (ss fs ls : List ℕ) (is : List Float) (ts heads₀ lin
   pub mates-length : length mates ≡ length mates₀
   pub seconds-length : length seconds ≡ length seconds₀
   pub at-is : a ≡ offset (lists [] ss [] []) f
-  pub entered : Entered ls ts heads links mates seconds a
+  pub entered : PlacesEntered ls ts heads links mates seconds a
   pub fit : (cs : List Float) → length cs / positionWidth ≡ np → facesMend (listsIn Two cs ss fs ls is) (placesOf (lists [] ss ls [])) f ≡ Fit
 
 pub faces-start :
-    (ss fs ls : List ℕ) (is : List Float) (ts heads links mates seconds : List ℕ) (np : ℕ) → Entered ls ts heads links mates seconds 0 →
+    (ss fs ls : List ℕ) (is : List Float) (ts heads links mates seconds : List ℕ) (np : ℕ) → PlacesEntered ls ts heads links mates seconds 0 →
     FacesEntered ss fs ls is ts heads links mates seconds heads links mates seconds np 0 0
 faces-start ss fs ls is ts heads links mates seconds np e =
     record {
@@ -262,7 +262,7 @@ pub faces-end :
     FacesEntered ss fs ls is ts heads₀ links₀ mates₀ seconds₀ heads links mates seconds np a f →
     FacesRoom ss fs ls is ts (length heads₀) links₀ mates₀ seconds₀ np → length ss / 4 ≤ f →
     ((cs : List Float) → length cs / positionWidth ≡ np → Fit ≡ facesMend (listsIn Two cs ss fs ls is) (placesOf (lists [] ss ls [])) (length ss / 4))
-    × Entered ls ts heads links mates seconds (length ls)
+    × PlacesEntered ls ts heads links mates seconds (length ls)
 faces-end ss fs ls is ts heads₀ links₀ mates₀ seconds₀ heads links mates seconds np a f s room e =
     let q : f ≡ length ss / 4 = omega (arith, s .not-past) in
     let r : a ≡ length ls = s .at-is ∙ ap (offset (lists [] ss [] [])) q ∙ room .all-listed in

@@ -13,7 +13,7 @@ use Rattle.built_meshes.specs.declared.Verdict.{Verdict}
 use Rattle.built_meshes.specs.declared.Verdict.the-variants.{Fit}
 use Rattle.building_tests.specs.Lent.{lists}
 use Rattle.mended_lists.specs.Edges.{placesOf, placeAt}
-use Rattle.shared_edges.specs.Chains.{Entered}
+use Rattle.shared_edges.specs.Chains.{PlacesEntered}
 
 pub record FaceRoom (ss fs ls : List ℕ) (is : List Float) (ts : List ℕ) (nh : ℕ) (links mates seconds : List ℕ) (np f a n : ℕ) : Type 0 where
   pub sides-fit : f * 4 + 4 ≤ length ss
@@ -45,4 +45,4 @@ abbrev pub TosShown : List ℕ → List ℕ → List ℕ → Type 0
 TosShown ss ls ts = (j : ℕ) → j < length ls → getD ts j 0 ≡ placeAt (placesOf (lists [] ss ls [])) j .to
 
 abbrev pub EnteredIf : List ℕ → List ℕ → List ℕ → List ℕ → List ℕ → List ℕ → ℕ → Verdict → Type 0
-EnteredIf ls ts heads links mates seconds k r = r ≡ Fit → Entered ls ts heads links mates seconds k
+EnteredIf ls ts heads links mates seconds k r = r ≡ Fit → PlacesEntered ls ts heads links mates seconds k

@@ -16,7 +16,7 @@ ghost use Rattle.building_tests.specs.Lent.{lists, listsIn};
 ghost use Rattle.mended_lists.specs.Edges.{placesOf};
 ghost use Rattle.mended_lists.specs.Mending.{forgiven, thenEdges, facesMend};
 ghost use Rattle.face_places.specs.Spread.{Spread};
-ghost use Rattle.shared_edges.specs.Chains.{thirdAt, Entered};
+ghost use Rattle.shared_edges.specs.Chains.{thirdAt, PlacesEntered};
 ghost use Rattle.face_mending.specs.Shown.{FaceRoom, FacesRoom, TosShown, EnteredIf};
 use answer_numbers::ground_number;
 use building_tests::faces::face_size;
@@ -61,7 +61,7 @@ fn enter_face(
     n: usize,
 ) -> Verdict
     requires { ⌜ FaceRoom (now sides) (now firsts) (now listed) (now beside) (now tos) (length (now heads)) (now links) (now mates) (now seconds) np f a n ⌝ }
-    requires { ⌜ Entered (now listed) (now tos) (now heads) (now links) (now mates) (now seconds) a ⌝ }
+    requires { ⌜ PlacesEntered (now listed) (now tos) (now heads) (now links) (now mates) (now seconds) a ⌝ }
     ensures { λ r. ⌜
         ((cs : List Float) → r ≡ thenEdges (forgiven (faceVerdict (listsIn Two cs (now (sides .entry)) (now (firsts .entry))
         (now (listed .entry)) (now (beside .entry))) np f a)) (every n (λ i. not (thirdAt (now (listed .entry)) (now (tos .entry)) (a + i))))) ⌝ }
@@ -95,7 +95,7 @@ pub fn enter_faces(
 ) -> Verdict
     requires { ⌜ FacesRoom (now sides) (now firsts) (now listed) (now beside) (now tos) (length (now heads)) (now links) (now mates) (now seconds) np ⌝ }
     requires { ⌜ TosShown (now sides) (now listed) (now tos) ⌝ }
-    requires { ⌜ Entered (now listed) (now tos) (now heads) (now links) (now mates) (now seconds) 0 ⌝ }
+    requires { ⌜ PlacesEntered (now listed) (now tos) (now heads) (now links) (now mates) (now seconds) 0 ⌝ }
     ensures { λ r. ⌜
         ((cs : List Float) → length cs / positionWidth ≡ np → r ≡ facesMend (listsIn Two cs (now (sides .entry)) (now (firsts .entry))
         (now (listed .entry)) (now (beside .entry))) (placesOf (lists [] (now (sides .entry)) (now (listed .entry)) []))

@@ -9,7 +9,7 @@ use native.Mathlib.Decide.{ℕ-discrete, decLt}
 use lib.ListN.{length, getD, set, length-set}
 use lib.Seq.{getD-set-same, getD-set-other}
 use Rattle.mended_lists.specs.declared.Part.{Part}
-use Rattle.mended_lists.specs.Parts.{Parts, differ, alone, moved, apart, joined}
+use Rattle.mended_lists.specs.Parts.{Parts, differ, lonePart, partMoved, apart, partsJoined}
 use Rattle.mended_lists.proofs.Parts.{differ-self, differ-false, differ-swap, differ-assoc, Moves, here, elsewhere, moves, Joins, one, two, joins, movedAll}
 use Rattle.face_parts.specs.Kept.{shifted, Falling, Kept, FoundPart, JoinedParts}
 
@@ -86,13 +86,13 @@ module _ (ups : List ℕ) (odds : List Bool) (falling : Falling ups odds) (g : �
               )
               (k .step f b')
 
-      top : (f : ℕ) → f < length skippedUps → getD skippedUps f 0 ≡ f → s .part f ≡ alone f
-      top f b = getD-set-either ℕ ups g f (getD ups (getD ups g 0) 0) 0 (λ x. x ≡ f → s .part f ≡ alone f) l (λ e q. skipped e q) (λ e q. k .top f b' q)
+      top : (f : ℕ) → f < length skippedUps → getD skippedUps f 0 ≡ f → s .part f ≡ lonePart f
+      top f b = getD-set-either ℕ ups g f (getD ups (getD ups g 0) 0) 0 (λ x. x ≡ f → s .part f ≡ lonePart f) l (λ e q. skipped e q) (λ e q. k .top f b' q)
         where
           b' : f < length ups
           b' = rw (length-set ups g (getD ups (getD ups g 0) 0)) at b
 
-          skipped : f ≡ g → getD ups (getD ups g 0) 0 ≡ f → s .part f ≡ alone f
+          skipped : f ≡ g → getD ups (getD ups g 0) 0 ≡ f → s .part f ≡ lonePart f
           skipped e q = rw e (k .top g l (omega (arith, up-below, falling .below g l)))
 
 -- face high is hung under face low
@@ -106,10 +106,10 @@ module _ (ups : List ℕ) (odds : List Bool) (high low : ℕ) (d : Bool) (fallin
             getD-set-either ℕ ups high f low 0 (λ x. x ≤ f) l (λ e. omega arith) (λ e. falling .below f b');
       }
 
-  moved-shifted : (o : Bool) (p : Part) → moved high low d (shifted o p) ≡ shifted o (moved high low d p)
+  moved-shifted : (o : Bool) (p : Part) → partMoved high low d (shifted o p) ≡ shifted o (partMoved high low d p)
   moved-shifted o p = go (moves high low d p) (moves high low d (shifted o p))
     where
-      go : Moves high low d p → Moves high low d (shifted o p) → moved high low d (shifted o p) ≡ shifted o (moved high low d p)
+      go : Moves high low d p → Moves high low d (shifted o p) → partMoved high low d (shifted o p) ≡ shifted o (partMoved high low d p)
       go (here h m) (here k n) =
           n ∙ ap (λ (x : Bool). record { root = low; odd = x })
           (differ-assoc (p .odd) o d ∙ ap (differ (p .odd)) (differ-swap o d) ∙ sym (differ-assoc (p .odd) d o))
@@ -118,18 +118,18 @@ module _ (ups : List ℕ) (odds : List Bool) (high low : ℕ) (d : Bool) (fallin
       go (elsewhere h m) (here k n) = absurd (h k)
       go (elsewhere h m) (elsewhere k n) = n ∙ ap (shifted o) (sym m)
 
-  module _ (s : Parts) (k : Kept ups odds s) (high-top : s .part high ≡ alone high) (low-top : s .part low ≡ alone low) where
-    moved-high : moved high low d (s .part high) ≡ record { root = low; odd = d }
+  module _ (s : Parts) (k : Kept ups odds s) (high-top : s .part high ≡ lonePart high) (low-top : s .part low ≡ lonePart low) where
+    moved-high : partMoved high low d (s .part high) ≡ record { root = low; odd = d }
     moved-high = go (moves high low d (s .part high))
       where
-        go : Moves high low d (s .part high) → moved high low d (s .part high) ≡ record { root = low; odd = d }
+        go : Moves high low d (s .part high) → partMoved high low d (s .part high) ≡ record { root = low; odd = d }
         go (here h m) = m ∙ ap (λ (p : Part). record { root = low; odd = differ (p .odd) d }) high-top
         go (elsewhere h m) = absurd (h (ap (λ (p : Part). p .root) high-top))
 
-    moved-other : (f : ℕ) → f ≢ high → s .part f ≡ alone f → moved high low d (s .part f) ≡ alone f
+    moved-other : (f : ℕ) → f ≢ high → s .part f ≡ lonePart f → partMoved high low d (s .part f) ≡ lonePart f
     moved-other f e t = go (moves high low d (s .part f))
       where
-        go : Moves high low d (s .part f) → moved high low d (s .part f) ≡ alone f
+        go : Moves high low d (s .part f) → partMoved high low d (s .part f) ≡ lonePart f
         go (here h m) = absurd (e (sym (ap (λ (p : Part). p .root) t) ∙ h))
         go (elsewhere h m) = m ∙ t
 
@@ -138,8 +138,8 @@ module _ (ups : List ℕ) (odds : List Bool) (high low : ℕ) (d : Bool) (fallin
       where
         step :
             (f : ℕ) → f < length (set ups high low) →
-            moved high low d (s .part f)
-            ≡ shifted (getD (set odds high d) f false) (moved high low d (s .part (getD (set ups high low) f 0)))
+            partMoved high low d (s .part f)
+            ≡ shifted (getD (set odds high d) f false) (partMoved high low d (s .part (getD (set ups high low) f 0)))
         step f b = go (ℕ-discrete f high)
           where
             b' : f < length ups
@@ -147,19 +147,19 @@ module _ (ups : List ℕ) (odds : List Bool) (high low : ℕ) (d : Bool) (fallin
 
             go :
                 Dec (f ≡ high) →
-                moved high low d (s .part f)
-                ≡ shifted (getD (set odds high d) f false) (moved high low d (s .part (getD (set ups high low) f 0)))
+                partMoved high low d (s .part f)
+                ≡ shifted (getD (set odds high d) f false) (partMoved high low d (s .part (getD (set ups high low) f 0)))
             go (yes e) =
                 let o : high < length odds = omega (arith, falling .like) in
                 rw (e, getD-set-same ups high low 0 l, getD-set-same odds high d false o)
                 (moved-high ∙ ap (shifted d) (sym (moved-other low (λ q. omega arith) low-top)))
             go (no e) =
                 rw (getD-set-other ups high f low 0 e, getD-set-other odds high f d false e)
-                (ap (moved high low d) (k .step f b') ∙ moved-shifted (getD odds f false) (s .part (getD ups f 0)))
+                (ap (partMoved high low d) (k .step f b') ∙ moved-shifted (getD odds f false) (s .part (getD ups f 0)))
 
-        top : (f : ℕ) → f < length (set ups high low) → getD (set ups high low) f 0 ≡ f → moved high low d (s .part f) ≡ alone f
+        top : (f : ℕ) → f < length (set ups high low) → getD (set ups high low) f 0 ≡ f → partMoved high low d (s .part f) ≡ lonePart f
         top f b =
-            getD-set-either ℕ ups high f low 0 (λ x. x ≡ f → moved high low d (s .part f) ≡ alone f) l (λ e q. absurd (never e q))
+            getD-set-either ℕ ups high f low 0 (λ x. x ≡ f → partMoved high low d (s .part f) ≡ lonePart f) l (λ e q. absurd (never e q))
             (λ e q. moved-other f e (k .top f b' q))
           where
             b' : f < length ups
@@ -254,10 +254,10 @@ find-end ups₀ odds₀ ups odds f g odd l i e =
       kept = i .kept;
     }
   where
-    top : (s : Parts) → Kept ups₀ odds₀ s → s .part g ≡ alone g
+    top : (s : Parts) → Kept ups₀ odds₀ s → s .part g ≡ lonePart g
     top s k = i .kept s k .top g (omega (arith, i .same-length, i .not-above)) e
 
--- ---- two parts joined
+-- ---- two parts partsJoined
 
 module _ (ups : List ℕ) (odds : List Bool) (ups₁ : List ℕ) (odds₁ : List Bool) (ups₂ : List ℕ) (odds₂ : List Bool) (f g : ℕ) (way : Bool)
     (a b : Part) (found-a : FoundPart ups odds ups₁ odds₁ f a) (found-b : FoundPart ups₁ odds₁ ups₂ odds₂ g b) where
@@ -276,11 +276,11 @@ module _ (ups : List ℕ) (odds : List Bool) (ups₁ : List ℕ) (odds₁ : List
         kept = λ s k. rw (part-a s k, part-b s k) (kept s k (joins s a b way));
       }
     where
-      twisted : (s : Parts) → Joins s a b way → joined s a b way .twisted ≡ (s .twisted || apart a b way)
+      twisted : (s : Parts) → Joins s a b way → partsJoined s a b way .twisted ≡ (s .twisted || apart a b way)
       twisted s (one e j) = rw j
       twisted s (two d j) = absurd (d e)
 
-      kept : (s : Parts) → Kept ups odds s → Joins s a b way → Kept ups₂ odds₂ (joined s a b way)
+      kept : (s : Parts) → Kept ups odds s → Joins s a b way → Kept ups₂ odds₂ (partsJoined s a b way)
       kept s k (one e j) =
           let old : Kept ups₂ odds₂ s = found-b .kept s (found-a .kept s k) in rw j (record { step = old .step; top = old .top })
       kept s k (two d j) = absurd (d e)
@@ -304,13 +304,13 @@ module _ (ups : List ℕ) (odds : List Bool) (ups₁ : List ℕ) (odds₁ : List
       apart-roots : a .root ≢ b .root
       apart-roots e = omega arith
 
-      top-a : (s : Parts) → Kept ups odds s → s .part (a .root) ≡ alone (a .root)
+      top-a : (s : Parts) → Kept ups odds s → s .part (a .root) ≡ lonePart (a .root)
       top-a s k = found-a .root s k
 
-      top-b : (s : Parts) → Kept ups odds s → s .part (b .root) ≡ alone (b .root)
+      top-b : (s : Parts) → Kept ups odds s → s .part (b .root) ≡ lonePart (b .root)
       top-b s k = found-b .root s (found-a .kept s k)
 
-      either : (s : Parts) → Kept ups odds s → (x : ℕ) → (x ≡ a .root) ⊎ (x ≡ b .root) → s .part x ≡ alone x
+      either : (s : Parts) → Kept ups odds s → (x : ℕ) → (x ≡ a .root) ⊎ (x ≡ b .root) → s .part x ≡ lonePart x
       either s k x (inl e) = rw e (top-a s k)
       either s k x (inr e) = rw e (top-b s k)
 
@@ -318,11 +318,11 @@ module _ (ups : List ℕ) (odds : List Bool) (ups₁ : List ℕ) (odds₁ : List
       of-two x y (yes t) = (inr (omega arith), inl (omega arith))
       of-two x y (no t) = (inl (omega arith), inr (omega arith))
 
-      twisted : (s : Parts) → Joins s a b way → joined s a b way .twisted ≡ (s .twisted || false)
+      twisted : (s : Parts) → Joins s a b way → partsJoined s a b way .twisted ≡ (s .twisted || false)
       twisted s (one e j) = absurd (apart-roots e)
       twisted s (two d j) = rw j (sym (or-false (s .twisted)))
 
-      kept : (s : Parts) → Kept ups odds s → Joins s a b way → Kept (set ups₂ high low) (set odds₂ high (apart a b way)) (joined s a b way)
+      kept : (s : Parts) → Kept ups odds s → Joins s a b way → Kept (set ups₂ high low) (set odds₂ high (apart a b way)) (partsJoined s a b way)
       kept s k (one e j) = absurd (apart-roots e)
       kept s k (two d j) =
           let sides = of-two (a .root) (b .root) (decLt (a .root) (b .root)) in

@@ -11,7 +11,7 @@ use mathlib.Core.List.{List}
 use Prim.Native.Nat.{ℕ, _≤_, _<_}
 use lib.ListN.{length, getD}
 use Rattle.mended_lists.specs.declared.Part.{Part}
-use Rattle.mended_lists.specs.Parts.{Parts, differ, alone, joined}
+use Rattle.mended_lists.specs.Parts.{Parts, differ, lonePart, partsJoined}
 
 abbrev pub shifted : Bool → Part → Part
 shifted d p = record { root = p .root; odd = differ (p .odd) d }
@@ -22,7 +22,7 @@ pub record Falling (ups : List ℕ) (odds : List Bool) : Type 0 where
 
 pub record Kept (ups : List ℕ) (odds : List Bool) (s : Parts) : Type 0 where
   pub step : (f : ℕ) → f < length ups → s .part f ≡ shifted (getD odds f false) (s .part (getD ups f 0))
-  pub top : (f : ℕ) → f < length ups → getD ups f 0 ≡ f → s .part f ≡ alone f
+  pub top : (f : ℕ) → f < length ups → getD ups f 0 ≡ f → s .part f ≡ lonePart f
 
 -- the parts stay, and the answer is that of face f
 pub record FoundPart (ups : List ℕ) (odds : List Bool) (ups' : List ℕ) (odds' : List Bool) (f : ℕ) (r : Part) : Type 0 where
@@ -30,11 +30,11 @@ pub record FoundPart (ups : List ℕ) (odds : List Bool) (ups' : List ℕ) (odds
   pub falling : Falling ups' odds'
   pub root-below : r .root ≤ f
   pub part : (s : Parts) → Kept ups odds s → s .part f ≡ r
-  pub root : (s : Parts) → Kept ups odds s → s .part (r .root) ≡ alone (r .root)
+  pub root : (s : Parts) → Kept ups odds s → s .part (r .root) ≡ lonePart (r .root)
   pub kept : (s : Parts) → Kept ups odds s → Kept ups' odds' s
 
 pub record JoinedParts (ups : List ℕ) (odds : List Bool) (ups' : List ℕ) (odds' : List Bool) (f g : ℕ) (way r : Bool) : Type 0 where
   pub same-length : length ups' ≡ length ups
   pub falling : Falling ups' odds'
-  pub twisted : (s : Parts) → Kept ups odds s → joined s (s .part f) (s .part g) way .twisted ≡ (s .twisted || r)
-  pub kept : (s : Parts) → Kept ups odds s → Kept ups' odds' (joined s (s .part f) (s .part g) way)
+  pub twisted : (s : Parts) → Kept ups odds s → partsJoined s (s .part f) (s .part g) way .twisted ≡ (s .twisted || r)
+  pub kept : (s : Parts) → Kept ups odds s → Kept ups' odds' (partsJoined s (s .part f) (s .part g) way)

@@ -9,7 +9,7 @@ ghost use Prim.Native.Nat.{ℕ, _≤_, _<_};
 ghost use lib.Dec.{eqb};
 ghost use lib.ListN.{length, getD, set};
 ghost use Rattle.mended_lists.specs.Edges.{Place};
-ghost use Rattle.mended_lists.specs.Parts.{Parts, differ, joined, partsTo};
+ghost use Rattle.mended_lists.specs.Parts.{Parts, differ, partsJoined, partsTo};
 ghost use Rattle.face_parts.specs.Kept.{Falling, Kept, FoundPart, JoinedParts};
 use mended_lists::Part;
 use tables::index;

@@ -11,7 +11,7 @@ use Rattle.perimeters.specs.Places.{nextPlace}
 use Rattle.closed_meshes.specs.Renumbering.{sumTo}
 use Rattle.built_meshes.specs.Lists.{Lists, facesOf, size, offset}
 use Rattle.building_tests.specs.Lent.{lists}
-use Rattle.mended_lists.specs.Edges.{placeOf, placesOf, placeAt}
+use Rattle.mended_lists.specs.Edges.{listedPlace, placesOf, placeAt}
 use Rattle.mended_lists.proofs.Edges.{places-at}
 use Rattle.face_places.specs.Spread.{FaceSpread, Spread}
 
@@ -149,7 +149,7 @@ module _ (ss ls ts₀ fs₀ ts fs : List ℕ) (a f n : ℕ) (s : SpreadFaces ss 
       next : f + 1 ≡ suc f
       next = omega arith
 
-      at-place : (j : ℕ) → a ≤ j → j < a + n → placeAt (placesOf (lists [] ss ls [])) j ≡ placeOf (lists [] ss ls []) f (j - a)
+      at-place : (j : ℕ) → a ≤ j → j < a + n → placeAt (placesOf (lists [] ss ls [])) j ≡ listedPlace (lists [] ss ls []) f (j - a)
       at-place j l c =
           let q : offset (lists [] ss ls []) f + (j - a) ≡ j = omega (arith, s .at-is) in
           ap (λ (x : ℕ). placeAt (placesOf (lists [] ss ls [])) x) (sym q) ∙ places-at (lists [] ss ls []) f (j - a) (b, omega arith)

@@ -4,7 +4,7 @@
 ghost use mathlib.Core.Path.{_≡_};
 ghost use Rattle.tables.specs.Mesh.{meshOf};
 ghost use Rattle.steps.specs.Step.{step, StepOutcome};
-ghost use Rattle.step_parts.specs.Passed.{Passed};
+ghost use Rattle.step_parts.specs.Passed.{TestsPassed};
 use counted_rows::zero_rows;
 use refined_meshes::Edition;
 use step_parts::commit;
@@ -31,7 +31,7 @@ pub fn finish(
     edition: Edition,
 ) -> Stepped
     requires { ⌜
-        Passed edition (meshOf (now positions) (now points) (now edges) (now intervals) (now faces)) counts (now order)
+        TestsPassed edition (meshOf (now positions) (now points) (now edges) (now intervals) (now faces)) counts (now order)
         (meshOf (now newpositions) (now newpoints) (now newedges) (now newintervals) (now newfaces)) c ⌝ }
     ensures { λ r. ⌜
         _≡_ {A = StepOutcome}

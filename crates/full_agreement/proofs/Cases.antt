@@ -35,7 +35,7 @@ use Rattle.steps.specs.declared.Stepped.the-variants.{Refined}
 use Rattle.steps.specs.Step.{eachFaceOnce, step}
 use Rattle.runs.proofs.Lengths.{lengths-refl}
 use Rattle.runs.specs.Runs.{Handed, outcome, lent}
-use Rattle.full_agreement.specs.Agreement.{PairedStep, Paired, noPair, onePair, Agreed}
+use Rattle.full_agreement.specs.Agreement.{PairedStep, StepsPaired, noPair, onePair, Agreed}
 use Rattle.full_agreement.proofs.Theorem.{theorem}
 
 -- the number with these bits

@@ -26,7 +26,7 @@ use Rattle.runs.specs.Runs.{Lent, Handed, outcome, after, oneMore, accepted, le
 use Rattle.runs.proofs.Lengths.{lengths-sym, lengths-trans}
 use Rattle.runs.proofs.Steps.{answered, same-names-of, after-refused, made-of, after-accepted, numbers-after}
 use Rattle.runs.proofs.Runs.{same-givens, two-runs}
-use Rattle.full_agreement.specs.Agreement.{PairedStep, Paired, noPair, onePair, SameAnswers, noAnswer, oneAnswer, FullAgreement}
+use Rattle.full_agreement.specs.Agreement.{PairedStep, StepsPaired, noPair, onePair, SameAnswers, noAnswer, oneAnswer, FullAgreement}
 use Rattle.full_agreement.proofs.Agreement.{Agreement, agreement-rows, agreement-same, agreement-new, by-name}
 use Rattle.full_agreement.proofs.SecondStarts.{second-starts}
 use Rattle.full_agreement.proofs.Answers.{same-answer}
@@ -110,7 +110,7 @@ module _
 -- The steps of two lists.
 agree :
     {first : Counts} {k k' : ℕ} {l l' m m' : Lent} {n : NamedMesh first l} {n' : NamedMesh first l'} {hs hs' : List Handed}
-    {o : NamedMesh first m} {o' : NamedMesh first m'} → Naming k l n hs m o → Naming k' l' n' hs' m' o' → k' ≡ k → Paired l l' hs hs' →
+    {o : NamedMesh first m} {o' : NamedMesh first m'} → Naming k l n hs m o → Naming k' l' n' hs' m' o' → k' ≡ k → StepsPaired l l' hs hs' →
     Binary64 (l .counts) (l .tables) → Binary64 (l' .counts) (l' .tables) → Agreement n n' → SameAnswers l l' hs hs' × Agreement o o'
 agree done done e noPair b b' a = (noAnswer, a)
 agree (further {k} {l} {n} {h} {n' = o} x xs) (further {k = k'} {l = l'} {n = n'} {h = h'} {n' = o'} x' xs') e (onePair p ps) b b' a =

@@ -3,7 +3,7 @@
 -- of steps, refused steps included, beside `Demand3`.
 --     PairedStep l l' h h'         the next step of each run: of the second edition, in an order that names each face once at that
 --                                  moment, by scratch tables of the same lengths
---     Paired l l' hs hs'           as many steps in both lists, each so
+--     StepsPaired l l' hs hs'           as many steps in both lists, each so
 --     SameAnswers l l' hs hs'      at each step the runs have the same answer: accepted with the same counts, or refused on the same ground
 --     SameByName n n'              rows of one name have the same position, mark, interval and start edge, every reference read as a name
 --     Agreed c a b hsA hsB         what is claimed of two such runs
@@ -32,11 +32,11 @@ pub record PairedStep (l l' : Lent) (h h' : Handed) : Type 0 where
   pub once-B : eachFaceOnce (l' .counts .faces) (h' .order) ≡ true
   pub scratch : SameLengths (h .scratch) (h' .scratch)
 
-pub data Paired : Lent → Lent → List Handed → List Handed → Type 0 where
-  noPair : {l l' : Lent} → Paired l l' [] []
+pub data StepsPaired : Lent → Lent → List Handed → List Handed → Type 0 where
+  noPair : {l l' : Lent} → StepsPaired l l' [] []
   onePair :
-      {l l' : Lent} {h h' : Handed} {hs hs' : List Handed} → PairedStep l l' h h' → Paired (after l h) (after l' h') hs hs' →
-      Paired l l' (h ∷ hs) (h' ∷ hs')
+      {l l' : Lent} {h h' : Handed} {hs hs' : List Handed} → PairedStep l l' h h' → StepsPaired (after l h) (after l' h') hs hs' →
+      StepsPaired l l' (h ∷ hs) (h' ∷ hs')
 
 pub data SameAnswers : Lent → Lent → List Handed → List Handed → Type 0 where
   noAnswer : {l l' : Lent} → SameAnswers l l' [] []
@@ -76,4 +76,4 @@ pub record Agreed (c : Counts) (a b : Mesh) (hsA hsB : List Handed) : Type 0 whe
 abbrev pub FullAgreement : Type 0
 FullAgreement =
     (c : Counts) (a b : Mesh) → audit a (c .points) (c .edges) (c .faces) ≡ true → Binary64 c a → firstRows c a ≡ firstRows c b →
-    SameLengths a b → (hsA hsB : List Handed) → Paired (lent a c) (lent b c) hsA hsB → Agreed c a b hsA hsB
+    SameLengths a b → (hsA hsB : List Handed) → StepsPaired (lent a c) (lent b c) hsA hsB → Agreed c a b hsA hsB

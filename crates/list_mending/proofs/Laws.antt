@@ -26,7 +26,7 @@ use Rattle.building_tests.specs.Lent.{lists, listsIn}
 use Rattle.mended_lists.specs.declared.Mending.{Mending}
 use Rattle.mended_lists.specs.declared.Mending.the-variants.{Mended, Refused, Twisted}
 use Rattle.mended_lists.specs.Edges.{Place, placesOf, placeAt, sameEdge, mate}
-use Rattle.mended_lists.specs.Parts.{partsTo, partsOf, turns, twisted}
+use Rattle.mended_lists.specs.Parts.{partsTo, partsOf, facesTurned, twisted}
 use Rattle.mended_lists.specs.Mending.{facesMend, wholeMends, edgesShared, mendingIf, mending}
 use Rattle.mended_lists.proofs.Edges.{places-length, Numbered, numbered}
 use Rattle.face_places.specs.Spread.{Spread}
@@ -34,7 +34,7 @@ use Rattle.shared_edges.proofs.Laws.{latest-below}
 use Rattle.face_mending.proofs.Laws.{unfit, from-shown}
 use Rattle.mending.specs.Shared.{PairingRoom, thenShared, MatesIf}
 use Rattle.face_choices.specs.Mates.{MatesFit, Mates, Chosen}
-use Rattle.list_mending.specs.Turning.{PlacesRoom, TurnsIf}
+use Rattle.list_mending.specs.Turning.{TurningRoom, TurnsIf}
 
 -- the first n of m equal elements
 pub length-cut : {A : Type 0} (n m : ℕ) (x : A) → n ≤ m → n ≡ length (take n (replicate m x))
@@ -69,7 +69,7 @@ fitted cs ss fs ls is h =
 -- the local lists of `mend_counted` have room
 pub places-room :
     (cs : List Float) (ss fs ls : List ℕ) (is : List Float) (turned : List Bool) → Fitted cs ss fs ls is → length turned ≡ 4096 →
-    PlacesRoom ss ls (replicate 16384 0) (replicate 16384 0) (take (length ls) (replicate 16384 0)) (take (length ss / 4) turned)
+    TurningRoom ss ls (replicate 16384 0) (replicate 16384 0) (take (length ls) (replicate 16384 0)) (take (length ss / 4) turned)
 places-room cs ss fs ls is turned fit e =
     record {
       tos-fit = rw (length-replicate {A = ℕ} 16384 0) (fit .listed-few);
@@ -148,8 +148,8 @@ module _ (cs : List Float) (ss fs ls : List ℕ) (is : List Float) where
 
       turns-are :
           (turned : List Bool) (r : Bool) → Chosen ls faces ms turned r → length turned ≡ length ss / 4 →
-          (f : ℕ) → f < length ss / 4 → getD turned f false ≡ turns (listsIn Two cs ss fs ls is) f
-      unfolding turns partsOf
+          (f : ℕ) → f < length ss / 4 → getD turned f false ≡ facesTurned (listsIn Two cs ss fs ls is) f
+      unfolding facesTurned partsOf
       turns-are turned r h e f b =
           h .turns (placesOf (listsIn Two cs ss fs ls is)) mates-are f (omega arith)
           ∙ ap (λ (n : ℕ). partsTo (placesOf (listsIn Two cs ss fs ls is)) n .part f .odd) places-mated

@@ -11,7 +11,7 @@ ghost use Rattle.built_meshes.specs.declared.Version.the-variants.{Two};
 ghost use Rattle.building_tests.specs.Lent.{listsIn};
 ghost use Rattle.mended_lists.specs.Mending.{mendingIf, mending};
 ghost use Rattle.face_choices.specs.Mates.{MatesFit, Chosen};
-ghost use Rattle.list_mending.specs.Turning.{PlacesRoom, TurnsIf};
+ghost use Rattle.list_mending.specs.Turning.{TurningRoom, TurnsIf};
 use building_lists::counts_fit;
 use building_lists::numbers_fit;
 use building_tests::Bounds;
@@ -58,7 +58,7 @@ fn mend_places(
     turned: &mut [bool],
 ) -> Mending
     requires { ⌜ countsFit generalLimits (listsIn Two (now coordinates) (now sides) (now firsts) (now listed) (now beside)) ≡ true ⌝ }
-    requires { ⌜ PlacesRoom (now sides) (now listed) (now tos) (now faces) (now mates) (now turned) ⌝ }
+    requires { ⌜ TurningRoom (now sides) (now listed) (now tos) (now faces) (now mates) (now turned) ⌝ }
     ensures { λ r. ⌜
         r ≡ mendingIf true true
         (listsIn Two (now (coordinates .entry)) (now (sides .entry)) (now (firsts .entry)) (now (listed .entry)) (now (beside .entry))) ⌝ }

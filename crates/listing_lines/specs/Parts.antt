@@ -3,7 +3,7 @@
 --     AtNumber r P        what is promised where something was found
 --     same ws             words as they are
 --     rowNumbers rowWords r what a row puts into the tables
---     totalOf x           the answer to what a scan of the whole found
+--     rowsTotal x           the answer to what a scan of the whole found
 --     AtTotal t P         what is promised where a listing was found
 --     Listing s           the text is a listing
 --     positionsListed pointsListed edgesListed intervalsListed facesListed t     what the rows put into each table
@@ -38,8 +38,8 @@ rowNumbers r = map float (r .numbers)
 abbrev pub rowWords : ListedRow → List ℕ
 rowWords r = r .words
 
-abbrev pub totalOf : Parsed ListedRows → Total
-totalOf x = ifParsed (λ t n. Total.Of (length (t .points)) (length (t .edges)) (length (t .faces))) Total.None x
+abbrev pub rowsTotal : Parsed ListedRows → Total
+rowsTotal x = ifParsed (λ t n. Total.Of (length (t .points)) (length (t .edges)) (length (t .faces))) Total.None x
 
 abbrev pub AtTotal : Total → Type 0 → Type 0
 AtTotal (Total.Of p e f) P = P

@@ -10,7 +10,8 @@ ghost use Rattle.text_numbers.specs.Answers.{number};
 ghost use Rattle.mesh_lines.specs.Parts.{placeAnswer, runAnswer, stored, AtPlace, AtRun};
 ghost use Rattle.listings.specs.Grammar.{wordForm, pointRowForm, edgeRowForm, faceRowForm, listing};
 ghost use Rattle.listings.specs.Handing.{numbersIn, wordsIn};
-ghost use Rattle.listing_lines.specs.Parts.{lastWord, AtNumber, same, rowNumbers, rowWords, totalOf, AtTotal, Listing, positionsListed, pointsListed, edgesListed, intervalsListed, facesListed};
+ghost use Rattle.listing_lines.specs.Parts.{lastWord, AtNumber, same, rowNumbers, rowWords, rowsTotal};
+ghost use Rattle.listing_lines.specs.Parts.{AtTotal, Listing, positionsListed, pointsListed, edgesListed, intervalsListed, facesListed};
 use mesh_lines::Place;
 use mesh_lines::Run;
 use mesh_lines::coordinates;
@@ -184,7 +185,7 @@ fn scan(
     ds: &mut [f64],
     fs: &mut [u32],
 ) -> Total
-    ensures sizes { λ r. ⌜ r ≡ totalOf (listing (now (s .entry))) ⌝ }
+    ensures sizes { λ r. ⌜ r ≡ rowsTotal (listing (now (s .entry))) ⌝ }
     ensures positions { λ r. ⌜ AtTotal r (now (xs .exit) ≡ stored positionsListed (now (xs .entry)) 0 (listing (now (s .entry)))) ⌝ }
     ensures points { λ r. ⌜ AtTotal r (now (ps .exit) ≡ stored pointsListed (now (ps .entry)) 0 (listing (now (s .entry)))) ⌝ }
     ensures edges { λ r. ⌜ AtTotal r (now (es .exit) ≡ stored edgesListed (now (es .entry)) 0 (listing (now (s .entry)))) ⌝ }
@@ -211,7 +212,7 @@ fn scan(
 
 // How many points, edges and faces a listing has. Its rows are stored nowhere.
 pub fn sizes(s: &[u8]) -> Total
-    ensures { λ r. ⌜ r ≡ totalOf (listing (now (s .entry))) ⌝ }
+    ensures { λ r. ⌜ r ≡ rowsTotal (listing (now (s .entry))) ⌝ }
 {
     let mut xs = [0.0; 1];
     let mut ps = [0u32; 1];

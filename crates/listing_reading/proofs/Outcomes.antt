@@ -24,11 +24,11 @@ use Rattle.listings.proofs.Whole.{printed-of-listing}
 use Rattle.listings.specs.Grammar.{listing}
 use Rattle.listings.specs.Handing.{listedCounts, withListing as storedRows, passesAudit, ReadingOutcome, readRows, readFound, readListing}
 use Rattle.listings.specs.declared.Reading.the-variants as Reading
-use Rattle.listing_lines.specs.Parts.{totalOf, Listing, positionsListed, pointsListed, edgesListed, intervalsListed, facesListed}
+use Rattle.listing_lines.specs.Parts.{rowsTotal, Listing, positionsListed, pointsListed, edgesListed, intervalsListed, facesListed}
 use Rattle.listing_lines.specs.declared.Total.{Total}
 use Rattle.listing_lines.specs.declared.Total.the-variants as Total
 
-total-of : (x : Parsed ListedRows) {p e f : ℕ} → totalOf x ≡ Total.Of p e f
+total-of : (x : Parsed ListedRows) {p e f : ℕ} → rowsTotal x ≡ Total.Of p e f
     → (t : ListedRows) × (n : ℕ) × (x ≡ parsed t n) × (listedCounts t ≡ record { points = p; edges = e; faces = f })
 total-of (parsed t n) {p} {e} {f} g =
     let ep : length (t .points) ≡ p = cc in
@@ -37,7 +37,7 @@ total-of (parsed t n) {p} {e} {f} g =
     (t, n, refl, λ i. record { points = ep i; edges = ee i; faces = ef i })
 total-of unparsed g = let z : _≡_ {A = ℕ} 0 1 = cc in absurd (omega arith)
 
-total-none : (x : Parsed ListedRows) → totalOf x ≡ Total.None → x ≡ unparsed
+total-none : (x : Parsed ListedRows) → rowsTotal x ≡ Total.None → x ≡ unparsed
 total-none (parsed t n) e = cc
 total-none unparsed e = refl
 
@@ -77,7 +77,7 @@ refused : (a b d : Bool) (t : ListedRows) (m : Mesh) → a ≡ true → b ≡ tr
     → readRows a b d t m ≡ record { answer = Reading.NotClosed; tables = zeroedRows (listedCounts t) m }
 refused a b d t m ea eb ed = rw (ea, eb, ed)
 
-module _ (s : List ℕ) (m : Mesh) {r : Total} (er : r ≡ totalOf (listing s)) where
+module _ (s : List ℕ) (m : Mesh) {r : Total} (er : r ≡ rowsTotal (listing s)) where
   pub not-listing : r ≡ Total.None → record { answer = Reading.NotListing; tables = m } ≡ readListing s m
   unfolding readFound
   not-listing en = rw (total-none (listing s) (sym er ∙ en))

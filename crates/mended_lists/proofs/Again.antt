@@ -19,7 +19,7 @@ use Rattle.built_meshes.specs.Grounds.{Holds, Met, Where, triple-face, same-way
 use Rattle.built_meshes.specs.declared.Ground.the-variants.{EdgeTripleFace, SameWay, MissingFace}
 use Rattle.mended_lists.specs.InTurn.{inTurn}
 use Rattle.mended_lists.specs.Reversal.{turnedPoint, turnedInterval, turnedSide, turnedFirst, Choice, reversed}
-use Rattle.mended_lists.specs.Parts.{turns, twisted}
+use Rattle.mended_lists.specs.Parts.{facesTurned, twisted}
 use Rattle.mended_lists.specs.Claims.{Fitting, Sound, Paired, Opposite, Works, Turned-back, Needs-nothing, Twice, Then-built}
 use Rattle.mended_lists.proofs.InTurn.{sumTo-four, length-inTurn, getD-inTurn, inTurn-is}
 use Rattle.mended_lists.proofs.Reversal.{mirrored, mirrored-mirrored, turned-below, turned-turned, reversed-faces}
@@ -171,7 +171,7 @@ needs-nothing l fit sound opposite =
     let same : reversed (λ f. false) l ≡ l = reversed-none (λ f. false) l fit (λ f a. refl) in
     let works : Works l (λ f. false) = rw same opposite in (
       go (twisted l) refl works,
-      reversed-none (turns l) l fit (λ f a. sym (only-one l (λ f. false) sound works (λ f a lowest. refl) f a)),
+      reversed-none (facesTurned l) l fit (λ f a. sym (only-one l (λ f. false) sound works (λ f a lowest. refl) f a)),
     )
   where
     go : (t : Bool) → twisted l ≡ t → Works l (λ f. false) → t ≡ false
@@ -180,7 +180,7 @@ needs-nothing l fit sound opposite =
 
 pub twice : Twice
 twice l sound t =
-    needs-nothing (reversed (turns l) l) (reversed-fitting (turns l) l) (reversed-sound (turns l) l sound) (found l sound t .0)
+    needs-nothing (reversed (facesTurned l) l) (reversed-fitting (facesTurned l) l) (reversed-sound (facesTurned l) l sound) (found l sound t .0)
 
 module _ (c : Choice) (l : Lists) where
   pub interval-at :
@@ -341,9 +341,9 @@ module _ (l : Lists) (sound : Sound l) (opposite : Opposite l) (c : Sizes) (m : 
 
 pub then-built : Then-built
 then-built l sound paired t c m =
-    let s : Sound (reversed (turns l) l) = reversed-sound (turns l) l sound in
-    let o : Opposite (reversed (turns l) l) = found l sound t .0 in (
-      λ h. no-third (reversed (turns l) l) s o c m (h .0) (h .1),
-      λ h. no-same-way (reversed (turns l) l) s o c m (h .0) (h .1),
-      λ h. no-missing (reversed (turns l) l) s o c m (reversed-paired (turns l) l paired) (h .0) (h .1),
+    let s : Sound (reversed (facesTurned l) l) = reversed-sound (facesTurned l) l sound in
+    let o : Opposite (reversed (facesTurned l) l) = found l sound t .0 in (
+      λ h. no-third (reversed (facesTurned l) l) s o c m (h .0) (h .1),
+      λ h. no-same-way (reversed (facesTurned l) l) s o c m (h .0) (h .1),
+      λ h. no-missing (reversed (facesTurned l) l) s o c m (reversed-paired (facesTurned l) l paired) (h .0) (h .1),
     )

@@ -5,7 +5,7 @@ use Rattle.built_meshes.specs.Lists.{offset}
 use Rattle.mended_lists.specs.InTurn.{upTo, inTurn}
 use Rattle.mended_lists.specs.Reversal.{reversed}
 use Rattle.mended_lists.specs.Edges.{placesOf, latest, mate}
-use Rattle.mended_lists.specs.Parts.{joinedIf, joined, metIf, partsTo, partsOf, turns, twisted}
+use Rattle.mended_lists.specs.Parts.{joinedIf, partsJoined, partsMet, partsTo, partsOf, facesTurned, twisted}
 use Rattle.mended_lists.specs.Pieces.{Square-turned, Tetrahedron-turned, Cross-cap-twisted}
 
 pub square-turned : Square-turned
@@ -13,9 +13,9 @@ unfolding sumTo offset upTo inTurn reversed
 square-turned a b c d = refl
 
 pub tetrahedron-turned : Tetrahedron-turned
-unfolding sumTo offset upTo inTurn placesOf latest mate joinedIf joined metIf partsTo partsOf turns twisted
+unfolding sumTo offset upTo inTurn placesOf latest mate joinedIf partsJoined partsMet partsTo partsOf facesTurned twisted
 tetrahedron-turned = (refl, refl, refl, refl, refl)
 
 pub cross-cap-twisted : Cross-cap-twisted
-unfolding sumTo offset upTo inTurn placesOf latest mate joinedIf joined metIf partsTo partsOf twisted
+unfolding sumTo offset upTo inTurn placesOf latest mate joinedIf partsJoined partsMet partsTo partsOf twisted
 cross-cap-twisted = refl

@@ -11,7 +11,7 @@ use borrow.Author.Tests.{eqb-true, eq-eqb}
 use Rattle.built_meshes.specs.Lists.{Lists, facesOf, size, offset}
 use Rattle.built_meshes.specs.Places.{pointOf, nextOf, IsPlace, Runs, Between, Differ}
 use Rattle.mended_lists.specs.Reversal.{Choice, reversed}
-use Rattle.mended_lists.specs.Edges.{Place, placeOf, placesOf, placeAt, sameWay, sameEdge, mate}
+use Rattle.mended_lists.specs.Edges.{Place, listedPlace, placesOf, placeAt, sameWay, sameEdge, mate}
 use Rattle.mended_lists.specs.Parts.{differ}
 use Rattle.mended_lists.specs.Claims.{Sound, Opposite, Works}
 use Rattle.mended_lists.proofs.Parts.{differ-self, differ-swap, OppositeAt}
@@ -61,9 +61,9 @@ module _ (l : Lists) (c : Choice) (sound : Sound l) (works : Works l c) where
     where
       this :
           (x y : ℕ) (u : Numbered l x) (v : Numbered l y) → x < y →
-          sameEdge (placeOf l (u .face) (u .place)) (placeOf l (v .face) (v .place)) ≡ true →
+          sameEdge (listedPlace l (u .face) (u .place)) (listedPlace l (v .face) (v .place)) ≡ true →
           differ (c (u .face)) (c (v .face)) ≡ eqb (pointOf l (u .face) (u .place)) (pointOf l (v .face) (v .place))
-      this x y u v less same = either (edge-is (placeOf l (u .face) (u .place)) (placeOf l (v .face) (v .place)) .0 same)
+      this x y u v less same = either (edge-is (listedPlace l (u .face) (u .place)) (listedPlace l (v .face) (v .place)) .0 same)
         where
           either :
               ((pointOf l (u .face) (u .place) ≡ pointOf l (v .face) (v .place)) × (nextOf l (u .face) (u .place) ≡ nextOf l (v .face) (v .place)))
@@ -96,8 +96,8 @@ module _ (l : Lists) (c : Choice) (sound : Sound l) (works : Works l c) where
 -- ---- from the mates to the choice
 
 pub between-edge :
-    (l : Lists) (f i g j p q : ℕ) → Between l f i p q → Between l g j p q → sameEdge (placeOf l f i) (placeOf l g j) ≡ true
-between-edge l f i g j p q a b = edge-is (placeOf l f i) (placeOf l g j) .1 (go a b)
+    (l : Lists) (f i g j p q : ℕ) → Between l f i p q → Between l g j p q → sameEdge (listedPlace l f i) (listedPlace l g j) ≡ true
+between-edge l f i g j p q a b = edge-is (listedPlace l f i) (listedPlace l g j) .1 (go a b)
   where
     go :
         Between l f i p q → Between l g j p q →
@@ -107,8 +107,8 @@ between-edge l f i g j p q a b = edge-is (placeOf l f i) (placeOf l g j) .1 (go 
     go (inr r) (inl s) = inr (r .begins ∙ sym (s .ends), r .ends ∙ sym (s .begins))
     go (inr r) (inr s) = inl (r .begins ∙ sym (s .begins), r .ends ∙ sym (s .ends))
 
-pub edge-between : (l : Lists) (f i g j p q : ℕ) → IsPlace l f i → Between l g j p q → sameEdge (placeOf l f i) (placeOf l g j) ≡ true → Between l f i p q
-edge-between l f i g j p q at b e = go b (edge-is (placeOf l f i) (placeOf l g j) .0 e)
+pub edge-between : (l : Lists) (f i g j p q : ℕ) → IsPlace l f i → Between l g j p q → sameEdge (listedPlace l f i) (listedPlace l g j) ≡ true → Between l f i p q
+edge-between l f i g j p q at b e = go b (edge-is (listedPlace l f i) (listedPlace l g j) .0 e)
   where
     go :
         Between l g j p q →

@@ -15,7 +15,7 @@ use Rattle.audited_meshes.proofs.Tests.{Is, and-is, or-is, eqb-is}
 use Rattle.built_meshes.specs.Lists.{Lists, facesOf, size, offset}
 use Rattle.built_meshes.specs.Places.{pointOf, nextOf, IsPlace, Runs, Between}
 use Rattle.mended_lists.specs.InTurn.{inTurn}
-use Rattle.mended_lists.specs.Edges.{Place, placeOf, placesOf, placeAt, sameWay, sameEdge, latest, mate}
+use Rattle.mended_lists.specs.Edges.{Place, listedPlace, placesOf, placeAt, sameWay, sameEdge, latest, mate}
 use Rattle.mended_lists.proofs.InTurn.{length-inTurn, getD-inTurn}
 
 -- ---- the last number that passes a test
@@ -103,12 +103,12 @@ module _ (ps : List Place) (k : ℕ) where
 module _ (l : Lists) where
   pub places-length : length (placesOf l) ≡ offset l (facesOf l)
   unfolding placesOf offset
-  places-length = length-inTurn (facesOf l) (λ f. size l f) (λ f i. placeOf l f i)
+  places-length = length-inTurn (facesOf l) (λ f. size l f) (λ f i. listedPlace l f i)
 
-  pub places-at : (f i : ℕ) → IsPlace l f i → placeAt (placesOf l) (offset l f + i) ≡ placeOf l f i
+  pub places-at : (f i : ℕ) → IsPlace l f i → placeAt (placesOf l) (offset l f + i) ≡ listedPlace l f i
   unfolding placesOf offset
   places-at f i (a, b) =
-      getD-inTurn (facesOf l) (λ f. size l f) (λ f i. placeOf l f i) f i (record { face = 0; from = 0; to = 0 }) a b
+      getD-inTurn (facesOf l) (λ f. size l f) (λ f i. listedPlace l f i) f i (record { face = 0; from = 0; to = 0 }) a b
 
   pub number-below : (f i : ℕ) → IsPlace l f i → offset l f + i < length (placesOf l)
   unfolding offset
@@ -129,7 +129,7 @@ module _ (l : Lists) where
     pub place : ℕ
     pub is-place : IsPlace l face place
     pub number : offset l face + place ≡ k
-    pub at : placeAt (placesOf l) k ≡ placeOf l face place
+    pub at : placeAt (placesOf l) k ≡ listedPlace l face place
 
   pub numbered : (k : ℕ) → k < length (placesOf l) → Numbered k
   unfolding offset

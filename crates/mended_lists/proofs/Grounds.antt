@@ -33,7 +33,7 @@ use Rattle.built_meshes.proofs.Faces as built
 use Rattle.mended_lists.specs.declared.Mending.{Mending}
 use Rattle.mended_lists.specs.declared.Mending.the-variants.{Mended, Refused, Twisted}
 use Rattle.mended_lists.specs.Edges.{placesOf, third}
-use Rattle.mended_lists.specs.Parts.{turns, twisted}
+use Rattle.mended_lists.specs.Parts.{facesTurned, twisted}
 use Rattle.mended_lists.specs.Reversal.{Choice}
 use Rattle.mended_lists.specs.Mending.{forgiven, edgesMend, thenEdges, faceMends, thenFace, facesMend, wholeMends, edgesShared, mendingIf, mending}
 use Rattle.mended_lists.specs.Claims.{Works}
@@ -423,7 +423,7 @@ twisted-last c l =
 
 pub else-mended : Else-mended
 else-mended c l = (
-  λ e. (answer-none c l (inl e), (turns l, mended-exactly c l (inl e) .1 .0 e)),
+  λ e. (answer-none c l (inl e), (facesTurned l, mended-exactly c l (inl e) .1 .0 e)),
   λ h. go (none-answer c l (h .0)) (h .1 .0) (h .1 .1),
 )
   where

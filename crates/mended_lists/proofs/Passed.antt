@@ -26,8 +26,8 @@ use Rattle.built_meshes.specs.declared.Ground.the-variants.{OverCounts, UnfitNu
 use Rattle.mended_lists.specs.declared.Mending.{Mending}
 use Rattle.mended_lists.specs.declared.Mending.the-variants.{Mended, Refused, Twisted}
 use Rattle.mended_lists.specs.Reversal.{Choice}
-use Rattle.mended_lists.specs.Edges.{Place, placeOf, placesOf, placeAt, sameEdge, latest, mate, hasMate, third, follower, lone}
-use Rattle.mended_lists.specs.Parts.{turns, twisted}
+use Rattle.mended_lists.specs.Edges.{Place, listedPlace, placesOf, placeAt, sameEdge, latest, mate, hasMate, third, follower, lone}
+use Rattle.mended_lists.specs.Parts.{facesTurned, twisted}
 use Rattle.mended_lists.specs.Mending.{forgiven, edgesMend, thenEdges, faceMends, thenFace, facesMend, wholeMends, edgesShared, mendingIf, mending}
 use Rattle.mended_lists.specs.Claims.{Sound, Paired, Works, Passed, Mended-exactly}
 use Rattle.mended_lists.proofs.Reversal.{eqb-false}
@@ -156,7 +156,7 @@ unfolding third
 third-is ps k m n e h = rw (e, h) (ap not (eqb-false (suc n) 0 (λ z. omega arith)))
 
 module _ (l : Lists) (p q : ℕ) where
-  pub on-at : (k : ℕ) (o : OnEdge l p q k) → placeAt (placesOf l) k ≡ placeOf l (o .face) (o .place)
+  pub on-at : (k : ℕ) (o : OnEdge l p q k) → placeAt (placesOf l) k ≡ listedPlace l (o .face) (o .place)
   on-at k o = rw (← (o .number)) (places-at l (o .face) (o .place) (between-place l (o .face) (o .place) p q (o .between)))
 
   pub on-below : (k : ℕ) → OnEdge l p q k → k < length (placesOf l)
@@ -342,12 +342,12 @@ mended-exactly c l h = go (twisted l) refl
 
     go :
         (t : Bool) → twisted l ≡ t →
-        ((mending c l ≡ Twisted) ↔ ((t : Choice) → ¬ Works l t)) × ((mending c l ≡ Mended) ↔ Works l (turns l))
+        ((mending c l ≡ Twisted) ↔ ((t : Choice) → ¬ Works l t)) × ((mending c l ≡ Mended) ↔ Works l (facesTurned l))
     go true e =
         let r : mending c l ≡ Twisted = answer ∙ rw e in (
           (λ x. twisted-exactly l sound .0 e, λ x. r),
-          (λ x. absurd (clash (sym x ∙ r)), λ x. absurd (twisted-exactly l sound .0 e (turns l) x)),
+          (λ x. absurd (clash (sym x ∙ r)), λ x. absurd (twisted-exactly l sound .0 e (facesTurned l) x)),
         )
     go false e =
         let r : mending c l ≡ Mended = answer ∙ rw e in
-        ((λ x. absurd (clash (sym r ∙ x)), λ x. absurd (x (turns l) (found l sound e .0))), (λ x. found l sound e .0, λ x. r))
+        ((λ x. absurd (clash (sym r ∙ x)), λ x. absurd (x (facesTurned l) (found l sound e .0))), (λ x. found l sound e .0, λ x. r))

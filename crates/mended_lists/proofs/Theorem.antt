@@ -10,9 +10,9 @@ use lib.ListN.{length}
 use Rattle.built_meshes.specs.Lists.{Lists, facesOf, size, offset}
 use Rattle.built_meshes.specs.Places.{pointOf, nextOf, IsPlace, Runs, Between, Differ}
 use Rattle.mended_lists.specs.Reversal.{Choice, reversed}
-use Rattle.mended_lists.specs.Edges.{Place, placeOf, placesOf, placeAt, sameWay, sameEdge, mate}
+use Rattle.mended_lists.specs.Edges.{Place, listedPlace, placesOf, placeAt, sameWay, sameEdge, mate}
 use Rattle.mended_lists.specs.declared.Part.{Part}
-use Rattle.mended_lists.specs.Parts.{differ, alone, partsTo, partsOf, turns, twisted}
+use Rattle.mended_lists.specs.Parts.{differ, lonePart, partsTo, partsOf, facesTurned, twisted}
 use Rattle.mended_lists.specs.Claims.{Sound, Opposite, Works, Share, InPart, itself, beside, LowestStay, Twisted-exactly, Found, Only-one}
 use Rattle.mended_lists.proofs.Parts.{parts-rooted, parts-follow, parts-agree, parts-within, Follows}
 use Rattle.mended_lists.proofs.Edges.{mate-last, places-at, number-below, number-face, Numbered, numbered}
@@ -70,7 +70,7 @@ module _ (l : Lists) where
   unfolding partsOf rootOf
   root-below f = parts-rooted (placesOf l) (length (placesOf l)) .below f
 
-  root-stays : (f : ℕ) → partsOf l .part (rootOf f) ≡ alone (rootOf f)
+  root-stays : (f : ℕ) → partsOf l .part (rootOf f) ≡ lonePart (rootOf f)
   unfolding partsOf rootOf
   root-stays f = parts-rooted (placesOf l) (length (placesOf l)) .stays f
 
@@ -119,8 +119,8 @@ module _ (l : Lists) where
 -- ---- the choice
 
 module _ (l : Lists) where
-  pub lowest-stay : LowestStay l (turns l)
-  unfolding turns partsOf rootOf
+  pub lowest-stay : LowestStay l (facesTurned l)
+  unfolding facesTurned partsOf rootOf
   lowest-stay f a lowest =
       let r : rootOf l f ≡ f = same (rootOf l f) (lowest (rootOf l f) (root-in-part l f)) (root-below l f) in
       ap (λ (p : Part). p .odd) (ap (λ (x : ℕ). partsOf l .part x) (sym r) ∙ root-stays l f)
@@ -129,10 +129,10 @@ module _ (l : Lists) where
       same r a b = omega arith
 
   module _ (sound : Sound l) where
-    pub found-works : twisted l ≡ false → Works l (turns l)
-    unfolding turns twisted partsOf
+    pub found-works : twisted l ≡ false → Works l (facesTurned l)
+    unfolding facesTurned twisted partsOf
     found-works t =
-        opposite-works l sound (turns l)
+        opposite-works l sound (facesTurned l)
         (λ k b j e. parts-agree (placesOf l) (length (placesOf l)) k j b e .turned t)
 
     works-follow : (c : Choice) → Works l c → Follows c (partsOf l) × (twisted l ≡ false)
@@ -144,14 +144,14 @@ twisted-exactly l sound = (λ t c works. false≢true (sym (works-follow l sound
   where
     go : (t : Bool) → twisted l ≡ t → ((c : Choice) → ¬ Works l c) → t ≡ true
     go true e none = refl
-    go false e none = absurd (none (turns l) (found-works l sound e))
+    go false e none = absurd (none (facesTurned l) (found-works l sound e))
 
 pub found : Found
 found l sound t = (found-works l sound t, lowest-stay l)
 
 pub only-one : Only-one
-unfolding turns partsOf rootOf
+unfolding facesTurned partsOf rootOf
 only-one l c sound works stay f a =
     let b : rootOf l f ≤ f = root-below l f in
     works-follow l sound c works .0 f
-    ∙ ap (λ (x : Bool). differ x (turns l f)) (stay (rootOf l f) (omega arith) (root-lowest l sound f))
+    ∙ ap (λ (x : Bool). differ x (facesTurned l f)) (stay (rootOf l f) (omega arith) (root-lowest l sound f))

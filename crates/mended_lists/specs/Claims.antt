@@ -34,7 +34,7 @@ use Rattle.built_meshes.specs.Grounds.{Holds}
 use Rattle.built_meshes.specs.declared.Ground.the-variants.{EdgeTripleFace, SameWay, MissingFace}
 use Rattle.mended_lists.specs.declared.Mending.the-variants.{Mended, Twisted}
 use Rattle.mended_lists.specs.Reversal.{Choice, reversed}
-use Rattle.mended_lists.specs.Parts.{turns, twisted}
+use Rattle.mended_lists.specs.Parts.{facesTurned, twisted}
 use Rattle.mended_lists.specs.Mending.{mending}
 
 pub record Fitting (l : Lists) : Type 0 where
@@ -90,24 +90,24 @@ abbrev pub Twisted-exactly : Type 0
 Twisted-exactly = (l : Lists) → Sound l → (twisted l ≡ true) ↔ ((c : Choice) → ¬ Works l c)
 
 abbrev pub Found : Type 0
-Found = (l : Lists) → Sound l → twisted l ≡ false → Works l (turns l) × LowestStay l (turns l)
+Found = (l : Lists) → Sound l → twisted l ≡ false → Works l (facesTurned l) × LowestStay l (facesTurned l)
 
 abbrev pub Only-one : Type 0
-Only-one = (l : Lists) (c : Choice) → Sound l → Works l c → LowestStay l c → (f : ℕ) → f < facesOf l → c f ≡ turns l f
+Only-one = (l : Lists) (c : Choice) → Sound l → Works l c → LowestStay l c → (f : ℕ) → f < facesOf l → c f ≡ facesTurned l f
 
 abbrev pub Needs-nothing : Type 0
-Needs-nothing = (l : Lists) → Fitting l → Sound l → Opposite l → (twisted l ≡ false) × (reversed (turns l) l ≡ l)
+Needs-nothing = (l : Lists) → Fitting l → Sound l → Opposite l → (twisted l ≡ false) × (reversed (facesTurned l) l ≡ l)
 
 abbrev pub Twice : Type 0
 Twice =
     (l : Lists) → Sound l → twisted l ≡ false →
-    (twisted (reversed (turns l) l) ≡ false) × (reversed (turns (reversed (turns l) l)) (reversed (turns l) l) ≡ reversed (turns l) l)
+    (twisted (reversed (facesTurned l) l) ≡ false) × (reversed (facesTurned (reversed (facesTurned l) l)) (reversed (facesTurned l) l) ≡ reversed (facesTurned l) l)
 
 abbrev pub Then-built : Type 0
 Then-built =
     (l : Lists) → Sound l → Paired l → twisted l ≡ false → (c : Sizes) (m : Mesh) →
-    ¬ Holds c (reversed (turns l) l) m EdgeTripleFace × ¬ Holds c (reversed (turns l) l) m SameWay
-    × ¬ Holds c (reversed (turns l) l) m MissingFace
+    ¬ Holds c (reversed (facesTurned l) l) m EdgeTripleFace × ¬ Holds c (reversed (facesTurned l) l) m SameWay
+    × ¬ Holds c (reversed (facesTurned l) l) m MissingFace
 
 abbrev pub Passed : Type 0
 Passed = (c : Sizes) (l : Lists) → (mending c l ≡ Mended) ⊎ (mending c l ≡ Twisted) → Sound l × Paired l
@@ -115,4 +115,4 @@ Passed = (c : Sizes) (l : Lists) → (mending c l ≡ Mended) ⊎ (mending c l �
 abbrev pub Mended-exactly : Type 0
 Mended-exactly =
     (c : Sizes) (l : Lists) → (mending c l ≡ Mended) ⊎ (mending c l ≡ Twisted) →
-    ((mending c l ≡ Twisted) ↔ ((t : Choice) → ¬ Works l t)) × ((mending c l ≡ Mended) ↔ Works l (turns l))
+    ((mending c l ≡ Twisted) ↔ ((t : Choice) → ¬ Works l t)) × ((mending c l ≡ Mended) ↔ Works l (facesTurned l))

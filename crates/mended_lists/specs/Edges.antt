@@ -1,6 +1,6 @@
 -- The places of all faces, in their order: place i of face f is the edge from its point i to its point i + 1, round to the start.
 --     Place                 a place: its face, and the points that it runs from and to
---     placeOf l f i         place i of face f
+--     listedPlace l f i         place i of face f
 --     placesOf l            all places, faces in number order
 --     placeAt ps k          place k of the places ps
 --     sameWay a b           both places run from one point
@@ -25,12 +25,12 @@ pub record Place : Type 0 where
   pub from : ℕ
   pub to : ℕ
 
-abbrev pub placeOf : Lists → ℕ → ℕ → Place
-placeOf l f i = record { face = f; from = pointOf l f i; to = nextOf l f i }
+abbrev pub listedPlace : Lists → ℕ → ℕ → Place
+listedPlace l f i = record { face = f; from = pointOf l f i; to = nextOf l f i }
 
 unfoldable pub placesOf : Lists → List Place
 unfolding inTurn offset
-placesOf l = inTurn (facesOf l) (λ f. size l f) (λ f i. placeOf l f i)
+placesOf l = inTurn (facesOf l) (λ f. size l f) (λ f i. listedPlace l f i)
 
 abbrev pub placeAt : List Place → ℕ → Place
 placeAt ps k = getD ps k (record { face = 0; from = 0; to = 0 })

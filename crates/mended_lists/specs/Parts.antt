@@ -1,12 +1,12 @@
--- Parts of a mesh: faces joined through shared edges, found place by place, and the choice of faces to turn.
+-- Parts of a mesh: faces partsJoined through shared edges, found place by place, and the choice of faces to turn.
 --     Parts                 the part of each face, as far as places were looked at; twisted: they cannot all run opposite ways
 --     differ a b            one of the two holds, and not the other
---     alone f               the part of a face that is joined to none
---     moved high low d p    the part p after the part of `high` was joined to that of `low`, turned by d
---     joined s a b way      faces of the parts a and b have an edge in common, which they run the same way or not
+--     lonePart f               the part of a face that is partsJoined to none
+--     partMoved high low d p    the part p after the part of `high` was partsJoined to that of `low`, turned by d
+--     partsJoined s a b way      faces of the parts a and b have an edge in common, which they run the same way or not
 --     partsTo ps k          the parts after the first k places
 --     partsOf l             the parts of the lists l
---     turns l               the choice: the faces that are turned
+--     facesTurned l               the choice: the faces that are turned
 --     twisted l             no choice works: ground 44
 use mathlib.Core.Bool.{Bool, true, false, not, _||_}
 use mathlib.Core.List.{List}
@@ -26,15 +26,15 @@ abbrev pub differ : Bool → Bool → Bool
 differ true b = not b
 differ false b = b
 
-abbrev pub alone : ℕ → Part
-alone f = record { root = f; odd = false }
+abbrev pub lonePart : ℕ → Part
+lonePart f = record { root = f; odd = false }
 
 abbrev pub movedIf : Bool → ℕ → Bool → Part → Part
 movedIf true low d p = record { root = low; odd = differ (p .odd) d }
 movedIf false low d p = p
 
-abbrev pub moved : ℕ → ℕ → Bool → Part → Part
-moved high low d p = movedIf (eqb (p .root) high) low d p
+abbrev pub partMoved : ℕ → ℕ → Bool → Part → Part
+partMoved high low d p = movedIf (eqb (p .root) high) low d p
 
 -- how the one part is turned against the other
 abbrev pub apart : Part → Part → Bool → Bool
@@ -46,31 +46,31 @@ joinedIf false s a b way =
     let high = max (a .root) (b .root) in
     let low = min (a .root) (b .root) in
     let d = apart a b way in
-    record { part = λ f. moved high low d (s .part f); twisted = s .twisted }
+    record { part = λ f. partMoved high low d (s .part f); twisted = s .twisted }
 
-unfoldable pub joined : Parts → Part → Part → Bool → Parts
+unfoldable pub partsJoined : Parts → Part → Part → Bool → Parts
 unfolding joinedIf
-joined s a b way = joinedIf (eqb (a .root) (b .root)) s a b way
+partsJoined s a b way = joinedIf (eqb (a .root) (b .root)) s a b way
 
 -- place k, whose mate is given
-unfoldable pub metIf : ℕ → List Place → ℕ → Parts → Parts
-unfolding joined
-metIf zero ps k s = s
-metIf (suc j) ps k s =
-    joined s (s .part (placeAt ps j .face)) (s .part (placeAt ps k .face)) (sameWay (placeAt ps j) (placeAt ps k))
+unfoldable pub partsMet : ℕ → List Place → ℕ → Parts → Parts
+unfolding partsJoined
+partsMet zero ps k s = s
+partsMet (suc j) ps k s =
+    partsJoined s (s .part (placeAt ps j .face)) (s .part (placeAt ps k .face)) (sameWay (placeAt ps j) (placeAt ps k))
 
 unfoldable pub partsTo : List Place → ℕ → Parts
-unfolding metIf mate
-partsTo ps zero = record { part = λ f. alone f; twisted = false }
-partsTo ps (suc k) = metIf (mate ps k) ps k (partsTo ps k)
+unfolding partsMet mate
+partsTo ps zero = record { part = λ f. lonePart f; twisted = false }
+partsTo ps (suc k) = partsMet (mate ps k) ps k (partsTo ps k)
 
 unfoldable pub partsOf : Lists → Parts
 unfolding partsTo placesOf
 partsOf l = partsTo (placesOf l) (length (placesOf l))
 
-unfoldable pub turns : Lists → Choice
+unfoldable pub facesTurned : Lists → Choice
 unfolding partsOf
-turns l f = partsOf l .part f .odd
+facesTurned l f = partsOf l .part f .odd
 
 unfoldable pub twisted : Lists → Bool
 unfolding partsOf

@@ -12,7 +12,7 @@ use lib.Ieee.{Float}
 use Rattle.built_meshes.specs.Lists.{Lists}
 use Rattle.built_meshes.specs.declared.Version.the-variants.{Two}
 use Rattle.mended_lists.specs.Reversal.{reversed}
-use Rattle.mended_lists.specs.Parts.{turns, twisted}
+use Rattle.mended_lists.specs.Parts.{facesTurned, twisted}
 
 abbrev pub piece : List ℕ → List ℕ → List ℕ → List Float → Lists
 piece ss fs ls is = record { version = Two; coordinates = []; sides = ss; firsts = fs; listed = ls; intervals = is }
@@ -37,8 +37,8 @@ Square-turned = (a b c d : Float) → reversed (λ f. true) (square a b c d) ≡
 
 abbrev pub Tetrahedron-turned : Type 0
 Tetrahedron-turned =
-    (twisted tetrahedron ≡ false) × (turns tetrahedron 0 ≡ false) × (turns tetrahedron 1 ≡ true) × (turns tetrahedron 2 ≡ false)
-    × (turns tetrahedron 3 ≡ true)
+    (twisted tetrahedron ≡ false) × (facesTurned tetrahedron 0 ≡ false) × (facesTurned tetrahedron 1 ≡ true) × (facesTurned tetrahedron 2 ≡ false)
+    × (facesTurned tetrahedron 3 ≡ true)
 
 abbrev pub Cross-cap-twisted : Type 0
 Cross-cap-twisted = twisted crossCap ≡ true

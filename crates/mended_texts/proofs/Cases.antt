@@ -16,7 +16,7 @@ use Rattle.built_meshes.specs.Lists.{offset, countsFit, listedFit}
 use Rattle.built_meshes.specs.Faces.{listedInRange, noPointTwice, sideSum, firstsFit, sumsFit, faceVerdict}
 use Rattle.mended_lists.specs.InTurn.{upTo, inTurn}
 use Rattle.mended_lists.specs.Edges.{placesOf, latest, mate, third, follower, lone}
-use Rattle.mended_lists.specs.Parts.{joinedIf, joined, metIf, partsTo, partsOf, turns, twisted}
+use Rattle.mended_lists.specs.Parts.{joinedIf, partsJoined, partsMet, partsTo, partsOf, facesTurned, twisted}
 use Rattle.mended_lists.specs.Mending.{edgesMend, faceMends, facesMend, edgesShared, mendingIf, mending}
 use Rattle.mended_texts.specs.Turning.{backwardFrom, turnedOnto, turnedFaces}
 use Rattle.mended_texts.specs.Mending.{mendText}
@@ -50,7 +50,7 @@ small-texts :
     ≡ record { answer = Mended; text = triangles "[mesh 2]\n" opposite } ∷ record { answer = Mended; text = triangles "[mesh 2]\n" opposite }
     ∷ record { answer = NotText; text = triangles "[mesh 1]\n" same } ∷ record { answer = Twisted; text = crossCap } ∷ []
 unfolding mendText mending mendingIf countsFit listedFit facesMend faceMends edgesMend edgesShared faceVerdict listedInRange noPointTwice
-    firstsFit sumsFit sideSum every sumTo offset upTo inTurn placesOf latest mate third follower lone joinedIf joined metIf partsTo partsOf
-    turns twisted backwardFrom turnedOnto turnedFaces decimalDigits hexByte hexBytes digitValue value stands literal digit bits digitsFrom
+    firstsFit sumsFit sideSum every sumTo offset upTo inTurn placesOf latest mate third follower lone joinedIf partsJoined partsMet partsTo partsOf
+    facesTurned twisted backwardFrom turnedOnto turnedFaces decimalDigits hexByte hexBytes digitValue value stands literal digit bits digitsFrom
     decimalFrom decimal many coordinateForm pointForm listedForm sideForm faceForm headForm ends mesh text times flat ofBits neg add sub le lt
 small-texts = refl

@@ -17,10 +17,10 @@ use Rattle.built_meshes.specs.Lists.{generalLimits}
 use Rattle.built_meshes.specs.declared.Version.{Version}
 use Rattle.built_meshes.specs.declared.Version.the-variants.{One, Two}
 use Rattle.text_meshes.specs.TextBuilding.{listsOf}
-use Rattle.mesh_printing.specs.Printing.{headLine, pointLine, faceLine, printed}
+use Rattle.mesh_printing.specs.Printing.{headLine, textPointLine, textFaceLine, printedText}
 use Rattle.mesh_printing.proofs.Theorem.{text-exactly}
 use Rattle.mended_lists.specs.Mending.{mending}
-use Rattle.mended_texts.specs.Mending.{MendOutcome, told, mendText}
+use Rattle.mended_texts.specs.Mending.{MendOutcome, mendingOf, mendText}
 use Rattle.mended_texts.specs.declared.TextMending.the-variants.{NotText}
 
 module _ (s : List ℕ) where
@@ -29,7 +29,7 @@ module _ (s : List ℕ) where
   formless e = rw e
 
   module _ (t : TextMesh) (n : ℕ) (e : text s ≡ parsed t n) where
-    pub of-lists : t .version ≡ Two → mendText s ≡ told (mending generalLimits (listsOf t)) s t
+    pub of-lists : t .version ≡ Two → mendText s ≡ mendingOf (mending generalLimits (listsOf t)) s t
     unfolding mendText
     of-lists two = rw (e, two)
 
@@ -40,9 +40,9 @@ module _ (s : List ℕ) where
     -- the head that a text has
     headed : stands s 0 (headLine (t .version)) ≡ true
     headed =
-        let all : stands s 0 (printed t) ≡ true =
+        let all : stands s 0 (printedText t) ≡ true =
         subst (λ (x : List ℕ). stands s 0 x ≡ true) (text-exactly s t .0 (n, e) .1) (stands-whole s) in
-        stands-parts s (headLine (t .version)) (flat pointLine (t .points) ++ (flat faceLine (t .faces) ++ bytes "[end]\n")) 0 all .0
+        stands-parts s (headLine (t .version)) (flat textPointLine (t .points) ++ (flat textFaceLine (t .faces) ++ bytes "[end]\n")) 0 all .0
 
     -- byte 6 is the number of the version
     pub head-two : stands s 0 (bytes "[mesh 2]\n") ≡ true → t .version ≡ Two

@@ -13,7 +13,7 @@ use Rattle.mesh_lines.specs.Grammar.{Listed, Side, flat}
 use Rattle.mesh_text.specs.Text.{TextMesh}
 use Rattle.mesh_answers.specs.Lines.{decimalBytes, bitsField}
 use Rattle.listings.specs.Printing.{All}
-use Rattle.mesh_printing.specs.Printing.{listedPart, sidePart, headLine, pointLine, faceLine, printed, FitListed, FitSide, FitFace, FitText}
+use Rattle.mesh_printing.specs.Printing.{listedPart, sidePart, headLine, textPointLine, textFaceLine, printedText, FitListed, FitSide, FitTextFace, FitText}
 use Rattle.mended_lists.specs.Reversal.{Choice}
 use Rattle.mended_texts.specs.Turning.{backwardFrom, backward, turnedOnto, turnedIf, turnedFaces, turnedText}
 use Rattle.mended_texts.proofs.Faces.{turned-count}
@@ -65,7 +65,7 @@ onto-bytes (d ∷ ds) es =
     let e1 = length-append (sidePart d) (flat sidePart ds) in
     omega arith
 
-face-bytes : (t : Bool) (ds : List Side) → length (faceLine (turnedIf t ds)) ≡ length (faceLine ds)
+face-bytes : (t : Bool) (ds : List Side) → length (textFaceLine (turnedIf t ds)) ≡ length (textFaceLine ds)
 unfolding flat
 face-bytes false ds = refl
 face-bytes true ds =
@@ -76,19 +76,19 @@ face-bytes true ds =
     let e3 = length-append (flat sidePart ds) (bytes "]\n") in
     omega arith
 
-pub faces-bytes : (c : Choice) (fs : List (List Side)) → length (flat faceLine (turnedFaces c fs)) ≡ length (flat faceLine fs)
+pub faces-bytes : (c : Choice) (fs : List (List Side)) → length (flat textFaceLine (turnedFaces c fs)) ≡ length (flat textFaceLine fs)
 unfolding turnedFaces flat
 faces-bytes c [] = refl
 faces-bytes c (f ∷ fs) =
     let r = faces-bytes (λ k. c (suc k)) fs in
     let b = face-bytes (c 0) f in
-    let e0 = length-append (faceLine (turnedIf (c 0) f)) (flat faceLine (turnedFaces (λ k. c (suc k)) fs)) in
-    let e1 = length-append (faceLine f) (flat faceLine fs) in
+    let e0 = length-append (textFaceLine (turnedIf (c 0) f)) (flat textFaceLine (turnedFaces (λ k. c (suc k)) fs)) in
+    let e1 = length-append (textFaceLine f) (flat textFaceLine fs) in
     omega arith
 
-pub length-turned : (c : Choice) (t : TextMesh) → length (printed (turnedText c t)) ≡ length (printed t)
+pub length-turned : (c : Choice) (t : TextMesh) → length (printedText (turnedText c t)) ≡ length (printedText t)
 length-turned c t =
-    joined (headLine (t .version)) (flat pointLine (t .points)) (flat faceLine (turnedFaces c (t .faces))) (flat faceLine (t .faces))
+    joined (headLine (t .version)) (flat textPointLine (t .points)) (flat textFaceLine (turnedFaces c (t .faces))) (flat textFaceLine (t .faces))
     (faces-bytes c (t .faces))
   where
     joined :
@@ -116,11 +116,11 @@ onto-fit [] es ds-fit es-fit = es-fit
 onto-fit (d ∷ ds) es ((h, hp), ds-fit) es-fit =
     onto-fit ds (backward d ∷ es) ds-fit (backward-fit (d .first) (d .listed) [] h hp tt, es-fit)
 
-face-fit : (t : Bool) (ds : List Side) → FitFace ds → FitFace (turnedIf t ds)
+face-fit : (t : Bool) (ds : List Side) → FitTextFace ds → FitTextFace (turnedIf t ds)
 face-fit false ds h = h
 face-fit true ds (e, h) = (turned-count true ds ∙ e, onto-fit ds [] h tt)
 
-faces-fit : (c : Choice) (fs : List (List Side)) → All FitFace fs → All FitFace (turnedFaces c fs)
+faces-fit : (c : Choice) (fs : List (List Side)) → All FitTextFace fs → All FitTextFace (turnedFaces c fs)
 unfolding turnedFaces
 faces-fit c [] h = tt
 faces-fit c (f ∷ fs) (h, hs) = (face-fit (c 0) f h, faces-fit (λ k. c (suc k)) fs hs)
@@ -131,7 +131,7 @@ fit-turned c t h = record { points-fit = h .points-fit; faces-fit = faces-fit c 
 pub four-of-fit : (t : TextMesh) → FitText t → Four t
 four-of-fit t h = go (t .faces) (h .faces-fit)
   where
-    go : (fs : List (List Side)) → All FitFace fs → (f : ℕ) → f < length fs → length (getD fs f []) ≡ 4
+    go : (fs : List (List Side)) → All FitTextFace fs → (f : ℕ) → f < length fs → length (getD fs f []) ≡ 4
     go [] h f b = absurd (omega arith)
     go (x ∷ fs) (h, hs) zero b = h .0
     go (x ∷ fs) (h, hs) (suc f) b = go fs hs f (omega arith)

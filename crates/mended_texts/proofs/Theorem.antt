@@ -28,10 +28,10 @@ use Rattle.building_tests.specs.declared.Bounds.{Bounds}
 use Rattle.text_meshes.specs.TextBuilding.{tooLong, listsOf, TextOutcome, buildTextIf, buildText}
 use Rattle.text_meshes.specs.declared.TextBuilt.the-variants as Built
 use Rattle.text_meshes.proofs.Theorem.{few-faces, told-refused, of-lists as built-of-lists}
-use Rattle.mesh_printing.specs.Printing.{printed, FitText}
+use Rattle.mesh_printing.specs.Printing.{printedText, FitText}
 use Rattle.mesh_printing.proofs.Theorem.{text-exactly}
 use Rattle.mended_lists.specs.Reversal.{Choice, reversed}
-use Rattle.mended_lists.specs.Parts.{turns, twisted}
+use Rattle.mended_lists.specs.Parts.{facesTurned, twisted}
 use Rattle.mended_lists.specs.Mending.{mending}
 use Rattle.mended_lists.specs.declared.Mending.{Mending}
 use Rattle.mended_lists.specs.declared.Mending.the-variants as Lists
@@ -43,7 +43,7 @@ use Rattle.mended_lists.proofs.Passed.{passed, mended-parts, mended-exactly}
 use Rattle.mended_lists.proofs.Grounds.{first-ground, none-answer, answer-none, twisted-last, else-mended}
 use Rattle.mended_lists.proofs.Turned.{turned-meets-none}
 use Rattle.mended_texts.specs.Turning.{turnedFaces, turnedText}
-use Rattle.mended_texts.specs.Mending.{MendOutcome, told, mendForm, mendText}
+use Rattle.mended_texts.specs.Mending.{MendOutcome, mendingOf, mendForm, mendText}
 use Rattle.mended_texts.specs.declared.TextMending.{TextMending}
 use Rattle.mended_texts.specs.declared.TextMending.the-variants.{Mended, NotText, Refused, Twisted}
 use Rattle.mended_texts.specs.Claims.{Says, SaysTwo, TurnedRight, MendedText, Same-bytes, Refusals-leave, Not-text-exactly}
@@ -62,18 +62,18 @@ once s t u (n, e) (k, h) = same n k (sym e ∙ h)
     same n k e = cc
 
 -- the printing of what it says
-whole : (s : List ℕ) (t : TextMesh) → Says s t → FitText t × (s ≡ printed t)
+whole : (s : List ℕ) (t : TextMesh) → Says s t → FitText t × (s ≡ printedText t)
 whole s t says = text-exactly s t .0 says
 
-printed-says : (t : TextMesh) → FitText t → Says (printed t) t
-printed-says t fit = text-exactly (printed t) t .1 (fit, refl)
+printed-says : (t : TextMesh) → FitText t → Says (printedText t) t
+printed-says t fit = text-exactly (printedText t) t .1 (fit, refl)
 
 -- ---- what the mending comes to
 
 data Came (s : List ℕ) : MendOutcome → Type 0 where
   no-form : text s ≡ unparsed → Came s (record { answer = NotText; text = s })
   of-one : (t : TextMesh) → Says s t → t .version ≡ One → Came s (record { answer = NotText; text = s })
-  of-two : (t : TextMesh) → SaysTwo s t → Came s (told (mending generalLimits (listsOf t)) s t)
+  of-two : (t : TextMesh) → SaysTwo s t → Came s (mendingOf (mending generalLimits (listsOf t)) s t)
 
 came : (s : List ℕ) → Came s (mendText s)
 came s = go (text s) refl
@@ -87,37 +87,37 @@ came s = go (text s) refl
     go unparsed e = subst (Came s) (sym (formless s e)) (no-form e)
 
 -- the answer to a text of version 2 is that to its lists
-by-lists : (s : List ℕ) (t : TextMesh) → SaysTwo s t → mendText s ≡ told (mending generalLimits (listsOf t)) s t
+by-lists : (s : List ℕ) (t : TextMesh) → SaysTwo s t → mendText s ≡ mendingOf (mending generalLimits (listsOf t)) s t
 by-lists s t ((n, e), two) = of-lists s t n e two
 
 module _ (s : List ℕ) (t : TextMesh) where
-  told-mended : (r : Mending) → told r s t .answer ≡ Mended → r ≡ Lists.Mended
+  told-mended : (r : Mending) → mendingOf r s t .answer ≡ Mended → r ≡ Lists.Mended
   told-mended Lists.Mended e = refl
   told-mended (Lists.Refused g) e = let z : _≡_ {A = ℕ} 0 1 = cc in absurd (omega arith)
   told-mended Lists.Twisted e = let z : _≡_ {A = ℕ} 0 1 = cc in absurd (omega arith)
 
-  told-refused-by : (r : Mending) (g : Ground) → told r s t .answer ≡ Refused g → r ≡ Lists.Refused g
+  told-refused-by : (r : Mending) (g : Ground) → mendingOf r s t .answer ≡ Refused g → r ≡ Lists.Refused g
   told-refused-by Lists.Mended g e = let z : _≡_ {A = ℕ} 0 1 = cc in absurd (omega arith)
   told-refused-by (Lists.Refused h) g e = let z : h ≡ g = cc in ap Lists.Refused z
   told-refused-by Lists.Twisted g e = let z : _≡_ {A = ℕ} 0 1 = cc in absurd (omega arith)
 
-  told-twisted : (r : Mending) → told r s t .answer ≡ Twisted → r ≡ Lists.Twisted
+  told-twisted : (r : Mending) → mendingOf r s t .answer ≡ Twisted → r ≡ Lists.Twisted
   told-twisted Lists.Mended e = let z : _≡_ {A = ℕ} 0 1 = cc in absurd (omega arith)
   told-twisted (Lists.Refused g) e = let z : _≡_ {A = ℕ} 0 1 = cc in absurd (omega arith)
   told-twisted Lists.Twisted e = refl
 
-  told-text : (r : Mending) → told r s t .answer ≡ NotText → ⊥
+  told-text : (r : Mending) → mendingOf r s t .answer ≡ NotText → ⊥
   told-text Lists.Mended e = let z : _≡_ {A = ℕ} 0 1 = cc in omega arith
   told-text (Lists.Refused g) e = let z : _≡_ {A = ℕ} 0 1 = cc in omega arith
   told-text Lists.Twisted e = let z : _≡_ {A = ℕ} 0 1 = cc in omega arith
 
-  told-left : (r : Mending) → told r s t .answer ≢ Mended → told r s t .text ≡ s
+  told-left : (r : Mending) → mendingOf r s t .answer ≢ Mended → mendingOf r s t .text ≡ s
   told-left Lists.Mended d = absurd (d refl)
   told-left (Lists.Refused g) d = refl
   told-left Lists.Twisted d = refl
 
-  told-length : s ≡ printed t → (r : Mending) → length (told r s t .text) ≡ length s
-  told-length e Lists.Mended = length-turned (turns (listsOf t)) t ∙ ap length (sym e)
+  told-length : s ≡ printedText t → (r : Mending) → length (mendingOf r s t .text) ≡ length s
+  told-length e Lists.Mended = length-turned (facesTurned (listsOf t)) t ∙ ap length (sym e)
   told-length e (Lists.Refused g) = refl
   told-length e Lists.Twisted = refl
 
@@ -191,7 +191,7 @@ grounds-in-order s g = (to, from)
     from : (t : TextMesh) × SaysTwo s t × ((w : Where) × MeetsFirst generalLimits (listsOf t) w g) → mendText s .answer ≡ Refused g
     from (t, says, first) =
         ap answerOf (by-lists s t says)
-        ∙ ap (λ (r : Mending). told r s t .answer) (first-ground generalLimits (listsOf t) g .1 first)
+        ∙ ap (λ (r : Mending). mendingOf r s t .answer) (first-ground generalLimits (listsOf t) g .1 first)
 
 -- the lists of the text with the faces of a choice turned, where no ground is met
 turned-lists :
@@ -228,7 +228,7 @@ twisted-text s = (to, from)
         (t : TextMesh) × SaysTwo s t × MeetsNone generalLimits (listsOf t) × ((c : Choice) → ¬ TurnedRight t c) → mendText s .answer ≡ Twisted
     from (t, says, none, not) =
         ap answerOf (by-lists s t says)
-        ∙ ap (λ (r : Mending). told r s t .answer)
+        ∙ ap (λ (r : Mending). mendingOf r s t .answer)
         (twisted-last generalLimits (listsOf t) .1 (none, λ c works. not c (works-right s t says none c works)))
 
 pub mended-text : Mended-text
@@ -245,7 +245,7 @@ mended-text s = (to, from)
         (t : TextMesh) × SaysTwo s t × MeetsNone generalLimits (listsOf t) × ((c : Choice) × TurnedRight t c) → mendText s .answer ≡ Mended
     from (t, says, none, (c, right)) =
         ap answerOf (by-lists s t says)
-        ∙ ap (λ (r : Mending). told r s t .answer)
+        ∙ ap (λ (r : Mending). mendingOf r s t .answer)
         (else-mended generalLimits (listsOf t) .1 (none, (c, right-works s t says none c right)))
 
 -- ---- a mended text
@@ -258,25 +258,25 @@ module _ (s : List ℕ) (t : TextMesh) (says : SaysTwo s t) (e : mending general
   none-met = answer-none generalLimits (listsOf t) past
 
   -- the text that is left
-  left : mendText s ≡ record { answer = Mended; text = printed (turnedText (turns (listsOf t)) t) }
-  left = by-lists s t says ∙ ap (λ (r : Mending). told r s t) e
+  left : mendText s ≡ record { answer = Mended; text = printedText (turnedText (facesTurned (listsOf t)) t) }
+  left = by-lists s t says ∙ ap (λ (r : Mending). mendingOf r s t) e
 
-  fit : FitText (turnedText (turns (listsOf t)) t)
-  fit = fit-turned (turns (listsOf t)) t (whole s t (says .0) .0)
+  fit : FitText (turnedText (facesTurned (listsOf t)) t)
+  fit = fit-turned (facesTurned (listsOf t)) t (whole s t (says .0) .0)
 
-  left-says : SaysTwo (printed (turnedText (turns (listsOf t)) t)) (turnedText (turns (listsOf t)) t)
-  left-says = (printed-says (turnedText (turns (listsOf t)) t) fit, says .1)
+  left-says : SaysTwo (printedText (turnedText (facesTurned (listsOf t)) t)) (turnedText (facesTurned (listsOf t)) t)
+  left-says = (printed-says (turnedText (facesTurned (listsOf t)) t) fit, says .1)
 
-  left-opposite : TurnedRight t (turns (listsOf t))
+  left-opposite : TurnedRight t (facesTurned (listsOf t))
   left-opposite =
-      works-right s t says none-met (turns (listsOf t)) (mended-exactly generalLimits (listsOf t) past .1 .0 e)
+      works-right s t says none-met (facesTurned (listsOf t)) (mended-exactly generalLimits (listsOf t) past .1 .0 e)
 
-  mended : MendedText s t (turns (listsOf t))
+  mended : MendedText s t (facesTurned (listsOf t))
   mended =
       record {
         says =
-            subst (λ (o : MendOutcome). SaysTwo (o .text) (turnedText (turns (listsOf t)) t)) (sym left) left-says;
-        lists = turned-lists s t says none-met (turns (listsOf t));
+            subst (λ (o : MendOutcome). SaysTwo (o .text) (turnedText (facesTurned (listsOf t)) t)) (sym left) left-says;
+        lists = turned-lists s t says none-met (facesTurned (listsOf t));
         opposite = left-opposite;
         lowest-stay = lowest-stay (listsOf t);
         only-one =
@@ -286,15 +286,15 @@ module _ (s : List ℕ) (t : TextMesh) (says : SaysTwo s t) (e : mending general
       }
 
   -- its lists meet no ground
-  left-none : MeetsNone generalLimits (listsOf (turnedText (turns (listsOf t)) t))
+  left-none : MeetsNone generalLimits (listsOf (turnedText (facesTurned (listsOf t)) t))
   left-none =
-      subst (MeetsNone generalLimits) (sym (turned-lists s t says none-met (turns (listsOf t))))
-      (turned-meets-none generalLimits (listsOf t) (turns (listsOf t)) none-met)
+      subst (MeetsNone generalLimits) (sym (turned-lists s t says none-met (facesTurned (listsOf t))))
+      (turned-meets-none generalLimits (listsOf t) (facesTurned (listsOf t)) none-met)
 
 pub reversal-read : Reversal-read
 reversal-read s t says a =
     let (u, two, e) = mended-two s a in
-    subst (λ (t : TextMesh). (c : Choice) × MendedText s t c) (once s u t (two .0) says) (turns (listsOf u), mended s u two e)
+    subst (λ (t : TextMesh). (c : Choice) × MendedText s t c) (once s u t (two .0) says) (facesTurned (listsOf u), mended s u two e)
 
 -- ---- a text that needs nothing
 
@@ -303,7 +303,7 @@ unfolding turnedFaces
 none-turned [] = refl
 none-turned (f ∷ fs) = ap (λ (x : List (List Side)). f ∷ x) (none-turned fs)
 
-needs-none : (l : Lists) → Fitting l → Sound l → Opposite l → (f : ℕ) → f < facesOf l → turns l f ≡ false
+needs-none : (l : Lists) → Fitting l → Sound l → Opposite l → (f : ℕ) → f < facesOf l → facesTurned l f ≡ false
 needs-none l fit sound opposite f b =
     sym
     (only-one l (λ f. false) sound (rw (reversed-none (λ f. false) l fit (λ f a. refl)) opposite) (λ f a lowest. refl) f b)
@@ -319,17 +319,17 @@ module _ (s : List ℕ) (t : TextMesh) (says : SaysTwo s t) (none : MeetsNone ge
         (λ f. false, rw (reversed-none (λ f. false) (listsOf t) (text-fitting t fit-text) (λ f a. refl)) opposite),
       )
 
-  same-faces : turnedFaces (turns (listsOf t)) (t .faces) ≡ t .faces
+  same-faces : turnedFaces (facesTurned (listsOf t)) (t .faces) ≡ t .faces
   same-faces =
-      same-turned (turns (listsOf t)) (λ f. false) (t .faces)
+      same-turned (facesTurned (listsOf t)) (λ f. false) (t .faces)
       (λ f b.
       needs-none (listsOf t) (text-fitting t fit-text) (passed generalLimits (listsOf t) (inl answer) .0) opposite f
       (rw (faces-count t (four-of-fit t fit-text)) b))
       ∙ none-turned (t .faces)
 
-  same-text : printed (turnedText (turns (listsOf t)) t) ≡ s
+  same-text : printedText (turnedText (facesTurned (listsOf t)) t) ≡ s
   same-text =
-      ap (λ (fs : List (List Side)). printed (record { version = t .version; points = t .points; faces = fs })) same-faces
+      ap (λ (fs : List (List Side)). printedText (record { version = t .version; points = t .points; faces = fs })) same-faces
       ∙ sym (whole s t (says .0) .1)
 
   stays : mendText s ≡ record { answer = Mended; text = s }
@@ -347,14 +347,14 @@ twice s = go (mendText s) (came s) refl
 
     by : (t : TextMesh) → SaysTwo s t → (r : Mending) → mending generalLimits (listsOf t) ≡ r → mendText (mendText s .text) ≡ mendText s
     by t says Lists.Mended e =
-        again (record { answer = Mended; text = printed (turnedText (turns (listsOf t)) t) }) (left s t says e)
-        (stays (printed (turnedText (turns (listsOf t)) t)) (turnedText (turns (listsOf t)) t) (left-says s t says e) (left-none s t says e)
+        again (record { answer = Mended; text = printedText (turnedText (facesTurned (listsOf t)) t) }) (left s t says e)
+        (stays (printedText (turnedText (facesTurned (listsOf t)) t)) (turnedText (facesTurned (listsOf t)) t) (left-says s t says e) (left-none s t says e)
         (left-opposite s t says e))
     by t says (Lists.Refused g) e =
-        let h : mendText s ≡ record { answer = Refused g; text = s } = by-lists s t says ∙ ap (λ (r : Mending). told r s t) e in
+        let h : mendText s ≡ record { answer = Refused g; text = s } = by-lists s t says ∙ ap (λ (r : Mending). mendingOf r s t) e in
         again (record { answer = Refused g; text = s }) h h
     by t says Lists.Twisted e =
-        let h : mendText s ≡ record { answer = Twisted; text = s } = by-lists s t says ∙ ap (λ (r : Mending). told r s t) e in
+        let h : mendText s ≡ record { answer = Twisted; text = s } = by-lists s t says ∙ ap (λ (r : Mending). mendingOf r s t) e in
         again (record { answer = Twisted; text = s }) h h
 
     go : (o : MendOutcome) → Came s o → mendText s ≡ o → mendText (mendText s .text) ≡ mendText s
@@ -389,12 +389,12 @@ module _ (s : List ℕ) (t : TextMesh) (says : SaysTwo s t) (e : mending general
       which false h = refl
 
   not-refused :
-      (g : Ground) → g ≢ OverCounts → ¬ Holds (limitsOf b) (reversed (turns (listsOf t)) (listsOf t)) m g →
+      (g : Ground) → g ≢ OverCounts → ¬ Holds (limitsOf b) (reversed (facesTurned (listsOf t)) (listsOf t)) m g →
       buildText b (mendText s .text) m .answer ≢ Built.Refused g
   not-refused g other not h =
-      go (refused-holds b (mendText s .text) m (turnedText (turns (listsOf t)) t) (mended s t says e .says .0) g h)
+      go (refused-holds b (mendText s .text) m (turnedText (facesTurned (listsOf t)) t) (mended s t says e .says .0) g h)
     where
-      go : (g ≡ OverCounts) ⊎ Holds (limitsOf b) (listsOf (turnedText (turns (listsOf t)) t)) m g → ⊥
+      go : (g ≡ OverCounts) ⊎ Holds (limitsOf b) (listsOf (turnedText (facesTurned (listsOf t)) t)) m g → ⊥
       go (inl z) = other z
       go (inr holds) = not (subst (λ (l : Lists). Holds (limitsOf b) l m g) (mended s t says e .lists) holds)
 

@@ -17,7 +17,7 @@ use Rattle.building_tests.specs.Lent.{lists}
 use Rattle.mended_lists.specs.Edges.{placesOf, latest, mate, follower, lone}
 use Rattle.mended_lists.specs.Mending.{edgesShared}
 use Rattle.mended_lists.proofs.Edges.{places-length}
-use Rattle.shared_edges.specs.Chains.{lowAt, mateAt, secondAt, Chained, Entered}
+use Rattle.shared_edges.specs.Chains.{lowAt, mateAt, secondAt, PlacesChained, PlacesEntered}
 use Rattle.shared_edges.proofs.Laws.{latest-same}
 use Rattle.face_places.proofs.Laws.{same-offset}
 use Rattle.face_mending.specs.Shown.{FacesRoom, TosShown}
@@ -36,7 +36,7 @@ not-shared v s e h = rw (e, h)
 -- ---- lists of zeros hold no place
 
 pub nothing-entered :
-    (ls ts mates : List ℕ) (nh nl ns : ℕ) → Entered ls ts (replicate nh 0) (replicate nl 0) mates (replicate ns 0) 0
+    (ls ts mates : List ℕ) (nh nl ns : ℕ) → PlacesEntered ls ts (replicate nh 0) (replicate nl 0) mates (replicate ns 0) 0
 nothing-entered ls ts mates nh nl ns =
     record {
       chained =
@@ -72,7 +72,7 @@ faces-room ss fs ls is ts mates np r =
 
 module _ (ss ls ts heads links mates seconds : List ℕ) (shown : TosShown ss ls ts)
     (all : offset (lists [] ss [] []) (length ss / 4) ≡ length ls) (like : length mates ≡ length ls)
-    (room : length mates ≤ length seconds) (e : Entered ls ts heads links mates seconds (length ls)) where
+    (room : length mates ≤ length seconds) (e : PlacesEntered ls ts heads links mates seconds (length ls)) where
   pub mates-are : (k : ℕ) → k < length mates → getD mates k 0 ≡ mate (placesOf (lists [] ss ls [])) k
   mates-are k b = e .mate-is k (omega arith) ∙ mate-shown ss ls ts shown all k (omega arith)
 

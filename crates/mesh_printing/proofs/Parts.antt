@@ -20,7 +20,7 @@ use Rattle.listings.specs.Printing.{All}
 use Rattle.listings.proofs.Exact.{Exact, Prints, Leads, NoDigit, prints-same, stands-both, stands-parts, stands-at, first-stands, literal-stands}
 use Rattle.listings.proofs.Exact.{leads-flat, leads-coordinate, exact-coordinate, exact-times, sound-many, complete-many}
 use Rattle.listings.proofs.Whole.{flat-longer}
-use Rattle.mesh_printing.specs.Printing.{listedPart, sidePart, FitListed, FitSide, FitPoint, FitFace}
+use Rattle.mesh_printing.specs.Printing.{listedPart, sidePart, FitListed, FitSide, FitTextPoint, FitTextFace}
 
 -- after ` [`
 abbrev listedFields : Listed → List ℕ
@@ -180,10 +180,10 @@ module _ (s : List ℕ) where
             let en : at + length (flat pr l) + 2 ≡ at + length (flat pr l ++ bytes "]\n") = omega arith in
             rw (el, literal-found s (bytes "]\n") (at + length (flat pr l)) se) (ap (parsed l) en)
 
-  pub exact-point : Exact s (pointForm s) pointFields FitPoint
+  pub exact-point : Exact s (pointForm s) pointFields FitTextPoint
   unfolding pointForm
   exact-point = exact-line (coordinateForm s) bitsField (λ v. v < 18446744073709551616) (exact-coordinate s) (leads-coordinate s) 3
 
-  pub exact-face : Exact s (faceForm s) faceFields FitFace
+  pub exact-face : Exact s (faceForm s) faceFields FitTextFace
   unfolding faceForm
   exact-face = exact-line (sideForm s) sidePart FitSide exact-side leads-side 4

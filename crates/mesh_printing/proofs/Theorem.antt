@@ -15,7 +15,7 @@ use Rattle.built_meshes.specs.declared.Version.the-variants.{One, Two}
 use Rattle.mesh_text.specs.Text.{TextMesh, headForm, ends, mesh, text}
 use Rattle.listings.proofs.Exact.{NoDigit, first-stands, stands-both, stands-parts, stands-at, literal-stands, sound-many, complete-many}
 use Rattle.listings.proofs.Whole.{whole-of-stands, stands-whole, flat-longer, head, bracket-leads, line-leads, end-of-ends, ends-of-end}
-use Rattle.mesh_printing.specs.Printing.{FitPoint, FitFace, FitText, headLine, pointLine, faceLine, printed}
+use Rattle.mesh_printing.specs.Printing.{FitTextPoint, FitTextFace, FitText, headLine, textPointLine, textFaceLine, printedText}
 use Rattle.mesh_printing.specs.Claims.{Printing, Text-exactly, Not-text-exactly}
 use Rattle.mesh_printing.proofs.Parts.{pointFields, faceFields, exact-point, exact-face}
 
@@ -25,13 +25,13 @@ module _ (s : List ℕ) where
   unfolding stands
   after-faces n e = let (e0, e1, e2) = head s n 91 101 110 (100 ∷ 93 ∷ 10 ∷ []) e in (bracket-leads s n e0, rw (e0, e1))
 
-  after-points : (n : ℕ) (fs : List (List Side)) → stands s n (flat faceLine fs ++ bytes "[end]\n") ≡ true
+  after-points : (n : ℕ) (fs : List (List Side)) → stands s n (flat textFaceLine fs ++ bytes "[end]\n") ≡ true
       → NoDigit s n × (stands s n (bytes "[point") ≡ false)
   unfolding flat stands
   after-points n [] e = let (e0, e1, e2) = head s n 91 101 110 (100 ∷ 93 ∷ 10 ∷ []) e in (bracket-leads s n e0, rw (e0, e1))
   after-points n (f ∷ fs) e =
       let (h, r) = stands-parts s (bytes "[face") (faceFields f) n
-      (stands-parts s (faceLine f) (flat faceLine fs) n (stands-parts s (flat faceLine (f ∷ fs)) (bytes "[end]\n") n e .0) .0) in
+      (stands-parts s (textFaceLine f) (flat textFaceLine fs) n (stands-parts s (flat textFaceLine (f ∷ fs)) (bytes "[end]\n") n e .0) .0) in
       let (e0, e1, e2) = head s n 91 102 97 (99 ∷ 101 ∷ []) h in
       (bracket-leads s n e0, rw (e0, e1))
 
@@ -50,7 +50,7 @@ module _ (s : List ℕ) where
   not-1 h true e = let a = number-1 e in let b = number-2 h in absurd (omega arith)
   not-1 h false e = refl
 
-  -- the head is found exactly where it is printed
+  -- the head is found exactly where it is printedText
   head-printed : (v : Version) (m : ℕ) → headForm s 0 ≡ parsed v m → (stands s 0 (headLine v) ≡ true) × (m ≡ 9)
   unfolding headForm
   head-printed v m e = go (stands s 0 (bytes "[mesh 1]\n")) refl e
@@ -79,21 +79,21 @@ module _ (s : List ℕ) where
 
   -- the parts of a text, one after the other
   parts-print : (v : Version) (ps : List (List ℕ)) (fs : List (List Side)) (i k : ℕ) → stands s 0 (headLine v) ≡ true
-      → (stands s 9 (flat pointLine ps) ≡ true) × (i ≡ 9 + length (flat pointLine ps))
-      → (stands s i (flat faceLine fs) ≡ true) × (k ≡ i + length (flat faceLine fs))
+      → (stands s 9 (flat textPointLine ps) ≡ true) × (i ≡ 9 + length (flat textPointLine ps))
+      → (stands s i (flat textFaceLine fs) ≡ true) × (k ≡ i + length (flat textFaceLine fs))
       → (stands s k (bytes "[end]\n") ≡ true) × (k + 6 ≡ length s)
-      → s ≡ printed (record { version = v; points = ps; faces = fs })
+      → s ≡ printedText (record { version = v; points = ps; faces = fs })
   parts-print v ps fs i k h (sp, ei) (sf, ek) (sn, en) =
       let hl = head-long v in
-      let lf = length-append (flat faceLine fs) (bytes "[end]\n") in
-      let lp = length-append (flat pointLine ps) (flat faceLine fs ++ bytes "[end]\n") in
-      let f = stands-both s (flat faceLine fs) (bytes "[end]\n") i sf (stands-at s (bytes "[end]\n") ek sn) in
-      let p = stands-both s (flat pointLine ps) (flat faceLine fs ++ bytes "[end]\n") 9 sp (stands-at s (flat faceLine fs ++ bytes "[end]\n") ei f) in
-      let lh = length-append (headLine v) (flat pointLine ps ++ (flat faceLine fs ++ bytes "[end]\n")) in
+      let lf = length-append (flat textFaceLine fs) (bytes "[end]\n") in
+      let lp = length-append (flat textPointLine ps) (flat textFaceLine fs ++ bytes "[end]\n") in
+      let f = stands-both s (flat textFaceLine fs) (bytes "[end]\n") i sf (stands-at s (bytes "[end]\n") ek sn) in
+      let p = stands-both s (flat textPointLine ps) (flat textFaceLine fs ++ bytes "[end]\n") 9 sp (stands-at s (flat textFaceLine fs ++ bytes "[end]\n") ei f) in
+      let lh = length-append (headLine v) (flat textPointLine ps ++ (flat textFaceLine fs ++ bytes "[end]\n")) in
       let e0 : 9 ≡ 0 + length (headLine v) = omega (arith, hl) in
-      whole-of-stands s (printed (record { version = v; points = ps; faces = fs }))
-      (stands-both s (headLine v) (flat pointLine ps ++ (flat faceLine fs ++ bytes "[end]\n")) 0 h
-      (stands-at s (flat pointLine ps ++ (flat faceLine fs ++ bytes "[end]\n")) e0 p)) (omega arith)
+      whole-of-stands s (printedText (record { version = v; points = ps; faces = fs }))
+      (stands-both s (headLine v) (flat textPointLine ps ++ (flat textFaceLine fs ++ bytes "[end]\n")) 0 h
+      (stands-at s (flat textPointLine ps ++ (flat textFaceLine fs ++ bytes "[end]\n")) e0 p)) (omega arith)
 
   -- what is read is the printing of it
   printed-of-text : (t : TextMesh) (n : ℕ) → text s ≡ parsed t n → Printing s t
@@ -104,13 +104,13 @@ module _ (s : List ℕ) where
       let (ps, i, ep, e2) = onward-found _ (many s (bytes "[point") (pointForm s) (length s) m) e1 in
       let (fs, k, ef, e3) = onward-found _ (many s (bytes "[face") (faceForm s) (length s) i) e2 in
       let (en, et) = ended v ps fs k (ends s k) refl e3 in
-      let (fp, sp, ip) = sound-many s (bytes "[point") (pointForm s) pointFields FitPoint (exact-point s) (length s) m ps i ep in
-      let (ff, sf, kf) = sound-many s (bytes "[face") (faceForm s) faceFields FitFace (exact-face s) (length s) i fs k ef in
-      let all : s ≡ printed (record { version = v; points = ps; faces = fs }) =
-      parts-print v ps fs i k st (stands-at s (flat pointLine ps) em sp, moved m i ps em ip) (sf, kf) (end-of-ends s k en) in
+      let (fp, sp, ip) = sound-many s (bytes "[point") (pointForm s) pointFields FitTextPoint (exact-point s) (length s) m ps i ep in
+      let (ff, sf, kf) = sound-many s (bytes "[face") (faceForm s) faceFields FitTextFace (exact-face s) (length s) i fs k ef in
+      let all : s ≡ printedText (record { version = v; points = ps; faces = fs }) =
+      parts-print v ps fs i k st (stands-at s (flat textPointLine ps) em sp, moved m i ps em ip) (sf, kf) (end-of-ends s k en) in
       same (record { version = v; points = ps; faces = fs }) et (record { points-fit = fp; faces-fit = ff }) all
     where
-      moved : (m i : ℕ) (ps : List (List ℕ)) → m ≡ 9 → i ≡ m + length (flat pointLine ps) → i ≡ 9 + length (flat pointLine ps)
+      moved : (m i : ℕ) (ps : List (List ℕ)) → m ≡ 9 → i ≡ m + length (flat textPointLine ps) → i ≡ 9 + length (flat textPointLine ps)
       moved m i ps em ip = omega arith
 
       ended : (v : Version) (ps : List (List ℕ)) (fs : List (List Side)) (k : ℕ) (b : Bool) → ends s k ≡ b
@@ -119,7 +119,7 @@ module _ (s : List ℕ) where
       ended v ps fs k true eb g = (eb, cc)
       ended v ps fs k false eb g = let z : _≡_ {A = ℕ} 0 1 = cc in absurd (omega arith)
 
-      same : (r : TextMesh) → r ≡ t → FitText r → s ≡ printed r → Printing s t
+      same : (r : TextMesh) → r ≡ t → FitText r → s ≡ printedText r → Printing s t
       same r er f e = (rw er at f, rw er at e)
 
   text-of-printed : (t : TextMesh) → Printing s t → (n : ℕ) × (text s ≡ parsed t n)
@@ -128,26 +128,26 @@ module _ (s : List ℕ) where
       let v = t .version in
       let ps = t .points in
       let fs = t .faces in
-      let tail = flat faceLine fs ++ bytes "[end]\n" in
-      let all : stands s 0 (printed t) ≡ true = subst (λ (v : List ℕ). stands s 0 v ≡ true) es (stands-whole s) in
-      let len : length s ≡ length (printed t) = ap length es in
-      let (h, r) = stands-parts s (headLine v) (flat pointLine ps ++ tail) 0 all in
+      let tail = flat textFaceLine fs ++ bytes "[end]\n" in
+      let all : stands s 0 (printedText t) ≡ true = subst (λ (v : List ℕ). stands s 0 v ≡ true) es (stands-whole s) in
+      let len : length s ≡ length (printedText t) = ap length es in
+      let (h, r) = stands-parts s (headLine v) (flat textPointLine ps ++ tail) 0 all in
       let hl = head-long v in
-      let lh = length-append (headLine v) (flat pointLine ps ++ tail) in
+      let lh = length-append (headLine v) (flat textPointLine ps ++ tail) in
       let e0 : 0 + length (headLine v) ≡ 9 = omega (arith, hl) in
-      let (sp, r1) = stands-parts s (flat pointLine ps) tail 9 (stands-at s (flat pointLine ps ++ tail) e0 r) in
-      let i = 9 + length (flat pointLine ps) in
-      let (sf, sn) = stands-parts s (flat faceLine fs) (bytes "[end]\n") i r1 in
-      let k = i + length (flat faceLine fs) in
-      let lf = length-append (flat faceLine fs) (bytes "[end]\n") in
-      let lp = length-append (flat pointLine ps) tail in
+      let (sp, r1) = stands-parts s (flat textPointLine ps) tail 9 (stands-at s (flat textPointLine ps ++ tail) e0 r) in
+      let i = 9 + length (flat textPointLine ps) in
+      let (sf, sn) = stands-parts s (flat textFaceLine fs) (bytes "[end]\n") i r1 in
+      let k = i + length (flat textFaceLine fs) in
+      let lf = length-append (flat textFaceLine fs) (bytes "[end]\n") in
+      let lp = length-append (flat textPointLine ps) tail in
       let bp = flat-longer 91 (112 ∷ 111 ∷ 105 ∷ 110 ∷ 116 ∷ []) pointFields ps in
       let bf = flat-longer 91 (102 ∷ 97 ∷ 99 ∷ 101 ∷ []) faceFields fs in
       let (np, hp) = after-points i fs r1 in
       let (nf, hf) = after-faces k sn in
-      let cp = complete-many s (bytes "[point") (pointForm s) pointFields FitPoint (exact-point s) (length s) 9 ps
+      let cp = complete-many s (bytes "[point") (pointForm s) pointFields FitTextPoint (exact-point s) (length s) 9 ps
       (omega arith) (f .points-fit) sp (line-leads s 112 (111 ∷ 105 ∷ 110 ∷ 116 ∷ []) pointFields) np hp in
-      let cf = complete-many s (bytes "[face") (faceForm s) faceFields FitFace (exact-face s) (length s) i fs (omega arith)
+      let cf = complete-many s (bytes "[face") (faceForm s) faceFields FitTextFace (exact-face s) (length s) i fs (omega arith)
       (f .faces-fit) sf (line-leads s 102 (97 ∷ 99 ∷ 101 ∷ []) faceFields) nf hf in
       let k6 : k + 6 ≡ length s = omega arith in
       (k, rw (head-found v h, cp, cf, ends-of-end s k sn k6))

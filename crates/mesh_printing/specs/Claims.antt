@@ -8,10 +8,10 @@ use mathlib.Core.Logic.{_↔_}
 use Prim.Native.Nat.{ℕ}
 use Rattle.text_numbers.specs.Form.{parsed, unparsed}
 use Rattle.mesh_text.specs.Text.{TextMesh, text}
-use Rattle.mesh_printing.specs.Printing.{FitText, printed}
+use Rattle.mesh_printing.specs.Printing.{FitText, printedText}
 
 abbrev pub Printing : List ℕ → TextMesh → Type 0
-Printing s l = FitText l × (s ≡ printed l)
+Printing s l = FitText l × (s ≡ printedText l)
 
 abbrev pub Text-exactly : Type 0
 Text-exactly = (s : List ℕ) (l : TextMesh) → ((n : ℕ) × (text s ≡ parsed l n)) ↔ Printing s l

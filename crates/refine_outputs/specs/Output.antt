@@ -1,7 +1,7 @@
 -- What the program `refine` writes for the bytes of a text (document 01, "Mesh text").
 --     zeroTables              the tables that it lends, and its scratch: zeros, with rows for 256 points, 512 edges and 256 faces
 --     outputBytes             how many bytes are lent for an output
---     pointLine ps            where point 0 is, by the table of positions ps
+--     placeLine ps            where point 0 is, by the table of positions ps
 --     groundLine ns           the line of a ground, by document 01's numbers of the answer
 --     stepLines c a ps        the lines after a step of a mesh with the counts c, by its answer and the positions that it left
 --     numberedStep c m        the step of the mesh with the counts c in the tables m, in the first edition, its faces visited in numbered order
@@ -38,14 +38,14 @@ zeroTables =
     meshOf (replicate (256 * positionWidth) (ofBits binary64 0)) (replicate (256 * pointWidth) 0) (replicate (512 * edgeWidth) 0)
     (replicate 512 (ofBits binary64 0)) (replicate (256 * faceWidth) 0)
 
-abbrev pub pointLine : List Float → List ℕ
-pointLine ps =
+abbrev pub placeLine : List Float → List ℕ
+placeLine ps =
     atLine (toBits binary64 (positionAt ps 0 .x)) (toBits binary64 (positionAt ps 0 .y)) (toBits binary64 (positionAt ps 0 .z))
 
 -- left out of a mesh with no points
 abbrev pub pointLines : ℕ → List Float → List ℕ
 pointLines zero ps = []
-pointLines (suc n) ps = pointLine ps
+pointLines (suc n) ps = placeLine ps
 
 abbrev pub groundLine : List ℕ → List ℕ
 groundLine [] = []

@@ -21,7 +21,7 @@ use Rattle.text_numbers.proofs.Laws.{and-both}
 use Rattle.mesh_answers.specs.Lines.{stepLine}
 use Rattle.mesh_answers.specs.Writing.{Written}
 use Rattle.mesh_answers.proofs.Laws.{written-append, length-counts}
-use Rattle.refine_outputs.specs.Output.{pointLine, pointLines, stepLines}
+use Rattle.refine_outputs.specs.Output.{placeLine, pointLines, stepLines}
 use Rattle.refine_outputs.specs.FirstPoint.{PointThere, PointReady}
 
 -- finite coordinates of a position that is finite
@@ -31,7 +31,7 @@ finite-coordinates p h =
     let (hy, hz) = and-both (finite (p .y)) _ h' in
     (hx, hy, hz)
 
-point-lines : (n : ℕ) (ps : List Float) → (n ≡ 0 → ⊥) → pointLines n ps ≡ pointLine ps
+point-lines : (n : ℕ) (ps : List Float) → (n ≡ 0 → ⊥) → pointLines n ps ≡ placeLine ps
 point-lines zero ps h = absurd (h refl)
 point-lines (suc n) ps h = refl
 
@@ -40,7 +40,7 @@ module _ (c : Counts) (a : Stepped) (ps : List Float) (c' : Counts) (e : a ≡ R
   pub written-counts : c .points ≡ 0 → Written out at (stepLines c a ps) i o1
   written-counts z = rw (e, z, append-nil (stepLine (c' .points) (c' .edges) (c' .faces))) w
 
-  pub written-point : (c .points ≡ 0 → ⊥) → {j : ℕ} {o2 : List ℕ} → Written o1 i (pointLine ps) j o2 → Written out at (stepLines c a ps) j o2
+  pub written-point : (c .points ≡ 0 → ⊥) → {j : ℕ} {o2 : List ℕ} → Written o1 i (placeLine ps) j o2 → Written out at (stepLines c a ps) j o2
   written-point z x = rw (e, point-lines (c .points) ps z) (written-append w x)
 
   pub point-room : at + 128 ≤ length out → length o1 ≡ length out → i + 58 ≤ length o1

@@ -9,7 +9,7 @@ ghost use lib.ListN.{length};
 ghost use Rattle.tables.specs.Layout.{faceCeiling};
 ghost use Rattle.runs.specs.Runs.{numbered};
 ghost use Rattle.mesh_answers.specs.Writing.{Written};
-ghost use Rattle.refine_outputs.specs.Output.{pointLine, stepLines};
+ghost use Rattle.refine_outputs.specs.Output.{placeLine, stepLines};
 ghost use Rattle.refine_outputs.specs.FirstPoint.{PointThere, PointReady};
 use mesh_answers::write_at;
 use mesh_answers::write_refused;
@@ -21,7 +21,7 @@ use tables::Counts;
 fn write_point(out: &mut [u8], at: usize, positions: &[f64]) -> usize
     requires { ⌜ at + 58 ≤ length (now out) ⌝ }
     requires { ⌜ PointThere (now positions) ⌝ }
-    ensures { λ r. ⌜ Written (now (out .entry)) at (pointLine (now (positions .entry))) r (now (out .exit)) ⌝ }
+    ensures { λ r. ⌜ Written (now (out .entry)) at (placeLine (now (positions .entry))) r (now (out .exit)) ⌝ }
 {
     let x = f64::to_bits(positions[0]);
     let y = f64::to_bits(positions[1]);

@@ -18,7 +18,7 @@ use Rattle.steps.specs.declared.Stepped.{Stepped}
 use Rattle.steps.proofs.Rows.{room-of-holds, holds-firstRows, room-firstRows, points-fit, edges-fit, faces-fit}
 use Rattle.steps.proofs.Grounds.{eachFaceOnce-is, rooms-of-test, step-is}
 use Rattle.audited_meshes.proofs.Holds.{audit-is-closed}
-use Rattle.step_parts.specs.Passed.{Passed}
+use Rattle.step_parts.specs.Passed.{TestsPassed}
 
 module _ (ed : Edition) (m : Mesh) (c : Counts) (order : List ℕ) (t : Mesh) where
   tested-is :
@@ -27,7 +27,7 @@ module _ (ed : Edition) (m : Mesh) (c : Counts) (order : List ℕ) (t : Mesh) wh
   tested-is ha ho hr = rw (ha, ho, hr)
 
   all-passed : audit m (c .points) (c .edges) (c .faces) ≡ true → eachFaceOnce (c .faces) order ≡ true
-      → roomFor (refinedCounts c) m t ≡ true → Passed ed m c order t (refinedCounts c)
+      → roomFor (refinedCounts c) m t ≡ true → TestsPassed ed m c order t (refinedCounts c)
   unfolding stepBy
   all-passed ha ho hr =
       let h = audit-is-closed m (c .points) (c .edges) (c .faces) .0 ha in
@@ -48,12 +48,12 @@ module _ (ed : Edition) (m : Mesh) (c : Counts) (order : List ℕ) (t : Mesh) wh
         stepped = step-is ed m c order t ha ho hr;
       }
 
-  pub passed : (c' : Counts) → Refined c' ≡ tested m c order t → Passed ed m c order t c'
+  pub passed : (c' : Counts) → Refined c' ≡ tested m c order t → TestsPassed ed m c order t c'
   passed c' e = go _ refl _ refl _ refl
     where
       go :
           (a : Bool) → audit m (c .points) (c .edges) (c .faces) ≡ a → (o : Bool) → eachFaceOnce (c .faces) order ≡ o → (r : Bool) →
-          roomFor (refinedCounts c) m t ≡ r → Passed ed m c order t c'
+          roomFor (refinedCounts c) m t ≡ r → TestsPassed ed m c order t c'
       go false ha o ho r hr =
           let k : Refined c' ≡ NotClosed = e ∙ tested-is ha ho hr in
           absurd (let z : _≡_ {A = ℕ} 0 1 = cc in omega arith)
@@ -66,7 +66,7 @@ module _ (ed : Edition) (m : Mesh) (c : Counts) (order : List ℕ) (t : Mesh) wh
       go true ha true ho true hr =
           let k : Refined c' ≡ Refined (refinedCounts c) = e ∙ tested-is ha ho hr in
           let q : refinedCounts c ≡ c' = cc in
-          subst (λ x. Passed ed m c order t x) q (all-passed ha ho hr)
+          subst (λ x. TestsPassed ed m c order t x) q (all-passed ha ho hr)
 
   -- A ground that is not the counts is answered with everything untouched.
   pub refused : (g : Stepped) → g ≡ tested m c order t → ((c' : Counts) → g ≢ Refined c') → stepRefusal g m t ≡ step ed m c order t

@@ -15,7 +15,7 @@ use Rattle.closed_meshes.proofs.Sums.{place-below}
 use Rattle.built_meshes.specs.Lists.{Lists, size, offset}
 use Rattle.built_meshes.specs.Places.{pointOf, nextOf, IsPlace, Runs, Between, Differ, Earlier}
 use Rattle.built_meshes.proofs.Before.{Triple, Same}
-use Rattle.mended_lists.specs.Edges.{Place, placeOf, placesOf, placeAt, sameWay, sameEdge, mate, hasMate, third}
+use Rattle.mended_lists.specs.Edges.{Place, listedPlace, placesOf, placeAt, sameWay, sameEdge, mate, hasMate, third}
 use Rattle.mended_lists.proofs.Edges.{mate-last, mate-found, places-at, number-face, number-place}
 use Rattle.mended_lists.proofs.Choices.{between-place}
 use Rattle.mended_lists.proofs.Passed.{OnEdge, on-at, on-same, on-mate, three}

@@ -17,7 +17,7 @@ use Rattle.audited_meshes.specs.Folds.{every}
 use Rattle.mended_lists.specs.Edges.{latest}
 use Rattle.mended_lists.proofs.Reversal.{eqb-false}
 use Rattle.mended_lists.proofs.Edges.{Last, latest-none, latest-last}
-use Rattle.shared_edges.specs.Chains.{joinsAt, lowAt, mateAt, hasMateAt, thirdAt, secondAt, Links, Chained, Room, PairRoom, PlacesRoom, Paired, Entered, EnteredTo}
+use Rattle.shared_edges.specs.Chains.{joinsAt, lowAt, mateAt, hasMateAt, thirdAt, secondAt, Links, PlacesChained, LinksRoom, PairRoom, PlacesRoom, PairedAt, PlacesEntered, EnteredTo}
 
 -- ---- the last number that passes a test
 
@@ -131,8 +131,8 @@ module _ (ls ts : List ℕ) (k p q link : ℕ) (s : Searching ls ts k p q link) 
 -- ---- a place chained
 
 pub chained-more :
-    (ls ts heads links : List ℕ) (k low : ℕ) → Chained ls ts heads links k → low ≡ lowAt ls ts k → low < length heads → k < length links →
-    Chained ls ts (set heads low (k + 1)) (set links k (getD heads low 0)) (k + 1)
+    (ls ts heads links : List ℕ) (k low : ℕ) → PlacesChained ls ts heads links k → low ≡ lowAt ls ts k → low < length heads → k < length links →
+    PlacesChained ls ts (set heads low (k + 1)) (set links k (getD heads low 0)) (k + 1)
 chained-more ls ts heads links k low c e hb lb = record { head = head; link = link }
   where
     s : k + 1 ≡ suc k
@@ -167,7 +167,7 @@ chained-more ls ts heads links k low c e hb lb = record { head = head; link = li
 pub mate-below : (ls ts : List ℕ) (k : ℕ) → mateAt ls ts k ≤ k
 mate-below ls ts k = latest-below (λ j. joinsAt ls ts (getD ls k 0) (getD ts k 0) j) k
 
-pub paired-none : (mates seconds : List ℕ) (k m : ℕ) → m ≡ 0 → Paired mates seconds (set mates k m) seconds k m true
+pub paired-none : (mates seconds : List ℕ) (k m : ℕ) → m ≡ 0 → PairedAt mates seconds (set mates k m) seconds k m true
 paired-none mates seconds k m z =
     record { mates-are = refl; none = λ e. (refl, refl); some = λ j e. absurd (never j e) }
   where
@@ -176,7 +176,7 @@ paired-none mates seconds k m z =
 
 pub paired-some :
     (mates seconds : List ℕ) (k m j : ℕ) → m ≡ suc j →
-    Paired mates seconds (set mates k m) (set seconds j (k + 1)) k m (eqb (getD (set mates k m) j 0) 0)
+    PairedAt mates seconds (set mates k m) (set seconds j (k + 1)) k m (eqb (getD (set mates k m) j 0) 0)
 paired-some mates seconds k m j e =
     record { mates-are = refl; none = λ z. absurd (never z); some = λ i q. some i (omega arith) }
   where
@@ -187,8 +187,8 @@ paired-some mates seconds k m j e =
     some i q = (rw (q, add-one k), rw q)
 
 module _ (ls ts heads links mates seconds heads' links' mates' seconds' : List ℕ) (k m : ℕ) (r : Bool)
-    (e : Entered ls ts heads links mates seconds k) (room : PairRoom mates seconds k) (mate : m ≡ mateAt ls ts k)
-    (chained : Chained ls ts heads' links' (k + 1)) (p : Paired mates seconds mates' seconds' k m r) where
+    (e : PlacesEntered ls ts heads links mates seconds k) (room : PairRoom mates seconds k) (mate : m ≡ mateAt ls ts k)
+    (chained : PlacesChained ls ts heads' links' (k + 1)) (p : PairedAt mates seconds mates' seconds' k m r) where
   s : k + 1 ≡ suc k
   s = omega arith
 
@@ -243,7 +243,7 @@ module _ (ls ts heads links mates seconds heads' links' mates' seconds' : List �
               ap (λ (x : List ℕ). getD x j 0) (p .some i z .0) ∙ getD-set-other seconds i j (suc k) 0 q
               ∙ e .second-is j (omega (arith, length-same)) ∙ sym (other (suc i) z (λ t. q (omega arith)))
 
-  pub entered-more : Entered ls ts heads' links' mates' seconds' (k + 1)
+  pub entered-more : PlacesEntered ls ts heads' links' mates' seconds' (k + 1)
   entered-more = record { chained = chained; mate-is = mates-after; second-is = seconds-after }
 
 -- ---- tests of all places
@@ -257,8 +257,8 @@ all-passed n k test e t = sym (rw e at t)
 -- ---- all places of a face
 
 room-like :
-    (ls ts : List ℕ) (np np' : ℕ) (links links' : List ℕ) (k : ℕ) → np' ≡ np → length links' ≡ length links → Room ls ts np links k →
-    Room ls ts np' links' k
+    (ls ts : List ℕ) (np np' : ℕ) (links links' : List ℕ) (k : ℕ) → np' ≡ np → length links' ≡ length links → LinksRoom ls ts np links k →
+    LinksRoom ls ts np' links' k
 room-like ls ts np np' links links' k a b r =
     record {
       listed-fit = r .listed-fit;
@@ -275,11 +275,11 @@ pub record Entering (ls ts heads₀ links₀ mates₀ seconds₀ heads links mat
   pub links-length : length links ≡ length links₀
   pub mates-length : length mates ≡ length mates₀
   pub seconds-length : length seconds ≡ length seconds₀
-  pub entered : Entered ls ts heads links mates seconds (a + i)
+  pub entered : PlacesEntered ls ts heads links mates seconds (a + i)
   pub passed : every i (λ i. not (thirdAt ls ts (a + i))) ≡ true
 
 pub entering-none :
-    (ls ts heads links mates seconds : List ℕ) (a n : ℕ) → Entered ls ts heads links mates seconds a →
+    (ls ts heads links mates seconds : List ℕ) (a n : ℕ) → PlacesEntered ls ts heads links mates seconds a →
     Entering ls ts heads links mates seconds heads links mates seconds a n 0
 entering-none ls ts heads links mates seconds a n e =
     let z : a + 0 ≡ a = omega arith in
@@ -296,7 +296,7 @@ entering-none ls ts heads links mates seconds a n e =
 module _ (ls ts heads₀ links₀ mates₀ seconds₀ heads links mates seconds : List ℕ) (a n i : ℕ)
     (e : Entering ls ts heads₀ links₀ mates₀ seconds₀ heads links mates seconds a n i)
     (rooms : PlacesRoom ls ts (length heads₀) links₀ mates₀ seconds₀ a n) (l : i < n) where
-  pub entering-room : Room ls ts (length heads) links (a + i)
+  pub entering-room : LinksRoom ls ts (length heads) links (a + i)
   entering-room = room-like ls ts (length heads₀) (length heads) links₀ links (a + i) (e .heads-length) (e .links-length) (rooms .room i l)
 
   pub entering-pair-room : PairRoom mates seconds (a + i)
@@ -313,7 +313,7 @@ module _ (ls ts heads₀ links₀ mates₀ seconds₀ heads links mates seconds 
   pub entering-more :
       (heads' links' mates' seconds' : List ℕ) (r : Bool) → length heads' ≡ length heads → length links' ≡ length links →
       length mates' ≡ length mates → length seconds' ≡ length seconds → r ≡ not (thirdAt ls ts (a + i)) →
-      Entered ls ts heads' links' mates' seconds' (a + i + 1) → r ≡ true →
+      PlacesEntered ls ts heads' links' mates' seconds' (a + i + 1) → r ≡ true →
       Entering ls ts heads₀ links₀ mates₀ seconds₀ heads' links' mates' seconds' a n (i + 1)
   entering-more heads' links' mates' seconds' r x y z w q after t =
       let s : a + (i + 1) ≡ a + i + 1 = omega arith in
@@ -334,6 +334,6 @@ module _ (ls ts heads₀ links₀ mates₀ seconds₀ heads links mates seconds 
 pub entering-all :
     (ls ts heads₀ links₀ mates₀ seconds₀ heads links mates seconds : List ℕ) (a n i : ℕ) → n ≤ i →
     Entering ls ts heads₀ links₀ mates₀ seconds₀ heads links mates seconds a n i →
-    (true ≡ every n (λ i. not (thirdAt ls ts (a + i)))) × Entered ls ts heads links mates seconds (a + n)
+    (true ≡ every n (λ i. not (thirdAt ls ts (a + i)))) × PlacesEntered ls ts heads links mates seconds (a + n)
 entering-all ls ts heads₀ links₀ mates₀ seconds₀ heads links mates seconds a n i b e =
     let s : i ≡ n = omega (arith, e .not-past) in (sym (rw s at (e .passed)), rw s at (e .entered))

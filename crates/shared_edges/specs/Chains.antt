@@ -5,11 +5,11 @@
 --     thirdAt ls ts k       that one has a mate as well
 --     secondAt ls ts n k    the link to the last of n places whose mate is place k
 --     Links                 behind each of k places stands the link to the last one before it with its lower point
---     Chained               so it is, and at each point stands the link to the last of k places with it as lower point
---     Room, PairRoom        place k is in the lists
+--     PlacesChained               so it is, and at each point stands the link to the last of k places with it as lower point
+--     LinksRoom, PairRoom        place k is in the lists
 --     PlacesRoom            so are n places from place a on
---     Paired                what pairing place k with its mate leaves and answers
---     Entered               the lists after k places
+--     PairedAt                what pairing place k with its mate leaves and answers
+--     PlacesEntered               the lists after k places
 --     EnteredTo             what entering k places leaves, unless one of them is the third on its edge
 use mathlib.Core.Path.{_≡_}
 use mathlib.Core.Bool.{Bool, true, false, not, _&&_, _||_}
@@ -41,11 +41,11 @@ secondAt ls ts n k = latest (λ i. eqb (mateAt ls ts i) (suc k)) n
 abbrev pub Links : List ℕ → List ℕ → List ℕ → ℕ → Type 0
 Links ls ts links k = (j : ℕ) → j < k → getD links j 0 ≡ latest (λ i. eqb (lowAt ls ts i) (lowAt ls ts j)) j
 
-pub record Chained (ls ts heads links : List ℕ) (k : ℕ) : Type 0 where
+pub record PlacesChained (ls ts heads links : List ℕ) (k : ℕ) : Type 0 where
   pub head : (p : ℕ) → p < length heads → getD heads p 0 ≡ latest (λ i. eqb (lowAt ls ts i) p) k
   pub link : Links ls ts links k
 
-pub record Room (ls ts : List ℕ) (np : ℕ) (links : List ℕ) (k : ℕ) : Type 0 where
+pub record LinksRoom (ls ts : List ℕ) (np : ℕ) (links : List ℕ) (k : ℕ) : Type 0 where
   pub listed-fit : k < length ls
   pub tos-fit : k < length ts
   pub links-fit : k < length links
@@ -58,19 +58,19 @@ pub record PairRoom (mates seconds : List ℕ) (k : ℕ) : Type 0 where
   pub few : k < 16384
 
 pub record PlacesRoom (ls ts : List ℕ) (np : ℕ) (links mates seconds : List ℕ) (a n : ℕ) : Type 0 where
-  pub room : (i : ℕ) → i < n → Room ls ts np links (a + i)
+  pub room : (i : ℕ) → i < n → LinksRoom ls ts np links (a + i)
   pub pair-room : (i : ℕ) → i < n → PairRoom mates seconds (a + i)
 
 -- the place has the mate m, which has it as its second and had no mate itself
-pub record Paired (mates seconds mates' seconds' : List ℕ) (k m : ℕ) (r : Bool) : Type 0 where
+pub record PairedAt (mates seconds mates' seconds' : List ℕ) (k m : ℕ) (r : Bool) : Type 0 where
   pub mates-are : mates' ≡ set mates k m
   pub none : m ≡ 0 → (seconds' ≡ seconds) × (r ≡ true)
   pub some : (j : ℕ) → m ≡ suc j → (seconds' ≡ set seconds j (suc k)) × (r ≡ eqb (getD (set mates k m) j 0) 0)
 
-pub record Entered (ls ts heads links mates seconds : List ℕ) (k : ℕ) : Type 0 where
-  pub chained : Chained ls ts heads links k
+pub record PlacesEntered (ls ts heads links mates seconds : List ℕ) (k : ℕ) : Type 0 where
+  pub chained : PlacesChained ls ts heads links k
   pub mate-is : (j : ℕ) → j < k → getD mates j 0 ≡ mateAt ls ts j
   pub second-is : (j : ℕ) → j < length seconds → getD seconds j 0 ≡ secondAt ls ts k j
 
 abbrev pub EnteredTo : List ℕ → List ℕ → List ℕ → List ℕ → List ℕ → List ℕ → ℕ → Bool → Type 0
-EnteredTo ls ts heads links mates seconds k r = r ≡ true → Entered ls ts heads links mates seconds k
+EnteredTo ls ts heads links mates seconds k r = r ≡ true → PlacesEntered ls ts heads links mates seconds k

@@ -9,7 +9,7 @@ ghost use lib.Dec.{eqb};
 ghost use lib.ListN.{length, getD};
 ghost use Rattle.audited_meshes.specs.Folds.{every};
 ghost use Rattle.mended_lists.specs.Edges.{latest};
-ghost use Rattle.shared_edges.specs.Chains.{joinsAt, lowAt, mateAt, thirdAt, PairRoom, PlacesRoom, Room, Links, Chained, Paired, Entered, EnteredTo};
+ghost use Rattle.shared_edges.specs.Chains.{joinsAt, lowAt, mateAt, thirdAt, PairRoom, PlacesRoom, LinksRoom, Links, PlacesChained, PairedAt, PlacesEntered, EnteredTo};
 use tables::index;
 
 // The lower of two points.
@@ -68,10 +68,10 @@ fn search(listed: &[u32], tos: &[u32], links: &[u32], k: usize, from: u32, p: u3
 
 // Chains place k at the lower of its points, and finds its mate.
 fn chain_place(listed: &[u32], tos: &[u32], heads: &mut [u32], links: &mut [u32], k: usize) -> u32
-    requires { ⌜ Room (now listed) (now tos) (length (now heads)) (now links) k ⌝ }
-    requires { ⌜ Chained (now listed) (now tos) (now heads) (now links) k ⌝ }
+    requires { ⌜ LinksRoom (now listed) (now tos) (length (now heads)) (now links) k ⌝ }
+    requires { ⌜ PlacesChained (now listed) (now tos) (now heads) (now links) k ⌝ }
     ensures { λ r. ⌜ r ≡ mateAt (now (listed .entry)) (now (tos .entry)) k ⌝ }
-    ensures { λ _. ⌜ Chained (now (listed .entry)) (now (tos .entry)) (now (heads .exit)) (now (links .exit)) (k + 1) ⌝ }
+    ensures { λ _. ⌜ PlacesChained (now (listed .entry)) (now (tos .entry)) (now (heads .exit)) (now (links .exit)) (k + 1) ⌝ }
 {
     let p = listed[k];
     let q = tos[k];
@@ -87,7 +87,7 @@ fn chain_place(listed: &[u32], tos: &[u32], heads: &mut [u32], links: &mut [u32]
 fn pair_place(mates: &mut [u32], seconds: &mut [u32], k: usize, m: u32) -> bool
     requires { ⌜ PairRoom (now mates) (now seconds) k ⌝ }
     requires { ⌜ m ≤ k ⌝ }
-    ensures { λ r. ⌜ Paired (now (mates .entry)) (now (seconds .entry)) (now (mates .exit)) (now (seconds .exit)) k m r ⌝ }
+    ensures { λ r. ⌜ PairedAt (now (mates .entry)) (now (seconds .entry)) (now (mates .exit)) (now (seconds .exit)) k m r ⌝ }
 {
     mates[k] = m;
     if m == 0 {
@@ -108,12 +108,12 @@ fn enter(
     seconds: &mut [u32],
     k: usize,
 ) -> bool
-    requires { ⌜ Room (now listed) (now tos) (length (now heads)) (now links) k ⌝ }
+    requires { ⌜ LinksRoom (now listed) (now tos) (length (now heads)) (now links) k ⌝ }
     requires { ⌜ PairRoom (now mates) (now seconds) k ⌝ }
-    requires { ⌜ Entered (now listed) (now tos) (now heads) (now links) (now mates) (now seconds) k ⌝ }
+    requires { ⌜ PlacesEntered (now listed) (now tos) (now heads) (now links) (now mates) (now seconds) k ⌝ }
     ensures { λ r. ⌜ r ≡ not (thirdAt (now (listed .entry)) (now (tos .entry)) k) ⌝ }
     ensures { λ _. ⌜
-        Entered (now (listed .entry)) (now (tos .entry)) (now (heads .exit)) (now (links .exit)) (now (mates .exit))
+        PlacesEntered (now (listed .entry)) (now (tos .entry)) (now (heads .exit)) (now (links .exit)) (now (mates .exit))
         (now (seconds .exit)) (k + 1) ⌝ }
 {
     let mate = chain_place(listed, tos, heads, links, k);
@@ -132,7 +132,7 @@ pub fn enter_places(
     n: usize,
 ) -> bool
     requires { ⌜ PlacesRoom (now listed) (now tos) (length (now heads)) (now links) (now mates) (now seconds) a n ⌝ }
-    requires { ⌜ Entered (now listed) (now tos) (now heads) (now links) (now mates) (now seconds) a ⌝ }
+    requires { ⌜ PlacesEntered (now listed) (now tos) (now heads) (now links) (now mates) (now seconds) a ⌝ }
     ensures { λ r. ⌜ r ≡ every n (λ i. not (thirdAt (now (listed .entry)) (now (tos .entry)) (a + i))) ⌝ }
     ensures { λ r. ⌜
         EnteredTo (now (listed .entry)) (now (tos .entry)) (now (heads .exit)) (now (links .exit)) (now (mates .exit))

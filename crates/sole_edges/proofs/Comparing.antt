@@ -13,7 +13,7 @@ use Rattle.tables.specs.Mesh.{Mesh, valence, start, origin, dest}
 use Rattle.audited_meshes.specs.Walks.{acwOfPoint, Touches}
 use Rattle.audited_meshes.proofs.Tests.{every-is, not-is, eqb-is}
 use Rattle.walks.specs.Steps.{pointAcross}
-use Rattle.sole_edges.specs.Sole.{newEnd, after, edgeOf, Round, Apart, Sole}
+use Rattle.sole_edges.specs.Sole.{newEnd, walkAfter, edgeAbout, Round, EndsApart, Sole}
 use Rattle.sole_edges.proofs.Joins.{same-of-others}
 use Rattle.sole_edges.proofs.Rounds.{after-one, round-once}
 
@@ -21,21 +21,21 @@ module _ (m : Mesh) (ne p : ℕ) where
   abbrev pub OnPoint : ℕ → Type 0
   OnPoint e = (e < ne) × Touches m p e
 
-  -- the other end of the edge after a steps
+  -- the other end of the edge walkAfter a steps
   abbrev far : ℕ → ℕ
-  far a = pointAcross m p (edgeOf m p a)
+  far a = pointAcross m p (edgeAbout m p a)
 
   pub record Comparing (k : ℕ) (ends : List ℕ) (n i : ℕ) : Type 0 where
     pub many : k ≡ valence m p
     pub within : n ≤ k
     pub room : k ≤ length ends
-    pub here : i ≡ edgeOf m p n
-    pub on : (a : ℕ) → a < n → OnPoint (edgeOf m p a)
+    pub here : i ≡ edgeAbout m p n
+    pub on : (a : ℕ) → a < n → OnPoint (edgeAbout m p a)
     pub stands : (a : ℕ) → a < n → getD ends a 0 ≡ far a
     pub apart : (a b : ℕ) → a < b → b < n → far a ≢ far b
 
   pub comparing-start : (k i : ℕ) (ends : List ℕ) → k ≡ valence m p → i ≡ start m p → k ≤ length ends → Comparing k ends 0 i
-  unfolding after
+  unfolding walkAfter
   comparing-start k i ends a b l = record {
     many = a;
     within = omega arith;
@@ -77,8 +77,8 @@ module _ (m : Mesh) (ne p : ℕ) where
             go (yes b) = b
             go (no g) = absurd (d (omega arith))
 
-        on-more : (a : ℕ) → a < n + 1 → Dec (n ≡ a) → OnPoint (edgeOf m p a)
-        on-more a b (yes s) = subst (λ (x : ℕ). OnPoint (edgeOf m p x)) s (subst OnPoint (h .here) oi)
+        on-more : (a : ℕ) → a < n + 1 → Dec (n ≡ a) → OnPoint (edgeAbout m p a)
+        on-more a b (yes s) = subst (λ (x : ℕ). OnPoint (edgeAbout m p x)) s (subst OnPoint (h .here) oi)
         on-more a b (no d) = h .on a (below a b d)
 
         stands-more : (a : ℕ) → a < n + 1 → Dec (n ≡ a) → getD (set ends n q) a 0 ≡ far a
@@ -97,7 +97,7 @@ module _ (m : Mesh) (ne p : ℕ) where
     comparing-stop differ l q other found r sole =
         false≢true (sym found ∙ every-is n (λ (a : ℕ). not-is (eqb-is (getD ends a 0) q)) .1 new)
       where
-        at : (a : ℕ) → a ≤ n → OnPoint (edgeOf m p a)
+        at : (a : ℕ) → a ≤ n → OnPoint (edgeAbout m p a)
         at a b = r .on a (omega (arith, h .many))
 
         new : (a : ℕ) → a < n → getD ends a 0 ≢ q
@@ -106,16 +106,16 @@ module _ (m : Mesh) (ne p : ℕ) where
             let oa = at a (omega arith) in
             let on = at n (omega arith) in
             round-once m ne p r a n b (omega (arith, h .many))
-            (sole (edgeOf m p a) (edgeOf m p n) (oa .0) (on .0) (oa .1)
-            (same-of-others m p (edgeOf m p a) (edgeOf m p n) (differ _ (oa .0)) (differ _ (on .0)) (oa .1) (on .1) one))
+            (sole (edgeAbout m p a) (edgeAbout m p n) (oa .0) (on .0) (oa .1)
+            (same-of-others m p (edgeAbout m p a) (edgeAbout m p n) (differ _ (oa .0)) (differ _ (on .0)) (oa .1) (on .1) one))
 
     -- the walk is at its start again
-    pub comparing-home : k ≤ n → i ≡ start m p → Round m ne p × Apart m p
-    unfolding after
+    pub comparing-home : k ≤ n → i ≡ start m p → Round m ne p × EndsApart m p
+    unfolding walkAfter
     comparing-home l home = (
       record {
         on = λ a b. h .on a (all a b);
-        home = ap (edgeOf m p) (sym all-passed) ∙ sym (h .here) ∙ home;
+        home = ap (edgeAbout m p) (sym all-passed) ∙ sym (h .here) ∙ home;
         away = λ a b c q. h .apart 0 a b (all a c) (ap (pointAcross m p) (sym q));
       },
       λ a b la lb same. one a b la lb same (decLt a b) (decLt b a),
@@ -127,14 +127,14 @@ module _ (m : Mesh) (ne p : ℕ) where
         all : (a : ℕ) → a < valence m p → a < n
         all a b = omega (arith, all-passed)
 
-        one : (a b : ℕ) → a < valence m p → b < valence m p → far a ≡ far b → Dec (a < b) → Dec (b < a) → edgeOf m p a ≡ edgeOf m p b
+        one : (a b : ℕ) → a < valence m p → b < valence m p → far a ≡ far b → Dec (a < b) → Dec (b < a) → edgeAbout m p a ≡ edgeAbout m p b
         one a b la lb same (yes c) d = absurd (h .apart a b c (all b lb) same)
         one a b la lb same (no c) (yes d) = absurd (h .apart b a d (all a la) (sym same))
         one a b la lb same (no c) (no d) =
             let ab : a ≡ b = omega arith in
-            ap (edgeOf m p) ab
+            ap (edgeAbout m p) ab
 
     pub comparing-open : k ≤ n → Round m ne p → i ≡ start m p
     comparing-open l r =
         let all-passed : n ≡ valence m p = omega (arith, h .many, h .within) in
-        h .here ∙ ap (edgeOf m p) all-passed ∙ r .home
+        h .here ∙ ap (edgeAbout m p) all-passed ∙ r .home

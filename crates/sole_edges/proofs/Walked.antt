@@ -25,7 +25,7 @@ use Rattle.audited_meshes.proofs.Sums.{sum-is}
 use Rattle.audited_meshes.proofs.Audited.{touches-is, pointWalk-is}
 use Rattle.audit_tests.specs.Parts.{walkFits}
 use Rattle.walks.specs.Steps.{pointAcross}
-use Rattle.sole_edges.specs.Sole.{Ends, edgeOf, Round, Apart, Sole}
+use Rattle.sole_edges.specs.Sole.{Ends, edgeAbout, Round, EndsApart, Sole}
 use Rattle.sole_edges.proofs.Joins.{touches-of-joins, other-of-joins, joins-of-same, other-differs, joins-other}
 use Rattle.sole_edges.proofs.Rounds.{steps-of-passes, listed-of-steps, Place, place-of-passed}
 
@@ -85,7 +85,7 @@ round-of-fits m ne p h = go (came-back (about m ne p) (valence m p) h)
         (passes-of-back m ne p (w .edges) (w .came)) in
         record {
           on = λ a l. steps .on a (omega (arith, w .many));
-          home = ap (edgeOf m p) (sym (w .many)) ∙ steps .home;
+          home = ap (edgeAbout m p) (sym (w .many)) ∙ steps .home;
           away = λ a h l. steps .away a h (omega (arith, w .many));
         }
 
@@ -97,7 +97,7 @@ fits-of-round m ne p two r = go (valence m p) two refl
     go zero l e = absurd (omega arith)
     go (suc v) l e =
         let w = listed-of-steps (acwOfPoint m p) (OnPoint m ne p) (start m p) v (start m p) (λ a k. r .on a (omega (arith, e)))
-        (ap (edgeOf m p) e ∙ r .home) (λ a h k. r .away a h (omega (arith, e))) in
+        (ap (edgeAbout m p) e ∙ r .home) (λ a h k. r .away a h (omega (arith, e))) in
         ap (pointBack (valence m p)) (pointWalk-is m ne p (valence m p) (w .edges) .1 (w .passes, omega (arith, w .many, e)))
         ∙ eqb-is (length (w .edges)) (valence m p) .1 (w .many ∙ e)
 
@@ -130,7 +130,7 @@ walked-of-tests m np ne ends two sum fits p l =
         (λ p. edge-below m ne p) (λ p. edge-once m ne p) .0 lengths
 
 -- the walk passes each edge of its point, so that it tells all of them apart
-pub sole-of-apart : (m : Mesh) (ne p : ℕ) → ((e : ℕ) → e < ne → origin m e ≢ dest m e) → PointWalked m ne p → Apart m p → Sole m ne p
+pub sole-of-apart : (m : Mesh) (ne p : ℕ) → ((e : ℕ) → e < ne → origin m e ≢ dest m e) → PointWalked m ne p → EndsApart m p → Sole m ne p
 sole-of-apart m ne p differ w apart i j li lj t same =
     let joins = joins-other m p i (differ i li) t in
     let other = joins-of-same m p (pointAcross m p i) i j same joins in

@@ -18,11 +18,11 @@ use Rattle.audited_meshes.proofs.Audited.{touches-is, on-point-is}
 use Rattle.walks.specs.Steps.{pointAcross, pointStep}
 use Rattle.walks.specs.declared.Step.the-variants.{To, Lost}
 use Rattle.walks.proofs.Steps.{to-is, lost-is}
-use Rattle.sole_edges.specs.Sole.{window, second, unseen, noted, after, edgeOf, Round, ApartIn, Apart, SoleIn, RoundsFrom}
+use Rattle.sole_edges.specs.Sole.{window, second, unseen, edgeNoted, walkAfter, edgeAbout, Round, ApartIn, EndsApart, SoleIn, RoundsFrom}
 use Rattle.sole_edges.proofs.Joins.{joins-of-touches, same-of-joins, other-touched, other-differs, joins-other}
 use Rattle.sole_edges.proofs.Rounds.{after-one}
 
--- ---- one edge noted
+-- ---- one edge edgeNoted
 
 second-is : (m : Mesh) (ne p q i s : ℕ) → Is (second m ne p q i s) ((((s < ne) × (s ≢ i)) × Touches m p s) × Touches m q s)
 second-is m ne p q i s = and-is (and-is (and-is (ltb-is s ne) (not-is (eqb-is s i))) (touches-is m p s)) (touches-is m q s)
@@ -53,13 +53,13 @@ module _ (m : Mesh) (ne base p : ℕ) (seen : List ℕ) (q i : ℕ) where
       go (no g) (no f) = absurd (false≢true (sym h ∙ rw (le-ltb q base (omega arith), le-ltb (q - base) window (omega arith)) refl))
 
 module _ (base : ℕ) (seen : List ℕ) (q i : ℕ) where
-  noted-inside : base ≤ q → q - base < window → noted base seen q i ≡ set seen (q - base) i
+  noted-inside : base ≤ q → q - base < window → edgeNoted base seen q i ≡ set seen (q - base) i
   noted-inside lo hi = rw (le-ltb q base lo, lt-ltb _ _ hi)
 
-  noted-before : q < base → noted base seen q i ≡ seen
+  noted-before : q < base → edgeNoted base seen q i ≡ seen
   noted-before l = rw (lt-ltb q base l)
 
-  pub noted-length : length (noted base seen q i) ≡ length seen
+  pub noted-length : length (edgeNoted base seen q i) ≡ length seen
   noted-length = go (ltb q base) (ltb (q - base) window)
     where
       go : (a b : Bool) → length (cond a seen (cond b (set seen (q - base) i) seen)) ≡ length seen
@@ -68,7 +68,7 @@ module _ (base : ℕ) (seen : List ℕ) (q i : ℕ) where
       go false false = refl
 
   -- what stands elsewhere is kept
-  noted-other : (k : ℕ) → k ≢ q - base → getD (noted base seen q i) k 0 ≡ getD seen k 0
+  noted-other : (k : ℕ) → k ≢ q - base → getD (edgeNoted base seen q i) k 0 ≡ getD seen k 0
   noted-other k d = go (ltb q base) (ltb (q - base) window)
     where
       go : (a b : Bool) → getD (cond a seen (cond b (set seen (q - base) i) seen)) k 0 ≡ getD seen k 0
@@ -76,13 +76,13 @@ module _ (base : ℕ) (seen : List ℕ) (q i : ℕ) where
       go false true = getD-set-other seen (q - base) k i 0 d
       go false false = refl
 
-  noted-same : base ≤ q → q - base < window → window ≤ length seen → getD (noted base seen q i) (q - base) 0 ≡ i
+  noted-same : base ≤ q → q - base < window → window ≤ length seen → getD (edgeNoted base seen q i) (q - base) 0 ≡ i
   noted-same lo hi l = ap (λ (s : List ℕ). getD s (q - base) 0) (noted-inside lo hi) ∙ getD-set-same seen (q - base) i 0 (omega arith)
 
 -- ---- the walk
 
 module _ (m : Mesh) (ne p base : ℕ) where
-  -- edge j is noted at its other end, if this is in the window
+  -- edge j is edgeNoted at its other end, if this is in the window
   abbrev pub Noted : List ℕ → ℕ → Type 0
   Noted seen j = base ≤ pointAcross m p j → pointAcross m p j < base + window → getD seen (pointAcross m p j - base) 0 ≡ j
 
@@ -93,13 +93,13 @@ module _ (m : Mesh) (ne p base : ℕ) where
     pub many : k ≡ valence m p
     pub within : n ≤ k
     pub room : window ≤ length seen
-    pub here : i ≡ edgeOf m p n
-    pub on : (a : ℕ) → a < n → OnPoint (edgeOf m p a)
-    pub away : (a : ℕ) → 0 < a → a < n → edgeOf m p a ≢ start m p
-    pub passed : (a : ℕ) → a < n → Noted seen (edgeOf m p a)
+    pub here : i ≡ edgeAbout m p n
+    pub on : (a : ℕ) → a < n → OnPoint (edgeAbout m p a)
+    pub away : (a : ℕ) → 0 < a → a < n → edgeAbout m p a ≢ start m p
+    pub passed : (a : ℕ) → a < n → Noted seen (edgeAbout m p a)
 
   pub walking-start : (k i : ℕ) (seen : List ℕ) → k ≡ valence m p → i ≡ start m p → window ≤ length seen → Walking k seen 0 i
-  unfolding after
+  unfolding walkAfter
   walking-start k i seen a b l = record {
     many = a;
     within = omega arith;
@@ -110,15 +110,15 @@ module _ (m : Mesh) (ne p base : ℕ) where
     passed = λ a l. absurd (omega arith);
   }
 
-  -- what was noted stays, unless a second edge is found
+  -- what was edgeNoted stays, unless a second edge is found
   noted-kept : (seen : List ℕ) (i j : ℕ) → window ≤ length seen → OnPoint j
-      → unseen m ne base p seen (pointAcross m p i) i ≡ true → Noted seen j → Noted (noted base seen (pointAcross m p i) i) j
+      → unseen m ne base p seen (pointAcross m p i) i ≡ true → Noted seen j → Noted (edgeNoted base seen (pointAcross m p i) i) j
   noted-kept seen i j room oj fresh was lo hi = go (ℕ-discrete (pointAcross m p j) (pointAcross m p i))
     where
-      go : Dec (pointAcross m p j ≡ pointAcross m p i) → getD (noted base seen (pointAcross m p i) i) (pointAcross m p j - base) 0 ≡ j
+      go : Dec (pointAcross m p j ≡ pointAcross m p i) → getD (edgeNoted base seen (pointAcross m p i) i) (pointAcross m p j - base) 0 ≡ j
       go (no d) = apart (decLt (pointAcross m p i) base)
         where
-          apart : Dec (pointAcross m p i < base) → getD (noted base seen (pointAcross m p i) i) (pointAcross m p j - base) 0 ≡ j
+          apart : Dec (pointAcross m p i < base) → getD (edgeNoted base seen (pointAcross m p i) i) (pointAcross m p j - base) 0 ≡ j
           apart (yes l) =
               ap (λ (s : List ℕ). getD s (pointAcross m p j - base) 0) (noted-before base seen (pointAcross m p i) i l) ∙ was lo hi
           apart (no g) = noted-other base seen (pointAcross m p i) i (pointAcross m p j - base) (λ e. d (omega arith)) ∙ was lo hi
@@ -130,9 +130,9 @@ module _ (m : Mesh) (ne p base : ℕ) where
           touched : Touches m (pointAcross m p i) j
           touched = subst (λ (x : ℕ). Touches m x j) e (other-touched m p j)
 
-          same : Dec (j ≡ i) → getD (noted base seen (pointAcross m p i) i) (pointAcross m p j - base) 0 ≡ j
+          same : Dec (j ≡ i) → getD (edgeNoted base seen (pointAcross m p i) i) (pointAcross m p j - base) 0 ≡ j
           same (yes s) =
-              ap (λ (x : ℕ). getD (noted base seen (pointAcross m p i) i) (x - base) 0) e
+              ap (λ (x : ℕ). getD (edgeNoted base seen (pointAcross m p i) i) (x - base) 0) e
               ∙ noted-same base seen (pointAcross m p i) i (omega arith) (omega arith) room ∙ sym s
           same (no d) =
               absurd (false≢true
@@ -140,7 +140,7 @@ module _ (m : Mesh) (ne p base : ℕ) where
               ∙ ap (λ (x : ℕ). second m ne p (pointAcross m p i) i x) there
               ∙ second-is m ne p (pointAcross m p i) i j .1 (((oj .0, d), oj .1), touched)))
 
-  noted-here : (seen : List ℕ) (i : ℕ) → window ≤ length seen → Noted (noted base seen (pointAcross m p i) i) i
+  noted-here : (seen : List ℕ) (i : ℕ) → window ≤ length seen → Noted (edgeNoted base seen (pointAcross m p i) i) i
   noted-here seen i room lo hi = noted-same base seen (pointAcross m p i) i lo (omega arith) room
 
   module _ (k : ℕ) (seen : List ℕ) (n i : ℕ) (h : Walking k seen n i) where
@@ -148,9 +148,9 @@ module _ (m : Mesh) (ne p base : ℕ) where
     pub walking-lost : n < k → (OnPoint i → ⊥) → Round m ne p → ⊥
     walking-lost l off r = off (subst OnPoint (sym (h .here)) (r .on n (omega (arith, h .many))))
 
-    -- one edge more, and no second one was noted: its other end is q, the notes are seen' then
+    -- one edge more, and no second one was edgeNoted: its other end is q, the notes are seen' then
     pub walking-next : n < k → (0 < n → i ≢ start m p) → OnPoint i → (q next : ℕ) (seen' : List ℕ) → q ≡ pointAcross m p i
-        → next ≡ acwOfPoint m p i → unseen m ne base p seen q i ≡ true → seen' ≡ noted base seen q i → Walking k seen' (n + 1) next
+        → next ≡ acwOfPoint m p i → unseen m ne base p seen q i ≡ true → seen' ≡ edgeNoted base seen q i → Walking k seen' (n + 1) next
     walking-next l yet oi q next seen' other along fresh notes = record {
       many = h .many;
       within = omega arith;
@@ -158,11 +158,11 @@ module _ (m : Mesh) (ne p base : ℕ) where
       here = along ∙ ap (acwOfPoint m p) (h .here) ∙ sym (after-one (acwOfPoint m p) n (start m p));
       on = λ a b. on-more a b (ℕ-discrete n a);
       away = λ a b c. away-more a b c (ℕ-discrete n a);
-      passed = λ a b. subst (λ (s : List ℕ). Noted s (edgeOf m p a)) (sym now) (passed-more a b (ℕ-discrete n a));
+      passed = λ a b. subst (λ (s : List ℕ). Noted s (edgeAbout m p a)) (sym now) (passed-more a b (ℕ-discrete n a));
     }
       where
-        now : seen' ≡ noted base seen (pointAcross m p i) i
-        now = notes ∙ ap (λ (x : ℕ). noted base seen x i) other
+        now : seen' ≡ edgeNoted base seen (pointAcross m p i) i
+        now = notes ∙ ap (λ (x : ℕ). edgeNoted base seen x i) other
 
         below : (a : ℕ) → a < n + 1 → n ≢ a → a < n
         below a l d = go (decLt a n)
@@ -171,19 +171,19 @@ module _ (m : Mesh) (ne p base : ℕ) where
             go (yes b) = b
             go (no g) = absurd (d (omega arith))
 
-        on-more : (a : ℕ) → a < n + 1 → Dec (n ≡ a) → OnPoint (edgeOf m p a)
-        on-more a b (yes s) = subst (λ (x : ℕ). OnPoint (edgeOf m p x)) s (subst OnPoint (h .here) oi)
+        on-more : (a : ℕ) → a < n + 1 → Dec (n ≡ a) → OnPoint (edgeAbout m p a)
+        on-more a b (yes s) = subst (λ (x : ℕ). OnPoint (edgeAbout m p x)) s (subst OnPoint (h .here) oi)
         on-more a b (no d) = h .on a (below a b d)
 
-        away-more : (a : ℕ) → 0 < a → a < n + 1 → Dec (n ≡ a) → edgeOf m p a ≢ start m p
-        away-more a b c (yes s) same = yet (omega arith) (h .here ∙ ap (edgeOf m p) s ∙ same)
+        away-more : (a : ℕ) → 0 < a → a < n + 1 → Dec (n ≡ a) → edgeAbout m p a ≢ start m p
+        away-more a b c (yes s) same = yet (omega arith) (h .here ∙ ap (edgeAbout m p) s ∙ same)
         away-more a b c (no d) same = h .away a b (below a c d) same
 
-        passed-more : (a : ℕ) → a < n + 1 → Dec (n ≡ a) → Noted (noted base seen (pointAcross m p i) i) (edgeOf m p a)
+        passed-more : (a : ℕ) → a < n + 1 → Dec (n ≡ a) → Noted (edgeNoted base seen (pointAcross m p i) i) (edgeAbout m p a)
         passed-more a b (yes s) =
-            subst (Noted (noted base seen (pointAcross m p i) i)) (h .here ∙ ap (edgeOf m p) s) (noted-here seen i (h .room))
+            subst (Noted (edgeNoted base seen (pointAcross m p i) i)) (h .here ∙ ap (edgeAbout m p) s) (noted-here seen i (h .room))
         passed-more a b (no d) =
-            noted-kept seen i (edgeOf m p a) (h .room) (h .on a (below a b d))
+            noted-kept seen i (edgeAbout m p a) (h .room) (h .on a (below a b d))
             (ap (λ (x : ℕ). unseen m ne base p seen x i) (sym other) ∙ fresh) (h .passed a (below a b d))
 
     -- where each edge is the only one between its two points, no second one is found
@@ -199,12 +199,12 @@ module _ (m : Mesh) (ne p base : ℕ) where
         (sym (sole i (getD seen (pointAcross m p i - base) 0) (oi .0) (s .0 .0 .0) (oi .1)
         (same-of-joins m p (pointAcross m p i) i (getD seen (pointAcross m p i - base) 0) (joins-other m p i d (oi .1)) joins) lo (omega arith)))
 
-    -- the walk is at its start again after its valence
+    -- the walk is at its start again walkAfter its valence
     pub walking-home : n ≡ k → i ≡ start m p → Round m ne p × ApartIn m p base
     walking-home l home = (
       record {
         on = λ a b. h .on a (all a b);
-        home = ap (edgeOf m p) (sym all-passed) ∙ sym (h .here) ∙ home;
+        home = ap (edgeAbout m p) (sym all-passed) ∙ sym (h .here) ∙ home;
         away = λ a b c. h .away a b (all a c);
       },
       λ a b la lb same lo hi.
@@ -218,7 +218,7 @@ module _ (m : Mesh) (ne p base : ℕ) where
         all : (a : ℕ) → a < valence m p → a < n
         all a b = omega (arith, all-passed)
 
-    -- it is there after its valence, if it is there again at all before
+    -- it is there walkAfter its valence, if it is there again at all before
     pub walking-early : 0 < n → i ≡ start m p → Round m ne p → n ≡ k
     walking-early some home r = go (decLt n k)
       where
@@ -229,7 +229,7 @@ module _ (m : Mesh) (ne p base : ℕ) where
     pub walking-late : k ≤ n → Round m ne p → i ≡ start m p
     walking-late l r =
         let all-passed : n ≡ valence m p = omega (arith, h .many, h .within) in
-        h .here ∙ ap (edgeOf m p) all-passed ∙ r .home
+        h .here ∙ ap (edgeAbout m p) all-passed ∙ r .home
 
 -- ---- one step
 
@@ -260,26 +260,26 @@ below-more A n all a j l = go (decLt j n)
     go (no g) = subst A (omega arith) a
 
 -- one point more
-pub rounds-more : (m : Mesh) (ne from p : ℕ) → RoundsFrom m p ne from → Round m ne p × Apart m p → RoundsFrom m (p + 1) ne from
+pub rounds-more : (m : Mesh) (ne from p : ℕ) → RoundsFrom m p ne from → Round m ne p × EndsApart m p → RoundsFrom m (p + 1) ne from
 rounds-more m ne from p rounds here q a b = go (decLt q p)
   where
-    go : Dec (q < p) → Round m ne q × Apart m q
+    go : Dec (q < p) → Round m ne q × EndsApart m q
     go (yes l) = rounds q a l
-    go (no g) = subst (λ (x : ℕ). Round m ne x × Apart m x) (omega arith) here
+    go (no g) = subst (λ (x : ℕ). Round m ne x × EndsApart m x) (omega arith) here
 
 -- the points before p, and those from p on
 pub rounds-joined : (m : Mesh) (np ne p : ℕ) → RoundsFrom m p ne 0 → RoundsFrom m np ne p → RoundsFrom m np ne 0
 rounds-joined m np ne p before behind q a b = go (decLt q p)
   where
-    go : Dec (q < p) → Round m ne q × Apart m q
+    go : Dec (q < p) → Round m ne q × EndsApart m q
     go (yes l) = before q a l
     go (no g) = behind q (omega arith) b
 
 pub apart-of-windows : (m : Mesh) (np ne p : ℕ) → ((i : ℕ) → i < ne → pointAcross m p i < np) → Round m ne p
-    → ((k : ℕ) → k < np / window + 1 → ApartIn m p (k * window)) → Apart m p
+    → ((k : ℕ) → k < np / window + 1 → ApartIn m p (k * window)) → EndsApart m p
 apart-of-windows m np ne p below r apart a b la lb same =
-    let o = pointAcross m p (edgeOf m p a) in
-    let l : o < np = below (edgeOf m p a) (r .on a la .0) in
+    let o = pointAcross m p (edgeAbout m p a) in
+    let l : o < np = below (edgeAbout m p a) (r .on a la .0) in
     apart (o / window) (omega arith) a b la lb same (omega arith) (omega arith)
 
 pub other-below : (m : Mesh) (np p i : ℕ) → origin m i < np → dest m i < np → pointAcross m p i < np

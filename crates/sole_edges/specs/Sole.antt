@@ -1,18 +1,18 @@
--- Walks about points that are at their start again after their valence, along edges that are the only ones between their two points, and
+-- Walks about points that are at their start again walkAfter their valence, along edges that are the only ones between their two points, and
 -- what such a walk notes.
 --     few                          a point with more edges than this has many
 --     window                       how many points one walk looks at
 --     second m ne p q i s          edge s is below ne, another than i, and joins the points p and q
---     unseen m ne base p seen q i  q is not among the points base, base + 1, .. of the window, or no second edge is noted there
---     noted base seen q i          the notes with edge i at the place of q, if q is in the window
+--     unseen m ne base p seen q i  q is not among the points base, base + 1, .. of the window, or no second edge is edgeNoted there
+--     edgeNoted base seen q i          the notes with edge i at the place of q, if q is in the window
 --     newEnd ends n q              q stands at none of the first n places of ends
 --     Ends m np ne                 the ends of edges are points, and differ
---     after step n e               where n steps from e lead
---     edgeOf m p n                 the edge to which n steps about point p from its start edge lead
+--     walkAfter step n e               where n steps from e lead
+--     edgeAbout m p n                 the edge to which n steps about point p from its start edge lead
 --     Round m ne p                 these are edges below ne that touch p, up to the valence of p, and it is the first number of steps that leads
 --                                  back to the start edge
 --     ApartIn m p base             of these edges, two with the same other end in the window are one edge
---     Apart m p                    the same of all points
+--     EndsApart m p                    the same of all points
 --     SoleIn m ne p base           each edge of p to a point of the window is the only one between its two points
 --     Sole m ne p                  the same of all edges of p
 --     SoleFrom m np ne from        the same of all points from the given one on
@@ -44,8 +44,8 @@ abbrev pub unseen : Mesh → ℕ → ℕ → ℕ → List ℕ → ℕ → ℕ �
 unseen m ne base p seen q i =
     cond (ltb q base) true (cond (ltb (q - base) window) (not (second m ne p q i (getD seen (q - base) 0))) true)
 
-abbrev pub noted : ℕ → List ℕ → ℕ → ℕ → List ℕ
-noted base seen q i = cond (ltb q base) seen (cond (ltb (q - base) window) (set seen (q - base) i) seen)
+abbrev pub edgeNoted : ℕ → List ℕ → ℕ → ℕ → List ℕ
+edgeNoted base seen q i = cond (ltb q base) seen (cond (ltb (q - base) window) (set seen (q - base) i) seen)
 
 abbrev pub newEnd : List ℕ → ℕ → ℕ → Bool
 newEnd ends n q = every n (λ a. not (eqb (getD ends a 0) q))
@@ -55,27 +55,27 @@ pub record Ends (m : Mesh) (np ne : ℕ) : Type 0 where
   pub dest-below : (e : ℕ) → e < ne → dest m e < np
   pub differ : (e : ℕ) → e < ne → origin m e ≢ dest m e
 
-unfoldable pub after : (ℕ → ℕ) → ℕ → ℕ → ℕ
-after step zero e = e
-after step (suc n) e = step (after step n e)
+unfoldable pub walkAfter : (ℕ → ℕ) → ℕ → ℕ → ℕ
+walkAfter step zero e = e
+walkAfter step (suc n) e = step (walkAfter step n e)
 
-abbrev pub edgeOf : Mesh → ℕ → ℕ → ℕ
-edgeOf m p n = after (acwOfPoint m p) n (start m p)
+abbrev pub edgeAbout : Mesh → ℕ → ℕ → ℕ
+edgeAbout m p n = walkAfter (acwOfPoint m p) n (start m p)
 
 pub record Round (m : Mesh) (ne p : ℕ) : Type 0 where
-  pub on : (a : ℕ) → a < valence m p → (edgeOf m p a < ne) × Touches m p (edgeOf m p a)
-  pub home : edgeOf m p (valence m p) ≡ start m p
-  pub away : (a : ℕ) → 0 < a → a < valence m p → edgeOf m p a ≢ start m p
+  pub on : (a : ℕ) → a < valence m p → (edgeAbout m p a < ne) × Touches m p (edgeAbout m p a)
+  pub home : edgeAbout m p (valence m p) ≡ start m p
+  pub away : (a : ℕ) → 0 < a → a < valence m p → edgeAbout m p a ≢ start m p
 
 abbrev pub ApartIn : Mesh → ℕ → ℕ → Type 0
 ApartIn m p base =
-    (a b : ℕ) → a < valence m p → b < valence m p → pointAcross m p (edgeOf m p a) ≡ pointAcross m p (edgeOf m p b)
-    → base ≤ pointAcross m p (edgeOf m p a) → pointAcross m p (edgeOf m p a) < base + window → edgeOf m p a ≡ edgeOf m p b
+    (a b : ℕ) → a < valence m p → b < valence m p → pointAcross m p (edgeAbout m p a) ≡ pointAcross m p (edgeAbout m p b)
+    → base ≤ pointAcross m p (edgeAbout m p a) → pointAcross m p (edgeAbout m p a) < base + window → edgeAbout m p a ≡ edgeAbout m p b
 
-abbrev pub Apart : Mesh → ℕ → Type 0
-Apart m p =
-    (a b : ℕ) → a < valence m p → b < valence m p → pointAcross m p (edgeOf m p a) ≡ pointAcross m p (edgeOf m p b)
-    → edgeOf m p a ≡ edgeOf m p b
+abbrev pub EndsApart : Mesh → ℕ → Type 0
+EndsApart m p =
+    (a b : ℕ) → a < valence m p → b < valence m p → pointAcross m p (edgeAbout m p a) ≡ pointAcross m p (edgeAbout m p b)
+    → edgeAbout m p a ≡ edgeAbout m p b
 
 abbrev pub SoleIn : Mesh → ℕ → ℕ → ℕ → Type 0
 SoleIn m ne p base =
@@ -92,7 +92,7 @@ abbrev pub RoundIn : Mesh → ℕ → ℕ → ℕ → Type 0
 RoundIn m ne p base = Round m ne p × ApartIn m p base
 
 abbrev pub RoundApart : Mesh → ℕ → ℕ → Type 0
-RoundApart m ne p = Round m ne p × Apart m p
+RoundApart m ne p = Round m ne p × EndsApart m p
 
 abbrev pub RoundsFrom : Mesh → ℕ → ℕ → ℕ → Type 0
 RoundsFrom m np ne from = (p : ℕ) → from ≤ p → p < np → RoundApart m ne p

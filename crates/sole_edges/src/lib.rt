@@ -1,7 +1,7 @@
 // Whether the walks about points come back after their valences, and no two edges join the same two points (document 01, "Audit"), in
 // one walk about each point: linear in the edges.
-// The other ends of a point's edges are compared with each other, if they are few. If they are many, each edge is noted in a local
-// table at the place of its other end: an edge that finds another between the same two points noted there is a second one. What
+// The other ends of a point's edges are compared with each other, if they are few. If they are many, each edge is edgeNoted in a local
+// table at the place of its other end: an edge that finds another between the same two points edgeNoted there is a second one. What
 // other walks left in the table does no harm, since the edge that is found is looked at. Past 32,768 points there is one walk for
 // each window of so many, so that no memory is lent.
 // A walk whose other ends are compared takes as many steps as the valence says and must be at its start then: if it were there before, it
@@ -24,7 +24,7 @@ ghost use Rattle.tables.specs.Parts.{faceTables, pointTables};
 ghost use Rattle.audited_meshes.specs.Folds.{every};
 ghost use Rattle.audited_meshes.specs.Quick.{oneEdge};
 ghost use Rattle.audit_tests.specs.Parts.{walkFits};
-ghost use Rattle.sole_edges.specs.Sole.{few, window, second, unseen, noted, newEnd, Ends};
+ghost use Rattle.sole_edges.specs.Sole.{few, window, second, unseen, edgeNoted, newEnd, Ends};
 ghost use Rattle.sole_edges.specs.Sole.{RoundIn, GoodIn, RoundApart, Good, RoundsFrom, GoodFrom};
 use tables::POINT_WIDTH;
 use tables::START_WORD;
@@ -56,13 +56,13 @@ fn is_second(edges: &[u32], ne: usize, p: usize, q: usize, i: usize, s: usize) -
     touches(edges, q, s)
 }
 
-// Notes edge i from p at its other end q, and says whether no second edge was noted there; a point out of the window from base
+// Notes edge i from p at its other end q, and says whether no second edge was edgeNoted there; a point out of the window from base
 // on is passed over.
 fn note(edges: &[u32], seen: &mut [u32], ne: usize, base: usize, p: usize, q: usize, i: u32) -> bool
     requires { ⌜ ne * edgeWidth ≤ length (now edges) ⌝ }
     requires { ⌜ window ≤ length (now seen) ⌝ }
     ensures { λ r. ⌜ r ≡ unseen (faceTables (now (edges .entry)) []) ne base p (now (seen .entry)) q i ⌝ }
-    ensures { λ _. ⌜ now (seen .exit) ≡ noted base (now (seen .entry)) q i ⌝ }
+    ensures { λ _. ⌜ now (seen .exit) ≡ edgeNoted base (now (seen .entry)) q i ⌝ }
 {
     if q < base {
         return true;

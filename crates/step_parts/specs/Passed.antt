@@ -1,5 +1,5 @@
 -- What stands once the tests of a step are passed.
---     Passed ed m c order t c'    none of the grounds 30, 31 and 32 holds, and c' are the counts after the step, which is of the edition ed
+--     TestsPassed ed m c order t c'    none of the grounds 30, 31 and 32 holds, and c' are the counts after the step, which is of the edition ed
 use mathlib.Core.List.{List}
 use mathlib.Core.Path.{_≡_}
 use Prim.Native.Nat.{ℕ}
@@ -11,7 +11,7 @@ use Rattle.tables.specs.Counted.{firstRows}
 use Rattle.steps.specs.Rows.{Room}
 use Rattle.making.specs.Making.{Ready}
 
-pub record Passed (ed : Edition) (m : Mesh) (c : Counts) (order : List ℕ) (t : Mesh) (c' : Counts) : Type 0 where
+pub record TestsPassed (ed : Edition) (m : Mesh) (c : Counts) (order : List ℕ) (t : Mesh) (c' : Counts) : Type 0 where
   pub rows : Room c m
   pub room : Room c' m
   pub scratch : Room c' t

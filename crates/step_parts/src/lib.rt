@@ -1,14 +1,14 @@
 // The two parts of a step that has passed its tests: the refined mesh made in scratch, of the rows that the counts count, and the
 // refined mesh committed to the tables.
 // Not here: the parts put together (`finishing`), the tests (`step_grounds`).
-// Contracts: `make_from_rows`, `commit`. Definitions: `steps`, specs/Step.antt; `specs/Passed.antt`.
+// Contracts: `make_from_rows`, `commit`. Definitions: `steps`, specs/Step.antt; `specs/TestsPassed.antt`.
 ghost use mathlib.Core.Path.{_≡_};
 ghost use Rattle.tables.specs.Mesh.{meshOf};
 ghost use Rattle.tables.specs.Counted.{firstRows, zeroedRows, overRows};
 ghost use Rattle.steps.specs.Step.{made};
 ghost use Rattle.steps.specs.Rows.{Room};
 ghost use Rattle.making.specs.Making.{madeAs};
-ghost use Rattle.step_parts.specs.Passed.{Passed};
+ghost use Rattle.step_parts.specs.Passed.{TestsPassed};
 use counted_rows::zero_rows;
 use making::make_in_rows;
 use refined_meshes::Edition;
@@ -36,7 +36,7 @@ pub fn make_from_rows(
     edition: Edition,
 ) -> bool
     requires { ⌜
-        Passed edition (meshOf (now positions) (now points) (now edges) (now intervals) (now faces)) counts (now order)
+        TestsPassed edition (meshOf (now positions) (now points) (now edges) (now intervals) (now faces)) counts (now order)
         (meshOf (now newpositions) (now newpoints) (now newedges) (now newintervals) (now newfaces)) c ⌝ }
     ensures { λ r. ⌜
         made edition

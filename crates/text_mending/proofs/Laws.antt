@@ -21,7 +21,7 @@ use Rattle.text_building.proofs.Laws.{no-form, over-text, means, first-lists}
 use Rattle.mended_lists.specs.Mending.{mendingIf, mending}
 use Rattle.mended_lists.specs.declared.Mending.{Mending}
 use Rattle.mended_lists.specs.declared.Mending.the-variants as Lists
-use Rattle.mended_texts.specs.Mending.{MendOutcome, told, mendText, textMendingNumber}
+use Rattle.mended_texts.specs.Mending.{MendOutcome, mendingOf, mendText, textMendingNumber}
 use Rattle.mended_texts.specs.declared.TextMending.the-variants.{NotText, Refused}
 use Rattle.mended_texts.proofs.Outcome.{of-lists, formless, head-two}
 use Rattle.text_rewriting.specs.Said.{Said}
@@ -43,7 +43,7 @@ module _ (s : List ℕ) (lent : TextLists) {r : Reading} {left : TextLists} {lim
     over-limits rx rl rq rp rd h =
         let (t, n, et, ec) = over-text General s lent eb e rx rl rp rd rq h in
         sym
-        (of-lists s t n et (head-two s t n et head) ∙ ap (λ (x : Mending). told x s t) (over-refused (listsOf t) ec))
+        (of-lists s t n et (head-two s t n et head) ∙ ap (λ (x : Mending). mendingOf x s t) (over-refused (listsOf t) ec))
 
     pub said-first :
         {v : Version} {c : Sizes} → r ≡ Reading.Read v c →

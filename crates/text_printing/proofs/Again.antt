@@ -24,9 +24,9 @@ use Rattle.built_meshes.proofs.Perimeter.{offset-suc}
 use Rattle.listings.specs.Handing.{upTo, bitsOf}
 use Rattle.listings.proofs.Parts.{flat-append, flat-one, length-flat, all-to}
 use Rattle.listings.proofs.WrittenBack.{upTo-all, all-at}
-use Rattle.mesh_printing.specs.Printing.{FitListed, FitSide, FitFace, FitText}
+use Rattle.mesh_printing.specs.Printing.{FitListed, FitSide, FitTextFace, FitText}
 use Rattle.text_meshes.specs.TextBuilding.{listsOf}
-use Rattle.text_printing.specs.Faces.{listedIn, listedFrom, sideIn, faceIn, facesIn, AllFinite}
+use Rattle.text_printing.specs.Faces.{listedAt, listedFrom, sideIn, faceIn, facesIn, FiniteIntervals}
 
 -- ---- lists joined
 
@@ -80,8 +80,8 @@ noSide : Side
 noSide = record { first = 0; listed = [] }
 
 module _ (t : TextMesh) (fit : FitText t) where
-  face-fit : (f : ℕ) → f < length (t .faces) → FitFace (getD (t .faces) f [])
-  face-fit f h = all-at FitFace [] (t .faces) (fit .faces-fit) f h
+  face-fit : (f : ℕ) → f < length (t .faces) → FitTextFace (getD (t .faces) f [])
+  face-fit f h = all-at FitTextFace [] (t .faces) (fit .faces-fit) f h
 
   -- one number a side
   module _ (g : Side → ℕ) where
@@ -170,11 +170,11 @@ module _ (t : TextMesh) (fit : FitText t) where
           flat-below (flat g) [] (t .faces) f j h (flat-below g noSide ds k i (omega (arith, four)) within),
         )
 
-  module _ (fin : AllFinite (intervals t)) where
+  module _ (fin : FiniteIntervals (intervals t)) where
     module _ (f k : ℕ) (h : f < length (t .faces)) (b : k < 4) where
       listed-again :
           (i : ℕ) → i < sideCount (getD (getD (t .faces) f []) k noSide) →
-          listedIn (listsOf t) (sideFrom (listsOf t) f (offset (listsOf t) f) k + i) ≡ getD (getD (getD (t .faces) f []) k noSide .listed) i noListed
+          listedAt (listsOf t) (sideFrom (listsOf t) f (offset (listsOf t) f) k + i) ≡ getD (getD (getD (t .faces) f []) k noSide .listed) i noListed
       listed-again i c =
           let d = getD (getD (t .faces) f []) k noSide in
           let at = sideFrom (listsOf t) f (offset (listsOf t) f) k + i in
@@ -193,7 +193,7 @@ module _ (t : TextMesh) (fit : FitText t) where
       side-again : sideIn (listsOf t) f k ≡ getD (getD (t .faces) f []) k noSide
       side-again =
           let d = getD (getD (t .faces) f []) k noSide in
-          let g : ℕ → Listed = λ i. listedIn (listsOf t) (sideFrom (listsOf t) f (offset (listsOf t) f) k + i) in
+          let g : ℕ → Listed = λ i. listedAt (listsOf t) (sideFrom (listsOf t) f (offset (listsOf t) f) k + i) in
           let e = first-text f k h b in
           let u = ap (λ (n : ℕ). upTo n g) (side-text f k h b) ∙ upTo-all g noListed (d .listed) listed-again in
           λ j. record { first = e j; listed = u j }

@@ -23,8 +23,8 @@ use Rattle.mesh_answers.specs.Lines.{decimalBytes, bitsField}
 use Rattle.mesh_answers.specs.Writing.{Written}
 use Rattle.mesh_answers.proofs.Laws.{written-append, length-bits}
 use Rattle.listings.specs.Handing.{upTo}
-use Rattle.mesh_printing.specs.Printing.{listedPart, sidePart, faceLine}
-use Rattle.text_printing.specs.Faces.{listedFrom, sideOf, sideIn, facesIn, FaceRoom, FacesRoom}
+use Rattle.mesh_printing.specs.Printing.{listedPart, sidePart, textFaceLine}
+use Rattle.text_printing.specs.Faces.{listedFrom, sideAt, sideIn, facesIn, PrintingRoom, PrintingRooms}
 
 -- ---- parts of lines
 
@@ -45,7 +45,7 @@ side-room d =
       length-append (flat listedPart (d .listed)) (bytes "]"),
     )
 
-pub face-room : (ds : List Side) → length (faceLine ds) ≡ 5 + (length (flat sidePart ds) + 2)
+pub face-room : (ds : List Side) → length (textFaceLine ds) ≡ 5 + (length (flat sidePart ds) + 2)
 face-room ds = omega (arith, length-append (flat sidePart ds) (bytes "]\n"))
 
 pub parts-of : {out : List ℕ} {at : ℕ} {a : List ℕ} {i : ℕ} {o1 b : List ℕ} {j : ℕ} {o2 c : List ℕ} {k : ℕ} {o3 d : List ℕ} {r : ℕ} {o4 : List ℕ}
@@ -71,14 +71,14 @@ offset-same v cs ss fs ls is f = refl
 module _ (ss fs ls : List ℕ) (is : List Float) (f a k : ℕ) where
   pub side-same :
       {p b n : ℕ} → p ≡ getD fs (f * 4 + k) 0 → b ≡ sideFrom (listsIn Two [] ss fs ls is) f a k → n ≡ getD ss (f * 4 + k) 0 →
-      a ≡ offset (lists [] ss [] []) f → sideOf (listsIn Two [] [] [] ls is) p b n ≡ sideIn (listsIn Two [] ss fs ls is) f k
+      a ≡ offset (lists [] ss [] []) f → sideAt (listsIn Two [] [] [] ls is) p b n ≡ sideIn (listsIn Two [] ss fs ls is) f k
   side-same {p} {b} {n} ep eb en ea =
       let l = listsIn Two [] ss fs ls is in
       let e = eb ∙ ap (λ (x : ℕ). sideFrom l f x k) (ea ∙ offset-same Two [] ss fs ls is f) in
-      λ i. sideOf l (ep i) (e i) (en i)
+      λ i. sideAt l (ep i) (e i) (en i)
 
-module _ {ss fs ls : List ℕ} {is : List Float} (h : FacesRoom ss fs ls is) {f a : ℕ} (b : f < length ss / 4) (e : a ≡ offset (lists [] ss [] []) f) where
-  pub face-in : FaceRoom ss fs ls is f a
+module _ {ss fs ls : List ℕ} {is : List Float} (h : PrintingRooms ss fs ls is) {f a : ℕ} (b : f < length ss / 4) (e : a ≡ offset (lists [] ss [] []) f) where
+  pub face-in : PrintingRoom ss fs ls is f a
   face-in =
       record {
         sides-fit = omega arith;
@@ -108,4 +108,4 @@ module _ (v : Version) (cs : List Float) (ss fs ls : List ℕ) (is : List Float)
   pub faces-any : facesIn (listsIn v cs ss fs ls is) ≡ facesIn (listsIn Two [] ss fs ls is)
   faces-any =
       let l = listsIn Two [] ss fs ls is in
-      λ i. upTo (facesOf l) (λ f. upTo 4 (λ k. sideOf l (firstAt l f k) (from-any f k i) (sideLength l f k)))
+      λ i. upTo (facesOf l) (λ f. upTo 4 (λ k. sideAt l (firstAt l f k) (from-any f k i) (sideLength l f k)))

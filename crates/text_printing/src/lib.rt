@@ -13,8 +13,8 @@ ghost use Rattle.mesh_lines.specs.Grammar.{flat};
 ghost use Rattle.built_meshes.specs.declared.Version.the-variants.{Two};
 ghost use Rattle.building_tests.specs.Lent.{listsIn};
 ghost use Rattle.mesh_answers.specs.Writing.{Written};
-ghost use Rattle.mesh_printing.specs.Printing.{listedPart, sidePart, faceLine};
-ghost use Rattle.text_printing.specs.Faces.{listedIn, listedFrom, sideOf, faceIn, facesIn, FaceRoom, FacesRoom, AllFinite};
+ghost use Rattle.mesh_printing.specs.Printing.{listedPart, sidePart, textFaceLine};
+ghost use Rattle.text_printing.specs.Faces.{listedAt, listedFrom, sideAt, faceIn, facesIn, PrintingRoom, PrintingRooms, FiniteIntervals};
 use building_tests::faces::face_size;
 use listing_printing::wide;
 use mesh_answers::write;
@@ -27,9 +27,9 @@ fn write_listed(out: &mut [u8], at: usize, listed: &[u32], beside: &[f64], i: us
     requires { ⌜ i < length (now listed) ⌝ }
     requires { ⌜ i < length (now beside) ⌝ }
     requires { ⌜ finite (getD (now beside) i nan) ≡ true ⌝ }
-    requires { ⌜ at + length (listedPart (listedIn (listsIn Two [] [] [] (now listed) (now beside)) i)) ≤ length (now out) ⌝ }
+    requires { ⌜ at + length (listedPart (listedAt (listsIn Two [] [] [] (now listed) (now beside)) i)) ≤ length (now out) ⌝ }
     ensures { λ r. ⌜
-        Written (now (out .entry)) at (listedPart (listedIn (listsIn Two [] [] [] (now (listed .entry)) (now (beside .entry))) i)) r
+        Written (now (out .entry)) at (listedPart (listedAt (listsIn Two [] [] [] (now (listed .entry)) (now (beside .entry))) i)) r
         (now (out .exit)) ⌝ }
 {
     let p = wide(listed[i]);
@@ -51,7 +51,7 @@ fn write_points(
 ) -> usize
     requires { ⌜ a + n ≤ length (now listed) ⌝ }
     requires { ⌜ length (now beside) ≡ length (now listed) ⌝ }
-    requires { ⌜ AllFinite (now beside) ⌝ }
+    requires { ⌜ FiniteIntervals (now beside) ⌝ }
     requires { ⌜
         at + length (flat listedPart (listedFrom (listsIn Two [] [] [] (now listed) (now beside)) a n)) ≤ length (now out) ⌝ }
     ensures { λ r. ⌜
@@ -79,11 +79,11 @@ fn write_side(
 ) -> usize
     requires { ⌜ a + n ≤ length (now listed) ⌝ }
     requires { ⌜ length (now beside) ≡ length (now listed) ⌝ }
-    requires { ⌜ AllFinite (now beside) ⌝ }
+    requires { ⌜ FiniteIntervals (now beside) ⌝ }
     requires { ⌜
-        at + length (sidePart (sideOf (listsIn Two [] [] [] (now listed) (now beside)) p a n)) ≤ length (now out) ⌝ }
+        at + length (sidePart (sideAt (listsIn Two [] [] [] (now listed) (now beside)) p a n)) ≤ length (now out) ⌝ }
     ensures { λ r. ⌜
-        Written (now (out .entry)) at (sidePart (sideOf (listsIn Two [] [] [] (now (listed .entry)) (now (beside .entry))) p a n)) r
+        Written (now (out .entry)) at (sidePart (sideAt (listsIn Two [] [] [] (now (listed .entry)) (now (beside .entry))) p a n)) r
         (now (out .exit)) ⌝ }
 {
     let first = wide(p);
@@ -104,7 +104,7 @@ fn write_sides(
     f: usize,
     a: usize,
 ) -> usize
-    requires { ⌜ FaceRoom (now sides) (now firsts) (now listed) (now beside) f a ⌝ }
+    requires { ⌜ PrintingRoom (now sides) (now firsts) (now listed) (now beside) f a ⌝ }
     requires { ⌜
         at + length (flat sidePart (faceIn (listsIn Two [] (now sides) (now firsts) (now listed) (now beside)) f)) ≤ length (now out) ⌝ }
     ensures { λ r. ⌜
@@ -135,11 +135,11 @@ fn write_face(
     f: usize,
     a: usize,
 ) -> usize
-    requires { ⌜ FaceRoom (now sides) (now firsts) (now listed) (now beside) f a ⌝ }
+    requires { ⌜ PrintingRoom (now sides) (now firsts) (now listed) (now beside) f a ⌝ }
     requires { ⌜
-        at + length (faceLine (faceIn (listsIn Two [] (now sides) (now firsts) (now listed) (now beside)) f)) ≤ length (now out) ⌝ }
+        at + length (textFaceLine (faceIn (listsIn Two [] (now sides) (now firsts) (now listed) (now beside)) f)) ≤ length (now out) ⌝ }
     ensures { λ r. ⌜
-        Written (now (out .entry)) at (faceLine (faceIn (listsIn Two [] (now (sides .entry)) (now (firsts .entry))
+        Written (now (out .entry)) at (textFaceLine (faceIn (listsIn Two [] (now (sides .entry)) (now (firsts .entry))
         (now (listed .entry)) (now (beside .entry))) f)) r (now (out .exit)) ⌝ }
 {
     let i = write(out, at, b"[face");
@@ -156,11 +156,11 @@ pub fn write_face_lines(
     listed: &[u32],
     beside: &[f64],
 ) -> usize
-    requires { ⌜ FacesRoom (now sides) (now firsts) (now listed) (now beside) ⌝ }
+    requires { ⌜ PrintingRooms (now sides) (now firsts) (now listed) (now beside) ⌝ }
     requires { ⌜
-        at + length (flat faceLine (facesIn (listsIn Two [] (now sides) (now firsts) (now listed) (now beside)))) ≤ length (now out) ⌝ }
+        at + length (flat textFaceLine (facesIn (listsIn Two [] (now sides) (now firsts) (now listed) (now beside)))) ≤ length (now out) ⌝ }
     ensures { λ r. ⌜
-        Written (now (out .entry)) at (flat faceLine (facesIn (listsIn Two [] (now (sides .entry)) (now (firsts .entry))
+        Written (now (out .entry)) at (flat textFaceLine (facesIn (listsIn Two [] (now (sides .entry)) (now (firsts .entry))
         (now (listed .entry)) (now (beside .entry))))) r (now (out .exit)) ⌝ }
 {
     let nf = sides.len() / 4;

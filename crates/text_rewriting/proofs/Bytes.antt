@@ -12,7 +12,7 @@ use Rattle.mesh_lines.specs.Grammar.{flat}
 use Rattle.mesh_answers.specs.Lines.{hexBytes, bitsField}
 use Rattle.mesh_answers.proofs.Laws.{length-hex}
 use Rattle.listings.specs.Printing.{All}
-use Rattle.mesh_printing.specs.Printing.{pointLine, FitPoint}
+use Rattle.mesh_printing.specs.Printing.{textPointLine, FitTextPoint}
 
 fields-bytes : (xs : List ℕ) → length (flat bitsField xs) ≡ 17 * length xs
 unfolding flat
@@ -23,11 +23,11 @@ fields-bytes (x ∷ xs) =
     let r = fields-bytes xs in
     omega arith
 
-pub points-bytes : (ps : List (List ℕ)) → All FitPoint ps → length (flat pointLine ps) ≡ 59 * length ps
+pub points-bytes : (ps : List (List ℕ)) → All FitTextPoint ps → length (flat textPointLine ps) ≡ 59 * length ps
 unfolding flat
 points-bytes [] h = omega arith
 points-bytes (p ∷ ps) ((three, below), hs) =
-    let e0 = length-append (pointLine p) (flat pointLine ps) in
+    let e0 = length-append (textPointLine p) (flat textPointLine ps) in
     let e1 = length-append (bytes "[point") (flat bitsField p ++ bytes "]\n") in
     let e2 = length-append (flat bitsField p) (bytes "]\n") in
     let e3 = fields-bytes p in

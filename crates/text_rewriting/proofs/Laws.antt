@@ -25,14 +25,14 @@ use Rattle.built_meshes.specs.declared.Ground.{Ground}
 use Rattle.built_meshes.proofs.Begin.{Counted, counts-is}
 use Rattle.building_tests.specs.Lent.{listsIn}
 use Rattle.mesh_answers.specs.Writing.{Written}
-use Rattle.mesh_printing.specs.Printing.{FitText, headLine, pointLine, faceLine, printed}
+use Rattle.mesh_printing.specs.Printing.{FitText, headLine, textPointLine, textFaceLine, printedText}
 use Rattle.mesh_printing.proofs.Theorem.{text-exactly}
 use Rattle.text_meshes.specs.TextBuilding.{listsOf}
 use Rattle.listings.specs.Handing.{upTo}
-use Rattle.text_printing.specs.Faces.{sideOf, facesIn, FacesRoom, AllFinite}
+use Rattle.text_printing.specs.Faces.{sideAt, facesIn, PrintingRooms, FiniteIntervals}
 use Rattle.text_printing.proofs.Again.{faces-again}
 use Rattle.mended_lists.specs.Reversal.{Choice, reversed}
-use Rattle.mended_lists.specs.Parts.{turns}
+use Rattle.mended_lists.specs.Parts.{facesTurned}
 use Rattle.mended_lists.specs.Mending.{mending}
 use Rattle.mended_lists.specs.Claims.{Fitting}
 use Rattle.mended_lists.specs.declared.Mending.{Mending}
@@ -42,7 +42,7 @@ use Rattle.mended_lists.proofs.Again.{reversed-fitting}
 use Rattle.face_turning.specs.Moved.{AllTurned}
 use Rattle.face_turning.proofs.Faces.{fitting-with}
 use Rattle.mended_texts.specs.Turning.{turnedFaces, turnedText}
-use Rattle.mended_texts.specs.Mending.{told, mendText}
+use Rattle.mended_texts.specs.Mending.{mendingOf, mendText}
 use Rattle.mended_texts.specs.declared.TextMending.the-variants.{Mended, Refused, Twisted}
 use Rattle.mended_texts.proofs.Printed.{fit-turned, faces-bytes, four-of-fit}
 use Rattle.mended_texts.proofs.Turned.{faces-count}
@@ -65,7 +65,7 @@ module _ (cs cs' : List Float) (ss fs ls : List ℕ) (is : List Float) where
   faces-with : facesIn (listsIn Two cs ss fs ls is) ≡ facesIn (listsIn Two cs' ss fs ls is)
   faces-with =
       λ i. upTo (length ss / 4) (λ f. upTo 4 (λ k.
-      sideOf (listsIn Two cs ss fs ls is) (getD fs (f * 4 + k) 0) (from-with f k i) (getD ss (f * 4 + k) 0)))
+      sideAt (listsIn Two cs ss fs ls is) (getD fs (f * 4 + k) 0) (from-with f k i) (getD ss (f * 4 + k) 0)))
 
 module _ (s : List ℕ) (cs : List Float) (ss fs ls : List ℕ) (is : List Float) where
   abbrev l : Lists
@@ -80,25 +80,25 @@ module _ (s : List ℕ) (cs : List Float) (ss fs ls : List ℕ) (is : List Float
     fit : FitText t
     fit = text-exactly s t .0 (said .place, said .form) .0
 
-    is-printed : s ≡ printed t
+    is-printed : s ≡ printedText t
     is-printed = text-exactly s t .0 (said .place, said .form) .1
 
     fitting : Fitting l
     fitting = subst (λ (x : Lists). Fitting x) (said .lists) (text-fitting t fit)
 
-    answered : mendText s ≡ told (mending generalLimits l) s t
+    answered : mendText s ≡ mendingOf (mending generalLimits l) s t
     answered =
-        of-lists s t (said .place) (said .form) (said .two) ∙ ap (λ (x : Lists). told (mending generalLimits x) s t) (said .lists)
+        of-lists s t (said .place) (said .form) (said .two) ∙ ap (λ (x : Lists). mendingOf (mending generalLimits x) s t) (said .lists)
 
     pub refused : {r : Mending} {g : Ground} → r ≡ mending generalLimits l → r ≡ Lists.Refused g → record { answer = Refused g; text = s } ≡ mendText s
-    refused e h = sym (answered ∙ ap (λ (x : Mending). told x s t) (sym e ∙ h))
+    refused e h = sym (answered ∙ ap (λ (x : Mending). mendingOf x s t) (sym e ∙ h))
 
     pub twisted : {r : Mending} → r ≡ mending generalLimits l → r ≡ Lists.Twisted → record { answer = Twisted; text = s } ≡ mendText s
-    twisted e h = sym (answered ∙ ap (λ (x : Mending). told x s t) (sym e ∙ h))
+    twisted e h = sym (answered ∙ ap (λ (x : Mending). mendingOf x s t) (sym e ∙ h))
 
     pub can-mend :
         {r : Mending} (ts : List Bool) → r ≡ mending generalLimits l →
-        (r ≡ Lists.Mended → (f : ℕ) → f < facesOf l → getD ts f false ≡ turns l f) → length ts ≡ 4096 → r ≡ Lists.Mended →
+        (r ≡ Lists.Mended → (f : ℕ) → f < facesOf l → getD ts f false ≡ facesTurned l f) → length ts ≡ 4096 → r ≡ Lists.Mended →
         Mendable s cs ss fs ls is ts
     can-mend ts e c room h = record { said = said; mended = sym e ∙ h; chosen = c h; room = room }
 
@@ -148,7 +148,7 @@ module _ (s : List ℕ) (cs : List Float) (ss fs ls : List ℕ) (is : List Float
           m-fitting .listed ∙ ap (offset m) m-faces ∙ ap (λ (x : Lists). offset x (facesOf l)) (turned cs)
           ∙ reversed-offset choice l (facesOf l) (omega arith) ∙ sym (fitting said .listed)
 
-      m-finite : AllFinite is'
+      m-finite : FiniteIntervals is'
       m-finite k h =
           let (j, b, e) = interval-from choice l (fitting said) k (subst (λ (x : Lists). k < length (x .intervals)) (turned cs) h) in
           ap (λ (x : Lists). finite (getD (x .intervals) k nan)) (turned cs) ∙ ap finite e
@@ -163,13 +163,13 @@ module _ (s : List ℕ) (cs : List Float) (ss fs ls : List ℕ) (is : List Float
       m-faces-are =
           faces-with [] cs ss' fs' ls' is' ∙ ap facesIn m-is
           ∙ faces-again (turnedText choice (t said)) (fit-turned choice (t said) (fit said))
-          (subst (λ (x : Lists). AllFinite (x .intervals)) m-is m-finite)
+          (subst (λ (x : Lists). FiniteIntervals (x .intervals)) m-is m-finite)
 
-      lines-length : length (flat faceLine (facesIn (listsIn Two [] ss' fs' ls' is'))) ≡ length (flat faceLine (t said .faces))
-      lines-length = ap (λ (x : List (List Side)). length (flat faceLine x)) m-faces-are ∙ faces-bytes choice (t said .faces)
+      lines-length : length (flat textFaceLine (facesIn (listsIn Two [] ss' fs' ls' is'))) ≡ length (flat textFaceLine (t said .faces))
+      lines-length = ap (λ (x : List (List Side)). length (flat textFaceLine x)) m-faces-are ∙ faces-bytes choice (t said .faces)
 
       module _ (at : ℕ) (place : at ≡ 9 + 59 * (length cs / 3)) where
-        at-is : at ≡ length (headLine (t said .version)) + length (flat pointLine (t said .points))
+        at-is : at ≡ length (headLine (t said .version)) + length (flat textPointLine (t said .points))
         at-is =
             let e = points-bytes (t said .points) (fit said .points-fit) in
             let h : length (headLine (t said .version)) ≡ 9 = ap (λ (v : Version). length (headLine v)) (said .two) in
@@ -177,7 +177,7 @@ module _ (s : List ℕ) (cs : List Float) (ss fs ls : List ℕ) (is : List Float
             omega arith
 
         pub write-room :
-            FacesRoom ss' fs' ls' is' × (at + length (flat faceLine (facesIn (listsIn Two [] ss' fs' ls' is'))) ≤ length s)
+            PrintingRooms ss' fs' ls' is' × (at + length (flat textFaceLine (facesIn (listsIn Two [] ss' fs' ls' is'))) ≤ length s)
         unfolding offset
         write-room =
             let few : length ls ≤ 16384 = counted .listed-few in
@@ -199,11 +199,11 @@ module _ (s : List ℕ) (cs : List Float) (ss fs ls : List ℕ) (is : List Float
               room,
             )
           where
-            room : at + length (flat faceLine (facesIn (listsIn Two [] ss' fs' ls' is'))) ≤ length s
+            room : at + length (flat textFaceLine (facesIn (listsIn Two [] ss' fs' ls' is'))) ≤ length s
             room =
                 let h = headLine (t said .version) in
-                let p = flat pointLine (t said .points) in
-                let f = flat faceLine (t said .faces) in
+                let p = flat textPointLine (t said .points) in
+                let f = flat textFaceLine (t said .faces) in
                 let e0 : length s ≡ length (h ++ (p ++ (f ++ bytes "[end]\n"))) = ap length (is-printed said) in
                 let e1 = length-append h (p ++ (f ++ bytes "[end]\n")) in
                 let e2 = length-append p (f ++ bytes "[end]\n") in
@@ -212,24 +212,24 @@ module _ (s : List ℕ) (cs : List Float) (ss fs ls : List ℕ) (is : List Float
                 let e5 = at-is in
                 omega arith
 
-        chosen : (f : ℕ) → f < length (t said .faces) → choice f ≡ turns (listsOf (t said)) f
+        chosen : (f : ℕ) → f < length (t said .faces) → choice f ≡ facesTurned (listsOf (t said)) f
         chosen f h =
             let b : f < facesOf (listsOf (t said)) = rw (faces-count (t said) (four-of-fit (t said) (fit said))) h in
-            able .chosen f (subst (λ (x : Lists). f < facesOf x) (said .lists) b) ∙ ap (λ (x : Lists). turns x f) (sym (said .lists))
+            able .chosen f (subst (λ (x : Lists). f < facesOf x) (said .lists) b) ∙ ap (λ (x : Lists). facesTurned x f) (sym (said .lists))
 
         pub rewritten :
-            {r : ℕ} {s' : List ℕ} → Written s at (flat faceLine (facesIn (listsIn Two [] ss' fs' ls' is'))) r s' →
+            {r : ℕ} {s' : List ℕ} → Written s at (flat textFaceLine (facesIn (listsIn Two [] ss' fs' ls' is'))) r s' →
             record { answer = Mended; text = s' } ≡ mendText s
         rewritten {s' = s'} w =
             let h = headLine (t said .version) in
-            let p = flat pointLine (t said .points) in
-            let g = flat faceLine (turnedFaces choice (t said .faces)) in
-            let e : s' ≡ printed (turnedText (turns (listsOf (t said))) (t said)) =
+            let p = flat textPointLine (t said .points) in
+            let g = flat textFaceLine (turnedFaces choice (t said .faces)) in
+            let e : s' ≡ printedText (turnedText (facesTurned (listsOf (t said))) (t said)) =
             w .list
-            ∙ ap (λ (x : List (List Side)). sets s at (flat faceLine x)) m-faces-are
+            ∙ ap (λ (x : List (List Side)). sets s at (flat textFaceLine x)) m-faces-are
             ∙ ap (λ (x : List ℕ). sets x at g) (is-printed said)
-            ∙ written-over h p (flat faceLine (t said .faces)) (bytes "[end]\n") g at (faces-bytes choice (t said .faces)) at-is
-            ∙ ap (λ (x : List (List Side)). h ++ (p ++ (flat faceLine x ++ bytes "[end]\n")))
-            (same-turned choice (turns (listsOf (t said))) (t said .faces) chosen) in
+            ∙ written-over h p (flat textFaceLine (t said .faces)) (bytes "[end]\n") g at (faces-bytes choice (t said .faces)) at-is
+            ∙ ap (λ (x : List (List Side)). h ++ (p ++ (flat textFaceLine x ++ bytes "[end]\n")))
+            (same-turned choice (facesTurned (listsOf (t said))) (t said .faces) chosen) in
             ap (λ (x : List ℕ). record { answer = Mended; text = x }) e
-            ∙ sym (answered said ∙ ap (λ (x : Mending). told x s (t said)) (able .mended))
+            ∙ sym (answered said ∙ ap (λ (x : Mending). mendingOf x s (t said)) (able .mended))

@@ -15,7 +15,7 @@ use Rattle.built_meshes.specs.declared.Version.the-variants.{Two}
 use Rattle.building_tests.specs.Lent.{listsIn}
 use Rattle.text_meshes.specs.TextBuilding.{listsOf}
 use Rattle.mended_lists.specs.declared.Mending.the-variants.{Mended}
-use Rattle.mended_lists.specs.Parts.{turns}
+use Rattle.mended_lists.specs.Parts.{facesTurned}
 use Rattle.mended_lists.specs.Mending.{mending}
 
 pub record Said (s : List ℕ) (cs : List Float) (ss fs ls : List ℕ) (is : List Float) : Type 0 where
@@ -28,5 +28,5 @@ pub record Said (s : List ℕ) (cs : List Float) (ss fs ls : List ℕ) (is : Lis
 pub record Mendable (s : List ℕ) (cs : List Float) (ss fs ls : List ℕ) (is : List Float) (ts : List Bool) : Type 0 where
   pub said : Said s cs ss fs ls is
   pub mended : mending generalLimits (listsIn Two cs ss fs ls is) ≡ Mended
-  pub chosen : (f : ℕ) → f < length ss / 4 → getD ts f false ≡ turns (listsIn Two cs ss fs ls is) f
+  pub chosen : (f : ℕ) → f < length ss / 4 → getD ts f false ≡ facesTurned (listsIn Two cs ss fs ls is) f
   pub room : length ts ≡ 4096

@@ -25,7 +25,7 @@ use Rattle.building_tests.specs.declared.Bounds.{Bounds}
 use Rattle.building_tests.specs.declared.Bounds.the-variants.{General, Refine}
 use Rattle.mended_lists.specs.Edges.{placesOf, latest, mate, follower}
 use Rattle.mended_lists.proofs.Edges.{places-length, Numbered, numbered}
-use Rattle.shared_edges.specs.Chains.{mateAt, Entered}
+use Rattle.shared_edges.specs.Chains.{mateAt, PlacesEntered}
 use Rattle.shared_edges.proofs.Laws.{latest-same}
 use Rattle.face_mending.proofs.Laws.{unfit, mate-shown}
 use Rattle.built_meshes.specs.Answers.{groundNumber}
@@ -43,7 +43,7 @@ use Rattle.refusal_places.specs.declared.Spot.{Spot}
 use Rattle.refusal_places.specs.declared.Spot.the-variants.{Clear, Face, Edge}
 use Rattle.refusal_places.specs.Spots.{thenSpot, verdictSpot, edgesSpot, faceSpot, facesSpot, firstSpot}
 use Rattle.refusal_places.proofs.Theorem.{face-stops, edge-stops, not-clear}
-use Rattle.whole_grounds.specs.Turning.{wholeMet, metIf, listsMet, nextsOf, turnFrom, pointsBegun, turnsCome}
+use Rattle.whole_grounds.specs.Turning.{wholeMet, verdictIf, listsMet, nextsOf, turnFrom, pointsBegun, turnsCome}
 use Rattle.whole_tests.specs.Whole.{WholeRoom}
 use Rattle.text_places.specs.TextPlaces.{SpotRoom}
 use Rattle.told_texts.specs.Told.{Unpaired, Pairs, facesMet, verdictNumber, formNumber, toldIf, toldNumber}
@@ -67,7 +67,7 @@ module _ (b : Bounds) (v : Version) (cs : List Float) (ss fs ls : List ℕ) (is 
   unfolding listsMet listedFit
   met-numbers x y e t e' t' = go (countsFit (limitsOf b) (listsIn v cs ss fs ls is)) (listedFit (listsIn v cs ss fs ls is)) (sym e ∙ t) (sym e' ∙ t')
     where
-      go : (p q : Bool) → p ≡ true → q ≡ false → Unfit UnfitNumber ≡ metIf p q (firstSpot (listsIn v cs ss fs ls is)) (wholeMet (listsIn v cs ss fs ls is))
+      go : (p q : Bool) → p ≡ true → q ≡ false → Unfit UnfitNumber ≡ verdictIf p q (firstSpot (listsIn v cs ss fs ls is)) (wholeMet (listsIn v cs ss fs ls is))
       go p q h k = rw (h, k)
 
   pub met-faces :
@@ -79,8 +79,8 @@ module _ (b : Bounds) (v : Version) (cs : List Float) (ss fs ls : List ℕ) (is 
     where
       go :
           (p q : Bool) → p ≡ true → q ≡ true →
-          metIf true true (firstSpot (listsIn v cs ss fs ls is)) (wholeMet (listsIn v cs ss fs ls is))
-          ≡ metIf p q (firstSpot (listsIn v cs ss fs ls is)) (wholeMet (listsIn v cs ss fs ls is))
+          verdictIf true true (firstSpot (listsIn v cs ss fs ls is)) (wholeMet (listsIn v cs ss fs ls is))
+          ≡ verdictIf p q (firstSpot (listsIn v cs ss fs ls is)) (wholeMet (listsIn v cs ss fs ls is))
       go p q h k = rw (h, k)
 
 -- ---- in the faces, then in the whole
@@ -169,7 +169,7 @@ module _ (ss fs ls : List ℕ) (is : List Float) (np : ℕ) (r : SpotRoom ss fs 
         few-faces = r .few-faces;
       }
 
-  pub nothing-entered : (ts : List ℕ) → Entered ls ts (replicate 4096 0) (replicate 16384 0) mates seconds 0
+  pub nothing-entered : (ts : List ℕ) → PlacesEntered ls ts (replicate 4096 0) (replicate 16384 0) mates seconds 0
   nothing-entered ts =
       record {
         chained =
@@ -186,7 +186,7 @@ module _ (ss fs ls : List ℕ) (is : List Float) (np : ℕ) (r : SpotRoom ss fs 
 
   pub pairs :
       (ts heads links mates' seconds' : List ℕ) → TosShown ss ls ts → length ls ≤ length seconds' →
-      Entered ls ts heads links mates' seconds' (length ls) → Pairs ss ls mates' seconds'
+      PlacesEntered ls ts heads links mates' seconds' (length ls) → Pairs ss ls mates' seconds'
   unfolding follower
   pairs ts heads links mates' seconds' shown h e =
       record {

@@ -19,11 +19,11 @@ use Rattle.building_tests.specs.declared.Bounds.{Bounds}
 use Rattle.text_meshes.specs.TextBuilding.{tooLong, listsOf}
 use Rattle.mended_lists.specs.Edges.{placesOf, mate, follower}
 use Rattle.refusal_places.specs.Spots.{firstSpot}
-use Rattle.whole_grounds.specs.Turning.{wholeMet, metIf, listsMet}
+use Rattle.whole_grounds.specs.Turning.{wholeMet, verdictIf, listsMet}
 
 unfoldable pub facesMet : Lists → Verdict
 unfolding firstSpot wholeMet
-facesMet l = metIf true true (firstSpot l) (wholeMet l)
+facesMet l = verdictIf true true (firstSpot l) (wholeMet l)
 
 abbrev pub verdictNumber : Verdict → ℕ
 verdictNumber Fit = 0

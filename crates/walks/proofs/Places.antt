@@ -11,7 +11,7 @@ use native.Mathlib.Omega.{arith}
 use borrow.Author.Tests.{lt-ltb, eq-eqb, ne-eqb}
 use lib.Dec.{eqb}
 use lib.ListN.{getD}
-use Rattle.walks.specs.Places.{placeOf}
+use Rattle.walks.specs.Places.{endNumber}
 use Rattle.walks.specs.Steps.{toIf, pointStep}
 use Rattle.walks.specs.declared.Step.{Step}
 use Rattle.walks.specs.declared.Step.the-variants.{To, Lost}
@@ -19,16 +19,16 @@ use Rattle.walks.specs.declared.Step.the-variants.{To, Lost}
 more-none : (b : ℕ) → b + 0 ≡ b
 more-none b = omega arith
 
-found : (es : List ℕ) (b n : ℕ) → eqb (getD es (b + placeOf (getD es b 0) n) 0) n ≡ (eqb (getD es b 0) n || eqb (getD es (b + 1) 0) n)
+found : (es : List ℕ) (b n : ℕ) → eqb (getD es (b + endNumber (getD es b 0) n) 0) n ≡ (eqb (getD es b 0) n || eqb (getD es (b + 1) 0) n)
 found es b n = go (eqb (getD es b 0) n) refl
   where
     go : (t : Bool) → eqb (getD es b 0) n ≡ t → eqb (getD es (b + cond t 0 1) 0) n ≡ (t || eqb (getD es (b + 1) 0) n)
     go true h = ap (λ (i : ℕ). eqb (getD es i 0) n) (more-none b) ∙ h
     go false h = refl
 
-module _ (es : List ℕ) (b n : ℕ) {s i : ℕ} (first : i ≡ getD es b 0) (at : s ≡ placeOf i n) where
-  number : s ≡ placeOf (getD es b 0) n
-  number = at ∙ ap (λ (x : ℕ). placeOf x n) first
+module _ (es : List ℕ) (b n : ℕ) {s i : ℕ} (first : i ≡ getD es b 0) (at : s ≡ endNumber i n) where
+  number : s ≡ endNumber (getD es b 0) n
+  number = at ∙ ap (λ (x : ℕ). endNumber x n) first
 
   pub place-one-of : {w : ℕ} → w ≡ getD es (b + s) 0 → eqb w n ≡ (eqb (getD es b 0) n || eqb (getD es (b + 1) 0) n)
   place-one-of word = ap (λ (x : ℕ). eqb x n) (word ∙ ap (λ (j : ℕ). getD es (b + j) 0) number) ∙ found es b n
@@ -40,7 +40,7 @@ module _ (es : List ℕ) (b n : ℕ) {s i : ℕ} (first : i ≡ getD es b 0) (at
       go true = hx
       go false = hy
 
-module _ (es : List ℕ) (ne p e : ℕ) {s i w : ℕ} (below : e < ne) (first : i ≡ getD es (e * 8) 0) (at : s ≡ placeOf i p)
+module _ (es : List ℕ) (ne p e : ℕ) {s i w : ℕ} (below : e < ne) (first : i ≡ getD es (e * 8) 0) (at : s ≡ endNumber i p)
     (word : w ≡ getD es (e * 8 + s) 0) where
   -- the step, by whether edge e touches the point
   abbrev stepIf : Bool → Step

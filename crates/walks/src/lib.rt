@@ -6,7 +6,7 @@
 // `proofs/Places.antt` for words that are found by a number.
 ghost use mathlib.Core.Path.{_≡_};
 ghost use Prim.Native.Nat.{_≤_};
-ghost use Rattle.walks.specs.Places.{placeOf};
+ghost use Rattle.walks.specs.Places.{endNumber};
 use tables::LONGEST_BORDER;
 use tables::LONGEST_PERIMETER;
 
@@ -45,8 +45,8 @@ pub struct FaceBorder {
 }
 
 // The number of the end of an edge, or of its side, that has the row n: 0 if the first has it, else 1.
-pub fn place_of(first: usize, n: usize) -> usize
-    ensures { λ r. ⌜ r ≡ placeOf first n ⌝ }
+pub fn end_number(first: usize, n: usize) -> usize
+    ensures { λ r. ⌜ r ≡ endNumber first n ⌝ }
     ensures { λ r. ⌜ r ≤ 1 ⌝ }
 {
     if first == n {

@@ -11,7 +11,7 @@ ghost use Rattle.walks.specs.Neighbour.{edgeTo};
 use crate::FoundEdge;
 use crate::Passed;
 use crate::Step;
-use crate::place_of;
+use crate::end_number;
 use crate::t_nurcc_iter::point_step;
 use crate::t_nurcc_iter::point_walk;
 use records::load_edge_words;
@@ -66,7 +66,7 @@ pub fn touches(edges: &[u32], p: usize, e: usize) -> bool
     ensures { λ r. ⌜ r ≡ touches (faceTables (now (edges .entry)) []) p e ⌝ }
 {
     let b = e * EDGE_WIDTH;
-    let s = place_of(index(edges[b]), p);
+    let s = end_number(index(edges[b]), p);
     index(edges[b + s]) == p
 }
 

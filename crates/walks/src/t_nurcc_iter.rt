@@ -9,7 +9,7 @@ ghost use Rattle.tables.specs.Parts.{faceTables, pointTables};
 use crate::Passed;
 use crate::SIDE_WIDTH;
 use crate::Step;
-use crate::place_of;
+use crate::end_number;
 use records::load_edge_words;
 use t_spline::FaceSide;
 use tables::DEST_WORD;
@@ -49,7 +49,7 @@ pub fn point_step(edges: &[u32], ne: usize, p: usize, e: usize) -> Step
         return Step::Lost;
     }
     let b = e * EDGE_WIDTH;
-    let s = place_of(index(edges[b]), p);
+    let s = end_number(index(edges[b]), p);
     if index(edges[b + s]) != p {
         return Step::Lost;
     }

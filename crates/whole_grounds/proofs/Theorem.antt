@@ -29,7 +29,7 @@ use Rattle.refusal_places.specs.declared.Spot.{Spot}
 use Rattle.refusal_places.specs.declared.Spot.the-variants.{Clear, Face, Edge}
 use Rattle.refusal_places.specs.Spots.{firstSpot}
 use Rattle.refusal_places.proofs.Theorem.{So-far, Came, passed, at-face, at-edge, first-came}
-use Rattle.whole_grounds.specs.Turning.{pointsBegun, turnsCome, wholeIf, wholeMet, metIf, listsMet}
+use Rattle.whole_grounds.specs.Turning.{pointsBegun, turnsCome, wholeVerdictIf, wholeMet, verdictIf, listsMet}
 use Rattle.whole_grounds.specs.Claims.{Refuses-by, Accepts-none}
 use Rattle.whole_grounds.proofs.Turning.{missing-of, none-missing, bare-of, none-bare, missed-of, none-missed}
 
@@ -52,7 +52,7 @@ module _ (c : Sizes) (l : Lists) (m : Mesh) (few : c .faces ≤ none) (rows : ¬
       entered f i is = far .entered f i is (is .0)
 
       go :
-          (a : Bool) → edgesShared (placesOf l) ≡ a → (b : Bool) → pointsBegun l ≡ b → (d : Bool) → turnsCome l ≡ d → Answered (wholeIf a b d)
+          (a : Bool) → edgesShared (placesOf l) ≡ a → (b : Bool) → pointsBegun l ≡ b → (d : Bool) → turnsCome l ≡ d → Answered (wholeVerdictIf a b d)
       go false x b y d z =
           by whole MissingFace
           (first-whole c l m clear tested entered 20 (λ h. absurd (omega arith)) (λ h. absurd (omega arith)) (λ h. absurd (omega arith))
@@ -74,12 +74,12 @@ module _ (c : Sizes) (l : Lists) (m : Mesh) (few : c .faces ≤ none) (rows : ¬
   unfolding listsMet
   lists-came = go (countsFit c l) refl (listedFit l) refl
     where
-      faces : (clear : Clear-lists c l m) (s : Spot) → Came c l m clear (So-far c l m clear (facesOf l)) s → Answered (metIf true true s (wholeMet l))
+      faces : (clear : Clear-lists c l m) (s : Spot) → Came c l m clear (So-far c l m clear (facesOf l)) s → Answered (verdictIf true true s (wholeMet l))
       faces clear s (passed far) = whole-came clear far
       faces clear s (at-face {f = f} {g = g} h) = by (face f) g h
       faces clear s (at-edge {f = f} {i = i} {g = g} h) = by (edge f i) g h
 
-      go : (a : Bool) → countsFit c l ≡ a → (b : Bool) → listedFit l ≡ b → Answered (metIf a b (firstSpot l) (wholeMet l))
+      go : (a : Bool) → countsFit c l ≡ a → (b : Bool) → listedFit l ≡ b → Answered (verdictIf a b (firstSpot l) (wholeMet l))
       go false x b y =
           by lists OverCounts
           (first-lists c l m 2 (λ z. absurd (omega arith)) (λ z. absurd (omega arith)) (omega arith) OverCounts refl

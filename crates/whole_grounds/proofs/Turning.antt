@@ -23,7 +23,7 @@ use Rattle.built_meshes.specs.Places.{pointOf, nextOf, IsPlace, Runs, Between, 
 use Rattle.built_meshes.specs.Grounds.{Missing-face, No-edge, Missed-edge, Turns, Chain, here, further}
 use Rattle.built_meshes.proofs.Before.{Clear-lists}
 use Rattle.built_meshes.proofs.Versions.{every-false}
-use Rattle.mended_lists.specs.Edges.{Place, placeOf, placesOf, placeAt, sameEdge, latest, mate, third, follower, lone}
+use Rattle.mended_lists.specs.Edges.{Place, listedPlace, placesOf, placeAt, sameEdge, latest, mate, third, follower, lone}
 use Rattle.mended_lists.specs.Mending.{edgesShared}
 use Rattle.mended_lists.proofs.Reversal.{eqb-false}
 use Rattle.mended_lists.proofs.InTurn.{getD-inTurn}
@@ -31,7 +31,7 @@ use Rattle.mended_lists.proofs.Edges.{latest-none, latest-last, edge-is, mate-l
 use Rattle.mended_lists.proofs.Passed.{OnEdge, on-at, on-below, on-same, on-also, on-mate, three, same-back, passed-paired}
 use Rattle.refusal_places.proofs.Edges.{earlier-of, triple-of}
 use Rattle.refusal_places.proofs.Theorem.{So-far}
-use Rattle.whole_grounds.specs.Turning.{linked, partner, nextsOf, turnFrom, startAt, comes, pointsBegun, comesBack, turnsCome}
+use Rattle.whole_grounds.specs.Turning.{linkedTo, partner, nextsOf, turnFrom, startAt, comes, pointsBegun, comesBack, turnsCome}
 use Rattle.whole_grounds.proofs.Steps.{iter, iter-add, iter-more, comes-to, to-comes, short-way, back-from}
 
 module _ (c : Sizes) (l : Lists) (m : Mesh) (clear : Clear-lists c l m) (far : So-far c l m clear (facesOf l)) where
@@ -289,7 +289,7 @@ module _ (c : Sizes) (l : Lists) (m : Mesh) (clear : Clear-lists c l m) (far : S
 
         go :
             (x : ℕ) → mate ps k ≡ x → (y : ℕ) → follower ps N k ≡ y →
-            (linked x y < N) × (fromOf (linked x y) ≡ toOf k) × (toOf (linked x y) ≡ fromOf k)
+            (linkedTo x y < N) × (fromOf (linkedTo x y) ≡ toOf k) × (toOf (linkedTo x y) ≡ fromOf k)
         go zero e zero q = absurd (lone-not e q)
         go zero e (suc j) q =
             let w = latest-last (λ i. eqb (mate ps i) (suc k)) N j q in

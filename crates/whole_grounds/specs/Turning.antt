@@ -28,14 +28,14 @@ use Rattle.refusal_places.specs.declared.Spot.{Spot}
 use Rattle.refusal_places.specs.declared.Spot.the-variants.{Clear, Face, Edge}
 
 -- by the links to the mate and to the follower
-abbrev pub linked : ℕ → ℕ → ℕ
-linked zero zero = 0
-linked zero (suc j) = j
-linked (suc j) second = j
+abbrev pub linkedTo : ℕ → ℕ → ℕ
+linkedTo zero zero = 0
+linkedTo zero (suc j) = j
+linkedTo (suc j) second = j
 
 unfoldable pub partner : List Place → ℕ → ℕ
 unfolding mate follower
-partner ps k = linked (mate ps k) (follower ps (length ps) k)
+partner ps k = linkedTo (mate ps k) (follower ps (length ps) k)
 
 unfoldable pub nextsOf : Lists → List ℕ
 unfolding inTurn offset
@@ -67,24 +67,24 @@ unfolding every placesOf comes turnFrom startAt
 turnsCome l = every (length (placesOf l)) (λ k. comesBack l k)
 
 -- whether each edge has two faces, each point a place and all turns come together
-abbrev pub wholeIf : Bool → Bool → Bool → Verdict
-wholeIf false begun come = Unfit MissingFace
-wholeIf true false come = Unfit NoEdge
-wholeIf true true false = Unfit MissedEdge
-wholeIf true true true = Fit
+abbrev pub wholeVerdictIf : Bool → Bool → Bool → Verdict
+wholeVerdictIf false begun come = Unfit MissingFace
+wholeVerdictIf true false come = Unfit NoEdge
+wholeVerdictIf true true false = Unfit MissedEdge
+wholeVerdictIf true true true = Fit
 
 unfoldable pub wholeMet : Lists → Verdict
 unfolding edgesShared placesOf pointsBegun turnsCome
-wholeMet l = wholeIf (edgesShared (placesOf l)) (pointsBegun l) (turnsCome l)
+wholeMet l = wholeVerdictIf (edgesShared (placesOf l)) (pointsBegun l) (turnsCome l)
 
 -- the counts, the numbers, the faces, the whole
-abbrev pub metIf : Bool → Bool → Spot → Verdict → Verdict
-metIf false numbers s v = Unfit OverCounts
-metIf true false s v = Unfit UnfitNumber
-metIf true true (Face f g) v = Unfit g
-metIf true true (Edge f i g) v = Unfit g
-metIf true true Clear v = v
+abbrev pub verdictIf : Bool → Bool → Spot → Verdict → Verdict
+verdictIf false numbers s v = Unfit OverCounts
+verdictIf true false s v = Unfit UnfitNumber
+verdictIf true true (Face f g) v = Unfit g
+verdictIf true true (Edge f i g) v = Unfit g
+verdictIf true true Clear v = v
 
 unfoldable pub listsMet : Sizes → Lists → Verdict
 unfolding countsFit listedFit firstSpot wholeMet
-listsMet c l = metIf (countsFit c l) (listedFit l) (firstSpot l) (wholeMet l)
+listsMet c l = verdictIf (countsFit c l) (listedFit l) (firstSpot l) (wholeMet l)

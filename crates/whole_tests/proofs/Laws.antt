@@ -23,7 +23,7 @@ use Rattle.built_meshes.specs.declared.Verdict.{Verdict}
 use Rattle.built_meshes.specs.declared.Verdict.the-variants.{Fit, Unfit}
 use Rattle.built_meshes.specs.declared.Ground.the-variants.{MissingFace, NoEdge, MissedEdge}
 use Rattle.building_tests.specs.Lent.{lists}
-use Rattle.mended_lists.specs.Edges.{Place, placeOf, placesOf, placeAt, sameEdge, latest, mate, follower, lone}
+use Rattle.mended_lists.specs.Edges.{Place, listedPlace, placesOf, placeAt, sameEdge, latest, mate, follower, lone}
 use Rattle.mended_lists.specs.Mending.{edgesShared}
 use Rattle.mended_lists.proofs.Reversal.{eqb-false}
 use Rattle.mended_lists.proofs.InTurn.{getD-inTurn}
@@ -33,7 +33,7 @@ use Rattle.shared_edges.proofs.Laws.{latest-below, latest-same, every-fails, al
 use Rattle.face_mending.proofs.Laws.{every-same}
 use Rattle.face_places.specs.Spread.{Spread}
 use Rattle.face_places.proofs.Laws.{same-offset}
-use Rattle.whole_grounds.specs.Turning.{linked, partner, nextsOf, turnFrom, startAt, comes, pointsBegun, comesBack, turnsCome, wholeIf, wholeMet}
+use Rattle.whole_grounds.specs.Turning.{linkedTo, partner, nextsOf, turnFrom, startAt, comes, pointsBegun, comesBack, turnsCome, wholeVerdictIf, wholeMet}
 use Rattle.whole_tests.specs.Whole.{stepAt, TurnRoom, StartRoom, WholeRoom}
 
 -- ---- the last places that begin at points
@@ -76,11 +76,11 @@ numbers-more xs k b h j l = go (ℕ-discrete k j)
 pub before-zero : (m : ℕ) → m ≡ 0 → 0 ≡ m - 1
 before-zero m e = omega arith
 
-pub linked-none : (m s r : ℕ) → m ≡ 0 → r ≡ s - 1 → r ≡ linked m s
+pub linked-none : (m s r : ℕ) → m ≡ 0 → r ≡ s - 1 → r ≡ linkedTo m s
 linked-none m zero r e h = rw e (h ∙ omega arith)
 linked-none m (suc s) r e h = rw e (h ∙ omega arith)
 
-pub linked-some : (m s r : ℕ) → m ≢ 0 → r ≡ m - 1 → r ≡ linked m s
+pub linked-some : (m s r : ℕ) → m ≢ 0 → r ≡ m - 1 → r ≡ linkedTo m s
 linked-some zero s r d h = absurd (d refl)
 linked-some (suc j) s r d h = h ∙ omega arith
 
@@ -121,18 +121,18 @@ module _ (ss ls mates seconds : List ℕ) (np : ℕ) (r : WholeRoom ss ls mates 
   follower-many : (k : ℕ) → follower (placesOf L) (length ls) k ≡ follower (placesOf L) (length (placesOf L)) k
   follower-many k = ap (λ (n : ℕ). follower (placesOf L) n k) (sym many)
 
-  other-shown : (k : ℕ) → k < length ls → linked (getD mates k 0) (getD seconds k 0) ≡ partner (placesOf L) k
+  other-shown : (k : ℕ) → k < length ls → linkedTo (getD mates k 0) (getD seconds k 0) ≡ partner (placesOf L) k
   unfolding partner
   other-shown k b = rw (r .mates-shown k b, r .seconds-shown k b, follower-many k)
 
-  other-in : (k : ℕ) → k < length ls → linked (getD mates k 0) (getD seconds k 0) < length ls
+  other-in : (k : ℕ) → k < length ls → linkedTo (getD mates k 0) (getD seconds k 0) < length ls
   unfolding mate follower
   other-in k b =
       go (getD mates k 0) (getD seconds k 0)
       (omega (arith, r .mates-shown k b, latest-below (λ j. sameEdge (placeAt (placesOf L) j) (placeAt (placesOf L) k)) k))
       (omega (arith, r .seconds-shown k b, latest-below (λ i. eqb (mate (placesOf L) i) (suc k)) (length ls)))
     where
-      go : (m s : ℕ) → m ≤ k → s ≤ length ls → linked m s < length ls
+      go : (m s : ℕ) → m ≤ k → s ≤ length ls → linkedTo m s < length ls
       go zero zero x y = omega (arith, b)
       go zero (suc s) x y = omega arith
       go (suc m) s x y = omega (arith, b)
@@ -185,12 +185,12 @@ module _ (ss ls mates seconds : List ℕ) (np : ℕ) (r : WholeRoom ss ls mates 
       every-same (length ls) (λ k. comes (stepAt nexts mates seconds) (length ls) k (S k))
       (λ k. comes (turnFrom L) (length ls) k (S k))
       (λ k b. comes-same (length ls) (stepAt nexts mates seconds) (turnFrom L) step-is
-      (λ k b. nexts-shown numbers nexts owners e num sp (linked (getD mates k 0) (getD seconds k 0)) (other-in k b) .1)
+      (λ k b. nexts-shown numbers nexts owners e num sp (linkedTo (getD mates k 0) (getD seconds k 0)) (other-in k b) .1)
       (length ls) k (S k) b)
     where
       step-is : (k : ℕ) → k < length ls → stepAt nexts mates seconds k ≡ turnFrom L k
       step-is k b =
-          nexts-shown numbers nexts owners e num sp (linked (getD mates k 0) (getD seconds k 0)) (other-in k b) .0
+          nexts-shown numbers nexts owners e num sp (linkedTo (getD mates k 0) (getD seconds k 0)) (other-in k b) .0
           ∙ ap (λ (x : ℕ). getD (nextsOf L) x 0) (other-shown k b)
 
   -- ---- the grounds
@@ -253,7 +253,7 @@ module _ (ss ls mates seconds : List ℕ) (np : ℕ) (r : WholeRoom ss ls mates 
             ∙ ap (λ (s : ℕ). comes (turnFrom L) (length (placesOf L)) k (s - 1))
             (starts-are starts st (getD ls k 0) (omega (arith, h, r .are-points k b)) ∙ ap (startAt (placesOf L)) (from-is k b))
 
-    whole-is : (a b d : Bool) → a ≡ edgesShared (placesOf L) → b ≡ pointsBegun (lists cs ss ls []) → d ≡ turnsCome L → wholeIf a b d ≡ wholeMet (lists cs ss ls [])
+    whole-is : (a b d : Bool) → a ≡ edgesShared (placesOf L) → b ≡ pointsBegun (lists cs ss ls []) → d ≡ turnsCome L → wholeVerdictIf a b d ≡ wholeMet (lists cs ss ls [])
     unfolding wholeMet turnsCome turnFrom nextsOf placesOf offset
     whole-is a b d x y z = rw (x, y, z)
 

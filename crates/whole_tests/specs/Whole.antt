@@ -10,17 +10,17 @@ use lib.ListN.{length, getD}
 use Rattle.built_meshes.specs.Lists.{offset}
 use Rattle.building_tests.specs.Lent.{lists}
 use Rattle.mended_lists.specs.Edges.{placesOf, mate, follower}
-use Rattle.whole_grounds.specs.Turning.{linked}
+use Rattle.whole_grounds.specs.Turning.{linkedTo}
 
 abbrev pub stepAt : List ℕ → List ℕ → List ℕ → ℕ → ℕ
-stepAt nexts mates seconds k = getD nexts (linked (getD mates k 0) (getD seconds k 0)) 0
+stepAt nexts mates seconds k = getD nexts (linkedTo (getD mates k 0) (getD seconds k 0)) 0
 
 pub record TurnRoom (nexts mates seconds : List ℕ) (n : ℕ) : Type 0 where
   pub few : n ≤ 16384
   pub nexts-fit : n ≤ length nexts
   pub mates-fit : n ≤ length mates
   pub seconds-fit : n ≤ length seconds
-  pub other-below : (k : ℕ) → k < n → linked (getD mates k 0) (getD seconds k 0) < n
+  pub other-below : (k : ℕ) → k < n → linkedTo (getD mates k 0) (getD seconds k 0) < n
   pub next-below : (k : ℕ) → k < n → getD nexts k 0 < n
 
 pub record StartRoom (ls starts : List ℕ) : Type 0 where

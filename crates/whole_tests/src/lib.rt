@@ -12,7 +12,7 @@ ghost use Rattle.tables.specs.Layout.{positionWidth};
 ghost use Rattle.audited_meshes.specs.Folds.{every};
 ghost use Rattle.building_tests.specs.Lent.{lists};
 ghost use Rattle.mended_lists.specs.Edges.{latest};
-ghost use Rattle.whole_grounds.specs.Turning.{linked, turnFrom, comes, wholeMet};
+ghost use Rattle.whole_grounds.specs.Turning.{linkedTo, turnFrom, comes, wholeMet};
 ghost use Rattle.whole_tests.specs.Whole.{stepAt, TurnRoom, StartRoom, WholeRoom};
 use building_tests::MOST_LISTED;
 use building_tests::MOST_POINTS;
@@ -77,7 +77,7 @@ fn link_place(link: u32) -> usize
 
 // The other place on an edge, by the links to the mate and to the place whose mate it is.
 fn other(mate: u32, second: u32) -> usize
-    ensures { λ r. ⌜ r ≡ linked mate second ⌝ }
+    ensures { λ r. ⌜ r ≡ linkedTo mate second ⌝ }
 {
     if mate == 0 {
         return link_place(second);

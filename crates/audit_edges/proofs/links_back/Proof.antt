@@ -8,7 +8,7 @@ returns : tie.Need-returns
 returns c =
     let a = c .before .before .before .before .before .before .before .args in
     back-nowhere (a .edges .now) (a .f) (a .a) (a .e) (c .before .before .before .before .index .ensures)
-    (c .before .before .before .index2 .ensures) (c .before .before .place-of .ensures .0) (c .if1 .taken)
+    (c .before .before .before .index2 .ensures) (c .before .before .end-number .ensures .0) (c .if1 .taken)
 
 returns-2 : tie.Need-returns-2
 returns-2 c =
@@ -16,7 +16,7 @@ returns-2 c =
     back-at (a .edges .now) (a .f) (a .a) (a .e)
     (c .before .before .before .before .before .before .index .ensures)
     (c .before .before .before .before .before .index2 .ensures)
-    (c .before .before .before .before .place-of .ensures .0) (c .before .before .if1 .left) (c .index3 .ensures)
+    (c .before .before .before .before .end-number .ensures .0) (c .before .before .if1 .left) (c .index3 .ensures)
 
 pub links-back-spec : {M : Type 1} → statement M
 links-back-spec =

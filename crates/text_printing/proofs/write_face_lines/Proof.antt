@@ -11,7 +11,7 @@ use Rattle.built_meshes.specs.Lists.{offset}
 use Rattle.built_meshes.specs.declared.Version.the-variants.{Two}
 use Rattle.building_tests.specs.Lent.{lists, listsIn}
 use Rattle.mesh_answers.specs.Writing.{Written}
-use Rattle.mesh_printing.specs.Printing.{faceLine}
+use Rattle.mesh_printing.specs.Printing.{textFaceLine}
 use Rattle.listings.specs.Handing.{upTo}
 use Rattle.listing_printing.proofs.Laws.{lines-start, lines-turn-room, lines-turn, lines-end}
 use Rattle.text_printing.specs.Faces.{faceIn}
@@ -22,7 +22,7 @@ use Rattle.text_printing.proofs.write_face_lines.Tie as tie
 abbrev Inv-loop : tie.InvT-loop
 Inv-loop out₀ at sides firsts listed beside nf i₀ a₀ f₀ out i a f =
     (f ≤ length sides / 4) × (length out ≡ length out₀) × (a ≡ offset (lists [] sides [] []) f)
-    × Written out₀ at (flat faceLine (upTo f (faceIn (listsIn Two [] sides firsts listed beside)))) i out
+    × Written out₀ at (flat textFaceLine (upTo f (faceIn (listsIn Two [] sides firsts listed beside)))) i out
 
 abbrev μ-loop : tie.MeasureT-loop
 μ-loop out₀ at sides firsts listed beside nf i₀ a₀ f₀ out i a f = nf - f
@@ -33,7 +33,7 @@ loop-holds c =
       omega arith,
       refl,
       offset-none (args .sides .now),
-      lines-start faceLine _ _
+      lines-start textFaceLine _ _
           (faceIn (listsIn Two [] (args .sides .now) (args .firsts .now) (args .listed .now) (args .beside .now))),
     )
 
@@ -43,7 +43,7 @@ write-face-requires c κs =
     let pre = c .before .before .before .before .before .before .before .before .pre in
     let loop = c .before .before .loop in (
       face-in (pre .0) (c .before .loop-test .taken) (loop .inv .2),
-      lines-turn-room faceLine _ _
+      lines-turn-room textFaceLine _ _
           (faceIn (listsIn Two [] (args .sides .now) (args .firsts .now) (args .listed .now) (args .beside .now))) (loop .f)
           (loop .inv .3) (loop .inv .1) (c .before .loop-test .taken) (pre .1),
     )
@@ -82,7 +82,7 @@ loop-again c =
           omega arith,
       c .before .before .before .write-face .kept .0 ∙ loop .inv .1,
       offset-more (args .sides .now) (loop .f) (loop .inv .2) (c .face-size .ensures),
-      lines-turn faceLine _ _
+      lines-turn textFaceLine _ _
           (faceIn (listsIn Two [] (args .sides .now) (args .firsts .now) (args .listed .now) (args .beside .now))) (loop .f)
           (loop .inv .3) (c .before .before .before .write-face .ensures),
     )
@@ -93,7 +93,7 @@ same-length c = c .before .loop .inv .1
 returns : tie.Need-returns Inv-loop μ-loop
 returns c =
     let args = c .before .before .before .before .before .before .before .args in
-    lines-end faceLine _ _
+    lines-end textFaceLine _ _
     (faceIn (listsIn Two [] (args .sides .now) (args .firsts .now) (args .listed .now) (args .beside .now)))
     (c .before .loop .inv .3) (c .before .loop .inv .0) (c .loop-test .left)
 

@@ -9,7 +9,7 @@ use Rattle.built_meshes.specs.declared.Version.the-variants.{Two}
 use Rattle.building_tests.specs.Lent.{listsIn}
 use Rattle.mesh_answers.specs.Lines.{decimalDigits, decimalBytes}
 use Rattle.listing_printing.proofs.Laws.{written-same}
-use Rattle.text_printing.specs.Faces.{sideOf}
+use Rattle.text_printing.specs.Faces.{sideAt}
 use Rattle.text_printing.proofs.Laws.{side-room, parts-of}
 use Rattle.text_printing.proofs.write_side.Statement.{statement}
 use Rattle.text_printing.proofs.write_side.Tie as tie
@@ -24,7 +24,7 @@ write-requires : tie.Need-write-requires
 write-requires c κs =
     let args = c .before .before .before .before .before .before .args in
     let r = side-room
-    (sideOf (listsIn Two [] [] [] (args .listed .now) (args .beside .now)) (args .p) (args .a) (args .n)) in
+    (sideAt (listsIn Two [] [] [] (args .listed .now) (args .beside .now)) (args .p) (args .a) (args .n)) in
     let q = c .before .before .before .before .before .before .pre .1 .1 .1 in
     omega arith
 
@@ -33,7 +33,7 @@ write-decimal-requires c κs =
     let c8 = c .before .before .before .before .before .before .before .before in
     let args = c8 .before .before .args in
     let r = side-room
-    (sideOf (listsIn Two [] [] [] (args .listed .now) (args .beside .now)) (args .p) (args .a) (args .n)) in
+    (sideAt (listsIn Two [] [] [] (args .listed .now) (args .beside .now)) (args .p) (args .a) (args .n)) in
     let q = c8 .before .before .pre .1 .1 .1 in
     let d = ap (λ (n : ℕ). length (decimalDigits 20 n))
     (c .before .before .before .before .before .before .wide .ensures) in
@@ -53,7 +53,7 @@ write-points-requires c κs =
         (
           pre .1 .1 .0,
           let r = side-room
-              (sideOf (listsIn Two [] [] [] (args .listed .now) (args .beside .now)) (args .p) (args .a) (args .n)) in
+              (sideAt (listsIn Two [] [] [] (args .listed .now) (args .beside .now)) (args .p) (args .a) (args .n)) in
               let q = pre .1 .1 .1 in
               let d = ap (λ (n : ℕ). length (decimalDigits 20 n)) (c8 .before .before .wide .ensures) in
               let e = write .ensures .place in
@@ -79,7 +79,7 @@ write-requires-2 c κs =
     let write-decimal = c8 .write-decimal in
     let write-points = c .before .before .before .before .write-points in
     let r = side-room
-    (sideOf (listsIn Two [] [] [] (args .listed .now) (args .beside .now)) (args .p) (args .a) (args .n)) in
+    (sideAt (listsIn Two [] [] [] (args .listed .now) (args .beside .now)) (args .p) (args .a) (args .n)) in
     let q = pre .1 .1 .1 in
     let d = ap (λ (n : ℕ). length (decimalDigits 20 n)) (wide .ensures) in
     let e = write .ensures .place in

@@ -9,7 +9,7 @@ returns : tie.Need-returns
 returns c =
     let a = c .before .before .before .before .before .before .args in
     place-one-of (a .edges .now) (a .e * 8) (a .p) (c .before .before .before .index .ensures)
-    (c .before .before .place-of .ensures .0) (c .index2 .ensures)
+    (c .before .before .end-number .ensures .0) (c .index2 .ensures)
 
 pub touches-spec : {M : Type 1} → statement M
 touches-spec =

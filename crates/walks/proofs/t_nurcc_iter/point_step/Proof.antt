@@ -13,7 +13,7 @@ returns-2 : tie.Need-returns-2
 returns-2 c =
     let a = c .before .before .before .before .before .before .before .before .args in
     point-lost (a .edges .now) (a .ne) (a .p) (a .e) (c .before .before .before .before .before .before .if1 .left)
-    (c .before .before .before .before .index .ensures) (c .before .before .before .place-of .ensures .0)
+    (c .before .before .before .before .index .ensures) (c .before .before .before .end-number .ensures .0)
     (c .before .index2 .ensures) (c .if2 .taken)
 
 returns-3 : tie.Need-returns-3
@@ -22,7 +22,7 @@ returns-3 c =
     let if1 = c .before .before .before .before .before .before .before .before .if1 in
     point-to (a .edges .now) (a .ne) (a .p) (a .e) (if1 .left)
     (c .before .before .before .before .before .before .index .ensures)
-    (c .before .before .before .before .before .place-of .ensures .0) (c .before .before .before .index2 .ensures)
+    (c .before .before .before .before .before .end-number .ensures .0) (c .before .before .before .index2 .ensures)
     (c .before .before .if2 .left)
 
 pub point-step-spec : {M : Type 1} → statement M
