@@ -37,7 +37,10 @@ fn rows_fit(
     requires { ⌜ counts .edges * edgeWidth ≤ length (now edges) ⌝ }
     requires { ⌜ counts .edges ≤ length (now intervals) ⌝ }
     requires { ⌜ counts .faces * faceWidth ≤ length (now faces) ⌝ }
-    ensures { λ r. ⌜ r ≡ rowsFit (now (positions .entry)) (now (points .entry)) (now (edges .entry)) (now (intervals .entry)) (now (faces .entry)) (counts .points) (counts .edges) (counts .faces) ⌝ }
+    ensures { λ r. ⌜
+        r
+        ≡ rowsFit (now (positions .entry)) (now (points .entry)) (now (edges .entry)) (now (intervals .entry)) (now (faces .entry))
+        (counts .points) (counts .edges) (counts .faces) ⌝ }
 {
     let np = counts.points;
     let ne = counts.edges;

@@ -144,7 +144,8 @@ pub numbers-fail : (l : Lists) → listedFit l ≡ false → Unfit-number l
 unfolding listedFit
 numbers-fail l h = go (and-false _ _ h)
   where
-    go : (every (length (l .coordinates)) (λ k. finite (getD (l .coordinates) k nan)) ≡ false) ⊎ (every (length (l .intervals)) (λ k. intervalFit (getD (l .intervals) k nan)) ≡ false) → Unfit-number l
+    go : (every (length (l .coordinates)) (λ k. finite (getD (l .coordinates) k nan)) ≡ false)
+        ⊎ (every (length (l .intervals)) (λ k. intervalFit (getD (l .intervals) k nan)) ≡ false) → Unfit-number l
     go (inl z) = let w = every-false _ (λ k. finite (getD (l .coordinates) k nan)) z in coordinate-unfit (w .0) (w .1) (w .2)
     go (inr z) = let w = every-false _ (λ k. intervalFit (getD (l .intervals) k nan)) z in interval-unfit (w .0) (w .1) (w .2)
 

@@ -155,7 +155,8 @@ two-triangles :
           record {
             positions = replicate 9 nought ++ replicate 3 two;
             points = 2 ∷ 2 ∷ 1 ∷ 2 ∷ 1 ∷ 1 ∷ 2 ∷ 2 ∷ 1 ∷ 7 ∷ 7 ∷ 7 ∷ [];
-            edges = (0 ∷ 1 ∷ 0 ∷ 1 ∷ 2 ∷ 1 ∷ 1 ∷ 2 ∷ []) ++ (1 ∷ 2 ∷ 0 ∷ 1 ∷ 0 ∷ 2 ∷ 2 ∷ 0 ∷ []) ++ (2 ∷ 0 ∷ 0 ∷ 1 ∷ 1 ∷ 0 ∷ 0 ∷ 1 ∷ []) ++ replicate 24 0 ++ replicate 8 7;
+            edges = (0 ∷ 1 ∷ 0 ∷ 1 ∷ 2 ∷ 1 ∷ 1 ∷ 2 ∷ []) ++ (1 ∷ 2 ∷ 0 ∷ 1 ∷ 0 ∷ 2 ∷ 2 ∷ 0 ∷ [])
+                ++ (2 ∷ 0 ∷ 0 ∷ 1 ∷ 1 ∷ 0 ∷ 0 ∷ 1 ∷ []) ++ replicate 24 0 ++ replicate 8 7;
             intervals = unit ∷ unit ∷ two ∷ nought ∷ nought ∷ nought ∷ two ∷ [];
             faces = (0 ∷ none ∷ none ∷ none ∷ none ∷ []) ++ (1 ∷ none ∷ none ∷ none ∷ none ∷ []) ++ replicate 5 7;
           };

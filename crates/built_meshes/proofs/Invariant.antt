@@ -240,7 +240,9 @@ module _ (l : Lists) (D C : ℕ → ℕ → Type 0) (m : Mesh) (ne : ℕ) (v : I
     sits-new = record { on-side = s₀; below = a .new-below; face-is = a .new-face; first-is = a .new-first; second-is = a .new-second }
 
     -- No place entered runs this way, if no side with a face does.
-    module _ (none-runs : (s : TnurccFaceSide) (x : ℕ) → x < ne → firstOf s (row m x) ≡ pointOf l f₀ i₀ → secondOf s (row m x) ≡ nextOf l f₀ i₀ → faceFromSide (row m x) s ≡ none) where
+    module _
+        (none-runs : (s : TnurccFaceSide) (x : ℕ) → x < ne → firstOf s (row m x) ≡ pointOf l f₀ i₀ → secondOf s (row m x) ≡ nextOf l f₀ i₀
+        → faceFromSide (row m x) s ≡ none) where
       fresh : (f i : ℕ) → D f i → pointOf l f i ≡ pointOf l f₀ i₀ → nextOf l f i ≡ nextOf l f₀ i₀ → ⊥
       fresh f i d first second =
           let t = v .entered f i d in

@@ -85,7 +85,10 @@ fn window_sum(
     requires { ⌜ BorderFits (now edges) (now intervals) (now border) n ⌝ }
     requires { ⌜ PointsFit (now positions) (now points) n ⌝ }
     requires { ⌜ FourAgain (now points) n ⌝ }
-    ensures { λ r. ⌜ r ≡ windowSum (now (positions .entry)) (now (edges .entry)) (now (intervals .entry)) (λ j. getD (now (points .entry)) j 0) (λ j. getD (now (border .entry)) (around n j) 0) n ⌝ }
+    ensures { λ r. ⌜
+        r
+        ≡ windowSum (now (positions .entry)) (now (edges .entry)) (now (intervals .entry)) (λ j. getD (now (points .entry)) j 0)
+        (λ j. getD (now (border .entry)) (around n j) 0) n ⌝ }
 {
     let mut s = WeightedSum {
         sum: Position::origin(),
