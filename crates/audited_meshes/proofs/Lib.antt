@@ -11,5 +11,3 @@ pub mod Rows
 pub mod Darts
 pub mod Closed
 pub mod Holds
-pub mod Meshes
-pub mod Cases

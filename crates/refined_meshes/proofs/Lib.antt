@@ -22,5 +22,3 @@ pub mod Starts
 pub mod SplitStarts
 pub mod Settled
 pub mod Laws
-pub mod Records
-pub mod Cases

@@ -20,12 +20,12 @@ use Rattle.refined_meshes.specs.Split.{splitEdge, splitWhole}
 use Rattle.refined_meshes.specs.Ring.{putJoin, putFirst, putSecond, putNewFace, putFacePoint}
 use Rattle.refined_meshes.specs.Visits.{splitAll, ringOf, putRing, visitAlong, visit, visits, refinedRows}
 use Rattle.refined_meshes.specs.Settled.{settledSide, settledIntervals, settled, settledRows}
-use Rattle.refined_meshes.proofs.Records.{bits, cube}
+use Rattle.mesh_cases.proofs.Records.{bits, cube}
 use Rattle.position_rules.specs.Intervals.{acwAbout, cwAbout, threeTerms}
 use Rattle.position_rules.specs.FacePoint.{sixTerms, windowWeight, windowSum, facePointOver, facePointAbout, facePointIn}
 use Rattle.position_rules.specs.EdgePoint.{shares, edgeMiddle, edgePoint}
 use Rattle.position_rules.specs.OldPoint.{radialEdge, edgeWeight, faceWeight, radialTerms, radialSum, oldPoint}
 use Rattle.steps.specs.Step.{stepNumbers, step}
 
 record Piece : Type 0 where
   edition : Edition

@@ -8,14 +8,14 @@ use lib.Ieee.{nan, mul, add, ofBits, binary64}
 use Rattle.tables.specs.Mesh.{Mesh}
 use Rattle.tables.specs.Rows.{over}
 use Rattle.audited_meshes.specs.Walks.{faceWalk}
 use Rattle.refined_meshes.specs.declared.Edition.the-variants.{Second}
 use Rattle.refined_meshes.specs.Turns.{turns, filled}
 use Rattle.refined_meshes.specs.State.{State, putEdge, putPoint, putStart, putFace, copied}
 use Rattle.refined_meshes.specs.Split.{splitEdge, splitWhole}
 use Rattle.refined_meshes.specs.Ring.{putJoin, putFirst, putSecond, putNewFace, putFacePoint}
 use Rattle.refined_meshes.specs.Visits.{refinedRows, visits, visit, visitAlong, splitAll, ringOf, putRing}
 use Rattle.refined_meshes.specs.Settled.{settledSide, settledIntervals, settled, settledRows}
-use Rattle.refined_meshes.proofs.Records.{cube, cubeNumbered, cubeLastToFirst, prism, prismRefined, triangles, trianglesRefined}
+use Rattle.mesh_cases.proofs.Records.{cube, cubeNumbered, cubeLastToFirst, prism, prismRefined, triangles, trianglesRefined}
 
 -- scratch tables of np, ne and nf rows with other things in them
 abbrev used : ℕ → ℕ → ℕ → Mesh

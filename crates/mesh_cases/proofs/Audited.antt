@@ -9,11 +9,11 @@ use lib.IntN.{pos}
 use lib.Ieee.{nan, inf, fin}
 use Rattle.tables.specs.Counted.{countsOf, rowsFor}
 use Rattle.tables.specs.Mesh.{Mesh}
 use Rattle.audited_meshes.specs.Folds.{every}
 use Rattle.audited_meshes.specs.Walks.{faceWalk, pointWalk}
 use Rattle.audited_meshes.specs.Audit.{audit, inRange, numbersFit, edgesDiffer, linked, faceWalked, pointWalked, cornersFit, marksFit}
-use Rattle.audited_meshes.proofs.Meshes.{tetrahedron, cube, twoTriangles, torus, polygon, doubleEdge, mergedFaces}
-use Rattle.audited_meshes.proofs.Meshes.{pinched, bowTie, withPositions, withPoints, withEdges, withIntervals, withFaces}
+use Rattle.mesh_cases.proofs.Meshes.{tetrahedron, cube, twoTriangles, torus, polygon, doubleEdge, mergedFaces}
+use Rattle.mesh_cases.proofs.Meshes.{pinched, bowTie, withPositions, withPoints, withEdges, withIntervals, withFaces}
 
 -- the clauses of the audit in their order: counts, references, numbers, edges, links, faces, points, corners, marks
 abbrev clauses : Mesh → ℕ → ℕ → ℕ → List Bool

@@ -13,11 +13,11 @@ use lib.Ieee.{Float, nan, inf, fin, le}
 use Rattle.tables.specs.Mesh.{Mesh, none}
 use Rattle.tables.specs.declared.Counts.{Counts}
 use Rattle.audited_meshes.specs.Audit.{audit}
-use Rattle.audited_meshes.proofs.Meshes.{unit, twoTriangles, withPositions}
+use Rattle.mesh_cases.proofs.Meshes.{unit, twoTriangles, withPositions}
 use Rattle.crossings.specs.declared.Crossing.the-variants.{At, NotFiniteDepth, NotClosed, Nowhere}
 use Rattle.crossings.specs.Crossings.{crosses, firstFrom, find}
 use Rattle.crossings.specs.Claims.{AllJoined, there, along}
 use Rattle.crossings.proofs.Theorem.{joined-found}
 
 -- the depths 0, -0, 1, 2, 3, and the smallest above 0
 abbrev d0 : Float
