@@ -30,8 +30,8 @@ use tables::POINT_WIDTH;
 use tables::START_WORD;
 use tables::index;
 use walks::Step;
-use walks::t_nurcc_control_point::touches;
-use walks::t_nurcc_iter::point_step;
+use walks::point_step;
+use walks::touches;
 
 // A point with more edges than this has many.
 const FEW: usize = 32;
