@@ -6,6 +6,7 @@ pub mod Sums
 pub mod OneEdge
 pub mod Quick
 pub mod Positions
+mod Intervals
 pub mod Cycles
 pub mod Rows
 pub mod Darts
