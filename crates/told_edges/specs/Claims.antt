@@ -17,8 +17,8 @@ use Rattle.built_meshes.specs.Places.{IsPlace, Runs}
 use Rattle.built_meshes.specs.Grounds.{edge, First-met}
 use Rattle.built_meshes.specs.declared.Ground.{Ground}
 use Rattle.built_meshes.specs.declared.Ground.the-variants.{SameWay}
-use Rattle.edge_lookups.specs.declared.ToldEdge.the-variants.{Missing, First, Again}
-use Rattle.edge_lookups.specs.Told.{toldEdge}
+use Rattle.told_edges.specs.declared.ToldEdge.the-variants.{Missing, First, Again}
+use Rattle.told_edges.specs.Told.{toldEdge}
 
 pub record PlaceListed (l : Lists) (f i : ℕ) : Type 0 where
   pub is-place : IsPlace l f i

@@ -10,9 +10,9 @@ use Rattle.built_meshes.specs.Lists.{countsFit}
 use Rattle.building_tests.specs.Lent.{limitsOf}
 use Rattle.building_tests.specs.declared.Bounds.{Bounds}
 use Rattle.text_meshes.specs.TextBuilding.{tooLong, listsOf}
-use Rattle.edge_lookups.specs.declared.ToldEdge.{ToldEdge}
-use Rattle.edge_lookups.specs.declared.ToldEdge.the-variants.{Missing}
-use Rattle.edge_lookups.specs.Told.{toldEdge}
+use Rattle.told_edges.specs.declared.ToldEdge.{ToldEdge}
+use Rattle.told_edges.specs.declared.ToldEdge.the-variants.{Missing}
+use Rattle.told_edges.specs.Told.{toldEdge}
 
 -- of a text that is of the form, or is not
 unfoldable pub formEdge : Bounds → Parsed TextMesh → ℕ → ℕ → ToldEdge

@@ -12,8 +12,8 @@ use lib.ListN.{length}
 use Rattle.audited_meshes.specs.Folds.{every}
 use Rattle.built_meshes.specs.Lists.{Lists, facesOf, size, offset}
 use Rattle.built_meshes.specs.Places.{pointOf, nextOf}
-use Rattle.edge_lookups.specs.declared.ToldEdge.{ToldEdge}
-use Rattle.edge_lookups.specs.declared.ToldEdge.the-variants.{Missing, First, Again}
+use Rattle.told_edges.specs.declared.ToldEdge.{ToldEdge}
+use Rattle.told_edges.specs.declared.ToldEdge.the-variants.{Missing, First, Again}
 
 abbrev pub runsAt : Lists → ℕ → ℕ → ℕ → ℕ → Bool
 runsAt l p q f i = eqb (pointOf l f i) p && eqb (nextOf l f i) q

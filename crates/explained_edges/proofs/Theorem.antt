@@ -20,13 +20,13 @@ use Rattle.text_meshes.specs.TextBuilding.{listsOf}
 use Rattle.text_meshes.specs.Claims.{Stands-for}
 use Rattle.text_places.specs.TextPlaces.{placeAtCheck, textPlace}
 use Rattle.explained_texts.proofs.Places.{place-is-first}
-use Rattle.edge_lookups.specs.declared.ToldEdge.the-variants.{First, Again}
-use Rattle.edge_lookups.specs.Told.{toldEdge}
-use Rattle.edge_lookups.specs.Claims.{FirstFace}
-use Rattle.edge_lookups.proofs.Theorem.{points-told, same-way-told as face-told}
-use Rattle.text_edges.specs.TextEdges.{textEdge}
-use Rattle.text_edges.specs.Claims.{Told-at, Triple-told, Same-way-told}
-use Rattle.text_edges.proofs.Laws.{edge-of}
+use Rattle.told_edges.specs.declared.ToldEdge.the-variants.{First, Again}
+use Rattle.told_edges.specs.Told.{toldEdge}
+use Rattle.told_edges.specs.Claims.{FirstFace}
+use Rattle.told_edges.proofs.Theorem.{points-told, same-way-told as face-told}
+use Rattle.explained_edges.specs.TextEdges.{textEdge}
+use Rattle.explained_edges.specs.Claims.{Told-at, Triple-told, Same-way-told}
+use Rattle.explained_edges.proofs.Laws.{edge-of}
 
 module _ (b : Bounds) (s : List ℕ) (m : Mesh) (t : TextMesh) (h : Stands-for b s t) where
   -- where a ground is met first at an edge, 2 is not met

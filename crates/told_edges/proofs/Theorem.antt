@@ -21,11 +21,11 @@ use Rattle.built_meshes.specs.declared.Ground.{Ground}
 use Rattle.built_meshes.specs.declared.Ground.the-variants.{OverCounts, PointTwice, SameWay}
 use Rattle.built_meshes.proofs.Versions.{every-false}
 use Rattle.built_meshes.proofs.Begin.{counts-is, counts-fail, sides-listed}
-use Rattle.edge_lookups.specs.declared.ToldEdge.{ToldEdge}
-use Rattle.edge_lookups.specs.declared.ToldEdge.the-variants.{Missing, First, Again}
-use Rattle.edge_lookups.specs.Told.{runsAt, noneRuns, before, sameWayBefore, isListed, toldEdge}
-use Rattle.edge_lookups.specs.Claims.{PlaceListed, FirstFace, Missing-exactly, Again-exactly, First-exactly, Points-told, Same-way-told}
-use Rattle.edge_lookups.proofs.Laws.{offset-more, offset-le}
+use Rattle.told_edges.specs.declared.ToldEdge.{ToldEdge}
+use Rattle.told_edges.specs.declared.ToldEdge.the-variants.{Missing, First, Again}
+use Rattle.told_edges.specs.Told.{runsAt, noneRuns, before, sameWayBefore, isListed, toldEdge}
+use Rattle.told_edges.specs.Claims.{PlaceListed, FirstFace, Missing-exactly, Again-exactly, First-exactly, Points-told, Same-way-told}
+use Rattle.told_edges.proofs.Laws.{offset-more, offset-le}
 
 -- ---- the place
 

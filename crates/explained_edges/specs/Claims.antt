@@ -17,9 +17,9 @@ use Rattle.text_meshes.specs.TextBuilding.{listsOf, buildText}
 use Rattle.text_meshes.specs.Claims.{Stands-for}
 use Rattle.text_meshes.specs.declared.TextBuilt.the-variants.{Refused}
 use Rattle.text_places.specs.TextPlaces.{placeAtCheck, textPlace}
-use Rattle.edge_lookups.specs.declared.ToldEdge.the-variants.{First, Again}
-use Rattle.edge_lookups.specs.Claims.{FirstFace}
-use Rattle.text_edges.specs.TextEdges.{textEdge}
+use Rattle.told_edges.specs.declared.ToldEdge.the-variants.{First, Again}
+use Rattle.told_edges.specs.Claims.{FirstFace}
+use Rattle.explained_edges.specs.TextEdges.{textEdge}
 
 abbrev pub Told-at : Bounds → List ℕ → TextMesh → ℕ → ℕ → Type 0
 Told-at b s t f i = textPlace b s ≡ placeAtCheck (length (t .points)) (edge f i)
