@@ -14,9 +14,8 @@ ghost use Rattle.listing_lines.specs.Parts.{lastWord, AtNumber, same, ro
 ghost use Rattle.listing_lines.specs.Parts.{AtTotal, Listing, positionsListed, pointsListed, edgesListed, intervalsListed, facesListed};
 use mesh_lines::Place;
 use mesh_lines::Run;
-use mesh_lines::coordinates;
 use mesh_lines::put_word;
-use mesh_text::ends;
+use point_lines::coordinates;
 use tables::EDGE_WIDTH;
 use tables::FACE_WIDTH;
 use tables::POINT_WIDTH;
@@ -24,6 +23,7 @@ use tables::POSITION_WIDTH;
 use text_numbers::Number;
 use text_numbers::decimal;
 use text_numbers::stands;
+use text_sizes::ends;
 
 // A space and a word.
 fn word(s: &[u8], at: usize) -> Number

@@ -7,7 +7,6 @@ use building::build;
 use building_tests::Bounds;
 use built_meshes::Built;
 use built_meshes::Version;
-use mesh_text::read_text;
 use oracle_tables::fields::at_most;
 use oracle_tables::held::Lent;
 use oracle_tables::held::Tables;
@@ -15,6 +14,7 @@ use oracle_tables::held::filled;
 use tables::Counts;
 use text_building::build_text;
 use text_meshes::TextBuilt;
+use text_reading::read_text;
 
 // How many points, edges and faces a mesh has, or document 01's number of the ground on which it is refused.
 pub enum Answer {

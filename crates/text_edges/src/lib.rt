@@ -20,9 +20,9 @@ use building_tests::MOST_LISTED;
 use building_tests::MOST_POINTS;
 use edge_lookups::told_edge;
 use mesh_text::Reading;
-use mesh_text::read_text;
 use tables::POSITION_WIDTH;
 use text_answers::is_too_long;
+use text_reading::read_text;
 use told_edges::ToldEdge;
 
 // The edge at place i of face f, of the first nf faces and n listed points of the lists.

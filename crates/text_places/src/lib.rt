@@ -23,10 +23,10 @@ use built_meshes::Version;
 use face_grounds::enter_faces;
 use face_places::spread;
 use mesh_text::Reading;
-use mesh_text::read_text;
 use refusal_places::Spot;
 use tables::POSITION_WIDTH;
 use text_answers::is_too_long;
+use text_reading::read_text;
 
 // Where a ground is met in a text: the line from 1, the face and its edge from 0. What there is none of is `NOWHERE`.
 pub struct TextPlace {

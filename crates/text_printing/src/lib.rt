@@ -1,5 +1,5 @@
 // The face lines of a mesh text (document 01, "Mesh text"), written from the lists that a text stands for.
-// Not here: the printing of a whole text as a definition (`mesh_printing`), the reading of texts (`mesh_text`).
+// Not here: the printing of a whole text as a definition (`mesh_printing`), the reading of texts (`text_reading`).
 // Contract: `write_face_lines`. Definitions: `specs/Faces.antt`. Laws: `proofs/Laws.antt` (lines from their parts),
 // `proofs/Again.antt` (the faces of a text's lists are those of the text).
 ghost use mathlib.Core.Path.{_≡_};

@@ -30,10 +30,10 @@ use built_meshes::Version;
 use face_grounds::enter_faces;
 use face_places::spread;
 use mesh_text::Reading;
-use mesh_text::read_text;
 use refusal_places::Spot;
 use tables::POSITION_WIDTH;
 use text_answers::is_too_long;
+use text_reading::read_text;
 use whole_tests::whole_verdict;
 
 // What is met first in the faces of lists whose lengths agree; if nothing is, the mates of their places and the places that they are mates of.
