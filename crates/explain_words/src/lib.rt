@@ -4,7 +4,7 @@
 use io::print_decimal;
 use io::write_all;
 use libc::STDOUT_FILENO;
-use listings::Reading;
+use listings::ListingReading;
 use tables::Counts;
 use told_edges::ToldEdge;
 
@@ -153,18 +153,18 @@ pub fn say_accepted(c: Counts) -> bool {
 }
 
 // Says what reading a listing answers.
-pub fn say_reading(reading: Reading) -> bool {
+pub fn say_reading(reading: ListingReading) -> bool {
     match reading {
-        Reading::Read(c) => say_accepted(c),
-        Reading::NotListing => say(
+        ListingReading::Read(c) => say_accepted(c),
+        ListingReading::NotListing => say(
             b"refused 40: the text is not of the form of a handover listing\n",
         ),
-        Reading::OverCeilings => say(
+        ListingReading::OverCeilings => say(
             b"refused 2: the listing has more than 65536 points, 131072 edges or 65536 faces\n",
         ),
-        Reading::NoRoom => say(
+        ListingReading::NoRoom => say(
             b"refused 4: the listing has more than 256 points, 512 edges or 256 faces\n",
         ),
-        Reading::NotClosed => say(b"refused 30: what is listed is no closed mesh\n"),
+        ListingReading::NotClosed => say(b"refused 30: what is listed is no closed mesh\n"),
     }
 }

@@ -8,7 +8,7 @@ ghost use mathlib.Core.Path.{_≡_};
 ghost use lib.ListN.{set};
 
 // The place after a part of the text.
-pub enum Place {
+pub enum LinePlace {
     At(usize),
     None,
 }

@@ -10,7 +10,7 @@ ghost use Rattle.text_numbers.specs.Numbers.{float};
 ghost use Rattle.text_numbers.specs.Answers.{number};
 ghost use Rattle.mesh_lines.specs.Grammar.{coordinateForm, pointForm, flat};
 ghost use Rattle.mesh_lines.specs.Parts.{placeAnswer, runAnswer, Parses, placeAfter, stored, AtPlace, AtRun};
-use mesh_lines::Place;
+use mesh_lines::LinePlace;
 use mesh_lines::Run;
 use mesh_lines::put_number;
 use text_numbers::Number;
@@ -30,7 +30,7 @@ fn coordinate(s: &[u8], at: usize) -> Number
 }
 
 // As many coordinates as w says, stored from n on.
-pub fn coordinates(s: &[u8], at: usize, w: usize, xs: &mut [f64], n: usize) -> Place
+pub fn coordinates(s: &[u8], at: usize, w: usize, xs: &mut [f64], n: usize) -> LinePlace
     requires { ⌜ (at ≤ length (now s)) × (n ≤ at) ⌝ }
     ensures place { λ r. ⌜ r ≡ placeAnswer (times w (coordinateForm (now (s .entry))) at) ⌝ }
     ensures list { λ r. ⌜ AtPlace r (now (xs .exit) ≡ stored (map float) (now (xs .entry)) n (times w (coordinateForm (now (s .entry))) at)) ⌝ }
@@ -39,28 +39,28 @@ pub fn coordinates(s: &[u8], at: usize, w: usize, xs: &mut [f64], n: usize) -> P
     let mut k: usize = 0;
     while k < w {
         let Number::Is(b, j) = coordinate(s, i) else {
-            return Place::None;
+            return LinePlace::None;
         };
         put_number(xs, n + k, float(b));
         i = j;
         k += 1;
     }
-    Place::At(i)
+    LinePlace::At(i)
 }
 
 // A point line after `[point`.
-fn point(s: &[u8], at: usize, xs: &mut [f64], n: usize) -> Place
+fn point(s: &[u8], at: usize, xs: &mut [f64], n: usize) -> LinePlace
     requires { ⌜ (at ≤ length (now s)) × (n ≤ at) ⌝ }
     ensures place { λ r. ⌜ r ≡ placeAnswer (pointForm (now (s .entry)) at) ⌝ }
     ensures list { λ r. ⌜ AtPlace r (now (xs .exit) ≡ stored (map float) (now (xs .entry)) n (pointForm (now (s .entry)) at)) ⌝ }
 {
-    let Place::At(i) = coordinates(s, at, 3, xs, n) else {
-        return Place::None;
+    let LinePlace::At(i) = coordinates(s, at, 3, xs, n) else {
+        return LinePlace::None;
     };
     if !stands(s, i, b"]\n") {
-        return Place::None;
+        return LinePlace::None;
     }
-    Place::At(i + 2)
+    LinePlace::At(i + 2)
 }
 
 // The point lines, and how many they are. Where one is not of the form, what stands in the list is left free here: `points` is not
@@ -75,7 +75,7 @@ fn points(s: &[u8], at: usize, xs: &mut [f64]) -> Run
     let mut i = at;
     let mut k: usize = 0;
     while stands(s, i, b"[point") {
-        let Place::At(j) = point(s, i + 6, xs, 3 * k) else {
+        let LinePlace::At(j) = point(s, i + 6, xs, 3 * k) else {
             return Run::None;
         };
         i = j;

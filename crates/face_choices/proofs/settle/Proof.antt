@@ -60,7 +60,7 @@ loop-again c =
     let args = c8 .before .before .before .before .args in
     let loop = c8 .loop in
     let loop-test = c .before .before .before .before .before .before .before .loop-test in
-    let find = c .before .before .before .before .find in (
+    let find = c .before .before .before .before .find-part in (
       settling-more (args .ups .now) (args .odds .now) (args .turned .now) (loop .ups) (loop .odds) (loop .turned)
           (find .last .0) (find .last .1 .0) (loop .f) (find .result) (loop .inv .0) (loop-test .taken) (find .ensures),
       omega (arith, loop .inv .0 .turned-length, loop-test .taken),

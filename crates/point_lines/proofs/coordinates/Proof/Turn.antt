@@ -10,7 +10,7 @@ use Rattle.text_numbers.specs.Form.{Parsed, parsed, unparsed, times}
 use Rattle.mesh_lines.specs.Grammar.{coordinateForm}
 use Rattle.text_numbers.specs.Numbers.{float}
 use Rattle.mesh_lines.specs.Parts.{placeAnswer, stored}
-use Rattle.mesh_lines.specs.declared.Place.the-variants as Place
+use Rattle.mesh_lines.specs.declared.LinePlace.the-variants as LinePlace
 use Rattle.mesh_lines.proofs.Laws.{takes-coordinate}
 use Rattle.text_numbers.proofs.Turns.{times-found, times-none}
 use Rattle.mesh_lines.proofs.Answers.{place-next, stored-next}
@@ -49,12 +49,12 @@ module _ (s : List ℕ) (at : ℕ) (xs₀ : List Float) (n w : ℕ) (xs : List F
             ∙ (rw (f, t) at (inv .list));
       }
 
-  pub stop : k < w → coordinateForm s i ≡ unparsed → Place.None ≡ placeAnswer (times w (coordinateForm s) at)
+  pub stop : k < w → coordinateForm s i ≡ unparsed → LinePlace.None ≡ placeAnswer (times w (coordinateForm s) at)
   stop hk e =
       let f : w - k ≡ suc (w - (k + 1)) = omega arith in
       rw (f, times-none (coordinateForm s) i (w - (k + 1)) e) at (inv .place)
 
-  pub end : w ≤ k → (Place.At i ≡ placeAnswer (times w (coordinateForm s) at)) × (xs ≡ stored (map float) xs₀ n (times w (coordinateForm s) at))
+  pub end : w ≤ k → (LinePlace.At i ≡ placeAnswer (times w (coordinateForm s) at)) × (xs ≡ stored (map float) xs₀ n (times w (coordinateForm s) at))
   unfolding times
   end hk =
       let f : w - k ≡ 0 = omega arith in

@@ -12,8 +12,8 @@ use Rattle.text_numbers.specs.Form.{bytes, parsed, Form, many, stands}
 use Rattle.mesh_lines.specs.Grammar.{pointForm, flat}
 use Rattle.text_numbers.specs.Numbers.{float}
 use Rattle.mesh_lines.specs.Parts.{placeAnswer, runAnswer, stored, AtPlace}
-use Rattle.mesh_lines.specs.declared.Place.{Place}
-use Rattle.mesh_lines.specs.declared.Place.the-variants as Place
+use Rattle.mesh_lines.specs.declared.LinePlace.{LinePlace}
+use Rattle.mesh_lines.specs.declared.LinePlace.the-variants as LinePlace
 use Rattle.mesh_lines.specs.declared.Run.the-variants as Run
 use Rattle.mesh_lines.proofs.Laws.{takes-point, length-point}
 use Rattle.text_numbers.proofs.Laws.{stands-inside}
@@ -52,11 +52,11 @@ module _ (s : List ℕ) (at : ℕ) (xs₀ : List Float) (xs : List Float) (i k :
     fuel : length s - k ≡ suc (length s - (k + 1))
     fuel = let h = head-inside in let c = inv .counted in omega arith
 
-    pub stop : {r : Place} → r ≡ placeAnswer (pointForm s (i + 6)) → r ≡ Place.None → Run.None ≡ runAnswer length (lines s (length s) at)
+    pub stop : {r : LinePlace} → r ≡ placeAnswer (pointForm s (i + 6)) → r ≡ LinePlace.None → Run.None ≡ runAnswer length (lines s (length s) at)
     stop {r} er en =
         rw (fuel, many-none s (bytes "[point") (pointForm s) i (length s - (k + 1)) e (place-none (pointForm s (i + 6)) (sym er ∙ en))) at (inv .run)
 
-    module _ {r : Place} {j : ℕ} (er : r ≡ placeAnswer (pointForm s (i + 6))) (ej : r ≡ Place.At j) where
+    module _ {r : LinePlace} {j : ℕ} (er : r ≡ placeAnswer (pointForm s (i + 6))) (ej : r ≡ LinePlace.At j) where
       line : (a : List ℕ) × (pointForm s (i + 6) ≡ parsed a j)
       line = place-at (pointForm s (i + 6)) (sym er ∙ ej)
 

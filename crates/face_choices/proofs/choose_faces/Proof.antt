@@ -1,11 +1,11 @@
--- choose meets its contract: its three parts in turn.
+-- choose_faces meets its contract: its three parts in turn.
 use mathlib.Core.Path.{_≡_, sym, _∙_}
 use native.Mathlib.Omega.{arith}
 use lib.ListN.{length}
 use Rattle.face_choices.proofs.Laws.{mates-fit-like, chosen}
 use borrow.Author.Needs.{needs}
-use Rattle.face_choices.proofs.choose.Statement.{statement}
-use Rattle.face_choices.proofs.choose.Tie as tie
+use Rattle.face_choices.proofs.choose_faces.Statement.{statement}
+use Rattle.face_choices.proofs.choose_faces.Tie as tie
 
 start-requires : tie.Need-start-requires
 start-requires c κs = search needs
@@ -57,8 +57,8 @@ returns c =
     (join-places .last .1 .1 .1 .0) (join-places .last .1 .1 .1 .1 .0) (settle .last .1 .1 .0) (join-places .result)
     (join-places .ensures) (settle .ensures)
 
-pub choose-spec : {M : Type 1} → statement M
-choose-spec =
+pub choose-faces-spec : {M : Type 1} → statement M
+choose-faces-spec =
     tie.close
     (tie.spec
     start-requires

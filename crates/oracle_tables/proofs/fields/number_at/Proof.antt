@@ -1,4 +1,4 @@
--- number meets its contract.
+-- number_at meets its contract.
 use Prim.Native.Nat.{_≤_, _<_, _-_, _+_, _*_}
 use mathlib.Core.Path.{_≡_}
 use lib.ListN.{length}
@@ -13,8 +13,8 @@ Inv-loop bytes at n₀ i₀ n i = (i ≤ 10) × (n < 10000000000)
 abbrev μ-loop : tie.MeasureT-loop
 μ-loop bytes at n₀ i₀ n i = 10 - i
 
-pub number-spec : {M : Type 1} → statement M
-number-spec =
+pub number-at-spec : {M : Type 1} → statement M
+number-at-spec =
     tie.close
     (tie.spec
     Inv-loop

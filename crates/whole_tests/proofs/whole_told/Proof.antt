@@ -1,4 +1,4 @@
--- whole_verdict meets its contract: 20, then 21, then 22.
+-- whole_told meets its contract: 20, then 21, then 22.
 use mathlib.Core.Path.{_≡_, refl, sym, _∙_, ap}
 use Prim.Native.Nat.{ℕ, _-_, _+_, _≤_, _<_}
 use native.Mathlib.Omega.{arith}
@@ -7,10 +7,10 @@ use lib.Seq.{length-take-le, getD-take}
 use borrow.Author.Tests.{not-true, not-false}
 use Rattle.whole_tests.proofs.Laws.{missing-met, bare-met, missed-met, nothing-met, zero-starts, wider}
 use borrow.Author.Needs.{needs}
-use Rattle.whole_tests.proofs.whole_verdict.Statement.{statement}
-use Rattle.whole_tests.proofs.whole_verdict.Tie as tie
-use Rattle.whole_tests.proofs.whole_verdict.Reads as reads
-use Rattle.whole_tests.proofs.whole_verdict.Lts as lts
+use Rattle.whole_tests.proofs.whole_told.Statement.{statement}
+use Rattle.whole_tests.proofs.whole_told.Tie as tie
+use Rattle.whole_tests.proofs.whole_told.Reads as reads
+use Rattle.whole_tests.proofs.whole_told.Lts as lts
 use Rattle.shared_edges.proofs.are_shared.Reads as are-shared-reads
 use Rattle.whole_tests.proofs.all_begun.Reads as all-begun-reads
 use Rattle.whole_tests.proofs.start_points.Reads as start-points-reads
@@ -113,8 +113,8 @@ returns-4 c =
     (not-false _ (c .before .before .before .if2 .left)) (c .before .turns-come .result)
     (c .before .turns-come .ensures) (not-false _ (c .if3 .left))
 
-pub whole-verdict-spec : {M : Type 1} → statement M
-whole-verdict-spec =
+pub whole-told-spec : {M : Type 1} → statement M
+whole-told-spec =
     tie.close
     (tie.spec
     are-shared-requires

@@ -1,4 +1,4 @@
--- find meets its contract. The invariant: the way so far leads from face f to face g, and the lists keep the same parts; faces fall, so
+-- find_part meets its contract. The invariant: the way so far leads from face f to face g, and the lists keep the same parts; faces fall, so
 -- the face is the measure.
 use mathlib.Core.Path.{_≡_, sym, _∙_}
 use Prim.Native.Nat.{_<_}
@@ -6,8 +6,8 @@ use native.Mathlib.Omega.{arith}
 use borrow.Author.Needs.{needs}
 use lib.ListN.{length, getD}
 use Rattle.face_parts.proofs.Laws.{Finding, find-start, find-turn, find-less, find-in, find-in-odds, find-next, find-end}
-use Rattle.face_parts.proofs.find.Statement.{statement}
-use Rattle.face_parts.proofs.find.Tie as tie
+use Rattle.face_parts.proofs.find_part.Statement.{statement}
+use Rattle.face_parts.proofs.find_part.Tie as tie
 
 abbrev Inv-loop : tie.InvT-loop
 Inv-loop ups₀ odds₀ f g₀ odd₀ up₀ ups odds g odd up = (f < length ups₀) × Finding ups₀ odds₀ ups odds f g odd × (up ≡ getD ups g 0)
@@ -156,8 +156,8 @@ returns c =
     find-end (args .ups .now) (args .odds .now) (loop .ups) (loop .odds) (args .f) (loop .g) (loop .odd) (loop .inv .0)
     (loop .inv .1) (sym (loop .inv .2) ∙ c .loop-test .left)
 
-pub find-spec : {M : Type 1} → statement M
-find-spec =
+pub find-part-spec : {M : Type 1} → statement M
+find-part-spec =
     tie.close
     (tie.spec
     Inv-loop

@@ -1,12 +1,12 @@
--- enter_faces meets its contract. The invariant: the faces passed are entered and were fit; the measure is what is left of them.
+-- mend_faces meets its contract. The invariant: the faces passed are entered and were fit; the measure is what is left of them.
 use mathlib.Core.Path.{_≡_, refl, sym, _∙_}
 use Prim.Native.Nat.{_-_, _≤_, _<_, _/_}
 use native.Mathlib.Omega.{arith}
 use borrow.Author.Needs.{needs}
 use lib.ListN.{length}
 use Rattle.face_mending.proofs.Laws.{unfit, FacesEntered, faces-start, faces-room, faces-few, faces-stopped, faces-more, faces-end}
-use Rattle.face_mending.proofs.enter_faces.Statement.{statement}
-use Rattle.face_mending.proofs.enter_faces.Tie as tie
+use Rattle.face_mending.proofs.mend_faces.Statement.{statement}
+use Rattle.face_mending.proofs.mend_faces.Tie as tie
 
 abbrev Inv-loop : tie.InvT-loop
 Inv-loop sides firsts listed beside tos heads₀ links₀ mates₀ seconds₀ np nf a₀ f₀ heads links mates seconds a f =
@@ -165,8 +165,8 @@ returns-2 c =
     (omega (arith, c .loop-test .left, loop .inv .1)) in
     (all .0, λ t. all .1)
 
-pub enter-faces-spec : {M : Type 1} → statement M
-enter-faces-spec =
+pub mend-faces-spec : {M : Type 1} → statement M
+mend-faces-spec =
     tie.close
     (tie.spec
     Inv-loop
