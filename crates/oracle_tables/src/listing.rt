@@ -77,7 +77,7 @@ fn word(words: &[u32], i: usize) -> u64 {
 }
 
 // The number at a place; 0 past the end.
-fn number_at(numbers: &[f64], i: usize) -> f64 {
+fn entry_at(numbers: &[f64], i: usize) -> f64 {
     if i < numbers.len() { numbers[i] } else { 0.0 }
 }
 
@@ -101,9 +101,9 @@ fn put_point(s: Sink, positions: &[f64], points: &[u32], p: usize) -> Sink
 {
     let b = p * POSITION_WIDTH;
     let s = put(s, b"[point");
-    let s = put_bits(s, number_at(positions, b));
-    let s = put_bits(s, number_at(positions, b + Y_NUMBER));
-    let s = put_bits(s, number_at(positions, b + Z_NUMBER));
+    let s = put_bits(s, entry_at(positions, b));
+    let s = put_bits(s, entry_at(positions, b + Y_NUMBER));
+    let s = put_bits(s, entry_at(positions, b + Z_NUMBER));
     let s = put_words(s, points, p * POINT_WIDTH, POINT_WIDTH);
     put(s, b"]\n")
 }
@@ -114,7 +114,7 @@ fn put_edge(s: Sink, edges: &[u32], intervals: &[f64], e: usize) -> Sink
 {
     let s = put(s, b"[edge");
     let s = put_words(s, edges, e * EDGE_WIDTH, EDGE_WIDTH);
-    let s = put_bits(s, number_at(intervals, e));
+    let s = put_bits(s, entry_at(intervals, e));
     put(s, b"]\n")
 }
 

@@ -4,8 +4,8 @@ use mathlib.Core.Path.{_≡_}
 use lib.ListN.{length}
 use native.Mathlib.Omega.{arith}
 use borrow.Author.Needs.{needs}
-use Rattle.oracle_tables.proofs.fields.number.Statement.{statement}
-use Rattle.oracle_tables.proofs.fields.number.Tie as tie
+use Rattle.oracle_tables.proofs.fields.number_at.Statement.{statement}
+use Rattle.oracle_tables.proofs.fields.number_at.Tie as tie
 
 abbrev Inv-loop : tie.InvT-loop
 Inv-loop bytes at n₀ i₀ n i = (i ≤ 10) × (n < 10000000000)
