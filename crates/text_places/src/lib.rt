@@ -20,7 +20,7 @@ use building_tests::MOST_FACES;
 use building_tests::MOST_LISTED;
 use building_tests::MOST_POINTS;
 use built_meshes::Version;
-use face_grounds::first_spot;
+use face_grounds::faces_spot;
 use face_places::spread;
 use mesh_text::Reading;
 use refusal_places::Spot;
@@ -59,7 +59,7 @@ fn first_spot(
     let mut mates = [0u32; MOST_LISTED];
     let mut seconds = [0u32; MOST_LISTED];
     spread(sides, listed, &mut tos, &mut owners);
-    first_spot(
+    faces_spot(
         version,
         sides,
         firsts,

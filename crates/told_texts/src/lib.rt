@@ -27,7 +27,7 @@ use building_tests::MOST_POINTS;
 use built_meshes::Ground;
 use built_meshes::Verdict;
 use built_meshes::Version;
-use face_grounds::first_spot;
+use face_grounds::faces_spot;
 use face_places::spread;
 use mesh_text::Reading;
 use refusal_places::Spot;
@@ -59,7 +59,7 @@ fn pair_spot(
     let mut heads = [0u32; MOST_POINTS];
     let mut links = [0u32; MOST_LISTED];
     spread(sides, listed, &mut tos, &mut owners);
-    first_spot(
+    faces_spot(
         version,
         sides,
         firsts,

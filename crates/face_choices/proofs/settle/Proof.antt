@@ -21,13 +21,13 @@ loop-holds c =
       omega arith,
     )
 
-cast-find : tie.Need-cast-find Inv-loop μ-loop
-cast-find c =
+cast-find-part : tie.Need-cast-find-part Inv-loop μ-loop
+cast-find-part c =
     let pre = c .before .before .before .before .before .before .before .pre in
     omega (arith, pre .1 .0, pre .1 .1, c .before .before .before .loop .inv .1)
 
-find-requires : tie.Need-find-requires Inv-loop μ-loop
-find-requires c κs =
+find-part-requires : tie.Need-find-part-requires Inv-loop μ-loop
+find-part-requires c κs =
     let loop = c .before .before .before .loop in (
       loop .inv .0 .falling,
       omega (
@@ -87,8 +87,8 @@ settle-spec =
     Inv-loop
     μ-loop
     loop-holds
-    cast-find
-    find-requires
+    cast-find-part
+    find-part-requires
     slice-write-turned
     add-f
     loop-less

@@ -10,8 +10,8 @@ use Rattle.listing_reading.proofs.Outcomes.{not-listing, is-listing, ov
 use Rattle.listing_reading.proofs.read_listing.Statement.{statement}
 use Rattle.listing_reading.proofs.read_listing.Tie as tie
 
-sizes-requires : tie.Need-sizes-requires
-sizes-requires c κs = search needs
+listing-sizes-requires : tie.Need-listing-sizes-requires
+listing-sizes-requires c κs = search needs
 
 enum-known-np : tie.Need-enum-known-np
 enum-known-np c = search needs
@@ -191,7 +191,7 @@ pub read-listing-spec : {M : Type 1} → statement M
 read-listing-spec =
     tie.close
     (tie.spec
-    sizes-requires
+    listing-sizes-requires
     enum-known-np
     enum-told
     returns

@@ -25,8 +25,8 @@ slice-aggregate-mend-faces-3 : tie.Need-slice-aggregate-mend-faces-3
 slice-aggregate-mend-faces-3 c = search needs
 
 -- src/lib.rt:45:11
-enter-faces-requires : tie.Need-enter-faces-requires
-enter-faces-requires c κs =
+mend-faces-requires : tie.Need-mend-faces-requires
+mend-faces-requires c κs =
     let c8 = c .before .before .before .before .before .before .before .before in
     let args = c8 .before .before .args in
     let pre = c8 .before .before .pre in (
@@ -137,7 +137,7 @@ pair-faces-spec =
     slice-aggregate-mend-faces
     slice-aggregate-mend-faces-2
     slice-aggregate-mend-faces-3
-    enter-faces-requires
+    mend-faces-requires
     enum-known-g
     enum-told
     slice-aggregate-are-shared

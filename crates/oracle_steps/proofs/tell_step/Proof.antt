@@ -32,8 +32,8 @@ fill-order-requires : tie.Need-fill-order-requires
 fill-order-requires c κs = search needs
 
 -- src/lib.rt:241:9
-filled-requires : tie.Need-filled-requires
-filled-requires c κs = search needs
+filled-tables-requires : tie.Need-filled-tables-requires
+filled-tables-requires c κs = search needs
 
 -- src/lib.rt:243:9
 array-share-prefix-order : tie.Need-array-share-prefix-order
@@ -81,7 +81,7 @@ tell-step-spec =
     order-length-requires
     slice-aggregate-fill-order
     fill-order-requires
-    filled-requires
+    filled-tables-requires
     array-share-prefix-order
     slice-aggregate-make
     edition-at-requires

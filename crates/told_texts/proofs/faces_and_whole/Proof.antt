@@ -70,8 +70,8 @@ slice-aggregate-whole-told-2 c =
     (omega (arith, pair-spot .kept .1 .1 .1 .1 .1 .1 .0, length-replicate {A = ℕ} 16384 0, pre .few)))
 
 -- src/lib.rt:106:24
-whole-verdict-requires : tie.Need-whole-verdict-requires
-whole-verdict-requires c κs =
+whole-told-requires : tie.Need-whole-told-requires
+whole-told-requires c κs =
     let c8 = c .before .before .before .before .before .before .before .before in
     let args = c8 .before .before .before .before .before .args in
     let pre = c8 .before .before .before .before .before .pre in
@@ -132,7 +132,7 @@ faces-and-whole-spec =
     slice-aggregate-whole-told
     array-share-prefix-seconds
     slice-aggregate-whole-told-2
-    whole-verdict-requires
+    whole-told-requires
     returns
     returns-2
     returns-3)

@@ -1,4 +1,4 @@
--- first_spot meets its contract. The invariant: the faces passed are entered, and nothing was met; the measure is what is left of them.
+-- faces_spot meets its contract. The invariant: the faces passed are entered, and nothing was met; the measure is what is left of them.
 use mathlib.Core.Path.{_≡_, refl, sym, _∙_}
 use Prim.Native.Nat.{_-_, _≤_, _<_, _/_}
 use native.Mathlib.Omega.{arith}
@@ -6,10 +6,10 @@ use borrow.Author.Needs.{needs}
 use lib.ListN.{length}
 use Rattle.face_grounds.proofs.Laws.{FacesEntered, faces-start, faces-room, faces-few, faces-stopped, faces-more, faces-end}
 use Rattle.refusal_places.proofs.Theorem.{face-stops, edge-stops, not-clear}
-use Rattle.face_grounds.proofs.first_spot.Statement.{statement}
-use Rattle.face_grounds.proofs.first_spot.Tie as tie
-use Rattle.face_grounds.proofs.first_spot.Reads as reads
-use Rattle.face_grounds.proofs.first_spot.Lts as lts
+use Rattle.face_grounds.proofs.faces_spot.Statement.{statement}
+use Rattle.face_grounds.proofs.faces_spot.Tie as tie
+use Rattle.face_grounds.proofs.faces_spot.Reads as reads
+use Rattle.face_grounds.proofs.faces_spot.Lts as lts
 use Rattle.building_tests.proofs.faces.face_size.Reads as face-size-reads
 use Rattle.face_grounds.proofs.enter_face.Reads as enter-face-reads
 
@@ -252,8 +252,8 @@ returns-3 c =
     (omega (arith, c .loop-test .left, loop .inv .1)) in
     (all .0, λ t. all .1)
 
-pub first-spot-spec : {M : Type 1} → statement M
-first-spot-spec =
+pub faces-spot-spec : {M : Type 1} → statement M
+faces-spot-spec =
     tie.close
     (tie.spec
     Inv-loop
