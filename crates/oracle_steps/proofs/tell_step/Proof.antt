@@ -12,7 +12,7 @@ use Rattle.oracle_steps.proofs.make.Reads as make-reads
 use Rattle.oracle_steps.proofs.order_length.Reads as order-length-reads
 use Rattle.oracle_steps.proofs.tell_made.Reads as tell-made-reads
 use Rattle.oracle_tables.proofs.fields.field.Reads as field-reads
-use Rattle.oracle_tables.proofs.held.filled.Reads as filled-reads
+use Rattle.oracle_tables.proofs.held.filled_tables.Reads as filled-tables-reads
 use Rattle.oracle_tables.proofs.held.lent_by.Reads as lent-by-reads
 
 -- src/lib.rt:234:18
