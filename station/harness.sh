@@ -20,13 +20,12 @@ root=$here/..
 needed station/harness.sh rt cc rustc python3 sources
 out=$here/target
 library=$root/target/staticlib/libstation.a
-oracle=$root/oracle/target/liboracle.rlib
+harness=$out/libharness.rlib
 
 "$here/library.sh"
-"$root/oracle/build.sh"
-mkdir -p "$out"
-if [ ! -f "$out/station" ] || [ -n "$(find "$here/src" "$here/lavyngo.rs" "$library" "$oracle" -newer "$out/station" -type f)" ]; then
-    rustc --edition 2024 -O --crate-name station --extern oracle="$oracle" -C link-arg="$library" \
-        -o "$out/station" "$here/src/main.rs"
+"$here/compile.sh"
+if [ ! -f "$out/station" ] || [ -n "$(find "$here/src/main.rs" "$library" "$harness" -newer "$out/station" -type f)" ]; then
+    rustc --edition 2024 -O --crate-name station --extern harness="$harness" -L dependency="$root/oracle/target" \
+        -C link-arg="$library" -o "$out/station" "$here/src/main.rs"
 fi
 exec "$out/station" "$@"

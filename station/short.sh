@@ -6,6 +6,11 @@ here=$(cd "$(dirname "$0")" && pwd)
 root=$here/..
 . "$root/tools/needed.sh"
 needed station/short.sh rt cc rustc python3 sources
+# the harness is compiled while the library is made
+"$here/compile.sh" &
+compiling=$!
+"$here/library.sh"
+wait "$compiling"
 "$here/run.sh"
 "$here/harness.sh" tampered
 "$here/harness.sh" compare 2000 "${1:-1}"

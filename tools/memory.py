@@ -4,7 +4,7 @@
     tools/memory.py COMMAND..       run the command, then print the most memory that the prover had resident for each crate, in GB
 
 The command is `rt check NAME`, `rt ci` or `.ci/run`; a crate that is not proved again has no line. What is resident is read from
-/proc (VmHWM) every tenth of a second while the prover runs, so that what comes in the last tenth is not seen. The wrong edits, which are proved
+/proc (VmHWM) four times a second while the prover runs, so that what comes in the last quarter of a second is not seen. The wrong edits, which are proved
 in copies, are not counted. Crates over 3 GB are marked.
 """
 import subprocess
@@ -40,7 +40,7 @@ def main():
     while command.poll() is None:
         for name, gigabytes in proving():
             most[name] = max(most.get(name, 0.0), gigabytes)
-        time.sleep(0.1)
+        time.sleep(0.25)
     for name, gigabytes in sorted(most.items(), key=lambda item: -item[1]):
         print(f"{name} {gigabytes:.1f} GB{', over ' + str(MOST) if gigabytes > MOST else ''}")
     sys.exit(command.returncode)

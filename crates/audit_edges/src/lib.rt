@@ -27,7 +27,7 @@ use tables::RIGHT_FACE_WORD;
 use tables::index;
 use walks::SIDE_WIDTH;
 use walks::end_number;
-use walks::t_nurcc_control_point::touches;
+use walks::touches;
 
 // Whether two row numbers are below n and two below k.
 fn are_below(a: u32, b: u32, c: u32, d: u32, n: usize, k: usize) -> bool

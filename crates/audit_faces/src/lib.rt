@@ -12,6 +12,7 @@ ghost use Rattle.audited_meshes.specs.Folds.{every};
 ghost use Rattle.audited_meshes.specs.Quick.{faceFit};
 ghost use Rattle.audit_tests.specs.Parts.{differAt, faceSize, facesWalked};
 ghost use Rattle.tables.specs.Parts.{faceTables};
+use t_nurcc_face::lay_border;
 use t_spline::NONE;
 use tables::FACE_WIDTH;
 use tables::FIRST_CORNER_WORD;
@@ -22,7 +23,6 @@ use tables::SECOND_CORNER_WORD;
 use tables::THIRD_CORNER_WORD;
 use tables::index;
 use walks::Passed;
-use walks::t_nurcc_face::lay_border;
 
 // Whether a corner is a point number or the none mark.
 fn corner_fit(word: u32, np: usize) -> bool

@@ -6,10 +6,9 @@ pub mod Sums
 pub mod OneEdge
 pub mod Quick
 pub mod Positions
+mod Intervals
 pub mod Cycles
 pub mod Rows
 pub mod Darts
 pub mod Closed
 pub mod Holds
-pub mod Meshes
-pub mod Cases

@@ -7,4 +7,4 @@
 // propositions are equivalent, and the quick test equals the test (`specs/Forms.antt`).
 // Proofs: `audit-is-audited` in `proofs/Audited.antt`, `quick-is-audit` in `proofs/Quick.antt`, `audit-is-closed` in
 // `proofs/Holds.antt`. Laws for callers: `proofs/Tests.antt`, `proofs/Walks.antt`, `proofs/Audited.antt`, and of closed meshes
-// `closed-rows` in `proofs/Closed.antt`. Computed meshes: `proofs/Cases.antt`.
+// `closed-rows` in `proofs/Closed.antt`. Computed meshes: `mesh_cases`.

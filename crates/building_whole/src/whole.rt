@@ -13,6 +13,7 @@ ghost use Rattle.built_meshes.specs.Whole.{noMissingFace, everyEdged, noMissedE
 ghost use Rattle.tables.specs.Parts.{pointTables};
 use built_meshes::Ground;
 use built_meshes::Verdict;
+use t_nurcc_iter::point_walk;
 use t_spline::NONE;
 use tables::EDGE_WIDTH;
 use tables::MARK_WORD;
@@ -20,7 +21,6 @@ use tables::POINT_WIDTH;
 use tables::RIGHT_FACE_WORD;
 use tables::index;
 use walks::Passed;
-use walks::t_nurcc_iter::point_walk;
 
 // Whether each of ne edges has a face on its right.
 fn no_missing_face(edges: &[u32], ne: usize) -> bool

@@ -2,4 +2,3 @@ pub mod First
 mod Order
 mod Joined
 pub mod Theorem
-mod Cases

@@ -1,29 +1,26 @@
--- The laws of the edge that is told. Assumes nothing.
---     runs-both, runs-not    what the two comparisons say of a place
---     offset-none .. offset-fits      where the listed points of faces begin and end
---     before-none, before-more, before-stop     the search for a face: its start, a face on, a face that ends it
---     Searched, searched-..  its invariant
---     none-read              whether a face has no such place, as the code is told it
---     no-face, no-points, no-place, face-cut, told-there    what is told by the tests of the place
---     Begun, begun-..        the invariant of finding where the listed points of the face begin
-use mathlib.Core.Path.{_≡_, refl, sym, _∙_, ap}
+-- The laws of the edge that is told, as the code reads the lists. Assumes nothing. The definitions' own laws are those of `told_edges`.
+--     runs-both, runs-not        what the two comparisons say of a place
+--     offset-next, offset-fits   where the listed points of the next face begin, and that those of a face are there
+--     Searched, searched-..      the invariant of the search for a face
+--     none-read                  whether a face has no such place, as the code is told it
+--     told-there, face-cut       what is told of a place that is listed, and after a face whose points are not all there
+--     Begun, begun-..            the invariant of finding where the listed points of the face begin
+use mathlib.Core.Path.{_≡_, sym, _∙_, ap}
 use mathlib.Core.Bool.{Bool, true, false, not, _&&_}
 use mathlib.Core.List.{List, []}
-use Prim.Native.Nat.{ℕ, zero, suc, _+_, _≤_, _<_}
+use Prim.Native.Nat.{ℕ, suc, _+_, _≤_, _<_}
 use native.Mathlib.Omega.{arith}
-use native.Mathlib.Decide.{ℕ-discrete}
 use lib.Dec.{eqb}
 use lib.ListN.{length, getD}
-use borrow.Author.Tests.{eq-eqb, ne-eqb, lt-ltb, le-ltb, le-leb, lt-leb}
+use borrow.Author.Tests.{eq-eqb, ne-eqb}
 use Rattle.perimeters.specs.Places.{nextPlace}
-use Rattle.closed_meshes.specs.Renumbering.{sumTo}
 use Rattle.audited_meshes.specs.Folds.{every}
 use Rattle.built_meshes.specs.Lists.{Lists, facesOf, size, offset}
-use Rattle.built_meshes.specs.Places.{pointOf, nextOf}
 use Rattle.building_tests.specs.Lent.{lists}
-use Rattle.edge_lookups.specs.declared.ToldEdge.{ToldEdge}
-use Rattle.edge_lookups.specs.declared.ToldEdge.the-variants.{Missing, First, Again}
-use Rattle.edge_lookups.specs.Told.{noneRuns, sameWayBefore, isListed, toldEdge}
+use Rattle.told_edges.specs.declared.ToldEdge.{ToldEdge}
+use Rattle.told_edges.specs.declared.ToldEdge.the-variants.{Missing, First}
+use Rattle.told_edges.specs.Told.{noneRuns, sameWayBefore, toldEdge}
+use Rattle.told_edges.proofs.Laws.{offset-none, offset-more, offset-le, before-none, before-more, no-points, there}
 
 -- ---- one place
 
@@ -35,22 +32,6 @@ runs-not x y p q e = rw (ne-eqb x p e)
 
 -- ---- where the points of faces begin
 
-pub offset-none : (l : Lists) → 0 ≡ offset l 0
-unfolding offset sumTo
-offset-none l = refl
-
-pub offset-more : (l : Lists) (f : ℕ) → offset l (suc f) ≡ offset l f + size l f
-unfolding offset sumTo
-offset-more l f = refl
-
-pub offset-le : (l : Lists) (f g : ℕ) → f ≤ g → offset l f ≤ offset l g
-offset-le l f zero h = let e : f ≡ 0 = omega arith in rw e (omega arith)
-offset-le l f (suc g) h = go (ℕ-discrete f (suc g)) (λ b. offset-le l f g b)
-  where
-    go : Dec (f ≡ suc g) → (f ≤ g → offset l f ≤ offset l g) → offset l f ≤ offset l (suc g)
-    go (yes e) rest = rw e (omega arith)
-    go (no e) rest = omega (arith, rest (omega arith), offset-more l g)
-
 pub offset-next : (l : Lists) (a g n : ℕ) → a ≡ offset l g → n ≡ size l g → a + n ≡ offset l (g + 1)
 offset-next l a g n e h =
     let next : g + 1 ≡ suc g = omega arith in omega (arith, e, h, offset-more l g, ap (offset l) next)
@@ -60,29 +41,6 @@ pub offset-fits : (l : Lists) (a f g n k : ℕ) → a ≡ offset l g → n ≡ s
 offset-fits l a f g n k e h b w = omega (arith, e, h, offset-more l g, offset-le l (suc g) f b)
 
 -- ---- the search for a face
-
-module _ (l : Lists) (p q : ℕ) where
-  pub before-none : sameWayBefore l p q 0 ≡ First p q
-  unfolding sameWayBefore
-  before-none = refl
-
-  pub before-more : (g : ℕ) → sameWayBefore l p q g ≡ First p q → noneRuns l p q g ≡ true → sameWayBefore l p q (g + 1) ≡ First p q
-  unfolding sameWayBefore
-  before-more g e h = let next : g + 1 ≡ suc g = omega arith in rw (next, e, h)
-
-  -- what is found stays
-  before-stays : (f g h : ℕ) → g ≤ f → sameWayBefore l p q g ≡ Again p q h → sameWayBefore l p q f ≡ Again p q h
-  unfolding sameWayBefore
-  before-stays zero g h b e = let z : g ≡ 0 = omega arith in rw z at e
-  before-stays (suc f) g h b e = go (ℕ-discrete g (suc f)) (λ b. before-stays f g h b e)
-    where
-      go : Dec (g ≡ suc f) → (g ≤ f → sameWayBefore l p q f ≡ Again p q h) → sameWayBefore l p q (suc f) ≡ Again p q h
-      go (yes z) rest = rw z at e
-      go (no z) rest = rw (rest (omega arith))
-
-  pub before-stop : (f g : ℕ) → g < f → sameWayBefore l p q g ≡ First p q → noneRuns l p q g ≡ false → Again p q g ≡ sameWayBefore l p q f
-  unfolding sameWayBefore
-  before-stop f g b e h = sym (before-stays f (suc g) g b (rw (e, h)))
 
 -- face g is come to, whose listed points stand from a on, and no face before it runs from p to q
 pub record Searched (l : Lists) (f p q a g : ℕ) : Type 0 where
@@ -113,30 +71,6 @@ none-read ss ls a g n p q e h k =
     sym (k ∙ λ t. every (h t) (λ j. not (eqb (getD ls (e t + j) 0) p && eqb (getD ls (e t + nextPlace (h t) j) 0) q)))
 
 -- ---- the place
-
-module _ (l : Lists) (f i : ℕ) where
-  told-missing : isListed l f i ≡ false → Missing ≡ toldEdge l f i
-  unfolding toldEdge
-  told-missing h = rw h
-
-  pub no-face : facesOf l ≤ f → Missing ≡ toldEdge l f i
-  unfolding isListed
-  no-face h = told-missing (rw (le-ltb f (facesOf l) h))
-
-  pub no-points : f < facesOf l → length (l .listed) < offset l f + size l f → Missing ≡ toldEdge l f i
-  unfolding isListed
-  no-points b h = told-missing (rw (lt-ltb f (facesOf l) b, lt-leb (offset l f + size l f) (length (l .listed)) h))
-
-  pub no-place : f < facesOf l → offset l f + size l f ≤ length (l .listed) → size l f ≤ i → Missing ≡ toldEdge l f i
-  unfolding isListed
-  no-place b w h =
-      told-missing (rw (lt-ltb f (facesOf l) b, le-leb (offset l f + size l f) (length (l .listed)) w, le-ltb i (size l f) h))
-
-  there :
-      f < facesOf l → offset l f + size l f ≤ length (l .listed) → i < size l f →
-      sameWayBefore l (pointOf l f i) (nextOf l f i) f ≡ toldEdge l f i
-  unfolding toldEdge isListed
-  there b w h = rw (lt-ltb f (facesOf l) b, le-leb (offset l f + size l f) (length (l .listed)) w, lt-ltb i (size l f) h)
 
 -- what is told of the place as the code reads its points
 pub told-there :

@@ -1,6 +1,7 @@
 // What is told of an edge by the lists: the points that it runs from and to, and the first face before its own that runs it the same way.
-// Not here: which edge it is (`text_places`), the lists of a text (`text_edges`).
-// Contract: `told_edge`. Definitions: `specs/Told.antt`. Claims: `specs/Claims.antt`, proved in `proofs/Theorem.antt`. Laws: `proofs/Laws.antt`.
+// Not here: the definitions and what is claimed of them (`told_edges`), which edge it is (`text_places`), the lists of a text
+// (`text_edges`).
+// Contract: `told_edge`. Definitions: `specs/Told.antt` of `told_edges`. Laws: `proofs/Laws.antt`.
 ghost use mathlib.Core.Path.{_≡_};
 ghost use mathlib.Core.Bool.{not, _&&_};
 ghost use mathlib.Core.List.{[]};
@@ -11,16 +12,10 @@ ghost use Rattle.perimeters.specs.Places.{nextPlace};
 ghost use Rattle.audited_meshes.specs.Folds.{every};
 ghost use Rattle.built_meshes.specs.Lists.{offset};
 ghost use Rattle.building_tests.specs.Lent.{lists};
-ghost use Rattle.edge_lookups.specs.Told.{sameWayBefore, toldEdge};
+ghost use Rattle.told_edges.specs.Told.{sameWayBefore, toldEdge};
 use building_tests::faces::face_size;
 use perimeters::next_place;
-
-// An edge of a face: there is none, or the points that it runs from and to, and the first face before that runs it the same way, if one does.
-pub enum ToldEdge {
-    Missing,
-    First(u32, u32),
-    Again(u32, u32, usize),
-}
+use told_edges::ToldEdge;
 
 // Whether place j of a face, whose n listed points stand from a on, runs from p to q.
 fn runs(listed: &[u32], a: usize, n: usize, j: usize, p: u32, q: u32) -> bool

@@ -29,7 +29,7 @@ use Rattle.built_meshes.specs.declared.Found.the-variants.{At, Nothing}
 use Rattle.built_meshes.specs.declared.Ground.the-variants.{EdgeTripleFace, SameWay}
 use Rattle.built_meshes.specs.Edges.{joins, orLast, edgeBetween, newEdge, enteredAt, enteredIf, entered, withRightFace}
 use Rattle.built_meshes.proofs.Entering.{Finds, finds, finds-none, found-is}
-use Rattle.edge_search.specs.Chains.{linkTo, EndsKept, spread, buckets, bucketOf, bucketAt, Newest, Standing}
+use Rattle.edge_search.specs.Chains.{linkTo, EndsKept, bucketFactor, buckets, bucketOf, bucketAt, Newest, Standing}
 use Rattle.edge_search.specs.Places.{edgesAfter, EnteredBy, FilledBy}
 use Rattle.edge_search.specs.declared.Entry.{Entry}
 use Rattle.edge_search.specs.declared.Entry.the-variants.{Made, Refused}
@@ -37,22 +37,22 @@ use Rattle.edge_search.specs.declared.Entry.the-variants.{Made, Refused}
 -- ---- buckets
 
 -- the two ways to spread, by a test
-spread-less : (p q : ℕ) → p < q → (p * spread + q) % buckets ≡ bucketOf p q
+spread-less : (p q : ℕ) → p < q → (p * bucketFactor + q) % buckets ≡ bucketOf p q
 unfolding bucketOf
 spread-less p q h = rw (lt-ltb p q h)
 
-spread-more : (p q : ℕ) → q ≤ p → (q * spread + p) % buckets ≡ bucketOf p q
+spread-more : (p q : ℕ) → q ≤ p → (q * bucketFactor + p) % buckets ≡ bucketOf p q
 unfolding bucketOf
 spread-more p q h = rw (le-ltb p q h)
 
 -- the same of the two indices a and b
 pub bucket-less : (p q a b : ℕ) → a ≡ p → b ≡ q → a < b
-    → ((a * spread + b) % buckets ≡ bucketOf p q) × ((a * spread + b) % buckets < buckets)
-bucket-less p q a b s t h = (spread-less a b h ∙ rw (s, t), mod-lt (a * spread + b) (omega arith))
+    → ((a * bucketFactor + b) % buckets ≡ bucketOf p q) × ((a * bucketFactor + b) % buckets < buckets)
+bucket-less p q a b s t h = (spread-less a b h ∙ rw (s, t), mod-lt (a * bucketFactor + b) (omega arith))
 
 pub bucket-more : (p q a b : ℕ) → a ≡ p → b ≡ q → b ≤ a
-    → ((b * spread + a) % buckets ≡ bucketOf p q) × ((b * spread + a) % buckets < buckets)
-bucket-more p q a b s t h = (spread-more a b h ∙ rw (s, t), mod-lt (b * spread + a) (omega arith))
+    → ((b * bucketFactor + a) % buckets ≡ bucketOf p q) × ((b * bucketFactor + a) % buckets < buckets)
+bucket-more p q a b s t h = (spread-more a b h ∙ rw (s, t), mod-lt (b * bucketFactor + a) (omega arith))
 
 bucketOf-swap : (p q : ℕ) → bucketOf p q ≡ bucketOf q p
 bucketOf-swap p q = go (decLe (suc p) q) (decLe (suc q) p)
@@ -66,8 +66,8 @@ pub bucketOf-below : (p q : ℕ) → bucketOf p q < buckets
 bucketOf-below p q = go (decLe (suc p) q)
   where
     go : Dec (suc p ≤ q) → bucketOf p q < buckets
-    go (yes l) = subst (λ b. b < buckets) (spread-less p q l) (mod-lt (p * spread + q) (omega arith))
-    go (no n) = subst (λ b. b < buckets) (spread-more p q (omega arith)) (mod-lt (q * spread + p) (omega arith))
+    go (yes l) = subst (λ b. b < buckets) (spread-less p q l) (mod-lt (p * bucketFactor + q) (omega arith))
+    go (no n) = subst (λ b. b < buckets) (spread-more p q (omega arith)) (mod-lt (q * bucketFactor + p) (omega arith))
 
 -- an edge that joins two points is of their bucket
 joined-bucket : (o d p q : ℕ) → (eqb o p && eqb d q || eqb o q && eqb d p) ≡ true → bucketOf o d ≡ bucketOf p q

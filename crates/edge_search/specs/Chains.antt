@@ -5,7 +5,7 @@
 --     at buckets + e          the link to the newest edge before e of the bucket of e
 --     EndsKept                every edge has the same ends in two tables
 --     linkTo l                the edge of a link
---     buckets, spread         how many buckets there are, and what the lesser of two points is multiplied by
+--     buckets, bucketFactor   how many buckets there are, and what the lesser of two points is multiplied by
 --     bucketOf p q            the bucket of the edges between the points p and q
 --     bucketAt es e           the bucket of the edge e
 --     Newest es b k l         the link l goes to the newest of the edges below k of the bucket b
@@ -38,12 +38,12 @@ linkTo (suc e) = At e
 abbrev pub buckets : ℕ
 buckets = 16384
 
-abbrev pub spread : ℕ
-spread = 10125
+abbrev pub bucketFactor : ℕ
+bucketFactor = 10125
 
 -- the lesser point is spread, so that it is the same whichever is named first
 unfoldable pub bucketOf : ℕ → ℕ → ℕ
-bucketOf p q = cond (ltb p q) ((p * spread + q) % buckets) ((q * spread + p) % buckets)
+bucketOf p q = cond (ltb p q) ((p * bucketFactor + q) % buckets) ((q * bucketFactor + p) % buckets)
 
 abbrev pub bucketAt : List ℕ → ℕ → ℕ
 bucketAt es e = bucketOf (origin (edgeTable es) e) (dest (edgeTable es) e)

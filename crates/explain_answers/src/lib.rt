@@ -8,7 +8,7 @@ ghost use Rattle.listings.specs.Handing.{readListing};
 ghost use Rattle.refine_outputs.specs.Output.{zeroTables};
 use building_tests::Bounds;
 use listing_reading::read_listing;
-use listings::Reading;
+use listings::ListingReading;
 use numbered_steps::LENT_EDGES;
 use numbered_steps::LENT_FACES;
 use numbered_steps::LENT_POINTS;
@@ -40,7 +40,7 @@ pub fn text_answer(text: &[u8]) -> TextBuilt
 }
 
 // The answer to a handover listing of any bytes.
-pub fn listing_answer(text: &[u8]) -> Reading
+pub fn listing_answer(text: &[u8]) -> ListingReading
     ensures { λ r. ⌜ r ≡ readListing (now (text .entry)) zeroTables .answer ⌝ }
 {
     let mut positions = [0.0; LENT_POINTS * POSITION_WIDTH];

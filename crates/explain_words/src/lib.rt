@@ -1,12 +1,12 @@
 // The words of the program `explain`, written to standard output: what is accepted, and what a ground means and where it is met.
 // Not here: the answer (`explain_answers`), the place (`text_places`), the points of an edge (`text_edges`).
 // No contract can say what is written: each function answers whether it could be written.
-use edge_lookups::ToldEdge;
 use io::print_decimal;
 use io::write_all;
 use libc::STDOUT_FILENO;
-use listings::Reading;
+use listings::ListingReading;
 use tables::Counts;
+use told_edges::ToldEdge;
 
 // Writes words.
 fn say(words: &[u8]) -> bool {
@@ -97,7 +97,7 @@ fn say_same_way(p: u32, q: u32, g: usize) -> bool {
 }
 
 // Says an edge by its points. One that is refused by 15 is always told with a face, one that is refused by 14 with its points
-// (`specs/Claims.antt` of `text_edges`).
+// (`specs/Claims.antt` of `explained_edges`).
 fn say_of_edge(n: u32, edge: ToldEdge) -> bool {
     match edge {
         ToldEdge::Missing => say(b"\n"),
@@ -153,18 +153,18 @@ pub fn say_accepted(c: Counts) -> bool {
 }
 
 // Says what reading a listing answers.
-pub fn say_reading(reading: Reading) -> bool {
+pub fn say_reading(reading: ListingReading) -> bool {
     match reading {
-        Reading::Read(c) => say_accepted(c),
-        Reading::NotListing => say(
+        ListingReading::Read(c) => say_accepted(c),
+        ListingReading::NotListing => say(
             b"refused 40: the text is not of the form of a handover listing\n",
         ),
-        Reading::OverCeilings => say(
+        ListingReading::OverCeilings => say(
             b"refused 2: the listing has more than 65536 points, 131072 edges or 65536 faces\n",
         ),
-        Reading::NoRoom => say(
+        ListingReading::NoRoom => say(
             b"refused 4: the listing has more than 256 points, 512 edges or 256 faces\n",
         ),
-        Reading::NotClosed => say(b"refused 30: what is listed is no closed mesh\n"),
+        ListingReading::NotClosed => say(b"refused 30: what is listed is no closed mesh\n"),
     }
 }

@@ -10,9 +10,9 @@ use lib.Dec.{eqb}
 use lib.ListN.{length, getD, set, length-set}
 use lib.Seq.{getD-set-same, getD-set-other}
 use Rattle.mended_lists.specs.declared.Part.{Part}
-use Rattle.mended_lists.specs.Edges.{Place, placeAt, sameWay, mate}
+use Rattle.mended_lists.specs.Edges.{FacePlace, placeAt, sameWay, mate}
 use Rattle.mended_lists.specs.Parts.{Parts, differ, lonePart, partsJoined, partsMet, partsTo}
-use Rattle.face_parts.specs.Kept.{shifted, Falling, Kept, FoundPart, JoinedParts}
+use Rattle.face_parts.specs.Kept.{shifted, Falling, PartsKept, FoundPart, JoinedParts}
 use Rattle.face_choices.specs.Mates.{MatesFit, Mates, Started, JoinedAt, JoinedTo, Settled, Chosen}
 
 -- ---- the start
@@ -126,7 +126,7 @@ join-mate listed faces mates k j ups odds ups' odds' r m less p =
 
 -- ---- all places
 
-fewer : (ps : List Place) (listed faces mates : List ℕ) (k n : ℕ) → k ≤ n → Mates ps listed faces mates n → Mates ps listed faces mates k
+fewer : (ps : List FacePlace) (listed faces mates : List ℕ) (k n : ℕ) → k ≤ n → Mates ps listed faces mates n → Mates ps listed faces mates k
 fewer ps listed faces mates k n l m =
     record {
       from = λ i b. m .from i (omega arith);
@@ -171,8 +171,8 @@ pub record Settling (ups₀ : List ℕ) (odds₀ : List Bool) (turned₀ : List 
   pub same-length : length ups ≡ length ups₀
   pub falling : Falling ups odds
   pub turned-length : length turned ≡ length turned₀
-  pub kept : (s : Parts) → Kept ups₀ odds₀ s → Kept ups odds s
-  pub told : (s : Parts) → Kept ups₀ odds₀ s → (f : ℕ) → f < n → getD turned f false ≡ s .part f .odd
+  pub kept : (s : Parts) → PartsKept ups₀ odds₀ s → PartsKept ups odds s
+  pub told : (s : Parts) → PartsKept ups₀ odds₀ s → (f : ℕ) → f < n → getD turned f false ≡ s .part f .odd
 
 pub settling-none :
     (ups : List ℕ) (odds turned : List Bool) → Falling ups odds → Settling ups odds turned ups odds turned 0
@@ -202,7 +202,7 @@ settling-more ups₀ odds₀ turned₀ ups odds turned ups' odds' n p i b found 
     }
   where
     told :
-        (s : Parts) → Kept ups₀ odds₀ s → (f : ℕ) → f < n + 1 → Dec (f ≡ n) → getD (set turned n (p .odd)) f false ≡ s .part f .odd
+        (s : Parts) → PartsKept ups₀ odds₀ s → (f : ℕ) → f < n + 1 → Dec (f ≡ n) → getD (set turned n (p .odd)) f false ≡ s .part f .odd
     told s k f h (yes e) =
         rw (e, getD-set-same turned n (p .odd) false b) (sym (ap (λ (x : Part). x .odd) (found .part s (i .kept s k))))
     told s k f h (no e) = rw (getD-set-other turned n f (p .odd) false e) (i .told s k f (omega arith))

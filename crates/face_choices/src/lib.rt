@@ -1,17 +1,17 @@
 // The faces to turn, of faces whose shared edges are known (document 02, §8): the parts of the mesh are joined place by place, and a face
 // is turned if it is turned differently from the lowest of its part.
 // Not here: how parts are kept (`face_parts`), which places share an edge (`shared_edges`).
-// Contract: `choose`. Definitions: `Parts` of `mended_lists`; `specs/Mates.antt`. Laws: `proofs/Laws.antt`.
+// Contract: `choose_faces`. Definitions: `Parts` of `mended_lists`; `specs/Mates.antt`. Laws: `proofs/Laws.antt`.
 ghost use mathlib.Core.Path.{_≡_};
 ghost use mathlib.Core.Bool.{_||_};
 ghost use mathlib.Core.List.{List};
 ghost use Prim.Native.Nat.{ℕ, _≤_, _<_};
 ghost use lib.ListN.{length, getD};
 ghost use Rattle.mended_lists.specs.Parts.{partsTo};
-ghost use Rattle.mended_lists.specs.Edges.{Place};
-ghost use Rattle.face_parts.specs.Kept.{Falling, Kept};
+ghost use Rattle.mended_lists.specs.Edges.{FacePlace};
+ghost use Rattle.face_parts.specs.Kept.{Falling, PartsKept};
 ghost use Rattle.face_choices.specs.Mates.{MatesFit, Mates, Started, JoinedAt, JoinedTo, Settled, Chosen};
-use face_parts::find;
+use face_parts::find_part;
 use face_parts::join;
 use tables::index;
 
@@ -95,13 +95,13 @@ fn settle(ups: &mut [u32], odds: &mut [bool], turned: &mut [bool])
 {
     let mut f = 0;
     while f < turned.len() {
-        turned[f] = find(ups, odds, f as u32).odd;
+        turned[f] = find_part(ups, odds, f as u32).odd;
         f += 1;
     }
 }
 
 // Finds the faces to turn, and says whether no choice works.
-pub fn choose(
+pub fn choose_faces(
     listed: &[u32],
     faces: &[u32],
     mates: &[u32],

@@ -22,7 +22,7 @@ use Rattle.built_meshes.specs.declared.Verdict.the-variants.{Fit, Unfit}
 use Rattle.built_meshes.specs.declared.Ground.{Ground}
 use Rattle.built_meshes.specs.declared.Ground.the-variants.{FaceSize, OutOfRange, PointTwice, FirstPoint, NonRectangularFace, EdgeTripleFace, SameWay}
 use Rattle.building_tests.specs.Lent.{lists, listsIn}
-use Rattle.mended_lists.specs.Edges.{Place, placesOf, placeAt, mate, third}
+use Rattle.mended_lists.specs.Edges.{FacePlace, placesOf, placeAt, mate, third}
 use Rattle.face_mending.specs.Shown.{FaceRoom, FacesRoom, TosShown}
 use Rattle.face_mending.proofs.Laws.{unfit, from-shown, mate-shown, third-shown}
 use Rattle.face_places.proofs.Laws.{offset-more, offset-le}
@@ -274,7 +274,7 @@ module _ (ss ls ts : List ℕ) (shown : TosShown ss ls ts) (all : offset (lists 
 
 -- ---- all faces
 
-faces-stay : (l : Lists) (ps : List Place) (s : Spot) → Stops s → (k n : ℕ) → k ≤ n → facesSpot l ps k ≡ s → facesSpot l ps n ≡ s
+faces-stay : (l : Lists) (ps : List FacePlace) (s : Spot) → Stops s → (k n : ℕ) → k ≤ n → facesSpot l ps k ≡ s → facesSpot l ps n ≡ s
 unfolding facesSpot
 faces-stay l ps s stop k zero b e = let q : k ≡ 0 = omega arith in rw q at e
 faces-stay l ps s stop k (suc n) b e = go (ℕ-discrete k (suc n)) (λ h. faces-stay l ps s stop k n h e)

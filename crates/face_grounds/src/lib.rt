@@ -1,7 +1,7 @@
 // The first ground that is met in the faces of lists, and where (documents 01 and 02): face by face 10, 11, 12, 43 and 13, then 14 and 15 edge
 // by edge.
 // Not here: the grounds of the lists and of the whole (`building`), the search of an edge (`shared_edges`), local lists (`first_grounds`).
-// Contract: `enter_faces`. Definitions: `Spots` of `refusal_places`; `specs/Found.antt`. Laws: `proofs/Laws.antt`.
+// Contract: `faces_spot`. Definitions: `Spots` of `refusal_places`; `specs/Found.antt`. Laws: `proofs/Laws.antt`.
 ghost use mathlib.Core.Path.{_≡_};
 ghost use mathlib.Core.List.{List, []};
 ghost use Prim.Native.Nat.{ℕ, _+_, _*_, _/_, _≤_, _<_};
@@ -132,7 +132,7 @@ fn enter_face(
 }
 
 // What is met first, face by face; the places of all faces are entered if nothing is.
-pub fn enter_faces(
+pub fn faces_spot(
     version: Version,
     sides: &[u32],
     firsts: &[u32],

@@ -24,7 +24,7 @@ use Rattle.built_meshes.specs.declared.Ground.the-variants.{FaceSize, OutOfRang
 use Rattle.building_tests.specs.Lent.{lists, listsIn}
 use borrow.Author.Tests.{eqb-true, eq-eqb}
 use Rattle.built_meshes.specs.Places.{pointOf}
-use Rattle.mended_lists.specs.Edges.{Place, placesOf, placeAt, sameEdge, latest, mate, third}
+use Rattle.mended_lists.specs.Edges.{FacePlace, placesOf, placeAt, sameEdge, latest, mate, third}
 use Rattle.mended_lists.specs.Mending.{forgiven, edgesMend, thenEdges, faceMends, thenFace, facesMend}
 use Rattle.mended_lists.proofs.Reversal.{eqb-false}
 use Rattle.mended_lists.proofs.Edges.{places-length, Numbered, numbered}
@@ -143,7 +143,7 @@ every-same (suc n) test other e = go (every-same n test other (λ i b. e i (omeg
     go : every n test ≡ every n other → test n ≡ other n → (every n test && test n) ≡ (every n other && other n)
     go a b = rw (a, b)
 
-stays-unfit : (l : Lists) (ps : List Place) (g : Ground) (k n : ℕ) → k ≤ n → facesMend l ps k ≡ Unfit g → facesMend l ps n ≡ Unfit g
+stays-unfit : (l : Lists) (ps : List FacePlace) (g : Ground) (k n : ℕ) → k ≤ n → facesMend l ps k ≡ Unfit g → facesMend l ps n ≡ Unfit g
 unfolding facesMend
 stays-unfit l ps g k zero b e = let q : k ≡ 0 = omega arith in rw q at e
 stays-unfit l ps g k (suc n) b e = go (ℕ-discrete k (suc n)) (λ h. stays-unfit l ps g k n h e)

@@ -1,6 +1,6 @@
 // The mender's grounds face by face (document 02, §8): 10, 11, 12, 43 as in building, then 14 for the edges of the face.
 // Not here: ground 20 (`mending`), grounds 2, 3 and 44 (`list_mending`), the search of an edge (`shared_edges`).
-// Contract: `enter_faces`. Definitions: `Mending` of `mended_lists`; `specs/Shown.antt`. Laws: `proofs/Laws.antt`.
+// Contract: `mend_faces`. Definitions: `Mending` of `mended_lists`; `specs/Shown.antt`. Laws: `proofs/Laws.antt`.
 ghost use mathlib.Core.Path.{_≡_};
 ghost use mathlib.Core.Bool.{not};
 ghost use mathlib.Core.List.{List, []};
@@ -81,7 +81,7 @@ fn enter_face(
 }
 
 // The first of these grounds, face by face; the places of all faces are entered if there is none.
-pub fn enter_faces(
+pub fn mend_faces(
     sides: &[u32],
     firsts: &[u32],
     listed: &[u32],

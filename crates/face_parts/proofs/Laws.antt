@@ -11,7 +11,7 @@ use lib.Seq.{getD-set-same, getD-set-other}
 use Rattle.mended_lists.specs.declared.Part.{Part}
 use Rattle.mended_lists.specs.Parts.{Parts, differ, lonePart, partMoved, apart, partsJoined}
 use Rattle.mended_lists.proofs.Parts.{differ-self, differ-false, differ-swap, differ-assoc, Moves, here, elsewhere, moves, Joins, one, two, joins, movedAll}
-use Rattle.face_parts.specs.Kept.{shifted, Falling, Kept, FoundPart, JoinedParts}
+use Rattle.face_parts.specs.Kept.{shifted, Falling, PartsKept, FoundPart, JoinedParts}
 
 shifted-shifted : (a b : Bool) (p : Part) → shifted a (shifted b p) ≡ shifted (differ a b) p
 shifted-shifted a b p =
@@ -56,7 +56,7 @@ module _ (ups : List ℕ) (odds : List Bool) (falling : Falling ups odds) (g : �
           getD-set-either ℕ ups g f (getD ups (getD ups g 0) 0) 0 (λ x. x ≤ f) l (λ e. omega (arith, up-below, falling .below g l))
           (λ e. falling .below f b')
 
-  pub skip-kept : (s : Parts) → Kept ups odds s → Kept skippedUps skippedOdds s
+  pub skip-kept : (s : Parts) → PartsKept ups odds s → PartsKept skippedUps skippedOdds s
   skip-kept s k = record { step = step; top = top }
     where
       both : s .part g ≡ shifted (differ (getD odds g false) (getD odds (getD ups g 0) false)) (s .part (getD ups (getD ups g 0) 0))
@@ -118,7 +118,7 @@ module _ (ups : List ℕ) (odds : List Bool) (high low : ℕ) (d : Bool) (fallin
       go (elsewhere h m) (here k n) = absurd (h k)
       go (elsewhere h m) (elsewhere k n) = n ∙ ap (shifted o) (sym m)
 
-  module _ (s : Parts) (k : Kept ups odds s) (high-top : s .part high ≡ lonePart high) (low-top : s .part low ≡ lonePart low) where
+  module _ (s : Parts) (k : PartsKept ups odds s) (high-top : s .part high ≡ lonePart high) (low-top : s .part low ≡ lonePart low) where
     moved-high : partMoved high low d (s .part high) ≡ record { root = low; odd = d }
     moved-high = go (moves high low d (s .part high))
       where
@@ -133,7 +133,7 @@ module _ (ups : List ℕ) (odds : List Bool) (high low : ℕ) (d : Bool) (fallin
         go (here h m) = absurd (e (sym (ap (λ (p : Part). p .root) t) ∙ h))
         go (elsewhere h m) = m ∙ t
 
-    pub hang-kept : Kept (set ups high low) (set odds high d) (movedAll s high low d)
+    pub hang-kept : PartsKept (set ups high low) (set odds high d) (movedAll s high low d)
     hang-kept = record { step = step; top = top }
       where
         step :
@@ -174,8 +174,8 @@ pub record Finding (ups₀ : List ℕ) (odds₀ : List Bool) (ups : List ℕ) (o
   pub same-length : length ups ≡ length ups₀
   pub falling : Falling ups odds
   pub not-above : g ≤ f
-  pub kept : (s : Parts) → Kept ups₀ odds₀ s → Kept ups odds s
-  pub part : (s : Parts) → Kept ups₀ odds₀ s → s .part f ≡ shifted odd (s .part g)
+  pub kept : (s : Parts) → PartsKept ups₀ odds₀ s → PartsKept ups odds s
+  pub part : (s : Parts) → PartsKept ups₀ odds₀ s → s .part f ≡ shifted odd (s .part g)
 
 pub find-start : (ups : List ℕ) (odds : List Bool) (f : ℕ) → Falling ups odds → Finding ups odds ups odds f f false
 find-start ups odds f falling =
@@ -237,7 +237,7 @@ module _ (ups₀ : List ℕ) (odds₀ : List Bool) (ups : List ℕ) (odds : List
             ∙ shifted-shifted odd (getD odds' g false) (s .part (getD ups' g 0));
       })
     where
-      kept-after : (s : Parts) → Kept ups₀ odds₀ s → Kept ups' odds' s
+      kept-after : (s : Parts) → PartsKept ups₀ odds₀ s → PartsKept ups' odds' s
       kept-after s k = rw (e, o) (skip-kept ups odds (i .falling) g find-below s (i .kept s k))
 
 pub find-end :
@@ -254,17 +254,17 @@ find-end ups₀ odds₀ ups odds f g odd l i e =
       kept = i .kept;
     }
   where
-    top : (s : Parts) → Kept ups₀ odds₀ s → s .part g ≡ lonePart g
+    top : (s : Parts) → PartsKept ups₀ odds₀ s → s .part g ≡ lonePart g
     top s k = i .kept s k .top g (omega (arith, i .same-length, i .not-above)) e
 
 -- ---- two parts partsJoined
 
 module _ (ups : List ℕ) (odds : List Bool) (ups₁ : List ℕ) (odds₁ : List Bool) (ups₂ : List ℕ) (odds₂ : List Bool) (f g : ℕ) (way : Bool)
     (a b : Part) (found-a : FoundPart ups odds ups₁ odds₁ f a) (found-b : FoundPart ups₁ odds₁ ups₂ odds₂ g b) where
-  part-a : (s : Parts) → Kept ups odds s → s .part f ≡ a
+  part-a : (s : Parts) → PartsKept ups odds s → s .part f ≡ a
   part-a s k = found-a .part s k
 
-  part-b : (s : Parts) → Kept ups odds s → s .part g ≡ b
+  part-b : (s : Parts) → PartsKept ups odds s → s .part g ≡ b
   part-b s k = found-b .part s (found-a .kept s k)
 
   pub join-one : a .root ≡ b .root → JoinedParts ups odds ups₂ odds₂ f g way (apart a b way)
@@ -280,9 +280,9 @@ module _ (ups : List ℕ) (odds : List Bool) (ups₁ : List ℕ) (odds₁ : List
       twisted s (one e j) = rw j
       twisted s (two d j) = absurd (d e)
 
-      kept : (s : Parts) → Kept ups odds s → Joins s a b way → Kept ups₂ odds₂ (partsJoined s a b way)
+      kept : (s : Parts) → PartsKept ups odds s → Joins s a b way → PartsKept ups₂ odds₂ (partsJoined s a b way)
       kept s k (one e j) =
-          let old : Kept ups₂ odds₂ s = found-b .kept s (found-a .kept s k) in rw j (record { step = old .step; top = old .top })
+          let old : PartsKept ups₂ odds₂ s = found-b .kept s (found-a .kept s k) in rw j (record { step = old .step; top = old .top })
       kept s k (two d j) = absurd (d e)
 
   pub join-two :
@@ -304,13 +304,13 @@ module _ (ups : List ℕ) (odds : List Bool) (ups₁ : List ℕ) (odds₁ : List
       apart-roots : a .root ≢ b .root
       apart-roots e = omega arith
 
-      top-a : (s : Parts) → Kept ups odds s → s .part (a .root) ≡ lonePart (a .root)
+      top-a : (s : Parts) → PartsKept ups odds s → s .part (a .root) ≡ lonePart (a .root)
       top-a s k = found-a .root s k
 
-      top-b : (s : Parts) → Kept ups odds s → s .part (b .root) ≡ lonePart (b .root)
+      top-b : (s : Parts) → PartsKept ups odds s → s .part (b .root) ≡ lonePart (b .root)
       top-b s k = found-b .root s (found-a .kept s k)
 
-      either : (s : Parts) → Kept ups odds s → (x : ℕ) → (x ≡ a .root) ⊎ (x ≡ b .root) → s .part x ≡ lonePart x
+      either : (s : Parts) → PartsKept ups odds s → (x : ℕ) → (x ≡ a .root) ⊎ (x ≡ b .root) → s .part x ≡ lonePart x
       either s k x (inl e) = rw e (top-a s k)
       either s k x (inr e) = rw e (top-b s k)
 
@@ -322,7 +322,7 @@ module _ (ups : List ℕ) (odds : List Bool) (ups₁ : List ℕ) (odds₁ : List
       twisted s (one e j) = absurd (apart-roots e)
       twisted s (two d j) = rw j (sym (or-false (s .twisted)))
 
-      kept : (s : Parts) → Kept ups odds s → Joins s a b way → Kept (set ups₂ high low) (set odds₂ high (apart a b way)) (partsJoined s a b way)
+      kept : (s : Parts) → PartsKept ups odds s → Joins s a b way → PartsKept (set ups₂ high low) (set odds₂ high (apart a b way)) (partsJoined s a b way)
       kept s k (one e j) = absurd (apart-roots e)
       kept s k (two d j) =
           let sides = of-two (a .root) (b .root) (decLt (a .root) (b .root)) in

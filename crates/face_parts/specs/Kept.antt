@@ -2,7 +2,7 @@
 -- the two are turned differently.
 --     shifted d p           the part of a face that is turned differently, if d, from one of the part p
 --     Falling ups odds      no face points to one above it
---     Kept ups odds s       the lists keep the parts s
+--     PartsKept ups odds s       the lists keep the parts s
 --     FoundPart             what a search for the part of face f finds and leaves
 --     JoinedParts           what joining the parts of two faces answers and leaves
 use mathlib.Core.Path.{_≡_}
@@ -20,7 +20,7 @@ pub record Falling (ups : List ℕ) (odds : List Bool) : Type 0 where
   pub like : length odds ≡ length ups
   pub below : (f : ℕ) → f < length ups → getD ups f 0 ≤ f
 
-pub record Kept (ups : List ℕ) (odds : List Bool) (s : Parts) : Type 0 where
+pub record PartsKept (ups : List ℕ) (odds : List Bool) (s : Parts) : Type 0 where
   pub step : (f : ℕ) → f < length ups → s .part f ≡ shifted (getD odds f false) (s .part (getD ups f 0))
   pub top : (f : ℕ) → f < length ups → getD ups f 0 ≡ f → s .part f ≡ lonePart f
 
@@ -29,12 +29,12 @@ pub record FoundPart (ups : List ℕ) (odds : List Bool) (ups' : List ℕ) (odds
   pub same-length : length ups' ≡ length ups
   pub falling : Falling ups' odds'
   pub root-below : r .root ≤ f
-  pub part : (s : Parts) → Kept ups odds s → s .part f ≡ r
-  pub root : (s : Parts) → Kept ups odds s → s .part (r .root) ≡ lonePart (r .root)
-  pub kept : (s : Parts) → Kept ups odds s → Kept ups' odds' s
+  pub part : (s : Parts) → PartsKept ups odds s → s .part f ≡ r
+  pub root : (s : Parts) → PartsKept ups odds s → s .part (r .root) ≡ lonePart (r .root)
+  pub kept : (s : Parts) → PartsKept ups odds s → PartsKept ups' odds' s
 
 pub record JoinedParts (ups : List ℕ) (odds : List Bool) (ups' : List ℕ) (odds' : List Bool) (f g : ℕ) (way r : Bool) : Type 0 where
   pub same-length : length ups' ≡ length ups
   pub falling : Falling ups' odds'
-  pub twisted : (s : Parts) → Kept ups odds s → partsJoined s (s .part f) (s .part g) way .twisted ≡ (s .twisted || r)
-  pub kept : (s : Parts) → Kept ups odds s → Kept ups' odds' (partsJoined s (s .part f) (s .part g) way)
+  pub twisted : (s : Parts) → PartsKept ups odds s → partsJoined s (s .part f) (s .part g) way .twisted ≡ (s .twisted || r)
+  pub kept : (s : Parts) → PartsKept ups odds s → PartsKept ups' odds' (partsJoined s (s .part f) (s .part g) way)

@@ -1,16 +1,16 @@
 // The parts of a mesh, kept in two lists: for each face a face of its part that is not above it, and whether the two are turned
 // differently. A search halves its way, so that few faces are passed.
 // Not here: which faces share an edge (`shared_edges`), the choice of faces (`face_choices`).
-// Contracts: `find`, `join`. Definitions: `Parts` of `mended_lists`; `specs/Kept.antt`. Laws: `proofs/Laws.antt`.
+// Contracts: `find_part`, `join`. Definitions: `Parts` of `mended_lists`; `specs/Kept.antt`. Laws: `proofs/Laws.antt`.
 ghost use mathlib.Core.Path.{_≡_};
 ghost use mathlib.Core.Bool.{Bool, false, _||_};
 ghost use mathlib.Core.List.{List};
 ghost use Prim.Native.Nat.{ℕ, _≤_, _<_};
 ghost use lib.Dec.{eqb};
 ghost use lib.ListN.{length, getD, set};
-ghost use Rattle.mended_lists.specs.Edges.{Place};
+ghost use Rattle.mended_lists.specs.Edges.{FacePlace};
 ghost use Rattle.mended_lists.specs.Parts.{Parts, differ, partsJoined, partsTo};
-ghost use Rattle.face_parts.specs.Kept.{Falling, Kept, FoundPart, JoinedParts};
+ghost use Rattle.face_parts.specs.Kept.{Falling, PartsKept, FoundPart, JoinedParts};
 use mended_lists::Part;
 use tables::index;
 
@@ -41,7 +41,7 @@ fn skip(ups: &mut [u32], odds: &mut [bool], g: usize)
 }
 
 // The part of face f.
-pub fn find(ups: &mut [u32], odds: &mut [bool], f: u32) -> Part
+pub fn find_part(ups: &mut [u32], odds: &mut [bool], f: u32) -> Part
     requires { ⌜ Falling (now ups) (now odds) ⌝ }
     requires { ⌜ f < length (now ups) ⌝ }
     ensures { λ r. ⌜ FoundPart (now (ups .entry)) (now (odds .entry)) (now (ups .exit)) (now (odds .exit)) f r ⌝ }
@@ -78,8 +78,8 @@ pub fn join(ups: &mut [u32], odds: &mut [bool], f: u32, g: u32, way: bool) -> bo
     requires { ⌜ g < length (now ups) ⌝ }
     ensures { λ r. ⌜ JoinedParts (now (ups .entry)) (now (odds .entry)) (now (ups .exit)) (now (odds .exit)) f g way r ⌝ }
 {
-    let a = find(ups, odds, f);
-    let b = find(ups, odds, g);
+    let a = find_part(ups, odds, f);
+    let b = find_part(ups, odds, g);
     let d = are_different(are_different(a.odd, b.odd), way);
     let x = a.root;
     let y = b.root;

@@ -20,11 +20,11 @@ use position_rules::intervals::c2;
 use positions::Placed;
 use positions::Position;
 use records::load_position;
+use t_nurcc_face::lay_border;
 use tables::LONGEST_BORDER;
 use tables::LONGEST_PERIMETER;
 use tables::index;
 use walks::Passed;
-use walks::t_nurcc_face::lay_border;
 
 // The interval of an edge, and those after two steps anticlockwise and two steps clockwise about one of its points.
 struct Terms {

@@ -3,4 +3,3 @@ pub mod Agreement
 pub mod SecondStarts
 pub mod Answers
 pub mod Theorem
-pub mod Cases

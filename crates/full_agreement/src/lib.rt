@@ -8,4 +8,4 @@
 //     proofs/Agreement.antt      the correspondence that the steps keep: in the beginning, over a refused step, over an accepted one
 //     proofs/Answers.antt        the two steps have the same answer
 //     proofs/Theorem.antt        the induction over both lists: `theorem`
-// Two triangles in two orders, computed: proofs/Cases.antt.
+// Two triangles in two orders, computed: `mesh_cases`.

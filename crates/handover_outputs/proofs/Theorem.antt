@@ -21,7 +21,7 @@ use Rattle.steps.specs.Step.{withinCeilings}
 use Rattle.steps.specs.declared.Stepped.{Stepped}
 use Rattle.steps.specs.declared.Stepped.the-variants as Stepped
 use Rattle.listings.specs.Handing.{listingOf, passesAudit, written, writeListing}
-use Rattle.refine_outputs.specs.Output.{zeroTables, numberedStep, Writing}
+use Rattle.refine_outputs.specs.Output.{zeroTables, numberedStep, OutputWritten}
 use Rattle.handover_outputs.specs.Output.{listedBytes, listed, steppedBytes, builtBytes, handoverFrom, handoverOutput, writingIf, handover}
 use Rattle.handover_outputs.specs.Claims.{Long-text, Output-fits}
 
@@ -66,4 +66,4 @@ fits s out = go (leb 256 (length out)) refl
 
 -- the same of what the function answers and leaves
 pub answer-fits : (s out : List ℕ) {r : ℕ} {out' : List ℕ} → record { count = r; out = out' } ≡ handover s out → r ≤ length out'
-answer-fits s out e = rw (ap (λ (w : Writing). w .count) e, ap (λ (w : Writing). w .out) e) (fits s out)
+answer-fits s out e = rw (ap (λ (w : OutputWritten). w .count) e, ap (λ (w : OutputWritten). w .out) e) (fits s out)

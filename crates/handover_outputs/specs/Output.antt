@@ -65,10 +65,10 @@ unfoldable pub handoverOutput : List ℕ → List ℕ → List ℕ
 unfolding handoverFrom zeroTables
 handoverOutput s out = handoverFrom s zeroTables out
 
-abbrev pub writingIf : Bool → List ℕ → List ℕ → refine.Writing
+abbrev pub writingIf : Bool → List ℕ → List ℕ → refine.OutputWritten
 writingIf true xs out = record { count = length xs; out = sets out 0 xs }
 writingIf false xs out = record { count = 0; out = out }
 
-unfoldable pub handover : List ℕ → List ℕ → refine.Writing
+unfoldable pub handover : List ℕ → List ℕ → refine.OutputWritten
 unfolding handoverOutput
 handover s out = writingIf (leb outputBytes (length out)) (handoverOutput s out) out

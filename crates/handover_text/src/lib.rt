@@ -9,7 +9,7 @@ ghost use lib.ListN.{length};
 ghost use Rattle.tables.specs.Mesh.{meshOf};
 ghost use Rattle.built_meshes.specs.Lists.{refineLimits};
 ghost use Rattle.mesh_answers.specs.Writing.{Written};
-ghost use Rattle.refine_outputs.specs.Output.{numberedStep, Writing, outputBytes};
+ghost use Rattle.refine_outputs.specs.Output.{numberedStep, OutputWritten, outputBytes};
 ghost use Rattle.handover_outputs.specs.Output.{refinedBytes, handoverFrom, handover};
 use answer_numbers::ground_number;
 use building_tests::Bounds;
@@ -92,7 +92,7 @@ fn write_output(
 // Writes the output for a text of any bytes at the front of `out`, and answers how many bytes that are. Where fewer than 256
 // bytes are lent, nothing is written.
 pub fn handover(text: &[u8], out: &mut [u8]) -> usize
-    ensures { λ r. ⌜ _≡_ {A = Writing} (record { count = r; out = now (out .exit) }) (handover (now (text .entry)) (now (out .entry))) ⌝ }
+    ensures { λ r. ⌜ _≡_ {A = OutputWritten} (record { count = r; out = now (out .exit) }) (handover (now (text .entry)) (now (out .entry))) ⌝ }
 {
     if out.len() < LEAST_BYTES {
         return 0;

@@ -25,7 +25,7 @@ use Rattle.built_meshes.proofs.Begin.{Counted, counts-is, sides-listed}
 use Rattle.building_tests.specs.Lent.{lists, listsIn}
 use Rattle.mended_lists.specs.declared.Mending.{Mending}
 use Rattle.mended_lists.specs.declared.Mending.the-variants.{Mended, Refused, Twisted}
-use Rattle.mended_lists.specs.Edges.{Place, placesOf, placeAt, sameEdge, mate}
+use Rattle.mended_lists.specs.Edges.{FacePlace, placesOf, placeAt, sameEdge, mate}
 use Rattle.mended_lists.specs.Parts.{partsTo, partsOf, facesTurned, twisted}
 use Rattle.mended_lists.specs.Mending.{facesMend, wholeMends, edgesShared, mendingIf, mending}
 use Rattle.mended_lists.proofs.Edges.{places-length, Numbered, numbered}
@@ -116,7 +116,7 @@ module _ (cs : List Float) (ss fs ls : List ℕ) (is : List Float) where
       face-below : (k : ℕ) → k < length ms → getD faces k 0 < length ss / 4
       face-below k b =
           let u : Numbered (lists [] ss ls []) k = numbered (lists [] ss ls []) k (omega (arith, places-many)) in
-          let e : getD faces k 0 ≡ u .face = spread .face k (omega arith) ∙ ap (λ (p : Place). p .face) (u .at) in
+          let e : getD faces k 0 ≡ u .face = spread .face k (omega arith) ∙ ap (λ (p : FacePlace). p .face) (u .at) in
           omega (arith, u .is-place .0)
 
       mates-fit : (nf : ℕ) → nf ≡ length ss / 4 → length ls ≤ length faces → MatesFit ls faces ms nf

@@ -20,7 +20,7 @@ use building_tests::MOST_LISTED;
 use built_meshes::Ground;
 use built_meshes::Verdict;
 use built_meshes::Version;
-use face_choices::choose;
+use face_choices::choose_faces;
 use face_places::spread;
 use mended_lists::Mending;
 use mending::pair_faces;
@@ -35,7 +35,7 @@ fn choose_turns(listed: &[u32], faces: &[u32], mates: &[u32], turned: &mut [bool
     let nf = turned.len();
     let mut ups = [0u32; MOST_FACES];
     let mut odds = [false; MOST_FACES];
-    choose(
+    choose_faces(
         listed,
         faces,
         mates,

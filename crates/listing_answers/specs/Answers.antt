@@ -6,8 +6,8 @@ use Prim.Native.Nat.{ℕ}
 use Rattle.tables.specs.Rows.{putRow}
 use Rattle.listings.specs.declared.Writing.{Writing}
 use Rattle.listings.specs.declared.Writing.the-variants as Writing
-use Rattle.listings.specs.declared.Reading.{Reading}
-use Rattle.listings.specs.declared.Reading.the-variants as Reading
+use Rattle.listings.specs.declared.ListingReading.{ListingReading}
+use Rattle.listings.specs.declared.ListingReading.the-variants as ListingReading
 
 abbrev pub lengthAfter : ℕ → Writing → ℕ
 lengthAfter n (Writing.Written k) = k
@@ -15,9 +15,9 @@ lengthAfter n Writing.NotClosed = n
 lengthAfter n Writing.OverCeilings = n
 lengthAfter n Writing.TooShort = n
 
-abbrev pub countsRead : List ℕ → Reading → List ℕ
-countsRead xs (Reading.Read c) = putRow xs 0 (c .points ∷ c .edges ∷ c .faces ∷ [])
-countsRead xs Reading.NotListing = xs
-countsRead xs Reading.OverCeilings = xs
-countsRead xs Reading.NoRoom = xs
-countsRead xs Reading.NotClosed = xs
+abbrev pub countsRead : List ℕ → ListingReading → List ℕ
+countsRead xs (ListingReading.Read c) = putRow xs 0 (c .points ∷ c .edges ∷ c .faces ∷ [])
+countsRead xs ListingReading.NotListing = xs
+countsRead xs ListingReading.OverCeilings = xs
+countsRead xs ListingReading.NoRoom = xs
+countsRead xs ListingReading.NotClosed = xs

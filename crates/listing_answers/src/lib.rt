@@ -5,7 +5,7 @@
 ghost use mathlib.Core.Path.{_≡_};
 ghost use Rattle.listings.specs.Handing.{writingNumber, readingNumber};
 ghost use Rattle.listing_answers.specs.Answers.{lengthAfter, countsRead};
-use listings::Reading;
+use listings::ListingReading;
 use listings::Writing;
 use station_answers::store_counts;
 
@@ -34,27 +34,27 @@ pub fn store_length(length: &mut usize, answer: Writing)
 }
 
 // The number of an answer to reading.
-pub fn reading_number(answer: Reading) -> u32
+pub fn reading_number(answer: ListingReading) -> u32
     ensures { λ r. ⌜ r ≡ readingNumber answer ⌝ }
 {
     match answer {
-        Reading::Read(_) => 0,
-        Reading::NotListing => 40,
-        Reading::OverCeilings => 2,
-        Reading::NoRoom => 4,
-        Reading::NotClosed => 30,
+        ListingReading::Read(_) => 0,
+        ListingReading::NotListing => 40,
+        ListingReading::OverCeilings => 2,
+        ListingReading::NoRoom => 4,
+        ListingReading::NotClosed => 30,
     }
 }
 
 // Stores the counts of a listing that was read.
-pub fn store_read(counts: &mut [usize; 3], answer: Reading)
+pub fn store_read(counts: &mut [usize; 3], answer: ListingReading)
     ensures { λ _. ⌜ now (counts .exit) ≡ countsRead (now (counts .entry)) answer ⌝ }
 {
     match answer {
-        Reading::Read(c) => store_counts(counts, c),
-        Reading::NotListing => {}
-        Reading::OverCeilings => {}
-        Reading::NoRoom => {}
-        Reading::NotClosed => {}
+        ListingReading::Read(c) => store_counts(counts, c),
+        ListingReading::NotListing => {}
+        ListingReading::OverCeilings => {}
+        ListingReading::NoRoom => {}
+        ListingReading::NotClosed => {}
     }
 }

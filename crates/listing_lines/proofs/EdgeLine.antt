@@ -14,8 +14,8 @@ use Rattle.text_numbers.specs.declared.Number.the-variants as Number
 use Rattle.text_numbers.proofs.Turns.{literal-found, literal-none}
 use Rattle.mesh_lines.specs.Grammar.{coordinateForm}
 use Rattle.mesh_lines.specs.Parts.{placeAnswer, stored, AtPlace}
-use Rattle.mesh_lines.specs.declared.Place.{Place}
-use Rattle.mesh_lines.specs.declared.Place.the-variants as Place
+use Rattle.mesh_lines.specs.declared.LinePlace.{LinePlace}
+use Rattle.mesh_lines.specs.declared.LinePlace.the-variants as LinePlace
 use Rattle.mesh_lines.proofs.Answers.{place-at, place-none}
 use Rattle.listings.specs.Printing.{last}
 use Rattle.listings.specs.Grammar.{wordForm, edgeRowForm}
@@ -23,7 +23,7 @@ use Rattle.listing_lines.specs.Parts.{lastWord, AtNumber, same, rowNumbe
 use Rattle.listing_lines.proofs.Laws.{last-is, last-none, takes-words, takes-coordinates}
 
 module _ (s : List ℕ) (at : ℕ) {q : Number} (eq : q ≡ lastWord 0 (times 8 (wordForm s) at)) where
-  pub no-words : q ≡ Number.None → Place.None ≡ placeAnswer (edgeRowForm s at)
+  pub no-words : q ≡ Number.None → LinePlace.None ≡ placeAnswer (edgeRowForm s at)
   unfolding edgeRowForm
   no-words en = rw (last-none 0 (times 8 (wordForm s) at) (sym eq ∙ en))
 
@@ -34,19 +34,19 @@ module _ (s : List ℕ) (at : ℕ) {q : Number} (eq : q ≡ lastWord 0 (times 8 
     pub words-inside : at ≤ length s → (at ≤ i) × (i ≤ length s)
     words-inside h = let t = takes-words s 8 at h (words .0) i (words .1) in (omega arith, t .1)
 
-    module _ {r : Place} (er : r ≡ placeAnswer (times 1 (coordinateForm s) i)) where
-      pub no-interval : r ≡ Place.None → Place.None ≡ placeAnswer (edgeRowForm s at)
+    module _ {r : LinePlace} (er : r ≡ placeAnswer (times 1 (coordinateForm s) i)) where
+      pub no-interval : r ≡ LinePlace.None → LinePlace.None ≡ placeAnswer (edgeRowForm s at)
       unfolding edgeRowForm
       no-interval en = rw (words .1, place-none (times 1 (coordinateForm s) i) (sym er ∙ en))
 
-      module _ {j : ℕ} (ej : r ≡ Place.At j) where
+      module _ {j : ℕ} (ej : r ≡ LinePlace.At j) where
         numbers : (xs : List ℕ) × (times 1 (coordinateForm s) i ≡ parsed xs j)
         numbers = place-at (times 1 (coordinateForm s) i) (sym er ∙ ej)
 
         pub interval-inside : at ≤ length s → j ≤ length s
         interval-inside h = takes-coordinates s 1 i (words-inside h .1) (numbers .0) j (numbers .1) .1
 
-        pub no-end : stands s j (bytes "]\n") ≡ false → Place.None ≡ placeAnswer (edgeRowForm s at)
+        pub no-end : stands s j (bytes "]\n") ≡ false → LinePlace.None ≡ placeAnswer (edgeRowForm s at)
         unfolding edgeRowForm
         no-end es = rw (words .1, numbers .1, literal-none s (bytes "]\n") j es)
 
@@ -56,7 +56,7 @@ module _ (s : List ℕ) (at : ℕ) {q : Number} (eq : q ≡ lastWord 0 (times 8 
 
         pub whole : stands s j (bytes "]\n") ≡ true → (ws : List ℕ) (n : ℕ) (xs : List Float) (m : ℕ) {ws′ : List ℕ} {xs′ : List Float}
             → AtNumber q (ws′ ≡ stored same ws n (times 8 (wordForm s) at)) → AtPlace r (xs′ ≡ stored (map float) xs m (times 1 (coordinateForm s) i))
-            → (Place.At (j + 2) ≡ placeAnswer (edgeRowForm s at)) × ((ws′ ≡ stored rowWords ws n (edgeRowForm s at)) × (xs′ ≡ stored rowNumbers xs m (edgeRowForm s at)))
+            → (LinePlace.At (j + 2) ≡ placeAnswer (edgeRowForm s at)) × ((ws′ ≡ stored rowWords ws n (edgeRowForm s at)) × (xs′ ≡ stored rowNumbers xs m (edgeRowForm s at)))
         whole es ws n xs m ew ex =
             let t = read es in
             (rw t, (rw t (rw (ev, words .1) at ew), rw t (rw (ej, numbers .1) at ex)))

@@ -16,8 +16,8 @@ use Rattle.text_numbers.proofs.Laws.{Takes, solid, stands-inside}
 use Rattle.text_numbers.proofs.Turns.{many-found, many-none, many-stop}
 use Rattle.mesh_lines.specs.Grammar.{flat}
 use Rattle.mesh_lines.specs.Parts.{placeAnswer, runAnswer, stored, AtPlace}
-use Rattle.mesh_lines.specs.declared.Place.{Place}
-use Rattle.mesh_lines.specs.declared.Place.the-variants as Place
+use Rattle.mesh_lines.specs.declared.LinePlace.{LinePlace}
+use Rattle.mesh_lines.specs.declared.LinePlace.the-variants as LinePlace
 use Rattle.mesh_lines.specs.declared.Run.the-variants as Run
 use Rattle.mesh_lines.proofs.Answers.{place-at, place-none, runFrom, run-next, run-start, stored-next}
 use Rattle.listings.specs.Printing.{ListedRow}
@@ -59,10 +59,10 @@ module _ (s t : List ℕ) (p : Form ListedRow) (c at : ℕ) where
     fuel : length s - k ≡ suc (length s - (k + 1))
     fuel = let h = head-inside in let q = inv .counted in omega arith
 
-    pub stop : {r : Place} → r ≡ placeAnswer (p (i + length t)) → r ≡ Place.None → Run.None ≡ runAnswer length (many s t p (length s) at)
+    pub stop : {r : LinePlace} → r ≡ placeAnswer (p (i + length t)) → r ≡ LinePlace.None → Run.None ≡ runAnswer length (many s t p (length s) at)
     stop {r} er en = rw (fuel, many-none s t p i (length s - (k + 1)) e (place-none (p (i + length t)) (sym er ∙ en))) at (inv .run)
 
-    module _ {r : Place} {j : ℕ} (er : r ≡ placeAnswer (p (i + length t))) (ej : r ≡ Place.At j) where
+    module _ {r : LinePlace} {j : ℕ} (er : r ≡ placeAnswer (p (i + length t))) (ej : r ≡ LinePlace.At j) where
       line : (a : ListedRow) × (p (i + length t) ≡ parsed a j)
       line = place-at (p (i + length t)) (sym er ∙ ej)
 

@@ -20,8 +20,8 @@ use Rattle.listings.specs.Grammar.{pointRowForm, edgeRowForm, faceRowForm, rows
 use Rattle.listings.specs.Handing.{numbersIn, wordsIn}
 use Rattle.listing_lines.proofs.Laws.{takes-point, takes-edge, takes-face}
 use Rattle.listing_lines.specs.Parts.{rowsTotal, AtTotal, Listing, positionsListed, pointsListed, edgesListed, intervalsListed, facesListed}
-use Rattle.listing_lines.specs.declared.Total.{Total}
-use Rattle.listing_lines.specs.declared.Total.the-variants as Total
+use Rattle.listing_lines.specs.declared.ListingTotal.{ListingTotal}
+use Rattle.listing_lines.specs.declared.ListingTotal.the-variants as ListingTotal
 
 abbrev pointLines : List ℕ → Form (List ListedRow)
 pointLines s = many s (bytes "[point") (pointRowForm s) (length s)
@@ -33,7 +33,7 @@ abbrev faceLines : List ℕ → Form (List ListedRow)
 faceLines s = many s (bytes "[face") (faceRowForm s) (length s)
 
 module _ (s : List ℕ) where
-  pub no-head : stands s 0 (bytes "[mesh 3]\n") ≡ false → Total.None ≡ rowsTotal (listing s)
+  pub no-head : stands s 0 (bytes "[mesh 3]\n") ≡ false → ListingTotal.None ≡ rowsTotal (listing s)
   unfolding rows listing
   no-head e = rw (literal-none s (bytes "[mesh 3]\n") 0 e)
 
@@ -42,7 +42,7 @@ module _ (s : List ℕ) where
     head-inside = stands-inside s (bytes "[mesh 3]\n") 0 refl (omega arith) h
 
     module _ {r : Run} (er : r ≡ runAnswer length (pointLines s 9)) where
-      pub no-points : r ≡ Run.None → Total.None ≡ rowsTotal (listing s)
+      pub no-points : r ≡ Run.None → ListingTotal.None ≡ rowsTotal (listing s)
       unfolding rows listing
       no-points en = rw (literal-found s (bytes "[mesh 3]\n") 0 h, run-none length (pointLines s 9) (sym er ∙ en))
 
@@ -55,7 +55,7 @@ module _ (s : List ℕ) where
             takes-many s (bytes "[point") (λ l. 3) (pointRowForm s) (length s) refl (takes-point s) 9 head-inside (points-read .0) i (points-read .1) .1
 
         module _ {q : Run} (eq : q ≡ runAnswer length (edgeLines s i)) where
-          pub no-edges : q ≡ Run.None → Total.None ≡ rowsTotal (listing s)
+          pub no-edges : q ≡ Run.None → ListingTotal.None ≡ rowsTotal (listing s)
           unfolding rows listing
           no-edges en = rw (literal-found s (bytes "[mesh 3]\n") 0 h, points-read .1, run-none length (edgeLines s i) (sym eq ∙ en))
 
@@ -68,7 +68,7 @@ module _ (s : List ℕ) where
                 takes-many s (bytes "[edge") (λ l. 8) (edgeRowForm s) (length s) refl (takes-edge s) i points-inside (edges-read .0) j (edges-read .1) .1
 
             module _ {u : Run} (eu : u ≡ runAnswer length (faceLines s j)) where
-              pub no-faces : u ≡ Run.None → Total.None ≡ rowsTotal (listing s)
+              pub no-faces : u ≡ Run.None → ListingTotal.None ≡ rowsTotal (listing s)
               unfolding rows listing
               no-faces en =
                   rw (literal-found s (bytes "[mesh 3]\n") 0 h, points-read .1, edges-read .1, run-none length (faceLines s j) (sym eu ∙ en))
@@ -81,7 +81,7 @@ module _ (s : List ℕ) where
                 faces-inside =
                     takes-many s (bytes "[face") (λ l. 5) (faceRowForm s) (length s) refl (takes-face s) j edges-inside (faces-read .0) k (faces-read .1) .1
 
-                pub no-end : ends s k ≡ false → Total.None ≡ rowsTotal (listing s)
+                pub no-end : ends s k ≡ false → ListingTotal.None ≡ rowsTotal (listing s)
                 unfolding rows listing
                 no-end en = rw (literal-found s (bytes "[mesh 3]\n") 0 h, points-read .1, edges-read .1, faces-read .1, en)
 
@@ -94,7 +94,7 @@ module _ (s : List ℕ) where
                     → AtRun r (xs′ ≡ stored numbersIn xs 0 (pointLines s 9)) → AtRun r (ps′ ≡ stored wordsIn ps 0 (pointLines s 9))
                     → AtRun q (es′ ≡ stored wordsIn es 0 (edgeLines s i)) → AtRun q (ds′ ≡ stored numbersIn ds 0 (edgeLines s i))
                     → AtRun u (fs′ ≡ stored wordsIn fs 0 (faceLines s j))
-                    → (Total.Of p e f ≡ rowsTotal (listing s))
+                    → (ListingTotal.Of p e f ≡ rowsTotal (listing s))
                     × ((xs′ ≡ stored positionsListed xs 0 (listing s))
                     × ((ps′ ≡ stored pointsListed ps 0 (listing s))
                     × ((es′ ≡ stored edgesListed es 0 (listing s))
@@ -115,5 +115,5 @@ module _ (s : List ℕ) where
                     )
 
 -- what a scan of a listing promises, holds
-pub at-listing : (s : List ℕ) → Listing s → (q : Total) → q ≡ rowsTotal (listing s) → (P : Type 0) → AtTotal q P → P
+pub at-listing : (s : List ℕ) → Listing s → (q : ListingTotal) → q ≡ rowsTotal (listing s) → (P : Type 0) → AtTotal q P → P
 at-listing s (t, n, e) q eq P h = rw (eq, e) at h

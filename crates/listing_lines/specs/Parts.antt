@@ -19,8 +19,8 @@ use Rattle.text_numbers.specs.declared.Number.the-variants as Number
 use Rattle.listings.specs.Printing.{ListedRow, ListedRows, last}
 use Rattle.listings.specs.Grammar.{listing}
 use Rattle.listings.specs.Handing.{numbersIn, wordsIn}
-use Rattle.listing_lines.specs.declared.Total.{Total}
-use Rattle.listing_lines.specs.declared.Total.the-variants as Total
+use Rattle.listing_lines.specs.declared.ListingTotal.{ListingTotal}
+use Rattle.listing_lines.specs.declared.ListingTotal.the-variants as ListingTotal
 
 abbrev pub lastWord : ℕ → Parsed (List ℕ) → Number
 lastWord v x = ifParsed (λ ws n. Number.Is (last v ws) n) Number.None x
@@ -38,12 +38,12 @@ rowNumbers r = map float (r .numbers)
 abbrev pub rowWords : ListedRow → List ℕ
 rowWords r = r .words
 
-abbrev pub rowsTotal : Parsed ListedRows → Total
-rowsTotal x = ifParsed (λ t n. Total.Of (length (t .points)) (length (t .edges)) (length (t .faces))) Total.None x
+abbrev pub rowsTotal : Parsed ListedRows → ListingTotal
+rowsTotal x = ifParsed (λ t n. ListingTotal.Of (length (t .points)) (length (t .edges)) (length (t .faces))) ListingTotal.None x
 
-abbrev pub AtTotal : Total → Type 0 → Type 0
-AtTotal (Total.Of p e f) P = P
-AtTotal Total.None P = Unit {0}
+abbrev pub AtTotal : ListingTotal → Type 0 → Type 0
+AtTotal (ListingTotal.Of p e f) P = P
+AtTotal ListingTotal.None P = Unit {0}
 
 abbrev pub Listing : List ℕ → Type 0
 Listing s = (t : ListedRows) × (n : ℕ) × (listing s ≡ parsed t n)

@@ -1,6 +1,6 @@
 // The lines of a handover listing (document 02, §1), counted, and read into the rows of tables, as far as these have rows.
 // Not here: the grounds of a listing (`listing_reading`), the printing of lines (`listing_printing`).
-// Contracts: `sizes`, `store_rows`. Definitions: `listings`, specs/Grammar.antt (the lines); `specs/Parts.antt` (the answers).
+// Contracts: `listing_sizes`, `store_rows`. Definitions: `listings`, specs/Grammar.antt (the lines); `specs/Parts.antt` (the answers).
 // Laws: `proofs/Laws.antt` (how far a line goes), `proofs/Progress.antt` (one turn of a loop over lines), `proofs/Scanned.antt` (the whole).
 ghost use mathlib.Core.Path.{_≡_};
 ghost use Prim.Native.Nat.{_≤_};
@@ -12,11 +12,10 @@ ghost use Rattle.listings.specs.Grammar.{wordForm, pointRowForm, edgeRowForm, f
 ghost use Rattle.listings.specs.Handing.{numbersIn, wordsIn};
 ghost use Rattle.listing_lines.specs.Parts.{lastWord, AtNumber, same, rowNumbers, rowWords, rowsTotal};
 ghost use Rattle.listing_lines.specs.Parts.{AtTotal, Listing, positionsListed, pointsListed, edgesListed, intervalsListed, facesListed};
-use mesh_lines::Place;
+use mesh_lines::LinePlace;
 use mesh_lines::Run;
-use mesh_lines::coordinates;
 use mesh_lines::put_word;
-use mesh_text::ends;
+use point_lines::coordinates;
 use tables::EDGE_WIDTH;
 use tables::FACE_WIDTH;
 use tables::POINT_WIDTH;
@@ -24,6 +23,7 @@ use tables::POSITION_WIDTH;
 use text_numbers::Number;
 use text_numbers::decimal;
 use text_numbers::stands;
+use text_sizes::ends;
 
 // A space and a word.
 fn word(s: &[u8], at: usize) -> Number
@@ -58,59 +58,59 @@ fn words(s: &[u8], at: usize, w: usize, ws: &mut [u32], n: usize) -> Number
 }
 
 // A point line after `[point`, its coordinates and its words stored from n on.
-fn point(s: &[u8], at: usize, xs: &mut [f64], ws: &mut [u32], n: usize) -> Place
+fn point(s: &[u8], at: usize, xs: &mut [f64], ws: &mut [u32], n: usize) -> LinePlace
     requires { ⌜ (at ≤ length (now s)) × (n ≤ at) ⌝ }
     ensures place { λ r. ⌜ r ≡ placeAnswer (pointRowForm (now (s .entry)) at) ⌝ }
     ensures numbers { λ r. ⌜ AtPlace r (now (xs .exit) ≡ stored rowNumbers (now (xs .entry)) n (pointRowForm (now (s .entry)) at)) ⌝ }
     ensures words { λ r. ⌜ AtPlace r (now (ws .exit) ≡ stored rowWords (now (ws .entry)) n (pointRowForm (now (s .entry)) at)) ⌝ }
 {
-    let Place::At(i) = coordinates(s, at, POSITION_WIDTH, xs, n) else {
-        return Place::None;
+    let LinePlace::At(i) = coordinates(s, at, POSITION_WIDTH, xs, n) else {
+        return LinePlace::None;
     };
     let Number::Is(v, j) = words(s, i, POINT_WIDTH, ws, n) else {
-        return Place::None;
+        return LinePlace::None;
     };
     if 2 <= v {
-        return Place::None;
+        return LinePlace::None;
     }
     if !stands(s, j, b"]\n") {
-        return Place::None;
+        return LinePlace::None;
     }
-    Place::At(j + 2)
+    LinePlace::At(j + 2)
 }
 
 // An edge line after `[edge`, its words stored from n on, its interval at m.
-fn edge(s: &[u8], at: usize, ws: &mut [u32], n: usize, xs: &mut [f64], m: usize) -> Place
+fn edge(s: &[u8], at: usize, ws: &mut [u32], n: usize, xs: &mut [f64], m: usize) -> LinePlace
     requires { ⌜ (at ≤ length (now s)) × ((n ≤ at) × (m ≤ at)) ⌝ }
     ensures place { λ r. ⌜ r ≡ placeAnswer (edgeRowForm (now (s .entry)) at) ⌝ }
     ensures words { λ r. ⌜ AtPlace r (now (ws .exit) ≡ stored rowWords (now (ws .entry)) n (edgeRowForm (now (s .entry)) at)) ⌝ }
     ensures numbers { λ r. ⌜ AtPlace r (now (xs .exit) ≡ stored rowNumbers (now (xs .entry)) m (edgeRowForm (now (s .entry)) at)) ⌝ }
 {
     let Number::Is(_, i) = words(s, at, EDGE_WIDTH, ws, n) else {
-        return Place::None;
+        return LinePlace::None;
     };
-    let Place::At(j) = coordinates(s, i, 1, xs, m) else {
-        return Place::None;
+    let LinePlace::At(j) = coordinates(s, i, 1, xs, m) else {
+        return LinePlace::None;
     };
     if !stands(s, j, b"]\n") {
-        return Place::None;
+        return LinePlace::None;
     }
-    Place::At(j + 2)
+    LinePlace::At(j + 2)
 }
 
 // A face line after `[face`, its words stored from n on.
-fn face(s: &[u8], at: usize, ws: &mut [u32], n: usize) -> Place
+fn face(s: &[u8], at: usize, ws: &mut [u32], n: usize) -> LinePlace
     requires { ⌜ (at ≤ length (now s)) × (n ≤ at) ⌝ }
     ensures place { λ r. ⌜ r ≡ placeAnswer (faceRowForm (now (s .entry)) at) ⌝ }
     ensures words { λ r. ⌜ AtPlace r (now (ws .exit) ≡ stored rowWords (now (ws .entry)) n (faceRowForm (now (s .entry)) at)) ⌝ }
 {
     let Number::Is(_, i) = words(s, at, FACE_WIDTH, ws, n) else {
-        return Place::None;
+        return LinePlace::None;
     };
     if !stands(s, i, b"]\n") {
-        return Place::None;
+        return LinePlace::None;
     }
-    Place::At(i + 2)
+    LinePlace::At(i + 2)
 }
 
 // The point lines, and how many they are. Where one is not of the form, the tables are left free here, in `edges`, `faces` and `scan`:
@@ -124,7 +124,7 @@ fn points(s: &[u8], at: usize, xs: &mut [f64], ws: &mut [u32]) -> Run
     let mut i = at;
     let mut k: usize = 0;
     while stands(s, i, b"[point") {
-        let Place::At(j) = point(s, i + 6, xs, ws, k * POINT_WIDTH) else {
+        let LinePlace::At(j) = point(s, i + 6, xs, ws, k * POINT_WIDTH) else {
             return Run::None;
         };
         i = j;
@@ -143,7 +143,7 @@ fn edges(s: &[u8], at: usize, ws: &mut [u32], xs: &mut [f64]) -> Run
     let mut i = at;
     let mut k: usize = 0;
     while stands(s, i, b"[edge") {
-        let Place::At(j) = edge(s, i + 5, ws, k * EDGE_WIDTH, xs, k) else {
+        let LinePlace::At(j) = edge(s, i + 5, ws, k * EDGE_WIDTH, xs, k) else {
             return Run::None;
         };
         i = j;
@@ -161,7 +161,7 @@ fn faces(s: &[u8], at: usize, ws: &mut [u32]) -> Run
     let mut i = at;
     let mut k: usize = 0;
     while stands(s, i, b"[face") {
-        let Place::At(j) = face(s, i + 5, ws, k * FACE_WIDTH) else {
+        let LinePlace::At(j) = face(s, i + 5, ws, k * FACE_WIDTH) else {
             return Run::None;
         };
         i = j;
@@ -171,7 +171,7 @@ fn faces(s: &[u8], at: usize, ws: &mut [u32]) -> Run
 }
 
 // How many points, edges and faces a whole listing has.
-pub enum Total {
+pub enum ListingTotal {
     Of(usize, usize, usize),
     None,
 }
@@ -184,7 +184,7 @@ fn scan(
     es: &mut [u32],
     ds: &mut [f64],
     fs: &mut [u32],
-) -> Total
+) -> ListingTotal
     ensures sizes { λ r. ⌜ r ≡ rowsTotal (listing (now (s .entry))) ⌝ }
     ensures positions { λ r. ⌜ AtTotal r (now (xs .exit) ≡ stored positionsListed (now (xs .entry)) 0 (listing (now (s .entry)))) ⌝ }
     ensures points { λ r. ⌜ AtTotal r (now (ps .exit) ≡ stored pointsListed (now (ps .entry)) 0 (listing (now (s .entry)))) ⌝ }
@@ -193,25 +193,25 @@ fn scan(
     ensures faces { λ r. ⌜ AtTotal r (now (fs .exit) ≡ stored facesListed (now (fs .entry)) 0 (listing (now (s .entry)))) ⌝ }
 {
     if !stands(s, 0, b"[mesh 3]\n") {
-        return Total::None;
+        return ListingTotal::None;
     }
     let Run::Of(p, i) = points(s, 9, xs, ps) else {
-        return Total::None;
+        return ListingTotal::None;
     };
     let Run::Of(e, j) = edges(s, i, es, ds) else {
-        return Total::None;
+        return ListingTotal::None;
     };
     let Run::Of(f, k) = faces(s, j, fs) else {
-        return Total::None;
+        return ListingTotal::None;
     };
     if !ends(s, k) {
-        return Total::None;
+        return ListingTotal::None;
     }
-    Total::Of(p, e, f)
+    ListingTotal::Of(p, e, f)
 }
 
 // How many points, edges and faces a listing has. Its rows are stored nowhere.
-pub fn sizes(s: &[u8]) -> Total
+pub fn listing_sizes(s: &[u8]) -> ListingTotal
     ensures { λ r. ⌜ r ≡ rowsTotal (listing (now (s .entry))) ⌝ }
 {
     let mut xs = [0.0; 1];

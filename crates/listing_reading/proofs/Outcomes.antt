@@ -23,12 +23,12 @@ use Rattle.listings.proofs.Theorem.{accepted}
 use Rattle.listings.proofs.Whole.{printed-of-listing}
 use Rattle.listings.specs.Grammar.{listing}
 use Rattle.listings.specs.Handing.{listedCounts, withListing as storedRows, passesAudit, ReadingOutcome, readRows, readFound, readListing}
-use Rattle.listings.specs.declared.Reading.the-variants as Reading
+use Rattle.listings.specs.declared.ListingReading.the-variants as ListingReading
 use Rattle.listing_lines.specs.Parts.{rowsTotal, Listing, positionsListed, pointsListed, edgesListed, intervalsListed, facesListed}
-use Rattle.listing_lines.specs.declared.Total.{Total}
-use Rattle.listing_lines.specs.declared.Total.the-variants as Total
+use Rattle.listing_lines.specs.declared.ListingTotal.{ListingTotal}
+use Rattle.listing_lines.specs.declared.ListingTotal.the-variants as ListingTotal
 
-total-of : (x : Parsed ListedRows) {p e f : ℕ} → rowsTotal x ≡ Total.Of p e f
+total-of : (x : Parsed ListedRows) {p e f : ℕ} → rowsTotal x ≡ ListingTotal.Of p e f
     → (t : ListedRows) × (n : ℕ) × (x ≡ parsed t n) × (listedCounts t ≡ record { points = p; edges = e; faces = f })
 total-of (parsed t n) {p} {e} {f} g =
     let ep : length (t .points) ≡ p = cc in
@@ -37,7 +37,7 @@ total-of (parsed t n) {p} {e} {f} g =
     (t, n, refl, λ i. record { points = ep i; edges = ee i; faces = ef i })
 total-of unparsed g = let z : _≡_ {A = ℕ} 0 1 = cc in absurd (omega arith)
 
-total-none : (x : Parsed ListedRows) → rowsTotal x ≡ Total.None → x ≡ unparsed
+total-none : (x : Parsed ListedRows) → rowsTotal x ≡ ListingTotal.None → x ≡ unparsed
 total-none (parsed t n) e = cc
 total-none unparsed e = refl
 
@@ -74,26 +74,26 @@ zeroed-stored t m f =
 
 -- rows that fail the audit are zeroed
 refused : (a b d : Bool) (t : ListedRows) (m : Mesh) → a ≡ true → b ≡ true → d ≡ false
-    → readRows a b d t m ≡ record { answer = Reading.NotClosed; tables = zeroedRows (listedCounts t) m }
+    → readRows a b d t m ≡ record { answer = ListingReading.NotClosed; tables = zeroedRows (listedCounts t) m }
 refused a b d t m ea eb ed = rw (ea, eb, ed)
 
-module _ (s : List ℕ) (m : Mesh) {r : Total} (er : r ≡ rowsTotal (listing s)) where
-  pub not-listing : r ≡ Total.None → record { answer = Reading.NotListing; tables = m } ≡ readListing s m
+module _ (s : List ℕ) (m : Mesh) {r : ListingTotal} (er : r ≡ rowsTotal (listing s)) where
+  pub not-listing : r ≡ ListingTotal.None → record { answer = ListingReading.NotListing; tables = m } ≡ readListing s m
   unfolding readFound
   not-listing en = rw (total-none (listing s) (sym er ∙ en))
 
-  module _ {p e f : ℕ} (ep : r ≡ Total.Of p e f) where
+  module _ {p e f : ℕ} (ep : r ≡ ListingTotal.Of p e f) where
     pub is-listing : Listing s
     is-listing = let (t, n, et, ec) = total-of (listing s) (sym er ∙ ep) in (t, n, et)
 
     pub over : withinCeilings (record { points = p; edges = e; faces = f }) ≡ false
-        → record { answer = Reading.OverCeilings; tables = m } ≡ readListing s m
+        → record { answer = ListingReading.OverCeilings; tables = m } ≡ readListing s m
     unfolding readFound
     over ew = let (t, n, et, ec) = total-of (listing s) (sym er ∙ ep) in rw (et, ec, ew)
 
     module _ (ew : withinCeilings (record { points = p; edges = e; faces = f }) ≡ true) where
       pub no-room : rowsFor (record { points = p; edges = e; faces = f }) m ≡ false
-          → record { answer = Reading.NoRoom; tables = m } ≡ readListing s m
+          → record { answer = ListingReading.NoRoom; tables = m } ≡ readListing s m
       unfolding readFound
       no-room em = let (t, n, et, ec) = total-of (listing s) (sym er ∙ ep) in rw (et, ec, ew, em)
 
@@ -113,7 +113,7 @@ module _ (s : List ℕ) (m : Mesh) {r : Total} (er : r ≡ rowsTotal (listing s)
             λ i. record { positions = ax i; points = ap′ i; edges = ae i; intervals = ad i; faces = af i }
 
         pub read : passesAudit (meshOf xs ps es ds fs) (record { points = p; edges = e; faces = f }) ≡ true
-            → record { answer = Reading.Read (record { points = p; edges = e; faces = f }); tables = meshOf xs ps es ds fs } ≡ readListing s m
+            → record { answer = ListingReading.Read (record { points = p; edges = e; faces = f }); tables = meshOf xs ps es ds fs } ≡ readListing s m
         unfolding readFound
         read ea =
             let (t, n, et, ec) = total-of (listing s) (sym er ∙ ep) in
@@ -122,11 +122,11 @@ module _ (s : List ℕ) (m : Mesh) {r : Total} (er : r ≡ rowsTotal (listing s)
             sym (ap (λ (x : Parsed ListedRows). readFound x m) et
             ∙ accepted (withinCeilings (listedCounts t)) (rowsFor (listedCounts t) m) (passesAudit (storedRows t m) (listedCounts t)) t m
             (ap withinCeilings ec ∙ ew) (ap (λ (k : Counts). rowsFor k m) ec ∙ em) (ap (passesAudit (storedRows t m)) ec ∙ ea′)
-            ∙ (λ i. record { answer = Reading.Read (ec i); tables = sym es′ i }))
+            ∙ (λ i. record { answer = ListingReading.Read (ec i); tables = sym es′ i }))
 
         pub zeroes : passesAudit (meshOf xs ps es ds fs) (record { points = p; edges = e; faces = f }) ≡ false
             → (m′ : Mesh) → m′ ≡ zeroedRows (record { points = p; edges = e; faces = f }) (meshOf xs ps es ds fs)
-            → record { answer = Reading.NotClosed; tables = m′ } ≡ readListing s m
+            → record { answer = ListingReading.NotClosed; tables = m′ } ≡ readListing s m
         unfolding readFound
         zeroes ea m′ e′ =
             let (t, n, et, ec) = total-of (listing s) (sym er ∙ ep) in
@@ -139,4 +139,4 @@ module _ (s : List ℕ) (m : Mesh) {r : Total} (er : r ≡ rowsTotal (listing s)
             sym (ap (λ (x : Parsed ListedRows). readFound x m) et
             ∙ refused (withinCeilings (listedCounts t)) (rowsFor (listedCounts t) m) (passesAudit (storedRows t m) (listedCounts t)) t m
             (ap withinCeilings ec ∙ ew) (ap (λ (k : Counts). rowsFor k m) ec ∙ em) (ap (passesAudit (storedRows t m)) ec ∙ ea′)
-            ∙ (λ i. record { answer = Reading.NotClosed; tables = sym z i }))
+            ∙ (λ i. record { answer = ListingReading.NotClosed; tables = sym z i }))

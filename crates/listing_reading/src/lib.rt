@@ -8,10 +8,10 @@ ghost use Rattle.listings.specs.Handing.{ReadingOutcome, readListing};
 use audit::audit;
 use counted_rows::rows_for;
 use counted_rows::zero_rows;
-use listing_lines::Total;
-use listing_lines::sizes;
+use listing_lines::ListingTotal;
+use listing_lines::listing_sizes;
 use listing_lines::store_rows;
-use listings::Reading;
+use listings::ListingReading;
 use scratch_rows::within_ceilings;
 use tables::Counts;
 
@@ -24,7 +24,7 @@ pub fn read_listing(
     edges: &mut [u32],
     intervals: &mut [f64],
     faces: &mut [u32],
-) -> Reading
+) -> ListingReading
     ensures { λ r. ⌜
         _≡_ {A = ReadingOutcome}
         (record {
@@ -35,8 +35,8 @@ pub fn read_listing(
         (now (text .entry))
         (meshOf (now (positions .entry)) (now (points .entry)) (now (edges .entry)) (now (intervals .entry)) (now (faces .entry)))) ⌝ }
 {
-    let Total::Of(np, ne, nf) = sizes(text) else {
-        return Reading::NotListing;
+    let ListingTotal::Of(np, ne, nf) = listing_sizes(text) else {
+        return ListingReading::NotListing;
     };
     let c = Counts {
         points: np,
@@ -44,15 +44,15 @@ pub fn read_listing(
         faces: nf,
     };
     if !within_ceilings(c) {
-        return Reading::OverCeilings;
+        return ListingReading::OverCeilings;
     }
     if !rows_for(c, positions, points, edges, intervals, faces) {
-        return Reading::NoRoom;
+        return ListingReading::NoRoom;
     }
     store_rows(text, positions, points, edges, intervals, faces);
     if audit(positions, points, edges, intervals, faces, c) {
-        return Reading::Read(c);
+        return ListingReading::Read(c);
     }
     zero_rows(c, positions, points, edges, intervals, faces);
-    Reading::NotClosed
+    ListingReading::NotClosed
 }

@@ -16,8 +16,8 @@ use Rattle.listings.specs.Printing.{ListedRows, FitRows, printed}
 use Rattle.listings.specs.Grammar.{listing}
 use Rattle.listings.specs.Handing.{listingRows, listingOf, listedCounts, withListing, passesAudit, ReadingOutcome, readRows, readFound, readListing}
 use Rattle.listings.specs.Claims.{Listing-exactly, Not-listing-exactly, Reads-rows, Refusals-leave, Read-back, Written-back}
-use Rattle.listings.specs.declared.Reading.{Reading}
-use Rattle.listings.specs.declared.Reading.the-variants as Reading
+use Rattle.listings.specs.declared.ListingReading.{ListingReading}
+use Rattle.listings.specs.declared.ListingReading.the-variants as ListingReading
 use Rattle.listings.proofs.ReadBack.{rows-fit, counts-rows, stored-rows, audited-again, room-of}
 use Rattle.listings.proofs.WrittenBack.{rows-again}
 use Rattle.listings.proofs.Whole.{printed-of-listing, listing-at}
@@ -26,20 +26,20 @@ pub listing-exactly : Listing-exactly
 listing-exactly s t = (λ h. printed-of-listing s t (h .0) (h .1), λ h. listing-at s t (h .0) (h .1))
 
 -- rows that were found are never answered by 40
-found-is-read : (a b c : Bool) (t : ListedRows) (m : Mesh) → readRows a b c t m .answer ≡ Reading.NotListing → ⊥
+found-is-read : (a b c : Bool) (t : ListedRows) (m : Mesh) → readRows a b c t m .answer ≡ ListingReading.NotListing → ⊥
 found-is-read false b c t m e = let z : _≡_ {A = ℕ} 0 1 = cc in omega arith
 found-is-read true false c t m e = let z : _≡_ {A = ℕ} 0 1 = cc in omega arith
 found-is-read true true false t m e = let z : _≡_ {A = ℕ} 0 1 = cc in omega arith
 found-is-read true true true t m e = let z : _≡_ {A = ℕ} 0 1 = cc in omega arith
 
 -- nothing was found where 40 is answered
-none-of-answer : (x : Parsed ListedRows) (m : Mesh) → readFound x m .answer ≡ Reading.NotListing → x ≡ unparsed
+none-of-answer : (x : Parsed ListedRows) (m : Mesh) → readFound x m .answer ≡ ListingReading.NotListing → x ≡ unparsed
 unfolding readFound
 none-of-answer (parsed t n) m e =
     absurd (found-is-read (withinCeilings (listedCounts t)) (rowsFor (listedCounts t) m) (passesAudit (withListing t m) (listedCounts t)) t m e)
 none-of-answer unparsed m e = refl
 
-answer-of-none : (x : Parsed ListedRows) (m : Mesh) → x ≡ unparsed → readFound x m .answer ≡ Reading.NotListing
+answer-of-none : (x : Parsed ListedRows) (m : Mesh) → x ≡ unparsed → readFound x m .answer ≡ ListingReading.NotListing
 unfolding readFound
 answer-of-none x m e = rw e
 
@@ -63,22 +63,22 @@ reads-rows t m f = let (n, e) = listing-at (printed t) t f refl in rw e
 
 -- what the answers leave
 module _ (m : Mesh) where
-  over-leaves : (a b c : Bool) (t : ListedRows) → readRows a b c t m .answer ≡ Reading.OverCeilings → readRows a b c t m .tables ≡ m
+  over-leaves : (a b c : Bool) (t : ListedRows) → readRows a b c t m .answer ≡ ListingReading.OverCeilings → readRows a b c t m .tables ≡ m
   over-leaves false b c t e = refl
   over-leaves true false c t e = refl
   over-leaves true true false t e = absurd (let z : _≡_ {A = ℕ} 0 1 = cc in omega arith)
   over-leaves true true true t e = absurd (let z : _≡_ {A = ℕ} 0 1 = cc in omega arith)
 
-  room-leaves : (a b c : Bool) (t : ListedRows) → readRows a b c t m .answer ≡ Reading.NoRoom → readRows a b c t m .tables ≡ m
+  room-leaves : (a b c : Bool) (t : ListedRows) → readRows a b c t m .answer ≡ ListingReading.NoRoom → readRows a b c t m .tables ≡ m
   room-leaves false b c t e = refl
   room-leaves true false c t e = refl
   room-leaves true true false t e = absurd (let z : _≡_ {A = ℕ} 0 1 = cc in omega arith)
   room-leaves true true true t e = absurd (let z : _≡_ {A = ℕ} 0 1 = cc in omega arith)
 
   leaves : (x : Parsed ListedRows)
-      → ((readFound x m .answer ≡ Reading.NotListing) → readFound x m .tables ≡ m)
-      × ((readFound x m .answer ≡ Reading.OverCeilings) → readFound x m .tables ≡ m)
-      × ((readFound x m .answer ≡ Reading.NoRoom) → readFound x m .tables ≡ m)
+      → ((readFound x m .answer ≡ ListingReading.NotListing) → readFound x m .tables ≡ m)
+      × ((readFound x m .answer ≡ ListingReading.OverCeilings) → readFound x m .tables ≡ m)
+      × ((readFound x m .answer ≡ ListingReading.NoRoom) → readFound x m .tables ≡ m)
   unfolding readFound
   leaves unparsed = (λ e. refl, λ e. refl, λ e. refl)
   leaves (parsed t n) =
@@ -92,7 +92,7 @@ refusals-leave s m = leaves m (listing s)
 
 -- rows that pass the three tests are read
 pub accepted : (a b d : Bool) (t : ListedRows) (m : Mesh) → a ≡ true → b ≡ true → d ≡ true
-    → readRows a b d t m ≡ record { answer = Reading.Read (listedCounts t); tables = withListing t m }
+    → readRows a b d t m ≡ record { answer = ListingReading.Read (listedCounts t); tables = withListing t m }
 accepted a b d t m ea eb ed = rw (ea, eb, ed)
 
 pub read-back : Read-back
@@ -107,11 +107,11 @@ read-back m m′ c h ea ew er =
     ∙ accepted (withinCeilings (listedCounts t)) (rowsFor (listedCounts t) m′) (passesAudit (withListing t m′) (listedCounts t)) t m′
     (ap withinCeilings ec ∙ ew) (ap (λ (k : Counts). rowsFor k m′) ec ∙ er)
     (ap (passesAudit (withListing t m′)) ec ∙ ap (λ (n : Mesh). passesAudit n c) st ∙ ea′)
-    ∙ (λ i. record { answer = Reading.Read (ec i); tables = st i })
+    ∙ (λ i. record { answer = ListingReading.Read (ec i); tables = st i })
 
 -- rows that were read, by the three tests
 read-written : (s : List ℕ) (t : ListedRows) (m : Mesh) (c : Counts) (n : ℕ) → listing s ≡ parsed t n → (a b d : Bool)
-    → rowsFor (listedCounts t) m ≡ b → passesAudit (withListing t m) (listedCounts t) ≡ d → readRows a b d t m .answer ≡ Reading.Read c
+    → rowsFor (listedCounts t) m ≡ b → passesAudit (withListing t m) (listedCounts t) ≡ d → readRows a b d t m .answer ≡ ListingReading.Read c
     → listingOf (readRows a b d t m .tables) c ≡ s
 read-written s t m c n es false b d eb ed e = absurd (let z : _≡_ {A = ℕ} 0 1 = cc in omega arith)
 read-written s t m c n es true false d eb ed e = absurd (let z : _≡_ {A = ℕ} 0 1 = cc in omega arith)
@@ -126,7 +126,7 @@ pub written-back : Written-back
 unfolding readFound
 written-back s m c e = go (listing s) refl e
   where
-    go : (x : Parsed ListedRows) → listing s ≡ x → readFound x m .answer ≡ Reading.Read c → listingOf (readFound x m .tables) c ≡ s
+    go : (x : Parsed ListedRows) → listing s ≡ x → readFound x m .answer ≡ ListingReading.Read c → listingOf (readFound x m .tables) c ≡ s
     go (parsed t n) es g =
         read-written s t m c n es (withinCeilings (listedCounts t)) (rowsFor (listedCounts t) m) (passesAudit (withListing t m) (listedCounts t)) refl refl g
     go unparsed es g = absurd (let z : _≡_ {A = ℕ} 0 1 = cc in omega arith)

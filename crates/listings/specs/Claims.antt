@@ -22,14 +22,14 @@ use Rattle.text_numbers.specs.Form.{parsed}
 use Rattle.listings.specs.Printing.{ListedRows, FitRows, printed}
 use Rattle.listings.specs.Grammar.{listing}
 use Rattle.listings.specs.Handing.{listingOf, listedCounts, withListing, passesAudit, readRows, readListing}
-use Rattle.listings.specs.declared.Reading.the-variants as Reading
+use Rattle.listings.specs.declared.ListingReading.the-variants as ListingReading
 
 abbrev pub Listing-exactly : Type 0
 Listing-exactly = (s : List ℕ) (t : ListedRows) → ((n : ℕ) × (listing s ≡ parsed t n)) ↔ (FitRows t × (s ≡ printed t))
 
 abbrev pub Not-listing-exactly : Type 0
 Not-listing-exactly =
-    (s : List ℕ) (m : Mesh) → (readListing s m .answer ≡ Reading.NotListing) ↔ ((t : ListedRows) → FitRows t → s ≡ printed t → ⊥)
+    (s : List ℕ) (m : Mesh) → (readListing s m .answer ≡ ListingReading.NotListing) ↔ ((t : ListedRows) → FitRows t → s ≡ printed t → ⊥)
 
 abbrev pub Reads-rows : Type 0
 Reads-rows =
@@ -40,9 +40,9 @@ Reads-rows =
 abbrev pub Refusals-leave : Type 0
 Refusals-leave =
     (s : List ℕ) (m : Mesh) →
-    ((readListing s m .answer ≡ Reading.NotListing) → readListing s m .tables ≡ m)
-    × ((readListing s m .answer ≡ Reading.OverCeilings) → readListing s m .tables ≡ m)
-    × ((readListing s m .answer ≡ Reading.NoRoom) → readListing s m .tables ≡ m)
+    ((readListing s m .answer ≡ ListingReading.NotListing) → readListing s m .tables ≡ m)
+    × ((readListing s m .answer ≡ ListingReading.OverCeilings) → readListing s m .tables ≡ m)
+    × ((readListing s m .answer ≡ ListingReading.NoRoom) → readListing s m .tables ≡ m)
 
 -- what the elements of lent slices are
 pub record Held (m : Mesh) : Type 0 where
@@ -55,7 +55,7 @@ pub record Held (m : Mesh) : Type 0 where
 abbrev pub Read-back : Type 0
 Read-back =
     (m m′ : Mesh) (c : Counts) → Held m → passesAudit m c ≡ true → withinCeilings c ≡ true → rowsFor c m′ ≡ true →
-    readListing (listingOf m c) m′ ≡ record { answer = Reading.Read c; tables = overRows c (firstRows c m) m′ }
+    readListing (listingOf m c) m′ ≡ record { answer = ListingReading.Read c; tables = overRows c (firstRows c m) m′ }
 
 abbrev pub Written-back : Type 0
-Written-back = (s : List ℕ) (m : Mesh) (c : Counts) → readListing s m .answer ≡ Reading.Read c → listingOf (readListing s m .tables) c ≡ s
+Written-back = (s : List ℕ) (m : Mesh) (c : Counts) → readListing s m .answer ≡ ListingReading.Read c → listingOf (readListing s m .tables) c ≡ s

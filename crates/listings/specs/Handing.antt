@@ -25,8 +25,8 @@ use Rattle.text_numbers.specs.Numbers.{float}
 use Rattle.mesh_lines.specs.Grammar.{flat}
 use Rattle.listings.specs.declared.Writing.{Writing}
 use Rattle.listings.specs.declared.Writing.the-variants as Writing
-use Rattle.listings.specs.declared.Reading.{Reading}
-use Rattle.listings.specs.declared.Reading.the-variants as Reading
+use Rattle.listings.specs.declared.ListingReading.{ListingReading}
+use Rattle.listings.specs.declared.ListingReading.the-variants as ListingReading
 use Rattle.listings.specs.Printing.{ListedRow, ListedRows, printed}
 use Rattle.listings.specs.Grammar.{listing}
 
@@ -105,21 +105,21 @@ writeListing m c out =
     written (passesAudit m c) (withinCeilings c) (leb (length (listingOf m c)) (length out)) (listingOf m c) out
 
 pub record ReadingOutcome : Type 0 where
-  pub answer : Reading
+  pub answer : ListingReading
   pub tables : Mesh
 
 -- by whether the rows are within the ceilings, whether the tables have room for them, and whether they pass the audit there
 abbrev pub readRows : Bool → Bool → Bool → ListedRows → Mesh → ReadingOutcome
-readRows false room closed t m = record { answer = Reading.OverCeilings; tables = m }
-readRows true false closed t m = record { answer = Reading.NoRoom; tables = m }
-readRows true true false t m = record { answer = Reading.NotClosed; tables = zeroedRows (listedCounts t) m }
-readRows true true true t m = record { answer = Reading.Read (listedCounts t); tables = withListing t m }
+readRows false room closed t m = record { answer = ListingReading.OverCeilings; tables = m }
+readRows true false closed t m = record { answer = ListingReading.NoRoom; tables = m }
+readRows true true false t m = record { answer = ListingReading.NotClosed; tables = zeroedRows (listedCounts t) m }
+readRows true true true t m = record { answer = ListingReading.Read (listedCounts t); tables = withListing t m }
 
 -- the form of the whole text is tested before anything is counted
 unfoldable pub readFound : Parsed ListedRows → Mesh → ReadingOutcome
 readFound x m =
     ifParsed (λ t n. readRows (withinCeilings (listedCounts t)) (rowsFor (listedCounts t) m) (passesAudit (withListing t m) (listedCounts t)) t m)
-    (record { answer = Reading.NotListing; tables = m })
+    (record { answer = ListingReading.NotListing; tables = m })
     x
 
 abbrev pub readListing : List ℕ → Mesh → ReadingOutcome
@@ -131,9 +131,9 @@ writingNumber Writing.NotClosed = 30
 writingNumber Writing.OverCeilings = 2
 writingNumber Writing.TooShort = 4
 
-abbrev pub readingNumber : Reading → ℕ
-readingNumber (Reading.Read c) = 0
-readingNumber Reading.NotListing = 40
-readingNumber Reading.OverCeilings = 2
-readingNumber Reading.NoRoom = 4
-readingNumber Reading.NotClosed = 30
+abbrev pub readingNumber : ListingReading → ℕ
+readingNumber (ListingReading.Read c) = 0
+readingNumber ListingReading.NotListing = 40
+readingNumber ListingReading.OverCeilings = 2
+readingNumber ListingReading.NoRoom = 4
+readingNumber ListingReading.NotClosed = 30

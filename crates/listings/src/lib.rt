@@ -18,7 +18,7 @@ pub enum Writing {
 }
 
 // What reading a listing answers: how many points, edges and faces it lists, or the ground.
-pub enum Reading {
+pub enum ListingReading {
     Read(Counts),
     // 40: not of the form
     NotListing,

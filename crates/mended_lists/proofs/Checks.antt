@@ -19,7 +19,7 @@ use Rattle.built_meshes.specs.Lists.{Lists, facesOf, size, offset}
 use Rattle.built_meshes.specs.Places.{pointOf, nextOf, IsPlace, Runs, Between, Differ, Earlier}
 use Rattle.built_meshes.proofs.Versions.{every-false}
 use Rattle.built_meshes.proofs.Before.{Triple}
-use Rattle.mended_lists.specs.Edges.{Place, placesOf, placeAt, sameEdge, mate, hasMate, third, follower, lone}
+use Rattle.mended_lists.specs.Edges.{FacePlace, placesOf, placeAt, sameEdge, mate, hasMate, third, follower, lone}
 use Rattle.mended_lists.specs.Mending.{edgesShared}
 use Rattle.mended_lists.specs.Grounds.{Lone-edge}
 use Rattle.mended_lists.proofs.Edges.{latest-none, mate-last, mate-found, number-below, number-face, number-place, Numbered, numbered}
@@ -50,7 +50,7 @@ on : (l : Lists) (f i p q : ℕ) → Between l f i p q → OnEdge l p q (offset 
 on l f i p q b = record { face = f; place = i; between = b; number = refl }
 
 -- a third place has a mate that has a mate
-mates-of-third : (ps : List Place) (k : ℕ) → third ps k ≡ true → (m : ℕ) × (n : ℕ) × (mate ps k ≡ suc m) × (mate ps m ≡ suc n)
+mates-of-third : (ps : List FacePlace) (k : ℕ) → third ps k ≡ true → (m : ℕ) × (n : ℕ) × (mate ps k ≡ suc m) × (mate ps m ≡ suc n)
 unfolding third
 mates-of-third ps k h = first (mate ps k) refl h
   where

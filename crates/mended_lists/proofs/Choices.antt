@@ -11,7 +11,7 @@ use borrow.Author.Tests.{eqb-true, eq-eqb}
 use Rattle.built_meshes.specs.Lists.{Lists, facesOf, size, offset}
 use Rattle.built_meshes.specs.Places.{pointOf, nextOf, IsPlace, Runs, Between, Differ}
 use Rattle.mended_lists.specs.Reversal.{Choice, reversed}
-use Rattle.mended_lists.specs.Edges.{Place, listedPlace, placesOf, placeAt, sameWay, sameEdge, mate}
+use Rattle.mended_lists.specs.Edges.{FacePlace, listedPlace, placesOf, placeAt, sameWay, sameEdge, mate}
 use Rattle.mended_lists.specs.Parts.{differ}
 use Rattle.mended_lists.specs.Claims.{Sound, Opposite, Works}
 use Rattle.mended_lists.proofs.Parts.{differ-self, differ-swap, OppositeAt}

@@ -15,7 +15,7 @@ use Rattle.audited_meshes.proofs.Tests.{Is, and-is, or-is, eqb-is}
 use Rattle.built_meshes.specs.Lists.{Lists, facesOf, size, offset}
 use Rattle.built_meshes.specs.Places.{pointOf, nextOf, IsPlace, Runs, Between}
 use Rattle.mended_lists.specs.InTurn.{inTurn}
-use Rattle.mended_lists.specs.Edges.{Place, listedPlace, placesOf, placeAt, sameWay, sameEdge, latest, mate}
+use Rattle.mended_lists.specs.Edges.{FacePlace, listedPlace, placesOf, placeAt, sameWay, sameEdge, latest, mate}
 use Rattle.mended_lists.proofs.InTurn.{length-inTurn, getD-inTurn}
 
 -- ---- the last number that passes a test
@@ -74,13 +74,13 @@ latest-last test (suc n) j e = go (test n) refl (λ h. latest-last test n j h)
 -- ---- mates
 
 pub edge-is :
-    (a b : Place) →
+    (a b : FacePlace) →
     Is (sameEdge a b) (((a .from ≡ b .from) × (a .to ≡ b .to)) ⊎ ((a .from ≡ b .to) × (a .to ≡ b .from)))
 edge-is a b =
     or-is (and-is (eqb-is (a .from) (b .from)) (eqb-is (a .to) (b .to)))
     (and-is (eqb-is (a .from) (b .to)) (eqb-is (a .to) (b .from)))
 
-module _ (ps : List Place) (k : ℕ) where
+module _ (ps : List FacePlace) (k : ℕ) where
   pub mate-last : (j : ℕ) → mate ps k ≡ suc j → Last (λ j. sameEdge (placeAt ps j) (placeAt ps k)) k j
   unfolding mate
   mate-last j e = latest-last (λ j. sameEdge (placeAt ps j) (placeAt ps k)) k j e

@@ -9,7 +9,7 @@ use native.Mathlib.Omega.{arith}
 use native.Mathlib.Decide.{ℕ-discrete, decLt}
 use lib.Dec.{eqb}
 use borrow.Author.Tests.{eqb-true, eq-eqb}
-use Rattle.mended_lists.specs.Edges.{Place, placeAt, sameWay, mate}
+use Rattle.mended_lists.specs.Edges.{FacePlace, placeAt, sameWay, mate}
 use Rattle.mended_lists.specs.declared.Part.{Part}
 use Rattle.mended_lists.specs.Parts.{Parts, differ, lonePart, movedIf, partMoved, apart, joinedIf, partsJoined, partsMet, partsTo}
 
@@ -370,15 +370,15 @@ module _ (R : ℕ → ℕ → Type 0) (same : (f : ℕ) → R f f) (turn-back : 
 -- ---- all places
 
 -- place k and its mate, if it has one, run opposite ways in the choice c
-abbrev pub OppositeAt : (ℕ → Bool) → List Place → ℕ → Type 0
+abbrev pub OppositeAt : (ℕ → Bool) → List FacePlace → ℕ → Type 0
 OppositeAt c ps k =
     (j : ℕ) → mate ps k ≡ suc j → differ (c (placeAt ps j .face)) (c (placeAt ps k .face)) ≡ sameWay (placeAt ps j) (placeAt ps k)
 
 -- the faces of two places agree
-abbrev pub AgreeAt : List Place → Parts → ℕ → ℕ → Type 0
+abbrev pub AgreeAt : List FacePlace → Parts → ℕ → ℕ → Type 0
 AgreeAt ps s i j = Agree s (placeAt ps j .face) (placeAt ps i .face) (sameWay (placeAt ps j) (placeAt ps i))
 
-module _ (ps : List Place) where
+module _ (ps : List FacePlace) where
   pub parts-rooted : (k : ℕ) → Rooted (partsTo ps k)
   unfolding partsTo partsMet
   parts-rooted zero = record { below = λ f. omega arith; stays = λ f. refl }

@@ -26,10 +26,10 @@ use Rattle.built_meshes.specs.declared.Ground.the-variants.{OverCounts, UnfitNu
 use Rattle.mended_lists.specs.declared.Mending.{Mending}
 use Rattle.mended_lists.specs.declared.Mending.the-variants.{Mended, Refused, Twisted}
 use Rattle.mended_lists.specs.Reversal.{Choice}
-use Rattle.mended_lists.specs.Edges.{Place, listedPlace, placesOf, placeAt, sameEdge, latest, mate, hasMate, third, follower, lone}
+use Rattle.mended_lists.specs.Edges.{FacePlace, listedPlace, placesOf, placeAt, sameEdge, latest, mate, hasMate, third, follower, lone}
 use Rattle.mended_lists.specs.Parts.{facesTurned, twisted}
 use Rattle.mended_lists.specs.Mending.{forgiven, edgesMend, thenEdges, faceMends, thenFace, facesMend, wholeMends, edgesShared, mendingIf, mending}
-use Rattle.mended_lists.specs.Claims.{Sound, Paired, Works, Passed, Mended-exactly}
+use Rattle.mended_lists.specs.Claims.{Sound, Paired, Works, Passed-sound, Mended-exactly}
 use Rattle.mended_lists.proofs.Reversal.{eqb-false}
 use Rattle.mended_lists.proofs.Edges.{edge-is, latest-last, mate-last, mate-found, places-at, places-length, number-below, number-face, number-place, Numbered, numbered}
 use Rattle.mended_lists.proofs.Choices.{between-edge, edge-between, between-place}
@@ -37,7 +37,7 @@ use Rattle.mended_lists.proofs.Theorem.{twisted-exactly, found}
 
 -- ---- one edge, told from either place
 
-pub same-back : (a b : Place) → sameEdge a b ≡ true → sameEdge b a ≡ true
+pub same-back : (a b : FacePlace) → sameEdge a b ≡ true → sameEdge b a ≡ true
 same-back a b e = edge-is b a .1 (go (edge-is a b .0 e))
   where
     go :
@@ -151,7 +151,7 @@ pub record OnEdge (l : Lists) (p q k : ℕ) : Type 0 where
   pub between : Between l face place p q
   pub number : offset l face + place ≡ k
 
-pub third-is : (ps : List Place) (k m n : ℕ) → mate ps k ≡ suc m → mate ps m ≡ suc n → third ps k ≡ true
+pub third-is : (ps : List FacePlace) (k m n : ℕ) → mate ps k ≡ suc m → mate ps m ≡ suc n → third ps k ≡ true
 unfolding third
 third-is ps k m n e h = rw (e, h) (ap not (eqb-false (suc n) 0 (λ z. omega arith)))
 
@@ -324,7 +324,7 @@ module _ (c : Sizes) (l : Lists) where
       counts true false h = absurd (refused UnfitNumber h)
       counts true true h = whole (facesMend l (placesOf l) (facesOf l)) (edgesShared (placesOf l)) (twisted l) h
 
-pub passed : Passed
+pub passed : Passed-sound
 passed c l h =
     let parts = mended-parts c l h in (passed-sound l (parts .0), passed-paired l (parts .1))
 

@@ -10,10 +10,10 @@ use lib.ListN.{length}
 use Rattle.built_meshes.specs.Lists.{Lists, facesOf, size, offset}
 use Rattle.built_meshes.specs.Places.{pointOf, nextOf, IsPlace, Runs, Between, Differ}
 use Rattle.mended_lists.specs.Reversal.{Choice, reversed}
-use Rattle.mended_lists.specs.Edges.{Place, listedPlace, placesOf, placeAt, sameWay, sameEdge, mate}
+use Rattle.mended_lists.specs.Edges.{FacePlace, listedPlace, placesOf, placeAt, sameWay, sameEdge, mate}
 use Rattle.mended_lists.specs.declared.Part.{Part}
 use Rattle.mended_lists.specs.Parts.{differ, lonePart, partsTo, partsOf, facesTurned, twisted}
-use Rattle.mended_lists.specs.Claims.{Sound, Opposite, Works, Share, InPart, itself, beside, LowestStay, Twisted-exactly, Found, Only-one}
+use Rattle.mended_lists.specs.Claims.{Sound, Opposite, Works, Share, InPart, itself, beside, LowestStay, Twisted-exactly, Choice-found, Only-one}
 use Rattle.mended_lists.proofs.Parts.{parts-rooted, parts-follow, parts-agree, parts-within, Follows}
 use Rattle.mended_lists.proofs.Edges.{mate-last, places-at, number-below, number-face, Numbered, numbered}
 use Rattle.mended_lists.proofs.Choices.{works-opposite, opposite-works, only-mate, between-place, edge-between}
@@ -146,7 +146,7 @@ twisted-exactly l sound = (λ t c works. false≢true (sym (works-follow l sound
     go true e none = refl
     go false e none = absurd (none (facesTurned l) (found-works l sound e))
 
-pub found : Found
+pub found : Choice-found
 found l sound t = (found-works l sound t, lowest-stay l)
 
 pub only-one : Only-one

@@ -11,11 +11,11 @@
 --     Intervals-stay        the claim: each interval stays on its pair of points; it is written beside the point at which its place arrives
 --     Firsts-agree          the claim: the first point of each side agrees in a turned face if it did before, so that 43 is not met
 --     Twisted-exactly       the claim: 44 exactly if no choice works
---     Found                 the claim: else the choice found works, and the lowest-numbered face of each part stays
+--     Choice-found          the claim: else the choice found works, and the lowest-numbered face of each part stays
 --     Only-one              the claim: no other choice is such
 --     Needs-nothing         the claim: lists whose neighbours run opposite ways come back unchanged
 --     Twice                 the claim: mended lists come back unchanged
---     Passed                the claim: lists that pass the grounds before 44 are sound, and each place shares its edge
+--     Passed-sound          the claim: lists that pass the grounds before 44 are sound, and each place shares its edge
 --     Mended-exactly        the claim: past those grounds, the answer is 44 exactly if no choice works, and else the lists are mended
 --     Then-built            the claim: building does not meet 14, 15 or 20 in mended lists
 use mathlib.Core.Path.{_≡_}
@@ -89,8 +89,8 @@ Firsts-agree =
 abbrev pub Twisted-exactly : Type 0
 Twisted-exactly = (l : Lists) → Sound l → (twisted l ≡ true) ↔ ((c : Choice) → ¬ Works l c)
 
-abbrev pub Found : Type 0
-Found = (l : Lists) → Sound l → twisted l ≡ false → Works l (facesTurned l) × LowestStay l (facesTurned l)
+abbrev pub Choice-found : Type 0
+Choice-found = (l : Lists) → Sound l → twisted l ≡ false → Works l (facesTurned l) × LowestStay l (facesTurned l)
 
 abbrev pub Only-one : Type 0
 Only-one = (l : Lists) (c : Choice) → Sound l → Works l c → LowestStay l c → (f : ℕ) → f < facesOf l → c f ≡ facesTurned l f
@@ -109,8 +109,8 @@ Then-built =
     ¬ Holds c (reversed (facesTurned l) l) m EdgeTripleFace × ¬ Holds c (reversed (facesTurned l) l) m SameWay
     × ¬ Holds c (reversed (facesTurned l) l) m MissingFace
 
-abbrev pub Passed : Type 0
-Passed = (c : Sizes) (l : Lists) → (mending c l ≡ Mended) ⊎ (mending c l ≡ Twisted) → Sound l × Paired l
+abbrev pub Passed-sound : Type 0
+Passed-sound = (c : Sizes) (l : Lists) → (mending c l ≡ Mended) ⊎ (mending c l ≡ Twisted) → Sound l × Paired l
 
 abbrev pub Mended-exactly : Type 0
 Mended-exactly =

@@ -1,5 +1,5 @@
 -- The places of all faces, in their order: place i of face f is the edge from its point i to its point i + 1, round to the start.
---     Place                 a place: its face, and the points that it runs from and to
+--     FacePlace             a place: its face, and the points that it runs from and to
 --     listedPlace l f i         place i of face f
 --     placesOf l            all places, faces in number order
 --     placeAt ps k          place k of the places ps
@@ -20,44 +20,44 @@ use Rattle.built_meshes.specs.Lists.{Lists, facesOf, size, offset}
 use Rattle.built_meshes.specs.Places.{pointOf, nextOf}
 use Rattle.mended_lists.specs.InTurn.{inTurn}
 
-pub record Place : Type 0 where
+pub record FacePlace : Type 0 where
   pub face : ℕ
   pub from : ℕ
   pub to : ℕ
 
-abbrev pub listedPlace : Lists → ℕ → ℕ → Place
+abbrev pub listedPlace : Lists → ℕ → ℕ → FacePlace
 listedPlace l f i = record { face = f; from = pointOf l f i; to = nextOf l f i }
 
-unfoldable pub placesOf : Lists → List Place
+unfoldable pub placesOf : Lists → List FacePlace
 unfolding inTurn offset
 placesOf l = inTurn (facesOf l) (λ f. size l f) (λ f i. listedPlace l f i)
 
-abbrev pub placeAt : List Place → ℕ → Place
+abbrev pub placeAt : List FacePlace → ℕ → FacePlace
 placeAt ps k = getD ps k (record { face = 0; from = 0; to = 0 })
 
-abbrev pub sameWay : Place → Place → Bool
+abbrev pub sameWay : FacePlace → FacePlace → Bool
 sameWay a b = eqb (a .from) (b .from)
 
-abbrev pub sameEdge : Place → Place → Bool
+abbrev pub sameEdge : FacePlace → FacePlace → Bool
 sameEdge a b = eqb (a .from) (b .from) && eqb (a .to) (b .to) || eqb (a .from) (b .to) && eqb (a .to) (b .from)
 
 unfoldable pub latest : (ℕ → Bool) → ℕ → ℕ
 latest test zero = 0
 latest test (suc n) = cond (test n) (suc n) (latest test n)
 
-unfoldable pub mate : List Place → ℕ → ℕ
+unfoldable pub mate : List FacePlace → ℕ → ℕ
 mate ps k = latest (λ j. sameEdge (placeAt ps j) (placeAt ps k)) k
 
 -- the last place before place k on its edge has one before it as well
-abbrev pub hasMate : List Place → ℕ → Bool
+abbrev pub hasMate : List FacePlace → ℕ → Bool
 hasMate ps zero = false
 hasMate ps (suc j) = not (eqb (mate ps j) 0)
 
-unfoldable pub third : List Place → ℕ → Bool
+unfoldable pub third : List FacePlace → ℕ → Bool
 third ps k = hasMate ps (mate ps k)
 
-unfoldable pub follower : List Place → ℕ → ℕ → ℕ
+unfoldable pub follower : List FacePlace → ℕ → ℕ → ℕ
 follower ps n k = latest (λ i. eqb (mate ps i) (suc k)) n
 
-unfoldable pub lone : List Place → ℕ → Bool
+unfoldable pub lone : List FacePlace → ℕ → Bool
 lone ps k = eqb (mate ps k) 0 && eqb (follower ps (length ps) k) 0

@@ -20,7 +20,7 @@ use Rattle.built_meshes.specs.declared.Verdict.the-variants.{Fit, Unfit}
 use Rattle.built_meshes.specs.declared.Ground.the-variants.{OverCounts, UnfitNumber, NonRectangularFace, EdgeTripleFace, MissingFace}
 use Rattle.mended_lists.specs.declared.Mending.{Mending}
 use Rattle.mended_lists.specs.declared.Mending.the-variants.{Mended, Refused, Twisted}
-use Rattle.mended_lists.specs.Edges.{Place, placesOf, third, lone}
+use Rattle.mended_lists.specs.Edges.{FacePlace, placesOf, third, lone}
 use Rattle.mended_lists.specs.Parts.{twisted}
 
 abbrev pub forgiven : Verdict → Verdict
@@ -28,7 +28,7 @@ forgiven Fit = Fit
 forgiven (Unfit g) = cond (eqb (groundNumber g) (groundNumber NonRectangularFace)) Fit (Unfit g)
 
 -- no place of face f is the third on its edge
-unfoldable pub edgesMend : List Place → ℕ → ℕ → Bool
+unfoldable pub edgesMend : List FacePlace → ℕ → ℕ → Bool
 unfolding every third
 edgesMend ps a n = every n (λ i. not (third ps (a + i)))
 
@@ -37,7 +37,7 @@ thenEdges (Unfit g) edges = Unfit g
 thenEdges Fit true = Fit
 thenEdges Fit false = Unfit EdgeTripleFace
 
-unfoldable pub faceMends : Lists → List Place → ℕ → Verdict
+unfoldable pub faceMends : Lists → List FacePlace → ℕ → Verdict
 unfolding faceVerdict edgesMend offset
 faceMends l ps f = thenEdges (forgiven (faceVerdict l (pointsOf l) f (offset l f))) (edgesMend ps (offset l f) (size l f))
 
@@ -45,7 +45,7 @@ abbrev pub thenFace : Verdict → Verdict → Verdict
 thenFace (Unfit g) v = Unfit g
 thenFace Fit v = v
 
-unfoldable pub facesMend : Lists → List Place → ℕ → Verdict
+unfoldable pub facesMend : Lists → List FacePlace → ℕ → Verdict
 unfolding faceMends
 facesMend l ps zero = Fit
 facesMend l ps (suc k) = thenFace (facesMend l ps k) (faceMends l ps k)
@@ -57,7 +57,7 @@ wholeMends Fit false twist = Refused MissingFace
 wholeMends Fit true true = Twisted
 wholeMends Fit true false = Mended
 
-unfoldable pub edgesShared : List Place → Bool
+unfoldable pub edgesShared : List FacePlace → Bool
 unfolding every lone
 edgesShared ps = every (length ps) (λ k. not (lone ps k))
 

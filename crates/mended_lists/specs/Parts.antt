@@ -16,7 +16,7 @@ use lib.ListN.{length}
 use Rattle.built_meshes.specs.Lists.{Lists}
 use Rattle.mended_lists.specs.declared.Part.{Part}
 use Rattle.mended_lists.specs.Reversal.{Choice}
-use Rattle.mended_lists.specs.Edges.{Place, placesOf, placeAt, sameWay, mate}
+use Rattle.mended_lists.specs.Edges.{FacePlace, placesOf, placeAt, sameWay, mate}
 
 pub record Parts : Type 0 where
   pub part : ℕ → Part
@@ -53,13 +53,13 @@ unfolding joinedIf
 partsJoined s a b way = joinedIf (eqb (a .root) (b .root)) s a b way
 
 -- place k, whose mate is given
-unfoldable pub partsMet : ℕ → List Place → ℕ → Parts → Parts
+unfoldable pub partsMet : ℕ → List FacePlace → ℕ → Parts → Parts
 unfolding partsJoined
 partsMet zero ps k s = s
 partsMet (suc j) ps k s =
     partsJoined s (s .part (placeAt ps j .face)) (s .part (placeAt ps k .face)) (sameWay (placeAt ps j) (placeAt ps k))
 
-unfoldable pub partsTo : List Place → ℕ → Parts
+unfoldable pub partsTo : List FacePlace → ℕ → Parts
 unfolding partsMet mate
 partsTo ps zero = record { part = λ f. lonePart f; twisted = false }
 partsTo ps (suc k) = partsMet (mate ps k) ps k (partsTo ps k)

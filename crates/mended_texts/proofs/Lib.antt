@@ -6,4 +6,3 @@ pub mod Printed
 pub mod Past
 pub mod Outcome
 pub mod Theorem
-pub mod Cases

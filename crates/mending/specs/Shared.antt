@@ -13,7 +13,7 @@ use Rattle.built_meshes.specs.declared.Verdict.{Verdict}
 use Rattle.built_meshes.specs.declared.Verdict.the-variants.{Fit, Unfit}
 use Rattle.built_meshes.specs.declared.Ground.the-variants.{MissingFace}
 use Rattle.building_tests.specs.Lent.{lists}
-use Rattle.mended_lists.specs.Edges.{Place, mate}
+use Rattle.mended_lists.specs.Edges.{FacePlace, mate}
 
 pub record PairingRoom (ss fs ls : List ℕ) (is : List Float) (ts mates : List ℕ) (np : ℕ) : Type 0 where
   pub all-listed : offset (lists [] ss [] []) (length ss / 4) ≡ length ls
@@ -30,5 +30,5 @@ thenShared (Unfit g) shared = Unfit g
 thenShared Fit true = Fit
 thenShared Fit false = Unfit MissingFace
 
-abbrev pub MatesIf : List Place → List ℕ → Verdict → Type 0
+abbrev pub MatesIf : List FacePlace → List ℕ → Verdict → Type 0
 MatesIf ps ms r = r ≡ Fit → (k : ℕ) → k < length ms → getD ms k 0 ≡ mate ps k

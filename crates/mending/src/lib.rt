@@ -18,7 +18,7 @@ use building_tests::MOST_LISTED;
 use building_tests::MOST_POINTS;
 use built_meshes::Ground;
 use built_meshes::Verdict;
-use face_mending::enter_faces;
+use face_mending::mend_faces;
 use shared_edges::are_shared;
 
 // The first of the grounds 10, 11, 12, 43, 14 and 20 that holds of faces whose places run to the points `tos`; else each place has its mate.
@@ -42,7 +42,7 @@ pub fn pair_faces(
     let mut heads = [0u32; MOST_POINTS];
     let mut links = [0u32; MOST_LISTED];
     let mut seconds = [0u32; MOST_LISTED];
-    match enter_faces(
+    match mend_faces(
         sides,
         firsts,
         listed,

@@ -1,5 +1,5 @@
 // The lines of an answer (document 01, "Mesh text"): `[mesh 8 12 6]`, `[step 26 48 24]`, `[at 0 H H H]`, `[refused N]`.
-// Not here: the reading of texts (`mesh_text`).
+// Not here: the reading of texts (`text_reading`).
 // Contracts: `write`, `write_decimal`, `write_number`, `write_bits`, `write_mesh`, `write_step`, `write_at`, `write_refused`. Definitions: `specs/Lines.antt`. Laws for callers: `proofs/Laws.antt`.
 ghost use mathlib.Core.Path.{_≡_};
 ghost use Prim.Native.Nat.{_+_, _≤_, _<_};

@@ -11,7 +11,7 @@ use Rattle.text_numbers.specs.Form.{Parsed, parsed, unparsed, onward, pure, ifP
 use Rattle.mesh_lines.specs.Grammar.{Listed, Side, flat, sideCount, sidePoints}
 use Rattle.mesh_lines.specs.Parts.{placeAnswer, runAnswer, listedAnswer, sideAnswer, linesAnswer, Parses, placeAfter, stored, AtRun, AtLines}
 use Rattle.text_numbers.specs.declared.Number.the-variants as Number
-use Rattle.mesh_lines.specs.declared.Place.the-variants as Place
+use Rattle.mesh_lines.specs.declared.LinePlace.the-variants as LinePlace
 use Rattle.mesh_lines.specs.declared.Run.{Run}
 use Rattle.mesh_lines.specs.declared.Run.the-variants as Run
 use Rattle.mesh_lines.specs.declared.SideRead.the-variants as SideRead
@@ -57,11 +57,11 @@ abbrev pub runFrom : {A : Type 0} → (List A → ℕ) → ℕ → Parsed (List 
 runFrom F c x = ifParsed (λ l n. Run.Of (c + F l) n) Run.None x
 
 module _ {A : Type 0} where
-  pub place-at : (x : Parsed A) {n : ℕ} → placeAnswer x ≡ Place.At n → (a : A) × (x ≡ parsed a n)
+  pub place-at : (x : Parsed A) {n : ℕ} → placeAnswer x ≡ LinePlace.At n → (a : A) × (x ≡ parsed a n)
   place-at (parsed a m) e = (a, cc)
   place-at unparsed e = let z : _≡_ {A = ℕ} 0 1 = cc in absurd (omega arith)
 
-  pub place-none : (x : Parsed A) → placeAnswer x ≡ Place.None → x ≡ unparsed
+  pub place-none : (x : Parsed A) → placeAnswer x ≡ LinePlace.None → x ≡ unparsed
   place-none (parsed a n) e = cc
   place-none unparsed e = refl
 

@@ -13,8 +13,8 @@ use lib.ListN.{length}
 use lib.Seq.{sets}
 use Rattle.text_numbers.specs.Form.{Parsed, parsed, ifParsed}
 use Rattle.mesh_lines.specs.Grammar.{Listed, Side, flat, sideCount, sidePoints}
-use Rattle.mesh_lines.specs.declared.Place.{Place}
-use Rattle.mesh_lines.specs.declared.Place.the-variants as Place
+use Rattle.mesh_lines.specs.declared.LinePlace.{LinePlace}
+use Rattle.mesh_lines.specs.declared.LinePlace.the-variants as LinePlace
 use Rattle.mesh_lines.specs.declared.Run.{Run}
 use Rattle.mesh_lines.specs.declared.Run.the-variants as Run
 use Rattle.mesh_lines.specs.declared.ListedPoint.{ListedPoint}
@@ -31,8 +31,8 @@ lengthWord p = sideCount p % 4294967296
 abbrev pub listedIn : List Side → ℕ
 listedIn sides = length (flat sidePoints sides)
 
-abbrev pub placeAnswer : {A : Type 0} → Parsed A → Place
-placeAnswer x = ifParsed (λ a n. Place.At n) Place.None x
+abbrev pub placeAnswer : {A : Type 0} → Parsed A → LinePlace
+placeAnswer x = ifParsed (λ a n. LinePlace.At n) LinePlace.None x
 
 abbrev pub runAnswer : {A : Type 0} → (A → ℕ) → Parsed A → Run
 runAnswer f x = ifParsed (λ a n. Run.Of (f a) n) Run.None x
@@ -56,9 +56,9 @@ placeAfter x = ifParsed (λ a n. n) 0 x
 abbrev pub stored : {A B : Type 0} → (A → List B) → List B → ℕ → Parsed A → List B
 stored f l i x = ifParsed (λ a n. sets l i (f a)) [] x
 
-abbrev pub AtPlace : Place → Type 0 → Type 0
-AtPlace (Place.At n) P = P
-AtPlace Place.None P = Unit {0}
+abbrev pub AtPlace : LinePlace → Type 0 → Type 0
+AtPlace (LinePlace.At n) P = P
+AtPlace LinePlace.None P = Unit {0}
 
 abbrev pub AtRun : Run → Type 0 → Type 0
 AtRun (Run.Of c n) P = P

@@ -1,4 +1,4 @@
 mod Cases
 pub mod Read
-mod Heads
-mod Stored
+pub mod Heads
+pub mod Stored

@@ -7,14 +7,14 @@ use building::build;
 use building_tests::Bounds;
 use built_meshes::Built;
 use built_meshes::Version;
-use mesh_text::read_text;
 use oracle_tables::fields::at_most;
-use oracle_tables::held::Lent;
+use oracle_tables::held::LentTables;
 use oracle_tables::held::Tables;
-use oracle_tables::held::filled;
+use oracle_tables::held::filled_tables;
 use tables::Counts;
 use text_building::build_text;
 use text_meshes::TextBuilt;
+use text_reading::read_text;
 
 // How many points, edges and faces a mesh has, or document 01's number of the ground on which it is refused.
 pub enum Answer {
@@ -56,7 +56,7 @@ fn answer_of(built: TextBuilt) -> Answer {
 fn build_lent(
     text: &[u8],
     bounds: Bounds,
-    lent: Lent,
+    lent: LentTables,
     positions: &mut [f64],
     points: &mut [u32],
     edges: &mut [u32],
@@ -81,8 +81,8 @@ fn build_lent(
 }
 
 // Builds from a text in as much of filled tables as is lent.
-pub fn build_bytes(text: &[u8], bounds: Bounds, lent: Lent) -> Start {
-    let t = filled();
+pub fn build_bytes(text: &[u8], bounds: Bounds, lent: LentTables) -> Start {
+    let t = filled_tables();
     let mut positions = t.positions;
     let mut points = t.points;
     let mut edges = t.edges;
@@ -155,7 +155,7 @@ fn build_in_filled(
     lengths: Lengths,
     bounds: Bounds,
 ) -> Start {
-    let t = filled();
+    let t = filled_tables();
     let mut positions = t.positions;
     let mut points = t.points;
     let mut edges = t.edges;
@@ -185,7 +185,7 @@ fn build_in_filled(
 }
 
 // Puts a word, where the list has such a place.
-pub fn put_word(words: &mut [u32], place: usize, word: u32)
+pub fn put_listed_word(words: &mut [u32], place: usize, word: u32)
     ensures { λ _. ⌜ length (now (words .exit)) ≡ length (now (words .entry)) ⌝ }
 {
     if place < words.len() {
@@ -206,6 +206,6 @@ pub fn build_changed(text: &[u8], bounds: Bounds, change: Change) -> Start {
     let mut ps = [0u32; 400];
     let mut ds = [0.0f64; 400];
     read_text(text, limits, &mut xs, &mut ls, &mut qs, &mut ps, &mut ds);
-    put_word(&mut ls, change.place, change.word);
+    put_listed_word(&mut ls, change.place, change.word);
     build_in_filled(&xs, &ls, &ps, &ds, change.lengths, bounds)
 }

@@ -9,13 +9,13 @@ use crate::built::build_lists;
 use building_tests::Bounds;
 use libc::STDOUT_FILENO;
 use oracle_tables::fields::at_most;
-use oracle_tables::held::Lent;
+use oracle_tables::held::LentTables;
 use oracle_tables::held::NUMBER;
 use oracle_tables::held::WORD;
 use oracle_tables::listing::tell_refused;
 use oracle_tables::listing::tell_stage;
 use oracle_tables::rows::is_kept;
-use oracle_tables::rows::none;
+use oracle_tables::rows::no_counts;
 use oracle_tables::rows::tell_slices;
 use tables::POSITION_WIDTH;
 
@@ -23,7 +23,7 @@ use tables::POSITION_WIDTH;
 fn unformed(text: &[u8]) -> usize
     ensures { λ r. ⌜ r ≤ 1 ⌝ }
 {
-    let whole = Lent {
+    let whole = LentTables {
         positions: 1200,
         points: 1200,
         edges: 6400,
@@ -177,6 +177,6 @@ pub fn tell_zeros(np: usize, nf: usize, listed: u32) {
         &edges,
         &intervals,
         &faces,
-        none(),
+        no_counts(),
     );
 }

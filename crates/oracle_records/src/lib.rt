@@ -23,12 +23,12 @@ use oracle_builds::built::Answer;
 use oracle_builds::built::Start;
 use oracle_builds::built::build_bytes;
 use oracle_builds::built::build_changed;
-use oracle_builds::built::put_word;
+use oracle_builds::built::put_listed_word;
 use oracle_builds::trials::count_changes;
 use oracle_builds::trials::count_cuts;
 use oracle_builds::trials::tell_tried;
 use oracle_builds::trials::tell_zeros;
-use oracle_steps::Stage;
+use oracle_steps::StepStage;
 use oracle_steps::tell_steps;
 use oracle_tables::fields::at_most;
 use oracle_tables::fields::field;
@@ -38,7 +38,7 @@ use oracle_tables::held::lent_by;
 use oracle_tables::listing::tell_mesh;
 use oracle_tables::listing::tell_refused;
 use oracle_tables::listing::tell_stage;
-use oracle_tables::rows::none;
+use oracle_tables::rows::no_counts;
 use oracle_tables::rows::tell_rows;
 use tables::Counts;
 
@@ -55,13 +55,13 @@ fn spoilt(t: Tables, table: usize, place: usize, word: u32) -> Tables {
     let mut edges = t.edges;
     let mut faces = t.faces;
     if table == 1 {
-        put_word(&mut points, place, word);
+        put_listed_word(&mut points, place, word);
     }
     if table == 2 {
-        put_word(&mut edges, place, word);
+        put_listed_word(&mut edges, place, word);
     }
     if table == 3 {
-        put_word(&mut faces, place, word);
+        put_listed_word(&mut faces, place, word);
     }
     let positions = t.positions;
     let intervals = t.intervals;
@@ -109,13 +109,13 @@ fn tell_built(bytes: &[u8], head: usize, more: usize, t: Tables, counts: Counts)
     tell_mesh(t, counts, 0 < field(bytes, head, 5));
     tell_rows(b"[zero", t, counts);
     let tables = begun(bytes, head, more, t);
-    tell_steps(bytes, head, more, Stage { counts, tables });
+    tell_steps(bytes, head, more, StepStage { counts, tables });
 }
 
 // Writes the ground on which building refused.
 fn tell_ground(t: Tables, n: u32) {
     tell_refused(n);
-    tell_rows(b"[zero", t, none());
+    tell_rows(b"[zero", t, no_counts());
 }
 
 // Kinds 0, 1, 5 and 6: builds a text, and makes the steps of the record if that is accepted.

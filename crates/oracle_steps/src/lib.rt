@@ -9,14 +9,14 @@ use oracle_tables::fields::at_most;
 use oracle_tables::fields::cut;
 use oracle_tables::fields::field;
 use oracle_tables::fields::word;
-use oracle_tables::held::Lent;
+use oracle_tables::held::LentTables;
 use oracle_tables::held::Tables;
-use oracle_tables::held::filled;
+use oracle_tables::held::filled_tables;
 use oracle_tables::held::lent_by;
 use oracle_tables::listing::tell_mesh;
 use oracle_tables::listing::tell_refused;
 use oracle_tables::listing::tell_stage;
-use oracle_tables::rows::none;
+use oracle_tables::rows::no_counts;
 use oracle_tables::rows::tell_rows;
 use refined_meshes::Edition;
 use refining::step;
@@ -24,14 +24,14 @@ use steps::Stepped;
 use tables::Counts;
 
 // What a step answered, and the tables and the scratch tables after it.
-pub struct Made {
+pub struct MadeStep {
     pub answer: Stepped,
     pub tables: Tables,
     pub scratch: Tables,
 }
 
 // A mesh in tables.
-pub struct Stage {
+pub struct StepStage {
     pub counts: Counts,
     pub tables: Tables,
 }
@@ -78,8 +78,8 @@ fn fill_order(bytes: &[u8], listed: bool, at: usize, order: &mut [u32])
 
 // Makes a step in as much of the tables and of the scratch tables as is lent.
 fn step_lent(
-    held: Lent,
-    scratch: Lent,
+    held: LentTables,
+    scratch: LentTables,
     counts: Counts,
     order: &[u32],
     edition: Edition,
@@ -128,9 +128,9 @@ fn make(
     counts: Counts,
     order: &[u32],
     edition: Edition,
-    held: Lent,
-    scratch: Lent,
-) -> Made {
+    held: LentTables,
+    scratch: LentTables,
+) -> MadeStep {
     let mut positions = t.positions;
     let mut points = t.points;
     let mut edges = t.edges;
@@ -172,7 +172,7 @@ fn make(
         intervals: newintervals,
         faces: newfaces,
     };
-    Made {
+    MadeStep {
         answer,
         tables,
         scratch,
@@ -180,15 +180,15 @@ fn make(
 }
 
 // Writes what a step answered, the mesh, and what stands in the rows that hold no mesh; gives the mesh.
-fn tell_made(made: Made, told: bool, counts: Counts) -> Stage {
+fn tell_made(made: MadeStep, told: bool, counts: Counts) -> StepStage {
     let t = made.tables;
     let answer = made.answer;
     match answer {
         Stepped::Refined(c) => {
             tell_mesh(t, c, told);
             tell_rows(b"[zero", t, c);
-            tell_rows(b"[scratch", made.scratch, none());
-            Stage {
+            tell_rows(b"[scratch", made.scratch, no_counts());
+            StepStage {
                 counts: c,
                 tables: t,
             }
@@ -197,8 +197,8 @@ fn tell_made(made: Made, told: bool, counts: Counts) -> Stage {
             tell_refused(step_number(answer));
             tell_mesh(t, counts, false);
             tell_rows(b"[zero", t, counts);
-            tell_rows(b"[scratch", made.scratch, none());
-            Stage { counts, tables: t }
+            tell_rows(b"[scratch", made.scratch, no_counts());
+            StepStage { counts, tables: t }
         }
     }
 }
@@ -227,7 +227,7 @@ fn edition_at(bytes: &[u8], listed: bool, at: usize) -> Edition
 }
 
 // Makes a step in numbered order, or in the edition and the order that are listed at a place, and writes what it answered and left.
-fn tell_step(bytes: &[u8], head: usize, at: usize, told: bool, stage: Stage) -> Stage
+fn tell_step(bytes: &[u8], head: usize, at: usize, told: bool, stage: StepStage) -> StepStage
     requires { ⌜ head ≤ 16777216 ⌝ }
     requires { ⌜ at ≤ 16777216 ⌝ }
 {
@@ -238,7 +238,7 @@ fn tell_step(bytes: &[u8], head: usize, at: usize, told: bool, stage: Stage) -> 
     fill_order(bytes, listed, at, &mut order);
     let made = make(
         stage.tables,
-        filled(),
+        filled_tables(),
         c,
         &order[..n],
         edition_at(bytes, listed, at),
@@ -257,7 +257,7 @@ fn after_order(bytes: &[u8], at: usize) -> usize
 }
 
 // Makes the steps of a record, each in the mesh that the last one left.
-pub fn tell_steps(bytes: &[u8], head: usize, more: usize, first: Stage)
+pub fn tell_steps(bytes: &[u8], head: usize, more: usize, first: StepStage)
     requires { ⌜ head ≤ 16777216 ⌝ }
     requires { ⌜ more ≤ 8388608 ⌝ }
 {

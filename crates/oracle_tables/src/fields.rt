@@ -10,7 +10,7 @@ pub fn at_most(n: usize, most: usize) -> usize
 }
 
 // A byte as a number.
-pub fn wide(b: u8) -> u64
+pub fn wide_byte(b: u8) -> u64
     ensures { λ r. ⌜ r < 256 ⌝ }
 {
     b as u64
@@ -23,7 +23,7 @@ fn digit(bytes: &[u8], at: usize) -> u64
     if bytes.len() <= at {
         return 0;
     }
-    let b = wide(bytes[at]);
+    let b = wide_byte(bytes[at]);
     if b < 48 {
         return 0;
     }
@@ -34,7 +34,7 @@ fn digit(bytes: &[u8], at: usize) -> u64
 }
 
 // The number of ten digits at a place.
-pub fn number(bytes: &[u8], at: usize) -> u64
+pub fn number_at(bytes: &[u8], at: usize) -> u64
     requires { ⌜ at ≤ 4294967296 ⌝ }
     ensures { λ r. ⌜ r < 10000000000 ⌝ }
 {
@@ -53,7 +53,7 @@ pub fn field(bytes: &[u8], at: usize, k: usize) -> usize
     requires { ⌜ k ≤ 65536 ⌝ }
     ensures { λ r. ⌜ r < 10000000000 ⌝ }
 {
-    number(bytes, at + k * 11 + 1) as usize
+    number_at(bytes, at + k * 11 + 1) as usize
 }
 
 // The same as a word of four bytes; the largest word for a larger number.

@@ -17,7 +17,7 @@ pub struct Tables {
 }
 
 // How many words or numbers of the tables are lent.
-pub struct Lent {
+pub struct LentTables {
     pub positions: usize,
     pub points: usize,
     pub edges: usize,
@@ -26,7 +26,7 @@ pub struct Lent {
 }
 
 // Tables that are filled.
-pub fn filled() -> Tables {
+pub fn filled_tables() -> Tables {
     Tables {
         positions: [NUMBER; 1200],
         points: [WORD; 1200],
@@ -37,11 +37,11 @@ pub fn filled() -> Tables {
 }
 
 // How much is lent, by five numbers of a head from number k on.
-pub fn lent_by(bytes: &[u8], head: usize, k: usize) -> Lent
+pub fn lent_by(bytes: &[u8], head: usize, k: usize) -> LentTables
     requires { ⌜ head ≤ 16777216 ⌝ }
     requires { ⌜ k ≤ 16 ⌝ }
 {
-    Lent {
+    LentTables {
         positions: cut(bytes, head, k, 1200),
         points: cut(bytes, head, k + 1, 1200),
         edges: cut(bytes, head, k + 2, 6400),

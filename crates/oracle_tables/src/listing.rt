@@ -3,7 +3,7 @@
 ghost use mathlib.Core.Path.{_≡_};
 ghost use Prim.Native.Nat.{_≤_, _<_};
 use crate::fields::at_most;
-use crate::fields::wide;
+use crate::fields::wide_byte;
 use crate::held::Tables;
 use libc::STDOUT_FILENO;
 use positions::is_finite;
@@ -26,7 +26,7 @@ pub struct Sink {
 
 // The remainder with one more byte: the bytes, each one more, are digits in base 257.
 fn mixed(remainder: u64, b: u8) -> u64 {
-    remainder % PRIME * 257 + wide(b) + 1
+    remainder % PRIME * 257 + wide_byte(b) + 1
 }
 
 // Writes bytes, or takes them into the remainder.
@@ -77,7 +77,7 @@ fn word(words: &[u32], i: usize) -> u64 {
 }
 
 // The number at a place; 0 past the end.
-fn number(numbers: &[f64], i: usize) -> f64 {
+fn entry_at(numbers: &[f64], i: usize) -> f64 {
     if i < numbers.len() { numbers[i] } else { 0.0 }
 }
 
@@ -101,9 +101,9 @@ fn put_point(s: Sink, positions: &[f64], points: &[u32], p: usize) -> Sink
 {
     let b = p * POSITION_WIDTH;
     let s = put(s, b"[point");
-    let s = put_bits(s, number(positions, b));
-    let s = put_bits(s, number(positions, b + Y_NUMBER));
-    let s = put_bits(s, number(positions, b + Z_NUMBER));
+    let s = put_bits(s, entry_at(positions, b));
+    let s = put_bits(s, entry_at(positions, b + Y_NUMBER));
+    let s = put_bits(s, entry_at(positions, b + Z_NUMBER));
     let s = put_words(s, points, p * POINT_WIDTH, POINT_WIDTH);
     put(s, b"]\n")
 }
@@ -114,7 +114,7 @@ fn put_edge(s: Sink, edges: &[u32], intervals: &[f64], e: usize) -> Sink
 {
     let s = put(s, b"[edge");
     let s = put_words(s, edges, e * EDGE_WIDTH, EDGE_WIDTH);
-    let s = put_bits(s, number(intervals, e));
+    let s = put_bits(s, entry_at(intervals, e));
     put(s, b"]\n")
 }
 

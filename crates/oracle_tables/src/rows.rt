@@ -16,7 +16,7 @@ use tables::POINT_WIDTH;
 use tables::POSITION_WIDTH;
 
 // The counts of no rows.
-pub fn none() -> Counts {
+pub fn no_counts() -> Counts {
     Counts {
         points: 0,
         edges: 0,

@@ -1,5 +1,4 @@
 pub mod Audited
-pub mod Cases
 pub mod Claims
 pub mod FacePoint
 pub mod Fits

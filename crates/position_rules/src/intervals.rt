@@ -8,7 +8,7 @@ ghost use Rattle.position_rules.specs.Fits.{EdgeFits};
 use records::load_edge_words;
 use t_spline::TnurccVertexEnd;
 use tables::index;
-use walks::t_nurcc_control_point::acw_of_point;
+use walks::acw_of_point;
 
 // The edge one step anticlockwise about p from e.
 pub fn acw_about(edges: &[u32], p: usize, e: usize) -> usize

@@ -1,4 +1,3 @@
 pub mod Orders
 pub mod FirstPoint
 pub mod Theorem
-pub mod Cases

@@ -32,7 +32,7 @@ use Rattle.steps.specs.declared.Stepped.{Stepped}
 use Rattle.steps.specs.declared.Stepped.the-variants.{Refined, NotClosed, NotEachFaceOnce, NoRoom, NotFinite}
 use Rattle.steps.proofs.Grounds.{step-is}
 use Rattle.runs.specs.Runs.{numbered}
-use Rattle.refine_outputs.specs.Output.{zeroTables, pointLines, stepLines, linesOf, numberedStep, outputIf, output, Writing, refine}
+use Rattle.refine_outputs.specs.Output.{zeroTables, pointLines, stepLines, linesOf, numberedStep, outputIf, output, OutputWritten, refine}
 use Rattle.refine_outputs.specs.Claims.{Two-answers}
 use Rattle.refine_outputs.specs.Bytes.{Long-text, Output-fits}
 use Rattle.refine_outputs.proofs.Orders.{numbered-once}
@@ -129,4 +129,4 @@ unfolding refine
 answer-fits s out h e =
     let k = fits s in
     let l = length-sets out 0 (output s) in
-    rw (ap (λ (w : Writing). w .count) e, ap (λ (w : Writing). w .out) e) (omega arith)
+    rw (ap (λ (w : OutputWritten). w .count) e, ap (λ (w : OutputWritten). w .out) e) (omega arith)

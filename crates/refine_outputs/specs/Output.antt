@@ -6,7 +6,7 @@
 --     stepLines c a ps        the lines after a step of a mesh with the counts c, by its answer and the positions that it left
 --     numberedStep c m        the step of the mesh with the counts c in the tables m, in the first edition, its faces visited in numbered order
 --     output s                the whole output
---     Writing                 how many bytes are written, and the lent bytes afterwards
+--     OutputWritten           how many bytes are written, and the lent bytes afterwards
 --     refine s out            the output at the front of the bytes out that are lent
 use mathlib.Core.List.{List, [], _∷_, _++_}
 use Prim.Native.Nat.{ℕ, zero, suc, _*_}
@@ -81,10 +81,10 @@ unfoldable pub output : List ℕ → List ℕ
 unfolding outputFrom zeroTables
 output s = outputFrom s zeroTables
 
-pub record Writing : Type 0 where
+pub record OutputWritten : Type 0 where
   pub count : ℕ
   pub out : List ℕ
 
-unfoldable pub refine : List ℕ → List ℕ → Writing
+unfoldable pub refine : List ℕ → List ℕ → OutputWritten
 unfolding output
 refine s out = record { count = length (output s); out = sets out 0 (output s) }

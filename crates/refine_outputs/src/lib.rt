@@ -2,4 +2,4 @@
 // a mesh that is accepted is made or meets 33, 256 bytes hold every output, and document 01's cube has document 01's three lines.
 // Not here: the code that writes it (`refine_parts`, `refine_text`).
 // Definitions: `specs/Output.antt`; `specs/FirstPoint.antt` (point 0 after a step). Claims: `specs/Claims.antt`, `specs/Bytes.antt`, proved in
-// `proofs/Theorem.antt`. Laws for the code: `proofs/Orders.antt`, `proofs/FirstPoint.antt`. Computed outputs: `proofs/Cases.antt`.
+// `proofs/Theorem.antt`. Laws for the code: `proofs/Orders.antt`, `proofs/FirstPoint.antt`. Computed outputs: `text_cases`.

@@ -10,7 +10,7 @@ ghost use lib.ListN.{length};
 ghost use Rattle.tables.specs.Mesh.{meshOf};
 ghost use Rattle.built_meshes.specs.Lists.{refineLimits};
 ghost use Rattle.mesh_answers.specs.Lines.{meshLine};
-ghost use Rattle.refine_outputs.specs.Output.{linesOf, numberedStep, outputFrom, Writing, refine, outputBytes};
+ghost use Rattle.refine_outputs.specs.Output.{linesOf, numberedStep, outputFrom, OutputWritten, refine, outputBytes};
 ghost use Rattle.mesh_answers.specs.Writing.{Written};
 use answer_numbers::ground_number;
 use building_tests::Bounds;
@@ -99,7 +99,7 @@ fn write_output(
 
 // Writes the output for a text of any bytes at the front of `out`, and answers how many bytes that are.
 pub fn refine(text: &[u8], out: &mut [u8; OUTPUT_BYTES]) -> usize
-    ensures { λ r. ⌜ _≡_ {A = Writing} (record { count = r; out = now (out .exit) }) (refine (now (text .entry)) (now (out .entry))) ⌝ }
+    ensures { λ r. ⌜ _≡_ {A = OutputWritten} (record { count = r; out = now (out .exit) }) (refine (now (text .entry)) (now (out .entry))) ⌝ }
 {
     let mut positions = [0.0; LENT_POINTS * POSITION_WIDTH];
     let mut points = [0u32; LENT_POINTS * POINT_WIDTH];

@@ -21,6 +21,5 @@ pub mod Fits
 pub mod Starts
 pub mod SplitStarts
 pub mod Settled
+mod Quarters
 pub mod Laws
-pub mod Records
-pub mod Cases

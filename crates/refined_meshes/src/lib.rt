@@ -6,7 +6,7 @@
 // Theorems: `VisitsRefine` of `specs/Refines.antt` (visits in an order that names each face once make the refinement on kinds, under
 // the numbering that they make, in either edition; proved in `proofs/Refines.antt` and `proofs/Settled.antt`); `VisitsFit` and `AllTaken` of `specs/Fits.antt` (every row that is
 // stored fits, and all are taken in the end; `proofs/Fits.antt`).
-// The definitions computed on the oracle's records: `proofs/Cases.antt`. Laws for callers: `proofs/Turns.antt`, `proofs/Laws.antt`.
+// The definitions computed on the oracle's records: `mesh_cases`. Laws for callers: `proofs/Turns.antt`, `proofs/Laws.antt`.
 
 // The editions of a step, of which the caller chooses one (document 02, §5).
 pub enum Edition {

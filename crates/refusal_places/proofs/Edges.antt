@@ -15,7 +15,7 @@ use Rattle.closed_meshes.proofs.Sums.{place-below}
 use Rattle.built_meshes.specs.Lists.{Lists, size, offset}
 use Rattle.built_meshes.specs.Places.{pointOf, nextOf, IsPlace, Runs, Between, Differ, Earlier}
 use Rattle.built_meshes.proofs.Before.{Triple, Same}
-use Rattle.mended_lists.specs.Edges.{Place, listedPlace, placesOf, placeAt, sameWay, sameEdge, mate, hasMate, third}
+use Rattle.mended_lists.specs.Edges.{FacePlace, listedPlace, placesOf, placeAt, sameWay, sameEdge, mate, hasMate, third}
 use Rattle.mended_lists.proofs.Edges.{mate-last, mate-found, places-at, number-face, number-place}
 use Rattle.mended_lists.proofs.Choices.{between-place}
 use Rattle.mended_lists.proofs.Passed.{OnEdge, on-at, on-same, on-mate, three}
@@ -133,9 +133,9 @@ module _ (l : Lists) where
             let a = on-mate l P Q j N here e in
             let x : j < N = mate-last (placesOf l) N j e .in-range in
             let w : pointOf l (a .face) (a .place) ≡ P =
-            sym (ap (λ (x : Place). x .from) (on-at l P Q j a))
+            sym (ap (λ (x : FacePlace). x .from) (on-at l P Q j a))
             ∙ eqb-true (placeAt (placesOf l) j .from) (placeAt (placesOf l) N .from) h
-            ∙ ap (λ (x : Place). x .from) (on-at l P Q N here) in
+            ∙ ap (λ (x : FacePlace). x .from) (on-at l P Q N here) in
             (a .face, a .place, P, Q, this, way (a .face) (a .place) w (a .between), on-earlier P Q j N a here x)
           where
             way : (g j : ℕ) → pointOf l g j ≡ P → Between l g j P Q → Runs l g j P Q
@@ -158,8 +158,8 @@ module _ (l : Lists) where
             this-one : Dec (offset l g + j ≡ m) → ⊥
             this-one (yes u) =
                 let from-m : placeAt (placesOf l) m .from ≡ p =
-                ap (λ (k : ℕ). placeAt (placesOf l) k .from) (sym u) ∙ ap (λ (x : Place). x .from) (places-at l g j (s .is-place)) ∙ s .begins in
-                let from-n : placeAt (placesOf l) N .from ≡ p = ap (λ (x : Place). x .from) (places-at l f i is) ∙ r .begins in
+                ap (λ (k : ℕ). placeAt (placesOf l) k .from) (sym u) ∙ ap (λ (x : FacePlace). x .from) (places-at l g j (s .is-place)) ∙ s .begins in
+                let from-n : placeAt (placesOf l) N .from ≡ p = ap (λ (x : FacePlace). x .from) (places-at l f i is) ∙ r .begins in
                 false≢true
                 (sym (rw e at h)
                 ∙ eq-eqb (placeAt (placesOf l) m .from) (placeAt (placesOf l) N .from) (from-m ∙ sym from-n))

@@ -18,7 +18,7 @@ use Rattle.built_meshes.specs.Grounds.{Where, face, edge, whole}
 use Rattle.built_meshes.specs.declared.Verdict.{Verdict}
 use Rattle.built_meshes.specs.declared.Verdict.the-variants.{Fit, Unfit}
 use Rattle.built_meshes.specs.declared.Ground.the-variants.{EdgeTripleFace, SameWay}
-use Rattle.mended_lists.specs.Edges.{Place, placesOf, placeAt, sameWay, mate, third}
+use Rattle.mended_lists.specs.Edges.{FacePlace, placesOf, placeAt, sameWay, mate, third}
 use Rattle.refusal_places.specs.declared.Spot.{Spot}
 use Rattle.refusal_places.specs.declared.Spot.the-variants.{Clear, Face, Edge}
 
@@ -28,11 +28,11 @@ thenSpot (Face f g) s = Face f g
 thenSpot (Edge f i g) s = Edge f i g
 
 -- m is the link to the mate of place k
-abbrev pub runsWith : List Place → ℕ → ℕ → Bool
+abbrev pub runsWith : List FacePlace → ℕ → ℕ → Bool
 runsWith ps zero k = false
 runsWith ps (suc j) k = sameWay (placeAt ps j) (placeAt ps k)
 
-unfoldable pub runsWithMate : List Place → ℕ → Bool
+unfoldable pub runsWithMate : List FacePlace → ℕ → Bool
 unfolding mate
 runsWithMate ps k = runsWith ps (mate ps k) k
 
@@ -42,11 +42,11 @@ spotAt f i true same = Edge f i EdgeTripleFace
 spotAt f i false true = Edge f i SameWay
 spotAt f i false false = Clear
 
-unfoldable pub edgeSpot : List Place → ℕ → ℕ → ℕ → Spot
+unfoldable pub edgeSpot : List FacePlace → ℕ → ℕ → ℕ → Spot
 unfolding third runsWithMate
 edgeSpot ps f a i = spotAt f i (third ps (a + i)) (runsWithMate ps (a + i))
 
-unfoldable pub edgesSpot : List Place → ℕ → ℕ → ℕ → Spot
+unfoldable pub edgesSpot : List FacePlace → ℕ → ℕ → ℕ → Spot
 unfolding edgeSpot
 edgesSpot ps f a zero = Clear
 edgesSpot ps f a (suc i) = thenSpot (edgesSpot ps f a i) (edgeSpot ps f a i)
@@ -55,11 +55,11 @@ abbrev pub verdictSpot : ℕ → Verdict → Spot
 verdictSpot f Fit = Clear
 verdictSpot f (Unfit g) = Face f g
 
-unfoldable pub faceSpot : Lists → List Place → ℕ → Spot
+unfoldable pub faceSpot : Lists → List FacePlace → ℕ → Spot
 unfolding faceVerdict edgesSpot offset
 faceSpot l ps f = thenSpot (verdictSpot f (faceVerdict l (pointsOf l) f (offset l f))) (edgesSpot ps f (offset l f) (size l f))
 
-unfoldable pub facesSpot : Lists → List Place → ℕ → Spot
+unfoldable pub facesSpot : Lists → List FacePlace → ℕ → Spot
 unfolding faceSpot
 facesSpot l ps zero = Clear
 facesSpot l ps (suc k) = thenSpot (facesSpot l ps k) (faceSpot l ps k)

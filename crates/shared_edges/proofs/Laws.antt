@@ -17,7 +17,7 @@ use Rattle.audited_meshes.specs.Folds.{every}
 use Rattle.mended_lists.specs.Edges.{latest}
 use Rattle.mended_lists.proofs.Reversal.{eqb-false}
 use Rattle.mended_lists.proofs.Edges.{Last, latest-none, latest-last}
-use Rattle.shared_edges.specs.Chains.{joinsAt, lowAt, mateAt, hasMateAt, thirdAt, secondAt, Links, PlacesChained, LinksRoom, PairRoom, PlacesRoom, PairedAt, PlacesEntered, EnteredTo}
+use Rattle.shared_edges.specs.Chains.{joinsAt, lowAt, mateAt, hasMateAt, thirdAt, secondAt, ChainLinks, PlacesChained, LinksRoom, PairRoom, PlacesRoom, PairedAt, PlacesEntered, EnteredTo}
 
 -- ---- the last number that passes a test
 
@@ -113,7 +113,7 @@ module _ (ls ts : List ℕ) (k p q link : ℕ) (s : Searching ls ts k p q link) 
     search-found e = here ∙ sym (next ∙ latest-here (λ i. joinsAt ls ts p q i) j e)
 
     pub search-turn :
-        (links : List ℕ) → Links ls ts links k → joinsAt ls ts p q j ≡ false → Searching ls ts k p q (getD links j 0)
+        (links : List ℕ) → ChainLinks ls ts links k → joinsAt ls ts p q j ≡ false → Searching ls ts k p q (getD links j 0)
     search-turn links chain e =
         record {
           m = j;
@@ -124,7 +124,7 @@ module _ (ls ts : List ℕ) (k p q link : ℕ) (s : Searching ls ts k p q link) 
           same = next ∙ latest-before (λ i. joinsAt ls ts p q i) j e;
         }
 
-    pub search-less : (links : List ℕ) → Links ls ts links k → getD links j 0 < link
+    pub search-less : (links : List ℕ) → ChainLinks ls ts links k → getD links j 0 < link
     search-less links chain =
         omega (arith, chain j search-below, latest-below (λ i. eqb (lowAt ls ts i) (lowAt ls ts j)) j)
 
@@ -153,7 +153,7 @@ chained-more ls ts heads links k low c e hb lb = record { head = head; link = li
             (c .head p b'
             ∙ sym (latest-before (λ i. eqb (lowAt ls ts i) p) k (eqb-false (lowAt ls ts k) p (λ t. q (sym t ∙ sym e)))))
 
-    link : Links ls ts (set links k (getD heads low 0)) (k + 1)
+    link : ChainLinks ls ts (set links k (getD heads low 0)) (k + 1)
     link j b = go (ℕ-discrete j k)
       where
         go : Dec (j ≡ k) → getD (set links k (getD heads low 0)) j 0 ≡ latest (λ i. eqb (lowAt ls ts i) (lowAt ls ts j)) j

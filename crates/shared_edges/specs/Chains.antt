@@ -4,7 +4,7 @@
 --     mateAt ls ts k        the link to the last place before place k on its edge
 --     thirdAt ls ts k       that one has a mate as well
 --     secondAt ls ts n k    the link to the last of n places whose mate is place k
---     Links                 behind each of k places stands the link to the last one before it with its lower point
+--     ChainLinks            behind each of k places stands the link to the last one before it with its lower point
 --     PlacesChained               so it is, and at each point stands the link to the last of k places with it as lower point
 --     LinksRoom, PairRoom        place k is in the lists
 --     PlacesRoom            so are n places from place a on
@@ -38,12 +38,12 @@ thirdAt ls ts k = hasMateAt ls ts (mateAt ls ts k)
 abbrev pub secondAt : List ℕ → List ℕ → ℕ → ℕ → ℕ
 secondAt ls ts n k = latest (λ i. eqb (mateAt ls ts i) (suc k)) n
 
-abbrev pub Links : List ℕ → List ℕ → List ℕ → ℕ → Type 0
-Links ls ts links k = (j : ℕ) → j < k → getD links j 0 ≡ latest (λ i. eqb (lowAt ls ts i) (lowAt ls ts j)) j
+abbrev pub ChainLinks : List ℕ → List ℕ → List ℕ → ℕ → Type 0
+ChainLinks ls ts links k = (j : ℕ) → j < k → getD links j 0 ≡ latest (λ i. eqb (lowAt ls ts i) (lowAt ls ts j)) j
 
 pub record PlacesChained (ls ts heads links : List ℕ) (k : ℕ) : Type 0 where
   pub head : (p : ℕ) → p < length heads → getD heads p 0 ≡ latest (λ i. eqb (lowAt ls ts i) p) k
-  pub link : Links ls ts links k
+  pub link : ChainLinks ls ts links k
 
 pub record LinksRoom (ls ts : List ℕ) (np : ℕ) (links : List ℕ) (k : ℕ) : Type 0 where
   pub listed-fit : k < length ls

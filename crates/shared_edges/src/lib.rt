@@ -9,7 +9,7 @@ ghost use lib.Dec.{eqb};
 ghost use lib.ListN.{length, getD};
 ghost use Rattle.audited_meshes.specs.Folds.{every};
 ghost use Rattle.mended_lists.specs.Edges.{latest};
-ghost use Rattle.shared_edges.specs.Chains.{joinsAt, lowAt, mateAt, thirdAt, PairRoom, PlacesRoom, LinksRoom, Links, PlacesChained, PairedAt, PlacesEntered, EnteredTo};
+ghost use Rattle.shared_edges.specs.Chains.{joinsAt, lowAt, mateAt, thirdAt, PairRoom, PlacesRoom, LinksRoom, ChainLinks, PlacesChained, PairedAt, PlacesEntered, EnteredTo};
 use tables::index;
 
 // The lower of two points.
@@ -51,7 +51,7 @@ fn search(listed: &[u32], tos: &[u32], links: &[u32], k: usize, from: u32, p: u3
     requires { ⌜ k ≤ length (now listed) ⌝ }
     requires { ⌜ k ≤ length (now tos) ⌝ }
     requires { ⌜ k ≤ length (now links) ⌝ }
-    requires { ⌜ Links (now listed) (now tos) (now links) k ⌝ }
+    requires { ⌜ ChainLinks (now listed) (now tos) (now links) k ⌝ }
     requires { ⌜ from ≡ latest (λ i. eqb (lowAt (now listed) (now tos) i) (min p q)) k ⌝ }
     ensures { λ r. ⌜ r ≡ latest (λ i. joinsAt (now (listed .entry)) (now (tos .entry)) p q i) k ⌝ }
 {

@@ -18,7 +18,7 @@ use Rattle.audited_meshes.proofs.Audited.{touches-is, on-point-is}
 use Rattle.walks.specs.Steps.{pointAcross, pointStep}
 use Rattle.walks.specs.declared.Step.the-variants.{To, Lost}
 use Rattle.walks.proofs.Steps.{to-is, lost-is}
-use Rattle.sole_edges.specs.Sole.{window, second, unseen, edgeNoted, walkAfter, edgeAbout, Round, ApartIn, EndsApart, SoleIn, RoundsFrom}
+use Rattle.sole_edges.specs.Sole.{endsWindow, second, unseen, edgeNoted, walkAfter, edgeAbout, Round, ApartIn, EndsApart, SoleIn, RoundsFrom}
 use Rattle.sole_edges.proofs.Joins.{joins-of-touches, same-of-joins, other-touched, other-differs, joins-other}
 use Rattle.sole_edges.proofs.Rounds.{after-one}
 
@@ -37,30 +37,30 @@ of-not false h = sym h
 
 module _ (m : Mesh) (ne base p : ℕ) (seen : List ℕ) (q i : ℕ) where
   -- in the window, an edge that is unseen finds no second one
-  unseen-inside : base ≤ q → q - base < window → unseen m ne base p seen q i ≡ true
+  unseen-inside : base ≤ q → q - base < endsWindow → unseen m ne base p seen q i ≡ true
       → second m ne p q i (getD seen (q - base) 0) ≡ false
   unseen-inside lo hi h = not-of _ (rw (le-ltb q base lo, lt-ltb _ _ hi) at h)
 
   -- an edge that is seen is in the window and finds a second one
   seen-inside : unseen m ne base p seen q i ≡ false
-      → (base ≤ q) × (q - base < window) × (second m ne p q i (getD seen (q - base) 0) ≡ true)
-  seen-inside h = go (decLt q base) (decLt (q - base) window)
+      → (base ≤ q) × (q - base < endsWindow) × (second m ne p q i (getD seen (q - base) 0) ≡ true)
+  seen-inside h = go (decLt q base) (decLt (q - base) endsWindow)
     where
-      go : Dec (q < base) → Dec (q - base < window)
-          → (base ≤ q) × (q - base < window) × (second m ne p q i (getD seen (q - base) 0) ≡ true)
+      go : Dec (q < base) → Dec (q - base < endsWindow)
+          → (base ≤ q) × (q - base < endsWindow) × (second m ne p q i (getD seen (q - base) 0) ≡ true)
       go (yes l) d = absurd (false≢true (sym h ∙ rw (lt-ltb q base l) refl))
       go (no g) (yes l) = (omega arith, l, of-not _ (rw (le-ltb q base (omega arith), lt-ltb _ _ l) at h))
-      go (no g) (no f) = absurd (false≢true (sym h ∙ rw (le-ltb q base (omega arith), le-ltb (q - base) window (omega arith)) refl))
+      go (no g) (no f) = absurd (false≢true (sym h ∙ rw (le-ltb q base (omega arith), le-ltb (q - base) endsWindow (omega arith)) refl))
 
 module _ (base : ℕ) (seen : List ℕ) (q i : ℕ) where
-  noted-inside : base ≤ q → q - base < window → edgeNoted base seen q i ≡ set seen (q - base) i
+  noted-inside : base ≤ q → q - base < endsWindow → edgeNoted base seen q i ≡ set seen (q - base) i
   noted-inside lo hi = rw (le-ltb q base lo, lt-ltb _ _ hi)
 
   noted-before : q < base → edgeNoted base seen q i ≡ seen
   noted-before l = rw (lt-ltb q base l)
 
   pub noted-length : length (edgeNoted base seen q i) ≡ length seen
-  noted-length = go (ltb q base) (ltb (q - base) window)
+  noted-length = go (ltb q base) (ltb (q - base) endsWindow)
     where
       go : (a b : Bool) → length (cond a seen (cond b (set seen (q - base) i) seen)) ≡ length seen
       go true b = refl
@@ -69,14 +69,14 @@ module _ (base : ℕ) (seen : List ℕ) (q i : ℕ) where
 
   -- what stands elsewhere is kept
   noted-other : (k : ℕ) → k ≢ q - base → getD (edgeNoted base seen q i) k 0 ≡ getD seen k 0
-  noted-other k d = go (ltb q base) (ltb (q - base) window)
+  noted-other k d = go (ltb q base) (ltb (q - base) endsWindow)
     where
       go : (a b : Bool) → getD (cond a seen (cond b (set seen (q - base) i) seen)) k 0 ≡ getD seen k 0
       go true b = refl
       go false true = getD-set-other seen (q - base) k i 0 d
       go false false = refl
 
-  noted-same : base ≤ q → q - base < window → window ≤ length seen → getD (edgeNoted base seen q i) (q - base) 0 ≡ i
+  noted-same : base ≤ q → q - base < endsWindow → endsWindow ≤ length seen → getD (edgeNoted base seen q i) (q - base) 0 ≡ i
   noted-same lo hi l = ap (λ (s : List ℕ). getD s (q - base) 0) (noted-inside lo hi) ∙ getD-set-same seen (q - base) i 0 (omega arith)
 
 -- ---- the walk
@@ -84,7 +84,7 @@ module _ (base : ℕ) (seen : List ℕ) (q i : ℕ) where
 module _ (m : Mesh) (ne p base : ℕ) where
   -- edge j is edgeNoted at its other end, if this is in the window
   abbrev pub Noted : List ℕ → ℕ → Type 0
-  Noted seen j = base ≤ pointAcross m p j → pointAcross m p j < base + window → getD seen (pointAcross m p j - base) 0 ≡ j
+  Noted seen j = base ≤ pointAcross m p j → pointAcross m p j < base + endsWindow → getD seen (pointAcross m p j - base) 0 ≡ j
 
   abbrev pub OnPoint : ℕ → Type 0
   OnPoint e = (e < ne) × Touches m p e
@@ -92,13 +92,13 @@ module _ (m : Mesh) (ne p base : ℕ) where
   pub record Walking (k : ℕ) (seen : List ℕ) (n i : ℕ) : Type 0 where
     pub many : k ≡ valence m p
     pub within : n ≤ k
-    pub room : window ≤ length seen
+    pub room : endsWindow ≤ length seen
     pub here : i ≡ edgeAbout m p n
     pub on : (a : ℕ) → a < n → OnPoint (edgeAbout m p a)
     pub away : (a : ℕ) → 0 < a → a < n → edgeAbout m p a ≢ start m p
     pub passed : (a : ℕ) → a < n → Noted seen (edgeAbout m p a)
 
-  pub walking-start : (k i : ℕ) (seen : List ℕ) → k ≡ valence m p → i ≡ start m p → window ≤ length seen → Walking k seen 0 i
+  pub walking-start : (k i : ℕ) (seen : List ℕ) → k ≡ valence m p → i ≡ start m p → endsWindow ≤ length seen → Walking k seen 0 i
   unfolding walkAfter
   walking-start k i seen a b l = record {
     many = a;
@@ -111,7 +111,7 @@ module _ (m : Mesh) (ne p base : ℕ) where
   }
 
   -- what was edgeNoted stays, unless a second edge is found
-  noted-kept : (seen : List ℕ) (i j : ℕ) → window ≤ length seen → OnPoint j
+  noted-kept : (seen : List ℕ) (i j : ℕ) → endsWindow ≤ length seen → OnPoint j
       → unseen m ne base p seen (pointAcross m p i) i ≡ true → Noted seen j → Noted (edgeNoted base seen (pointAcross m p i) i) j
   noted-kept seen i j room oj fresh was lo hi = go (ℕ-discrete (pointAcross m p j) (pointAcross m p i))
     where
@@ -140,7 +140,7 @@ module _ (m : Mesh) (ne p base : ℕ) where
               ∙ ap (λ (x : ℕ). second m ne p (pointAcross m p i) i x) there
               ∙ second-is m ne p (pointAcross m p i) i j .1 (((oj .0, d), oj .1), touched)))
 
-  noted-here : (seen : List ℕ) (i : ℕ) → window ≤ length seen → Noted (edgeNoted base seen (pointAcross m p i) i) i
+  noted-here : (seen : List ℕ) (i : ℕ) → endsWindow ≤ length seen → Noted (edgeNoted base seen (pointAcross m p i) i) i
   noted-here seen i room lo hi = noted-same base seen (pointAcross m p i) i lo (omega arith) room
 
   module _ (k : ℕ) (seen : List ℕ) (n i : ℕ) (h : Walking k seen n i) where
@@ -209,7 +209,7 @@ module _ (m : Mesh) (ne p base : ℕ) where
       },
       λ a b la lb same lo hi.
           sym (h .passed a (all a la) lo hi) ∙ ap (λ (x : ℕ). getD seen (x - base) 0) same
-          ∙ h .passed b (all b lb) (subst (λ (x : ℕ). base ≤ x) same lo) (subst (λ (x : ℕ). x < base + window) same hi),
+          ∙ h .passed b (all b lb) (subst (λ (x : ℕ). base ≤ x) same lo) (subst (λ (x : ℕ). x < base + endsWindow) same hi),
     )
       where
         all-passed : n ≡ valence m p
@@ -276,11 +276,11 @@ rounds-joined m np ne p before behind q a b = go (decLt q p)
     go (no g) = behind q (omega arith) b
 
 pub apart-of-windows : (m : Mesh) (np ne p : ℕ) → ((i : ℕ) → i < ne → pointAcross m p i < np) → Round m ne p
-    → ((k : ℕ) → k < np / window + 1 → ApartIn m p (k * window)) → EndsApart m p
+    → ((k : ℕ) → k < np / endsWindow + 1 → ApartIn m p (k * endsWindow)) → EndsApart m p
 apart-of-windows m np ne p below r apart a b la lb same =
     let o = pointAcross m p (edgeAbout m p a) in
     let l : o < np = below (edgeAbout m p a) (r .on a la .0) in
-    apart (o / window) (omega arith) a b la lb same (omega arith) (omega arith)
+    apart (o / endsWindow) (omega arith) a b la lb same (omega arith) (omega arith)
 
 pub other-below : (m : Mesh) (np p i : ℕ) → origin m i < np → dest m i < np → pointAcross m p i < np
 other-below m np p i a b = go (eqb (origin m i) p)

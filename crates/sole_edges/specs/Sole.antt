@@ -1,7 +1,7 @@
 -- Walks about points that are at their start again walkAfter their valence, along edges that are the only ones between their two points, and
 -- what such a walk notes.
 --     few                          a point with more edges than this has many
---     window                       how many points one walk looks at
+--     endsWindow                   how many points one walk looks at
 --     second m ne p q i s          edge s is below ne, another than i, and joins the points p and q
 --     unseen m ne base p seen q i  q is not among the points base, base + 1, .. of the window, or no second edge is edgeNoted there
 --     edgeNoted base seen q i          the notes with edge i at the place of q, if q is in the window
@@ -34,18 +34,18 @@ use Rattle.walks.specs.Steps.{pointAcross}
 abbrev pub few : ℕ
 few = 32
 
-abbrev pub window : ℕ
-window = 32768
+abbrev pub endsWindow : ℕ
+endsWindow = 32768
 
 abbrev pub second : Mesh → ℕ → ℕ → ℕ → ℕ → ℕ → Bool
 second m ne p q i s = ltb s ne && not (eqb s i) && touches m p s && touches m q s
 
 abbrev pub unseen : Mesh → ℕ → ℕ → ℕ → List ℕ → ℕ → ℕ → Bool
 unseen m ne base p seen q i =
-    cond (ltb q base) true (cond (ltb (q - base) window) (not (second m ne p q i (getD seen (q - base) 0))) true)
+    cond (ltb q base) true (cond (ltb (q - base) endsWindow) (not (second m ne p q i (getD seen (q - base) 0))) true)
 
 abbrev pub edgeNoted : ℕ → List ℕ → ℕ → ℕ → List ℕ
-edgeNoted base seen q i = cond (ltb q base) seen (cond (ltb (q - base) window) (set seen (q - base) i) seen)
+edgeNoted base seen q i = cond (ltb q base) seen (cond (ltb (q - base) endsWindow) (set seen (q - base) i) seen)
 
 abbrev pub newEnd : List ℕ → ℕ → ℕ → Bool
 newEnd ends n q = every n (λ a. not (eqb (getD ends a 0) q))
@@ -70,7 +70,7 @@ pub record Round (m : Mesh) (ne p : ℕ) : Type 0 where
 abbrev pub ApartIn : Mesh → ℕ → ℕ → Type 0
 ApartIn m p base =
     (a b : ℕ) → a < valence m p → b < valence m p → pointAcross m p (edgeAbout m p a) ≡ pointAcross m p (edgeAbout m p b)
-    → base ≤ pointAcross m p (edgeAbout m p a) → pointAcross m p (edgeAbout m p a) < base + window → edgeAbout m p a ≡ edgeAbout m p b
+    → base ≤ pointAcross m p (edgeAbout m p a) → pointAcross m p (edgeAbout m p a) < base + endsWindow → edgeAbout m p a ≡ edgeAbout m p b
 
 abbrev pub EndsApart : Mesh → ℕ → Type 0
 EndsApart m p =
@@ -79,7 +79,7 @@ EndsApart m p =
 
 abbrev pub SoleIn : Mesh → ℕ → ℕ → ℕ → Type 0
 SoleIn m ne p base =
-    (i j : ℕ) → i < ne → j < ne → Touches m p i → SameEnds m i j → base ≤ pointAcross m p i → pointAcross m p i < base + window
+    (i j : ℕ) → i < ne → j < ne → Touches m p i → SameEnds m i j → base ≤ pointAcross m p i → pointAcross m p i < base + endsWindow
     → i ≡ j
 
 abbrev pub Sole : Mesh → ℕ → ℕ → Type 0

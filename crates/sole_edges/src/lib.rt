@@ -24,14 +24,14 @@ ghost use Rattle.tables.specs.Parts.{faceTables, pointTables};
 ghost use Rattle.audited_meshes.specs.Folds.{every};
 ghost use Rattle.audited_meshes.specs.Quick.{oneEdge};
 ghost use Rattle.audit_tests.specs.Parts.{walkFits};
-ghost use Rattle.sole_edges.specs.Sole.{few, window, second, unseen, edgeNoted, newEnd, Ends};
+ghost use Rattle.sole_edges.specs.Sole.{few, endsWindow, second, unseen, edgeNoted, newEnd, Ends};
 ghost use Rattle.sole_edges.specs.Sole.{RoundIn, GoodIn, RoundApart, Good, RoundsFrom, GoodFrom};
 use tables::POINT_WIDTH;
 use tables::START_WORD;
 use tables::index;
 use walks::Step;
-use walks::t_nurcc_control_point::touches;
-use walks::t_nurcc_iter::point_step;
+use walks::point_step;
+use walks::touches;
 
 // A point with more edges than this has many.
 const FEW: usize = 32;
@@ -60,7 +60,7 @@ fn is_second(edges: &[u32], ne: usize, p: usize, q: usize, i: usize, s: usize) -
 // on is passed over.
 fn note(edges: &[u32], seen: &mut [u32], ne: usize, base: usize, p: usize, q: usize, i: u32) -> bool
     requires { ⌜ ne * edgeWidth ≤ length (now edges) ⌝ }
-    requires { ⌜ window ≤ length (now seen) ⌝ }
+    requires { ⌜ endsWindow ≤ length (now seen) ⌝ }
     ensures { λ r. ⌜ r ≡ unseen (faceTables (now (edges .entry)) []) ne base p (now (seen .entry)) q i ⌝ }
     ensures { λ _. ⌜ now (seen .exit) ≡ edgeNoted base (now (seen .entry)) q i ⌝ }
 {
@@ -89,7 +89,7 @@ fn is_sole_in(
 ) -> bool
     requires { ⌜ p * pointWidth + pointWidth ≤ length (now points) ⌝ }
     requires { ⌜ ne * edgeWidth ≤ length (now edges) ⌝ }
-    requires { ⌜ window ≤ length (now seen) ⌝ }
+    requires { ⌜ endsWindow ≤ length (now seen) ⌝ }
     requires { ⌜ Ends (faceTables (now edges) []) np ne ⌝ }
     requires { ⌜ 0 < valence (pointTables (now points) []) p ⌝ }
     ensures { λ r. ⌜ (r ≡ true → RoundIn (pointTables (now (points .entry)) (now (edges .entry))) ne p base) ⌝ }
@@ -120,7 +120,7 @@ fn is_sole(points: &[u32], edges: &[u32], seen: &mut [u32], np: usize, ne: usize
     requires { ⌜ np * pointWidth ≤ length (now points) ⌝ }
     requires { ⌜ p < np ⌝ }
     requires { ⌜ ne * edgeWidth ≤ length (now edges) ⌝ }
-    requires { ⌜ window ≤ length (now seen) ⌝ }
+    requires { ⌜ endsWindow ≤ length (now seen) ⌝ }
     requires { ⌜ Ends (faceTables (now edges) []) np ne ⌝ }
     requires { ⌜ 0 < valence (pointTables (now points) []) p ⌝ }
     ensures { λ r. ⌜ (r ≡ true → RoundApart (pointTables (now (points .entry)) (now (edges .entry))) ne p) ⌝ }
@@ -192,7 +192,7 @@ fn point_sole(
     requires { ⌜ np * pointWidth ≤ length (now points) ⌝ }
     requires { ⌜ p < np ⌝ }
     requires { ⌜ ne * edgeWidth ≤ length (now edges) ⌝ }
-    requires { ⌜ window ≤ length (now seen) ⌝ }
+    requires { ⌜ endsWindow ≤ length (now seen) ⌝ }
     requires { ⌜ Ends (faceTables (now edges) []) np ne ⌝ }
     ensures { λ r. ⌜ (r ≡ true → RoundApart (pointTables (now (points .entry)) (now (edges .entry))) ne p) ⌝ }
     ensures { λ r. ⌜ (Good (pointTables (now (points .entry)) (now (edges .entry))) ne p → r ≡ true) ⌝ }
@@ -214,7 +214,7 @@ fn sole_by_table(
 ) -> bool
     requires { ⌜ np * pointWidth ≤ length (now points) ⌝ }
     requires { ⌜ ne * edgeWidth ≤ length (now edges) ⌝ }
-    requires { ⌜ window ≤ length (now seen) ⌝ }
+    requires { ⌜ endsWindow ≤ length (now seen) ⌝ }
     requires { ⌜ from ≤ np ⌝ }
     requires { ⌜ Ends (faceTables (now edges) []) np ne ⌝ }
     ensures { λ r. ⌜ (r ≡ true → RoundsFrom (pointTables (now (points .entry)) (now (edges .entry))) np ne from) ⌝ }

@@ -6,7 +6,7 @@ use Rattle.tables.specs.Mesh.{Mesh}
 use Rattle.tables.specs.declared.Counts.{Counts}
 use Rattle.listings.specs.Handing.{WritingOutcome, ReadingOutcome, writingNumber, readingNumber, writeListing}
 use Rattle.listings.specs.declared.Writing.{Writing}
-use Rattle.listings.specs.declared.Reading.{Reading}
+use Rattle.listings.specs.declared.ListingReading.{ListingReading}
 use Rattle.listing_answers.specs.Answers.{lengthAfter, countsRead}
 use Rattle.station_listings.specs.Told.{toldWriting, toldReading}
 
@@ -18,7 +18,7 @@ written-told n m text {c} {c′} {out} {a} {r} {k} ec e er ek =
     (λ i. record { answer = er i; count = ek i; text = out }) ∙ ap (toldWriting n) e ∙ ap (λ (d : Counts). toldWriting n (writeListing m d text)) ec
 
 -- a is the answer of reading, m what it left
-pub read-told : (xs : List ℕ) {o : ReadingOutcome} {a : Reading} {m : Mesh} {r : ℕ} {ys : List ℕ}
+pub read-told : (xs : List ℕ) {o : ReadingOutcome} {a : ListingReading} {m : Mesh} {r : ℕ} {ys : List ℕ}
     → record { answer = a; tables = m } ≡ o → r ≡ readingNumber a → ys ≡ countsRead xs a
     → record { answer = r; counts = ys; tables = m } ≡ toldReading xs o
 read-told xs {o} {a} {m} {r} {ys} e er ey = (λ i. record { answer = er i; counts = ey i; tables = m }) ∙ ap (toldReading xs) e

@@ -1,6 +1,6 @@
 // The mender of texts as C callers and the program `mend` are told of it: the answer as its number.
 // Not here: the mender (`text_mending`), the numbers of building's grounds (`answer_numbers`), the C function (`station`).
-// Contracts: `text_mending_number`, `mend_text_told`. Definitions: `specs/Told.antt`; `Mending` of `mended_texts`.
+// Contract: `mend_text_told`. Definitions: `specs/Told.antt`; `Mending` of `mended_texts`.
 ghost use mathlib.Core.Path.{_≡_};
 ghost use Rattle.mended_texts.specs.Mending.{textMendingNumber, mendText};
 ghost use Rattle.station_mending.specs.Told.{MendingTold, mended};
@@ -9,7 +9,7 @@ use mended_texts::TextMending;
 use text_mending::mend_text;
 
 // The documents' number of the mender's answer: 0 for a text that is mended.
-pub fn text_mending_number(r: TextMending) -> u32
+fn text_mending_number(r: TextMending) -> u32
     ensures { λ n. ⌜ n ≡ textMendingNumber r ⌝ }
 {
     match r {

@@ -1,7 +1,7 @@
 // A mesh built from a text of any bytes, of either version, in the lent tables, in one call (document 01, "Mesh text" and grounds 1 to 22;
 // document 02, §4).
-// Not here: the grammar and the reader (`mesh_text`), the building from lists (`building`), the definition and its claims
-// (`text_meshes`).
+// Not here: the grammar (`mesh_text`), the reader (`text_reading`), the building from lists (`building`), the definition and its
+// claims (`text_meshes`).
 // Contract: `build_text`. Definitions: `TextBuilding` of `text_meshes`. Laws: `proofs/Laws.antt`.
 // The five lists of a text are local arrays of the sizes that the general limits allow, below 450 KiB of stack.
 ghost use mathlib.Core.Path.{_≡_};
@@ -22,11 +22,11 @@ use building_tests::MOST_POINTS;
 use built_meshes::Ground;
 use built_meshes::Version;
 use mesh_text::Reading;
-use mesh_text::read_text;
 use tables::POSITION_WIDTH;
 use text_answers::is_too_long;
 use text_answers::told;
 use text_meshes::TextBuilt;
+use text_reading::read_text;
 
 // Builds from the first entries of the lists: 3 for each of p points, 4 side lengths and first points for each of f faces, n listed
 // points and intervals.

@@ -1,5 +1,4 @@
--- The laws of the edge that is told of a text. Assumes nothing.
---     edge-of                what is told of a text that is of the form and within the limits
+-- The laws of the edge that is told of a text, as the code reads it. Assumes nothing. The definition's own law is that of `explained_edges`.
 --     too-long, not-text, over-limits, first-entries     what the tests and the reader's answers say of it
 use mathlib.Core.Path.{_≡_, refl, sym, _∙_, ap}
 use mathlib.Core.Bool.{Bool, true, false, cond, false≢true}
@@ -31,16 +30,11 @@ use Rattle.text_meshes.specs.Claims.{Stands-for, Over-text, over-bytes, over-po
 use Rattle.text_meshes.specs.declared.TextBuilt.the-variants.{Refused}
 use Rattle.text_meshes.proofs.Theorem.{of-lists, over-exactly}
 use Rattle.text_building.proofs.Laws.{no-form, over-text, means, first-lists}
-use Rattle.edge_lookups.specs.declared.ToldEdge.{ToldEdge}
-use Rattle.edge_lookups.specs.declared.ToldEdge.the-variants.{Missing, First, Again}
-use Rattle.edge_lookups.specs.Told.{noneRuns, before, sameWayBefore, isListed, toldEdge}
-use Rattle.text_edges.specs.TextEdges.{formEdge, textEdge}
-
-pub edge-of :
-    (b : Bounds) (s : List ℕ) (t : TextMesh) → Stands-for b s t → countsFit (limitsOf b) (listsOf t) ≡ true → (f i : ℕ) →
-    textEdge b s f i ≡ toldEdge (listsOf t) f i
-unfolding textEdge formEdge
-edge-of b s t h e f i = rw (h .short, h .form, e)
+use Rattle.told_edges.specs.declared.ToldEdge.{ToldEdge}
+use Rattle.told_edges.specs.declared.ToldEdge.the-variants.{Missing, First, Again}
+use Rattle.told_edges.specs.Told.{noneRuns, before, sameWayBefore, isListed, toldEdge}
+use Rattle.explained_edges.specs.TextEdges.{formEdge, textEdge}
+use Rattle.explained_edges.proofs.Laws.{edge-of}
 
 pub too-long : (b : Bounds) (s : List ℕ) (f i : ℕ) {t : Bool} → t ≡ tooLong b (length s) → t ≡ true → Missing ≡ textEdge b s f i
 unfolding textEdge

@@ -1,6 +1,7 @@
 // What is told of an edge of a mesh text of any bytes: its points, and the first face before its own that runs it the same way.
-// Not here: where the text is refused (`text_places`), the lists alone (`edge_lookups`).
-// Contract: `text_edge`. Definitions: `specs/TextEdges.antt`. Claims: `specs/Claims.antt`, proved in `proofs/Theorem.antt`. Laws: `proofs/Laws.antt`.
+// Not here: the definition and what is claimed of it (`explained_edges`), where the text is refused (`text_places`), the lists alone
+// (`edge_lookups`).
+// Contract: `text_edge`. Definition: `specs/TextEdges.antt` of `explained_edges`. Laws: `proofs/Laws.antt`.
 // The lists of a text are local arrays of the sizes that the general limits allow, below 430 KiB of stack.
 ghost use mathlib.Core.Path.{_≡_};
 ghost use mathlib.Core.Bool.{false};
@@ -11,18 +12,18 @@ ghost use Rattle.tables.specs.Layout.{positionWidth};
 ghost use Rattle.building_tests.specs.Lent.{lists};
 ghost use Rattle.built_meshes.specs.Lists.{generalLimits};
 ghost use Rattle.text_meshes.specs.TextBuilding.{tooLong};
-ghost use Rattle.edge_lookups.specs.Told.{toldEdge};
-ghost use Rattle.text_edges.specs.TextEdges.{textEdge};
+ghost use Rattle.told_edges.specs.Told.{toldEdge};
+ghost use Rattle.explained_edges.specs.TextEdges.{textEdge};
 use building_tests::Bounds;
 use building_tests::MOST_FACES;
 use building_tests::MOST_LISTED;
 use building_tests::MOST_POINTS;
-use edge_lookups::ToldEdge;
 use edge_lookups::told_edge;
 use mesh_text::Reading;
-use mesh_text::read_text;
 use tables::POSITION_WIDTH;
 use text_answers::is_too_long;
+use text_reading::read_text;
+use told_edges::ToldEdge;
 
 // The edge at place i of face f, of the first nf faces and n listed points of the lists.
 fn told_first(sides: &[u32], listed: &[u32], nf: usize, n: usize, f: usize, i: usize) -> ToldEdge

@@ -1,5 +1,5 @@
 // The mender of version 2 texts (document 02, §8): whole faces turned round in place, so that neighbours run opposite ways.
-// Not here: the reader (`mesh_text`), a text mended by its lists (`text_rewriting`), the definition and its claims (`mended_texts`).
+// Not here: the reader (`text_reading`), a text mended by its lists (`text_rewriting`), the definition and its claims (`mended_texts`).
 // Contract: `mend_text`. Definitions: `Mending` of `mended_texts`; between the stages `Said` of `text_rewriting`. Laws: `proofs/Laws.antt`.
 // The lists of a text are local arrays of the sizes that the general limits allow, with those of the choice below 1 MiB of stack.
 ghost use mathlib.Core.Path.{_≡_};
@@ -18,9 +18,9 @@ use building_tests::MOST_POINTS;
 use built_meshes::Ground;
 use mended_texts::TextMending;
 use mesh_text::Reading;
-use mesh_text::read_text;
 use tables::POSITION_WIDTH;
 use text_numbers::stands;
+use text_reading::read_text;
 use text_rewriting::mend_by_lists;
 
 // Mends a text by the first entries of the lists: 3 for each of p points, 4 side lengths and first points for each of f faces, n listed

@@ -2,7 +2,7 @@
 // a text is accepted, when 1 and 2 are answered and what they leave, and that what is accepted is a mesh within the limits.
 // Not here: the grammar (`mesh_text`), what building makes of lists (`built_meshes`), the code that builds (`text_building`).
 // Definitions: `specs/TextBuilding.antt`. Claims: `specs/Claims.antt`, `specs/Within.antt`, proved in `proofs/Theorem.antt`. Computed pieces:
-// `proofs/Cases.antt`.
+// `text_cases`.
 use built_meshes::Ground;
 use tables::Counts;
 

@@ -20,13 +20,13 @@ use building_tests::MOST_FACES;
 use building_tests::MOST_LISTED;
 use building_tests::MOST_POINTS;
 use built_meshes::Version;
-use face_grounds::enter_faces;
+use face_grounds::faces_spot;
 use face_places::spread;
 use mesh_text::Reading;
-use mesh_text::read_text;
 use refusal_places::Spot;
 use tables::POSITION_WIDTH;
 use text_answers::is_too_long;
+use text_reading::read_text;
 
 // Where a ground is met in a text: the line from 1, the face and its edge from 0. What there is none of is `NOWHERE`.
 pub struct TextPlace {
@@ -59,7 +59,7 @@ fn first_spot(
     let mut mates = [0u32; MOST_LISTED];
     let mut seconds = [0u32; MOST_LISTED];
     spread(sides, listed, &mut tos, &mut owners);
-    enter_faces(
+    faces_spot(
         version,
         sides,
         firsts,

@@ -26,7 +26,7 @@ use Rattle.listings.proofs.Parts.{flat-append, flat-one, length-flat, all-to}
 use Rattle.listings.proofs.WrittenBack.{upTo-all, all-at}
 use Rattle.mesh_printing.specs.Printing.{FitListed, FitSide, FitTextFace, FitText}
 use Rattle.text_meshes.specs.TextBuilding.{listsOf}
-use Rattle.text_printing.specs.Faces.{listedAt, listedFrom, sideIn, faceIn, facesIn, FiniteIntervals}
+use Rattle.text_printing.specs.Faces.{listedPairAt, listedFrom, sideIn, faceIn, facesIn, FiniteIntervals}
 
 -- ---- lists joined
 
@@ -174,7 +174,7 @@ module _ (t : TextMesh) (fit : FitText t) where
     module _ (f k : ℕ) (h : f < length (t .faces)) (b : k < 4) where
       listed-again :
           (i : ℕ) → i < sideCount (getD (getD (t .faces) f []) k noSide) →
-          listedAt (listsOf t) (sideFrom (listsOf t) f (offset (listsOf t) f) k + i) ≡ getD (getD (getD (t .faces) f []) k noSide .listed) i noListed
+          listedPairAt (listsOf t) (sideFrom (listsOf t) f (offset (listsOf t) f) k + i) ≡ getD (getD (getD (t .faces) f []) k noSide .listed) i noListed
       listed-again i c =
           let d = getD (getD (t .faces) f []) k noSide in
           let at = sideFrom (listsOf t) f (offset (listsOf t) f) k + i in
@@ -193,7 +193,7 @@ module _ (t : TextMesh) (fit : FitText t) where
       side-again : sideIn (listsOf t) f k ≡ getD (getD (t .faces) f []) k noSide
       side-again =
           let d = getD (getD (t .faces) f []) k noSide in
-          let g : ℕ → Listed = λ i. listedAt (listsOf t) (sideFrom (listsOf t) f (offset (listsOf t) f) k + i) in
+          let g : ℕ → Listed = λ i. listedPairAt (listsOf t) (sideFrom (listsOf t) f (offset (listsOf t) f) k + i) in
           let e = first-text f k h b in
           let u = ap (λ (n : ℕ). upTo n g) (side-text f k h b) ∙ upTo-all g noListed (d .listed) listed-again in
           λ j. record { first = e j; listed = u j }

@@ -1,5 +1,5 @@
 -- The faces of lists as a text says them (document 01, "Mesh text"), and what the writing of their lines needs.
---     listedAt l i           the listed point i of all, with the bits of the interval beside it
+--     listedPairAt l i           the listed point i of all, with the bits of the interval beside it
 --     listedFrom l a n       n listed points from a on
 --     sideAt l p a n         the side of the first point p and n listed points from a on
 --     sideIn l f k           side k of face f
@@ -21,11 +21,11 @@ use Rattle.built_meshes.specs.Faces.{sideFrom, firstAt}
 use Rattle.building_tests.specs.Lent.{lists}
 use Rattle.listings.specs.Handing.{upTo, bitsOf}
 
-abbrev pub listedAt : Lists → ℕ → Listed
-listedAt l i = record { point = getD (l .listed) i 0; interval = bitsOf (getD (l .intervals) i nan) }
+abbrev pub listedPairAt : Lists → ℕ → Listed
+listedPairAt l i = record { point = getD (l .listed) i 0; interval = bitsOf (getD (l .intervals) i nan) }
 
 abbrev pub listedFrom : Lists → ℕ → ℕ → List Listed
-listedFrom l a n = upTo n (λ i. listedAt l (a + i))
+listedFrom l a n = upTo n (λ i. listedPairAt l (a + i))
 
 abbrev pub sideAt : Lists → ℕ → ℕ → ℕ → Side
 sideAt l p a n = record { first = p; listed = listedFrom l a n }

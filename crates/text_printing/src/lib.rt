@@ -1,5 +1,5 @@
 // The face lines of a mesh text (document 01, "Mesh text"), written from the lists that a text stands for.
-// Not here: the printing of a whole text as a definition (`mesh_printing`), the reading of texts (`mesh_text`).
+// Not here: the printing of a whole text as a definition (`mesh_printing`), the reading of texts (`text_reading`).
 // Contract: `write_face_lines`. Definitions: `specs/Faces.antt`. Laws: `proofs/Laws.antt` (lines from their parts),
 // `proofs/Again.antt` (the faces of a text's lists are those of the text).
 ghost use mathlib.Core.Path.{_≡_};
@@ -14,7 +14,7 @@ ghost use Rattle.built_meshes.specs.declared.Version.the-variants.{Two};
 ghost use Rattle.building_tests.specs.Lent.{listsIn};
 ghost use Rattle.mesh_answers.specs.Writing.{Written};
 ghost use Rattle.mesh_printing.specs.Printing.{listedPart, sidePart, textFaceLine};
-ghost use Rattle.text_printing.specs.Faces.{listedAt, listedFrom, sideAt, faceIn, facesIn, PrintingRoom, PrintingRooms, FiniteIntervals};
+ghost use Rattle.text_printing.specs.Faces.{listedPairAt, listedFrom, sideAt, faceIn, facesIn, PrintingRoom, PrintingRooms, FiniteIntervals};
 use building_tests::faces::face_size;
 use listing_printing::wide;
 use mesh_answers::write;
@@ -27,9 +27,9 @@ fn write_listed(out: &mut [u8], at: usize, listed: &[u32], beside: &[f64], i: us
     requires { ⌜ i < length (now listed) ⌝ }
     requires { ⌜ i < length (now beside) ⌝ }
     requires { ⌜ finite (getD (now beside) i nan) ≡ true ⌝ }
-    requires { ⌜ at + length (listedPart (listedAt (listsIn Two [] [] [] (now listed) (now beside)) i)) ≤ length (now out) ⌝ }
+    requires { ⌜ at + length (listedPart (listedPairAt (listsIn Two [] [] [] (now listed) (now beside)) i)) ≤ length (now out) ⌝ }
     ensures { λ r. ⌜
-        Written (now (out .entry)) at (listedPart (listedAt (listsIn Two [] [] [] (now (listed .entry)) (now (beside .entry))) i)) r
+        Written (now (out .entry)) at (listedPart (listedPairAt (listsIn Two [] [] [] (now (listed .entry)) (now (beside .entry))) i)) r
         (now (out .exit)) ⌝ }
 {
     let p = wide(listed[i]);

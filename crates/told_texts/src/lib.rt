@@ -27,14 +27,14 @@ use building_tests::MOST_POINTS;
 use built_meshes::Ground;
 use built_meshes::Verdict;
 use built_meshes::Version;
-use face_grounds::enter_faces;
+use face_grounds::faces_spot;
 use face_places::spread;
 use mesh_text::Reading;
-use mesh_text::read_text;
 use refusal_places::Spot;
 use tables::POSITION_WIDTH;
 use text_answers::is_too_long;
-use whole_tests::whole_verdict;
+use text_reading::read_text;
+use whole_tests::whole_told;
 
 // What is met first in the faces of lists whose lengths agree; if nothing is, the mates of their places and the places that they are mates of.
 fn pair_spot(
@@ -59,7 +59,7 @@ fn pair_spot(
     let mut heads = [0u32; MOST_POINTS];
     let mut links = [0u32; MOST_LISTED];
     spread(sides, listed, &mut tos, &mut owners);
-    enter_faces(
+    faces_spot(
         version,
         sides,
         firsts,
@@ -103,7 +103,7 @@ fn faces_and_whole(
     ) {
         Spot::Face(_, g) => Verdict::Unfit(g),
         Spot::Edge(_, _, g) => Verdict::Unfit(g),
-        Spot::Clear => whole_verdict(sides, listed, &mates[..n], &seconds[..n], np),
+        Spot::Clear => whole_told(sides, listed, &mates[..n], &seconds[..n], np),
     }
 }
 

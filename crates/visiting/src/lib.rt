@@ -29,6 +29,7 @@ use ring_places::RingRows;
 use ring_places::put_found;
 use ring_places::put_places;
 use splitting::split_all;
+use t_nurcc_face::put_border;
 use tables::Counts;
 use tables::EDGE_WIDTH;
 use tables::FACE_WIDTH;
@@ -39,7 +40,6 @@ use tables::copy_numbers;
 use tables::copy_words;
 use tables::index;
 use walks::Passed;
-use walks::t_nurcc_face::put_border;
 
 // Stores the edges of a ring: the joining edges, then the halves on the side of the face.
 fn put_ring_edges(

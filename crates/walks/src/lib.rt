@@ -1,18 +1,29 @@
-// Walks about the faces and points of a mesh in tables of any content, with the number of edges passed; the border of a face.
-// Carries over t_nurcc_iter.rs, t_nurcc_control_point.rs and t_nurcc_face.rs. A walk that leaves the rows, loses its face or
-// point, or does not meet its start within its bound is lost, and says so.
-// Not here: whether the mesh is closed (`audit`).
-// Definitions: `specs/Steps.antt`, `specs/Border.antt`, `specs/Places.antt`. Laws for callers: `proofs/Laws.antt`; `proofs/Border.antt` for borders laid into arrays;
-// `proofs/Places.antt` for words that are found by a number.
+// Walks about the faces and points of a mesh in tables of any content: definitions, laws, and the steps of which walks are made.
+// Carries over the steps of t_nurcc_iter.rs. A walk that leaves the rows, loses its face or point, or does not meet its start within its
+// bound is lost, and says so.
+// Not here: the walks themselves (`t_nurcc_iter`), borders (`t_nurcc_face`), the edges about a point (`t_nurcc_control_point`), whether the
+// mesh is closed (`audit`).
+// Definitions: `specs/Steps.antt`, `specs/Border.antt`, `specs/Neighbour.antt`, `specs/Places.antt`. Claims: `specs/Claims.antt`, proved in
+// `proofs/Claims.antt`. Laws for callers: `proofs/Laws.antt`; `proofs/Border.antt` for borders laid into arrays; `proofs/Places.antt` for
+// words that are found by a number.
 ghost use mathlib.Core.Path.{_≡_};
-ghost use Prim.Native.Nat.{_≤_};
+ghost use mathlib.Core.List.{[]};
+ghost use Prim.Native.Nat.{_+_, _*_, _≤_};
+ghost use lib.ListN.{length};
+ghost use Rattle.tables.specs.Layout.{edgeWidth};
+ghost use Rattle.tables.specs.Parts.{faceTables};
+ghost use Rattle.audited_meshes.specs.Walks.{touches, acwOfPoint};
 ghost use Rattle.walks.specs.Places.{endNumber};
+ghost use Rattle.walks.specs.Steps.{faceStep, pointStep};
+use records::load_edge_words;
+use t_spline::FaceSide;
+use t_spline::TnurccVertexEnd;
+use tables::DEST_WORD;
+use tables::EDGE_WIDTH;
+use tables::LEFT_CW_WORD;
 use tables::LONGEST_BORDER;
 use tables::LONGEST_PERIMETER;
-
-pub mod t_nurcc_control_point;
-pub mod t_nurcc_face;
-pub mod t_nurcc_iter;
+use tables::index;
 
 // The neighbours of an edge on one side.
 pub const SIDE_WIDTH: usize = 2;
@@ -53,4 +64,64 @@ pub fn end_number(first: usize, n: usize) -> usize
         return 0;
     }
     1
+}
+
+// One step about face f from edge e, among the edges below ne.
+pub fn face_step(edges: &[u32], ne: usize, f: usize, e: usize) -> Step
+    requires { ⌜ ne * edgeWidth ≤ length (now edges) ⌝ }
+    ensures { λ r. ⌜ r ≡ faceStep (now (edges .entry)) ne f e ⌝ }
+{
+    if ne <= e {
+        return Step::Lost;
+    }
+    let edge = load_edge_words(edges, e);
+    match edge.face_side(f) {
+        FaceSide::At(side) => Step::To {
+            point: edge.point_at_end(side.first_end()),
+            next: edge.acw_edge_from_side(side),
+        },
+        FaceSide::Nowhere => Step::Lost,
+    }
+}
+
+// One step about point p from edge e, among the edges below ne. The words are found by the number of the end, so that the answer of
+// the comparison with the origin, which no one can foretell, is no branch.
+pub fn point_step(edges: &[u32], ne: usize, p: usize, e: usize) -> Step
+    requires { ⌜ ne * edgeWidth ≤ length (now edges) ⌝ }
+    ensures { λ r. ⌜ r ≡ pointStep (now (edges .entry)) ne p e ⌝ }
+{
+    if ne <= e {
+        return Step::Lost;
+    }
+    let b = e * EDGE_WIDTH;
+    let s = end_number(index(edges[b]), p);
+    if index(edges[b + s]) != p {
+        return Step::Lost;
+    }
+    Step::To {
+        point: edges[b + DEST_WORD - s],
+        next: edges[b + LEFT_CW_WORD + SIDE_WIDTH * s],
+    }
+}
+
+// The next edge anticlockwise about point p from edge e, which touches it.
+pub fn acw_of_point(edges: &[u32], p: usize, e: usize) -> u32
+    requires { ⌜ e * edgeWidth + edgeWidth ≤ length (now edges) ⌝ }
+    ensures { λ r. ⌜ r ≡ acwOfPoint (faceTables (now (edges .entry)) []) p e ⌝ }
+{
+    let edge = load_edge_words(edges, e);
+    if index(edge.origin) == p {
+        return edge.acw_edge_from_end(TnurccVertexEnd::Origin);
+    }
+    edge.acw_edge_from_end(TnurccVertexEnd::Dest)
+}
+
+// Whether point p is an end of edge e.
+pub fn touches(edges: &[u32], p: usize, e: usize) -> bool
+    requires { ⌜ e * edgeWidth + edgeWidth ≤ length (now edges) ⌝ }
+    ensures { λ r. ⌜ r ≡ touches (faceTables (now (edges .entry)) []) p e ⌝ }
+{
+    let b = e * EDGE_WIDTH;
+    let s = end_number(index(edges[b]), p);
+    index(edges[b + s]) == p
 }

@@ -23,7 +23,7 @@ use Rattle.built_meshes.specs.Places.{pointOf, nextOf, IsPlace, Runs, Between, 
 use Rattle.built_meshes.specs.Grounds.{Missing-face, No-edge, Missed-edge, Turns, Chain, here, further}
 use Rattle.built_meshes.proofs.Before.{Clear-lists}
 use Rattle.built_meshes.proofs.Versions.{every-false}
-use Rattle.mended_lists.specs.Edges.{Place, listedPlace, placesOf, placeAt, sameEdge, latest, mate, third, follower, lone}
+use Rattle.mended_lists.specs.Edges.{FacePlace, listedPlace, placesOf, placeAt, sameEdge, latest, mate, third, follower, lone}
 use Rattle.mended_lists.specs.Mending.{edgesShared}
 use Rattle.mended_lists.proofs.Reversal.{eqb-false}
 use Rattle.mended_lists.proofs.InTurn.{getD-inTurn}
@@ -35,7 +35,7 @@ use Rattle.whole_grounds.specs.Turning.{linkedTo, partner, nextsOf, turn
 use Rattle.whole_grounds.proofs.Steps.{iter, iter-add, iter-more, comes-to, to-comes, short-way, back-from}
 
 module _ (c : Sizes) (l : Lists) (m : Mesh) (clear : Clear-lists c l m) (far : So-far c l m clear (facesOf l)) where
-  abbrev ps : List Place
+  abbrev ps : List FacePlace
   ps = placesOf l
 
   abbrev N : ℕ
@@ -53,18 +53,18 @@ module _ (c : Sizes) (l : Lists) (m : Mesh) (clear : Clear-lists c l m) (far : S
   runs-at k u =
       record {
         is-place = u .is-place;
-        begins = sym (ap (λ (x : Place). x .from) (u .at));
-        ends = sym (ap (λ (x : Place). x .to) (u .at));
+        begins = sym (ap (λ (x : FacePlace). x .from) (u .at));
+        ends = sym (ap (λ (x : FacePlace). x .to) (u .at));
       }
 
   on-it : (k : ℕ) → k < N → OnEdge l (fromOf k) (toOf k) k
   on-it k b = let u = numbered l k b in record { face = u .face; place = u .place; between = inl (runs-at k u); number = u .number }
 
   from-at : (f i : ℕ) → IsPlace l f i → fromOf (offset l f + i) ≡ pointOf l f i
-  from-at f i is = ap (λ (x : Place). x .from) (places-at l f i is)
+  from-at f i is = ap (λ (x : FacePlace). x .from) (places-at l f i is)
 
   to-at : (f i : ℕ) → IsPlace l f i → toOf (offset l f + i) ≡ nextOf l f i
-  to-at f i is = ap (λ (x : Place). x .to) (places-at l f i is)
+  to-at f i is = ap (λ (x : FacePlace). x .to) (places-at l f i is)
 
   -- no place runs from a point to itself
   no-loop : (k : ℕ) → k < N → fromOf k ≢ toOf k

@@ -21,7 +21,7 @@ use Rattle.built_meshes.specs.declared.Verdict.{Verdict}
 use Rattle.built_meshes.specs.declared.Verdict.the-variants.{Fit, Unfit}
 use Rattle.built_meshes.specs.declared.Ground.the-variants.{OverCounts, UnfitNumber, MissingFace, NoEdge, MissedEdge}
 use Rattle.mended_lists.specs.InTurn.{inTurn}
-use Rattle.mended_lists.specs.Edges.{Place, placesOf, placeAt, latest, mate, follower}
+use Rattle.mended_lists.specs.Edges.{FacePlace, placesOf, placeAt, latest, mate, follower}
 use Rattle.mended_lists.specs.Mending.{edgesShared}
 use Rattle.refusal_places.specs.Spots.{firstSpot}
 use Rattle.refusal_places.specs.declared.Spot.{Spot}
@@ -33,7 +33,7 @@ linkedTo zero zero = 0
 linkedTo zero (suc j) = j
 linkedTo (suc j) second = j
 
-unfoldable pub partner : List Place → ℕ → ℕ
+unfoldable pub partner : List FacePlace → ℕ → ℕ
 unfolding mate follower
 partner ps k = linkedTo (mate ps k) (follower ps (length ps) k)
 
@@ -45,7 +45,7 @@ unfoldable pub turnFrom : Lists → ℕ → ℕ
 unfolding nextsOf partner placesOf
 turnFrom l k = getD (nextsOf l) (partner (placesOf l) k) 0
 
-unfoldable pub startAt : List Place → ℕ → ℕ
+unfoldable pub startAt : List FacePlace → ℕ → ℕ
 unfolding latest
 startAt ps p = latest (λ k. eqb (placeAt ps k .from) p) (length ps)
 

@@ -23,7 +23,7 @@ use Rattle.built_meshes.specs.declared.Verdict.{Verdict}
 use Rattle.built_meshes.specs.declared.Verdict.the-variants.{Fit, Unfit}
 use Rattle.built_meshes.specs.declared.Ground.the-variants.{MissingFace, NoEdge, MissedEdge}
 use Rattle.building_tests.specs.Lent.{lists}
-use Rattle.mended_lists.specs.Edges.{Place, listedPlace, placesOf, placeAt, sameEdge, latest, mate, follower, lone}
+use Rattle.mended_lists.specs.Edges.{FacePlace, listedPlace, placesOf, placeAt, sameEdge, latest, mate, follower, lone}
 use Rattle.mended_lists.specs.Mending.{edgesShared}
 use Rattle.mended_lists.proofs.Reversal.{eqb-false}
 use Rattle.mended_lists.proofs.InTurn.{getD-inTurn}
@@ -155,7 +155,7 @@ module _ (ss ls mates seconds : List ℕ) (np : ℕ) (r : WholeRoom ss ls mates 
           let x : getD nexts k 0 ≡ o + nextPlace (size L f) i =
           sp .to k (omega (arith, e))
           ∙ ap (λ (x : ℕ). placeAt (placesOf (lists [] ss numbers [])) x .to) (sym (u .number))
-          ∙ ap (λ (x : Place). x .to) (places-at (lists [] ss numbers []) f i (u .is-place))
+          ∙ ap (λ (x : FacePlace). x .to) (places-at (lists [] ss numbers []) f i (u .is-place))
           ∙ num (o + nextPlace (size L f) i) below in
           let y : getD (nextsOf L) k 0 ≡ o + nextPlace (size L f) i =
           ap (λ (x : ℕ). getD (nextsOf L) x 0) (sym (u .number))
@@ -213,7 +213,7 @@ module _ (ss ls mates seconds : List ℕ) (np : ℕ) (r : WholeRoom ss ls mates 
   from-is : (k : ℕ) → k < length ls → getD ls k 0 ≡ placeAt (placesOf L) k .from
   from-is k b =
       let u : Numbered L k = numbered L k (rw many b) in
-      sym (ap (λ (x : Place). x .from) (u .at) ∙ ap (λ (x : ℕ). getD ls x 0) (u .number))
+      sym (ap (λ (x : FacePlace). x .from) (u .at) ∙ ap (λ (x : ℕ). getD ls x 0) (u .number))
 
   starts-are : (starts : List ℕ) → Started ls starts (length ls) → (p : ℕ) → p < length starts → getD starts p 0 ≡ startAt (placesOf L) p
   unfolding startAt

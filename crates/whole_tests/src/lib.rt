@@ -1,6 +1,6 @@
 // Grounds 20, 21 and 22 of lists, told by the places of their faces, in local lists.
 // Not here: the pairing of places (`shared_edges`), the grounds in the faces (`face_grounds`), the definition and its claims (`whole_grounds`).
-// Contract: `whole_verdict`. Definitions: `Turning` of `whole_grounds`; `specs/Whole.antt`. Laws: `proofs/Laws.antt`.
+// Contract: `whole_told`. Definitions: `Turning` of `whole_grounds`; `specs/Whole.antt`. Laws: `proofs/Laws.antt`.
 ghost use mathlib.Core.Path.{_≡_};
 ghost use mathlib.Core.Bool.{not};
 ghost use mathlib.Core.List.{List, []};
@@ -151,7 +151,7 @@ fn turns_come(sides: &[u32], listed: &[u32], mates: &[u32], seconds: &[u32], sta
 }
 
 // The first of the grounds 20, 21 and 22 that is met in lists with np points, whose places have these mates and seconds.
-pub fn whole_verdict(
+pub fn whole_told(
     sides: &[u32],
     listed: &[u32],
     mates: &[u32],

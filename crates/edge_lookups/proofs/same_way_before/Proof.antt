@@ -7,7 +7,8 @@ use lib.ListN.{length}
 use borrow.Author.Needs.{needs}
 use borrow.Author.Tests.{not-true, not-false}
 use Rattle.building_tests.specs.Lent.{lists}
-use Rattle.edge_lookups.proofs.Laws.{offset-fits, before-stop, none-read, Searched, searched-none, searched-more, searched-all}
+use Rattle.told_edges.proofs.Laws.{before-stop}
+use Rattle.edge_lookups.proofs.Laws.{offset-fits, none-read, Searched, searched-none, searched-more, searched-all}
 use Rattle.edge_lookups.proofs.same_way_before.Statement.{statement}
 use Rattle.edge_lookups.proofs.same_way_before.Tie as tie
 

@@ -4,7 +4,8 @@ use Prim.Native.Nat.{_-_}
 use native.Mathlib.Omega.{arith}
 use borrow.Author.Needs.{needs}
 use Rattle.building_tests.specs.Lent.{lists}
-use Rattle.edge_lookups.proofs.Laws.{no-face, face-cut, Begun, begun-none, begun-more, begun-all}
+use Rattle.told_edges.proofs.Laws.{no-face}
+use Rattle.edge_lookups.proofs.Laws.{face-cut, Begun, begun-none, begun-more, begun-all}
 use Rattle.edge_lookups.proofs.told_edge.Statement.{statement}
 use Rattle.edge_lookups.proofs.told_edge.Tie as tie
 

@@ -2,7 +2,8 @@
 use mathlib.Core.List.{[]}
 use native.Mathlib.Omega.{arith}
 use Rattle.building_tests.specs.Lent.{lists}
-use Rattle.edge_lookups.proofs.Laws.{no-points, no-place, told-there}
+use Rattle.told_edges.proofs.Laws.{no-points, no-place}
+use Rattle.edge_lookups.proofs.Laws.{told-there}
 use borrow.Author.Needs.{needs}
 use Rattle.edge_lookups.proofs.told_from.Statement.{statement}
 use Rattle.edge_lookups.proofs.told_from.Tie as tie

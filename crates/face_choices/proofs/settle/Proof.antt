@@ -21,13 +21,13 @@ loop-holds c =
       omega arith,
     )
 
-cast-find : tie.Need-cast-find Inv-loop μ-loop
-cast-find c =
+cast-find-part : tie.Need-cast-find-part Inv-loop μ-loop
+cast-find-part c =
     let pre = c .before .before .before .before .before .before .before .pre in
     omega (arith, pre .1 .0, pre .1 .1, c .before .before .before .loop .inv .1)
 
-find-requires : tie.Need-find-requires Inv-loop μ-loop
-find-requires c κs =
+find-part-requires : tie.Need-find-part-requires Inv-loop μ-loop
+find-part-requires c κs =
     let loop = c .before .before .before .loop in (
       loop .inv .0 .falling,
       omega (
@@ -60,7 +60,7 @@ loop-again c =
     let args = c8 .before .before .before .before .args in
     let loop = c8 .loop in
     let loop-test = c .before .before .before .before .before .before .before .loop-test in
-    let find = c .before .before .before .before .find in (
+    let find = c .before .before .before .before .find-part in (
       settling-more (args .ups .now) (args .odds .now) (args .turned .now) (loop .ups) (loop .odds) (loop .turned)
           (find .last .0) (find .last .1 .0) (loop .f) (find .result) (loop .inv .0) (loop-test .taken) (find .ensures),
       omega (arith, loop .inv .0 .turned-length, loop-test .taken),
@@ -87,8 +87,8 @@ settle-spec =
     Inv-loop
     μ-loop
     loop-holds
-    cast-find
-    find-requires
+    cast-find-part
+    find-part-requires
     slice-write-turned
     add-f
     loop-less

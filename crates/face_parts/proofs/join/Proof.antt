@@ -10,8 +10,8 @@ returns c =
     let c8 = c .before .before .before .before .before .before .before .before in
     let c16 = c8 .before .before .before .before .before .before .before .before in
     let args = c16 .before .before .before .args in
-    let find = c8 .before .before .before .before .before .before .find in
-    let find2 = c .before .before .before .before .before .before .before .find2 in
+    let find = c8 .before .before .before .before .before .before .find-part in
+    let find2 = c .before .before .before .before .before .before .before .find-part2 in
     rw (c .before .are-different2 .ensures, c .before .before .are-different .ensures)
     (join-one (args .ups .now) (args .odds .now) (find .last .0) (find .last .1 .0) (find2 .last .0) (find2 .last .1 .0)
     (args .f) (args .g) (args .way) (find .result) (find2 .result) (find .ensures) (find2 .ensures) (c .if1 .taken))
@@ -23,8 +23,8 @@ returns-2 c =
     let c24 = c16 .before .before .before .before .before .before .before .before in
     let args = c24 .before .before .before .args in
     let pre = c24 .before .before .before .pre in
-    let find = c16 .before .before .before .before .before .before .find in
-    let find2 = c8 .before .before .before .before .before .before .before .find2 in
+    let find = c16 .before .before .before .before .before .before .find-part in
+    let find2 = c8 .before .before .before .before .before .before .before .find-part2 in
     let if1 = c8 .if1 in
     let if2 = c .before .before .before .before .before .before .before .if2 in
     let hang = c .before .before .before .before .hang in
@@ -46,8 +46,8 @@ returns-3 c =
     let c24 = c16 .before .before .before .before .before .before .before .before in
     let args = c24 .before .before .before .args in
     let pre = c24 .before .before .before .pre in
-    let find = c16 .before .before .before .before .before .before .find in
-    let find2 = c8 .before .before .before .before .before .before .before .find2 in
+    let find = c16 .before .before .before .before .before .before .find-part in
+    let find2 = c8 .before .before .before .before .before .before .before .find-part2 in
     let if1 = c8 .if1 in
     let if2 = c .before .before .before .before .before .before .before .if2 in
     let hang2 = c .before .before .before .before .hang2 in

@@ -13,21 +13,21 @@ use Rattle.list_mending.proofs.choose_turns.Tie as tie
 array-borrow-prefix-ups : tie.Need-array-borrow-prefix-ups
 array-borrow-prefix-ups c = search needs
 
-slice-aggregate-choose : tie.Need-slice-aggregate-choose
-slice-aggregate-choose c =
+slice-aggregate-choose-faces : tie.Need-slice-aggregate-choose-faces
+slice-aggregate-choose-faces c =
     length-cut (length (c .before .before .before .before .before .args .turned .now)) 4096 0
     (c .before .before .before .before .before .pre .0)
 
 array-borrow-prefix-odds : tie.Need-array-borrow-prefix-odds
 array-borrow-prefix-odds c = search needs
 
-slice-aggregate-choose-2 : tie.Need-slice-aggregate-choose-2
-slice-aggregate-choose-2 c =
+slice-aggregate-choose-faces-2 : tie.Need-slice-aggregate-choose-faces-2
+slice-aggregate-choose-faces-2 c =
     length-cut (length (c .before .before .before .before .before .before .args .turned .now)) 4096 false
     (c .before .before .before .before .before .before .pre .0)
 
-choose-requires : tie.Need-choose-requires
-choose-requires c κs =
+choose-faces-requires : tie.Need-choose-faces-requires
+choose-faces-requires c κs =
     let args = c .before .before .before .before .before .before .before .args in
     let pre = c .before .before .before .before .before .before .before .pre in (
       sym (length-cut (length (args .turned .now)) 4096 false (pre .0))
@@ -53,9 +53,9 @@ choose-turns-spec =
     tie.close
     (tie.spec
     array-borrow-prefix-ups
-    slice-aggregate-choose
+    slice-aggregate-choose-faces
     array-borrow-prefix-odds
-    slice-aggregate-choose-2
-    choose-requires
+    slice-aggregate-choose-faces-2
+    choose-faces-requires
     same-length
     returns)

@@ -10,7 +10,7 @@ use Rattle.listing_lines.proofs.point.Tie as tie
 use Rattle.listing_lines.proofs.point.Reads as reads
 use Rattle.listing_lines.proofs.point.Lts as lts
 use Rattle.listing_lines.proofs.words.Reads as words-reads
-use Rattle.mesh_lines.proofs.coordinates.Reads as coordinates-reads
+use Rattle.point_lines.proofs.coordinates.Reads as coordinates-reads
 use Rattle.text_numbers.proofs.stands.Reads as stands-reads
 
 -- src/lib.rt:61:24

@@ -10,8 +10,8 @@ use Rattle.listing_reading.proofs.Outcomes.{not-listing, is-listing, ov
 use Rattle.listing_reading.proofs.read_listing.Statement.{statement}
 use Rattle.listing_reading.proofs.read_listing.Tie as tie
 
-sizes-requires : tie.Need-sizes-requires
-sizes-requires c κs = search needs
+listing-sizes-requires : tie.Need-listing-sizes-requires
+listing-sizes-requires c κs = search needs
 
 enum-known-np : tie.Need-enum-known-np
 enum-known-np c = search needs
@@ -24,7 +24,7 @@ returns c =
     let args = c .before .before .before .before .before .before .before .before .before .args in
     not-listing _
     (meshOf (args .positions .now) (args .points .now) (args .edges .now) (args .intervals .now) (args .faces .now))
-    (c .before .before .sizes .ensures) (c .enum-told .given .1)
+    (c .before .before .listing-sizes .ensures) (c .enum-told .given .1)
 
 within-ceilings-requires : tie.Need-within-ceilings-requires
 within-ceilings-requires c κs = search needs
@@ -35,7 +35,7 @@ returns-2 c =
     let args = c8 .before .before .before .before .args in
     over _
     (meshOf (args .positions .now) (args .points .now) (args .edges .now) (args .intervals .now) (args .faces .now))
-    (c .before .before .before .before .before .sizes .ensures) (c .before .before .before .np .given .1)
+    (c .before .before .before .before .before .listing-sizes .ensures) (c .before .before .before .np .given .1)
     (sym (c .before .within-ceilings .ensures) ∙ not-true _ (c .if1 .taken))
 
 rows-for-requires : tie.Need-rows-for-requires
@@ -61,7 +61,7 @@ returns-3 c =
     let c8 = c .before .before .before .before .before .before .before .before in
     let c16 = c8 .before .before .before .before .before .before .before .before in
     let args = c16 .before .before .before .args in
-    let sizes = c8 .before .before .before .before .sizes in
+    let sizes = c8 .before .before .before .before .listing-sizes in
     no-room _
     (meshOf (args .positions .now) (args .points .now) (args .edges .now) (args .intervals .now) (args .faces .now))
     (sizes .ensures) (c8 .before .before .np .given .1)
@@ -74,7 +74,7 @@ store-rows-requires c κs =
     let c8 = c .before .before .before .before .before .before .before .before in
     let c16 = c8 .before .before .before .before .before .before .before .before in
     let np = c8 .before .before .before .before .before .before .before .np in
-    is-listing _ (meshOf [] [] [] [] []) (c16 .before .sizes .ensures) (np .given .1)
+    is-listing _ (meshOf [] [] [] [] []) (c16 .before .listing-sizes .ensures) (np .given .1)
 
 audit-requires : tie.Need-audit-requires
 audit-requires c κs = search needs
@@ -102,7 +102,7 @@ returns-4 c =
     let c32 = c24 .before .before .before .before .before .before .before .before in
     let c40 = c32 .before .before .before .before .before .before .before .before in
     let args = c40 .before .before .args in
-    let sizes = c32 .before .before .before .sizes in
+    let sizes = c32 .before .before .before .listing-sizes in
     let within-ceilings = c24 .before .before .before .before .before .before .before .within-ceilings in
     let if1 = c24 .before .before .before .before .before .before .if1 in
     let if2 = c16 .before .before .before .before .before .before .before .if2 in
@@ -175,7 +175,7 @@ returns-5 c =
     let c48 = c40 .before .before .before .before .before .before .before .before in
     let c56 = c48 .before .before .before .before .before .before .before .before in
     let args = c56 .before .before .args in
-    let sizes = c48 .before .before .before .sizes in
+    let sizes = c48 .before .before .before .listing-sizes in
     let within-ceilings = c40 .before .before .before .before .before .before .before .within-ceilings in
     let if1 = c40 .before .before .before .before .before .before .if1 in
     let if2 = c32 .before .before .before .before .before .before .before .if2 in
@@ -191,7 +191,7 @@ pub read-listing-spec : {M : Type 1} → statement M
 read-listing-spec =
     tie.close
     (tie.spec
-    sizes-requires
+    listing-sizes-requires
     enum-known-np
     enum-told
     returns

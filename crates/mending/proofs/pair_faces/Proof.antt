@@ -9,24 +9,24 @@ use Rattle.mending.proofs.pair_faces.Statement.{statement}
 use Rattle.mending.proofs.pair_faces.Tie as tie
 use Rattle.mending.proofs.pair_faces.Reads as reads
 use Rattle.mending.proofs.pair_faces.Lts as lts
-use Rattle.face_mending.proofs.enter_faces.Reads as enter-faces-reads
+use Rattle.face_mending.proofs.mend_faces.Reads as mend-faces-reads
 use Rattle.shared_edges.proofs.are_shared.Reads as are-shared-reads
 
 -- src/lib.rt:51:9
-slice-aggregate-enter-faces : tie.Need-slice-aggregate-enter-faces
-slice-aggregate-enter-faces c = search needs
+slice-aggregate-mend-faces : tie.Need-slice-aggregate-mend-faces
+slice-aggregate-mend-faces c = search needs
 
 -- src/lib.rt:52:9
-slice-aggregate-enter-faces-2 : tie.Need-slice-aggregate-enter-faces-2
-slice-aggregate-enter-faces-2 c = search needs
+slice-aggregate-mend-faces-2 : tie.Need-slice-aggregate-mend-faces-2
+slice-aggregate-mend-faces-2 c = search needs
 
 -- src/lib.rt:54:9
-slice-aggregate-enter-faces-3 : tie.Need-slice-aggregate-enter-faces-3
-slice-aggregate-enter-faces-3 c = search needs
+slice-aggregate-mend-faces-3 : tie.Need-slice-aggregate-mend-faces-3
+slice-aggregate-mend-faces-3 c = search needs
 
 -- src/lib.rt:45:11
-enter-faces-requires : tie.Need-enter-faces-requires
-enter-faces-requires c κs =
+mend-faces-requires : tie.Need-mend-faces-requires
+mend-faces-requires c κs =
     let c8 = c .before .before .before .before .before .before .before .before in
     let args = c8 .before .before .args in
     let pre = c8 .before .before .pre in (
@@ -62,32 +62,32 @@ returns c =
     let c16 = c8 .before .before .before .before .before .before .before .before in
     let args = c16 .before .before .before .before .before .before .args in
     let pre = c16 .before .before .before .before .before .before .pre in
-    let enter-faces = c8 .before .before .before .enter-faces in
+    let mend-faces = c8 .before .before .before .mend-faces in
     let enum-told = c .before .before .before .before .enum-told in (
-      λ cs h. fit-shared _ _ (sym (enter-faces .ensures .0 cs h) ∙ enum-told .given .1)
-          (sym (shared-is (args .sides .now) (args .listed .now) (args .tos .now) (enter-faces .last .1 .1 .1 .1 .1 .0)
-          (enter-faces .last .1 .1 .1 .1 .1 .1 .0) (enter-faces .last .1 .1 .1 .1 .1 .1 .1 .0)
-          (enter-faces .last .1 .1 .1 .1 .1 .1 .1 .1 .0) (pre .1) (pre .0 .all-listed)
-          (enter-faces .kept .1 .1 .1 .1 .1 .1 .1 .0 ∙ pre .0 .mates-fit)
+      λ cs h. fit-shared _ _ (sym (mend-faces .ensures .0 cs h) ∙ enum-told .given .1)
+          (sym (shared-is (args .sides .now) (args .listed .now) (args .tos .now) (mend-faces .last .1 .1 .1 .1 .1 .0)
+          (mend-faces .last .1 .1 .1 .1 .1 .1 .0) (mend-faces .last .1 .1 .1 .1 .1 .1 .1 .0)
+          (mend-faces .last .1 .1 .1 .1 .1 .1 .1 .1 .0) (pre .1) (pre .0 .all-listed)
+          (mend-faces .kept .1 .1 .1 .1 .1 .1 .1 .0 ∙ pre .0 .mates-fit)
           (omega (
             arith,
-            enter-faces .kept .1 .1 .1 .1 .1 .1 .1 .0,
-            enter-faces .kept .1 .1 .1 .1 .1 .1 .1 .1 .0,
+            mend-faces .kept .1 .1 .1 .1 .1 .1 .1 .0,
+            mend-faces .kept .1 .1 .1 .1 .1 .1 .1 .1 .0,
             pre .0 .mates-fit,
             pre .0 .few,
-          )) (enter-faces .ensures .1 (enum-told .given .1))) ∙ sym (c .before .are-shared .ensures)
+          )) (mend-faces .ensures .1 (enum-told .given .1))) ∙ sym (c .before .are-shared .ensures)
           ∙ c .if1 .taken),
-      λ t. mates-are (args .sides .now) (args .listed .now) (args .tos .now) (enter-faces .last .1 .1 .1 .1 .1 .0)
-          (enter-faces .last .1 .1 .1 .1 .1 .1 .0) (enter-faces .last .1 .1 .1 .1 .1 .1 .1 .0)
-          (enter-faces .last .1 .1 .1 .1 .1 .1 .1 .1 .0) (pre .1) (pre .0 .all-listed)
-          (enter-faces .kept .1 .1 .1 .1 .1 .1 .1 .0 ∙ pre .0 .mates-fit)
+      λ t. mates-are (args .sides .now) (args .listed .now) (args .tos .now) (mend-faces .last .1 .1 .1 .1 .1 .0)
+          (mend-faces .last .1 .1 .1 .1 .1 .1 .0) (mend-faces .last .1 .1 .1 .1 .1 .1 .1 .0)
+          (mend-faces .last .1 .1 .1 .1 .1 .1 .1 .1 .0) (pre .1) (pre .0 .all-listed)
+          (mend-faces .kept .1 .1 .1 .1 .1 .1 .1 .0 ∙ pre .0 .mates-fit)
           (omega (
             arith,
-            enter-faces .kept .1 .1 .1 .1 .1 .1 .1 .0,
-            enter-faces .kept .1 .1 .1 .1 .1 .1 .1 .1 .0,
+            mend-faces .kept .1 .1 .1 .1 .1 .1 .1 .0,
+            mend-faces .kept .1 .1 .1 .1 .1 .1 .1 .1 .0,
             pre .0 .mates-fit,
             pre .0 .few,
-          )) (enter-faces .ensures .1 (enum-told .given .1)),
+          )) (mend-faces .ensures .1 (enum-told .given .1)),
     )
 
 -- src/lib.rt:25:1
@@ -97,8 +97,8 @@ same-length-2 c = search needs
 -- src/lib.rt:25:1
 returns-2 : tie.Need-returns-2
 returns-2 c =
-    let enter-faces = c .before .before .before .before .before .before .before .before .enter-faces in (
-      λ cs h. unfit-shared _ _ (c .before .g .given .0 .0) (sym (enter-faces .ensures .0 cs h) ∙ c .before .g .given .1),
+    let mend-faces = c .before .before .before .before .before .before .before .before .mend-faces in (
+      λ cs h. unfit-shared _ _ (c .before .g .given .0 .0) (sym (mend-faces .ensures .0 cs h) ∙ c .before .g .given .1),
       λ t. absurd (unfit (c .before .g .given .0 .0) t),
     )
 
@@ -113,20 +113,20 @@ returns-3 c =
     let c16 = c8 .before .before .before .before .before .before .before .before in
     let args = c16 .before .before .before .before .before .before .args in
     let pre = c16 .before .before .before .before .before .before .pre in
-    let enter-faces = c8 .before .before .before .enter-faces in
+    let mend-faces = c8 .before .before .before .mend-faces in
     let enum-told = c .before .before .before .before .enum-told in (
-      λ cs h. not-shared _ _ (sym (enter-faces .ensures .0 cs h) ∙ enum-told .given .1)
-          (sym (shared-is (args .sides .now) (args .listed .now) (args .tos .now) (enter-faces .last .1 .1 .1 .1 .1 .0)
-          (enter-faces .last .1 .1 .1 .1 .1 .1 .0) (enter-faces .last .1 .1 .1 .1 .1 .1 .1 .0)
-          (enter-faces .last .1 .1 .1 .1 .1 .1 .1 .1 .0) (pre .1) (pre .0 .all-listed)
-          (enter-faces .kept .1 .1 .1 .1 .1 .1 .1 .0 ∙ pre .0 .mates-fit)
+      λ cs h. not-shared _ _ (sym (mend-faces .ensures .0 cs h) ∙ enum-told .given .1)
+          (sym (shared-is (args .sides .now) (args .listed .now) (args .tos .now) (mend-faces .last .1 .1 .1 .1 .1 .0)
+          (mend-faces .last .1 .1 .1 .1 .1 .1 .0) (mend-faces .last .1 .1 .1 .1 .1 .1 .1 .0)
+          (mend-faces .last .1 .1 .1 .1 .1 .1 .1 .1 .0) (pre .1) (pre .0 .all-listed)
+          (mend-faces .kept .1 .1 .1 .1 .1 .1 .1 .0 ∙ pre .0 .mates-fit)
           (omega (
             arith,
-            enter-faces .kept .1 .1 .1 .1 .1 .1 .1 .0,
-            enter-faces .kept .1 .1 .1 .1 .1 .1 .1 .1 .0,
+            mend-faces .kept .1 .1 .1 .1 .1 .1 .1 .0,
+            mend-faces .kept .1 .1 .1 .1 .1 .1 .1 .1 .0,
             pre .0 .mates-fit,
             pre .0 .few,
-          )) (enter-faces .ensures .1 (enum-told .given .1))) ∙ sym (c .before .are-shared .ensures) ∙ c .if1 .left),
+          )) (mend-faces .ensures .1 (enum-told .given .1))) ∙ sym (c .before .are-shared .ensures) ∙ c .if1 .left),
       λ t. absurd (unfit MissingFace t),
     )
 
@@ -134,10 +134,10 @@ pub pair-faces-spec : {M : Type 1} → statement M
 pair-faces-spec =
     tie.close
     (tie.spec
-    slice-aggregate-enter-faces
-    slice-aggregate-enter-faces-2
-    slice-aggregate-enter-faces-3
-    enter-faces-requires
+    slice-aggregate-mend-faces
+    slice-aggregate-mend-faces-2
+    slice-aggregate-mend-faces-3
+    mend-faces-requires
     enum-known-g
     enum-told
     slice-aggregate-are-shared

@@ -12,7 +12,7 @@ use Rattle.oracle_steps.proofs.make.Reads as make-reads
 use Rattle.oracle_steps.proofs.order_length.Reads as order-length-reads
 use Rattle.oracle_steps.proofs.tell_made.Reads as tell-made-reads
 use Rattle.oracle_tables.proofs.fields.field.Reads as field-reads
-use Rattle.oracle_tables.proofs.held.filled.Reads as filled-reads
+use Rattle.oracle_tables.proofs.held.filled_tables.Reads as filled-tables-reads
 use Rattle.oracle_tables.proofs.held.lent_by.Reads as lent-by-reads
 
 -- src/lib.rt:234:18
@@ -32,8 +32,8 @@ fill-order-requires : tie.Need-fill-order-requires
 fill-order-requires c κs = search needs
 
 -- src/lib.rt:241:9
-filled-requires : tie.Need-filled-requires
-filled-requires c κs = search needs
+filled-tables-requires : tie.Need-filled-tables-requires
+filled-tables-requires c κs = search needs
 
 -- src/lib.rt:243:9
 array-share-prefix-order : tie.Need-array-share-prefix-order
@@ -81,7 +81,7 @@ tell-step-spec =
     order-length-requires
     slice-aggregate-fill-order
     fill-order-requires
-    filled-requires
+    filled-tables-requires
     array-share-prefix-order
     slice-aggregate-make
     edition-at-requires

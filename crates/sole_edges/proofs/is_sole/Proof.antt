@@ -7,7 +7,7 @@ use borrow.Author.Tests.{not-true, not-false}
 use borrow.Author.Needs.{needs}
 use lib.ListN.{length}
 use Rattle.tables.specs.Parts.{pointTables}
-use Rattle.sole_edges.specs.Sole.{window, RoundIn}
+use Rattle.sole_edges.specs.Sole.{endsWindow, RoundIn}
 use Rattle.sole_edges.proofs.Walking.{below-more, apart-of-windows, other-below}
 use Rattle.sole_edges.proofs.is_sole.Statement.{statement}
 use Rattle.sole_edges.proofs.is_sole.Tie as tie
@@ -15,7 +15,7 @@ use Rattle.sole_edges.proofs.is_sole.Tie as tie
 abbrev Inv-loop : tie.InvT-loop
 Inv-loop points edges seen₀ np ne p passes k₀ seen k =
     (k ≤ passes) × (passes ≡ np / 32768 + 1) × (length seen ≡ length seen₀)
-    × ((j : ℕ) → j < k → RoundIn (pointTables points edges) ne p (j * window))
+    × ((j : ℕ) → j < k → RoundIn (pointTables points edges) ne p (j * endsWindow))
 
 abbrev μ-loop : tie.MeasureT-loop
 μ-loop points edges seen₀ np ne p passes k₀ seen k = passes - k
@@ -48,7 +48,7 @@ loop-again c =
       omega arith,
       inv .1,
       search needs,
-      below-more (λ (j : ℕ). RoundIn (pointTables (a .points .now) (a .edges .now)) (a .ne) (a .p) (j * window)) (loop .k)
+      below-more (λ (j : ℕ). RoundIn (pointTables (a .points .now) (a .edges .now)) (a .ne) (a .p) (j * endsWindow)) (loop .k)
           (inv .3) (c .before .before .before .is-sole-in .ensures .0 (not-false _ (c .if1 .left))),
     )
 

@@ -10,7 +10,7 @@ use Rattle.text_places.proofs.first_spot.Statement.{statement}
 use Rattle.text_places.proofs.first_spot.Tie as tie
 use Rattle.text_places.proofs.first_spot.Reads as reads
 use Rattle.text_places.proofs.first_spot.Lts as lts
-use Rattle.face_grounds.proofs.enter_faces.Reads as enter-faces-reads
+use Rattle.face_grounds.proofs.faces_spot.Reads as faces-spot-reads
 use Rattle.face_places.proofs.spread.Reads as spread-reads
 
 -- src/lib.rt:54:27
@@ -26,28 +26,28 @@ spread-requires : tie.Need-spread-requires
 spread-requires c κs = search needs
 
 -- src/lib.rt:61:9
-slice-aggregate-enter-faces : tie.Need-slice-aggregate-enter-faces
-slice-aggregate-enter-faces c = search needs
+slice-aggregate-faces-spot : tie.Need-slice-aggregate-faces-spot
+slice-aggregate-faces-spot c = search needs
 
 -- src/lib.rt:62:9
-slice-aggregate-enter-faces-2 : tie.Need-slice-aggregate-enter-faces-2
-slice-aggregate-enter-faces-2 c = search needs
+slice-aggregate-faces-spot-2 : tie.Need-slice-aggregate-faces-spot-2
+slice-aggregate-faces-spot-2 c = search needs
 
 -- src/lib.rt:63:9
-slice-aggregate-enter-faces-3 : tie.Need-slice-aggregate-enter-faces-3
-slice-aggregate-enter-faces-3 c = search needs
+slice-aggregate-faces-spot-3 : tie.Need-slice-aggregate-faces-spot-3
+slice-aggregate-faces-spot-3 c = search needs
 
 -- src/lib.rt:64:9
-slice-aggregate-enter-faces-4 : tie.Need-slice-aggregate-enter-faces-4
-slice-aggregate-enter-faces-4 c = search needs
+slice-aggregate-faces-spot-4 : tie.Need-slice-aggregate-faces-spot-4
+slice-aggregate-faces-spot-4 c = search needs
 
 -- src/lib.rt:65:9
-slice-aggregate-enter-faces-5 : tie.Need-slice-aggregate-enter-faces-5
-slice-aggregate-enter-faces-5 c = search needs
+slice-aggregate-faces-spot-5 : tie.Need-slice-aggregate-faces-spot-5
+slice-aggregate-faces-spot-5 c = search needs
 
 -- src/lib.rt:55:5
-enter-faces-requires : tie.Need-enter-faces-requires
-enter-faces-requires c κs =
+faces-spot-requires : tie.Need-faces-spot-requires
+faces-spot-requires c κs =
     let c8 = c .before .before .before .before .before .before .before .before in
     let args = c8 .before .before .before .before .before .before .args in
     let pre = c8 .before .before .before .before .before .before .pre in
@@ -63,9 +63,9 @@ returns c =
     let c8 = c .before .before .before .before .before .before .before .before in
     let c16 = c8 .before .before .before .before .before .before .before .before in
     let args = c16 .before .before .before .args in
-    let enter-faces = c .before .before .before .before .enter-faces in
+    let faces-spot = c .before .before .before .before .faces-spot in
     λ cs h. first-is (args .version) cs (args .sides .now) (args .firsts .now) (args .listed .now) (args .beside .now)
-    (enter-faces .result) (enter-faces .ensures .0 cs h)
+    (faces-spot .result) (faces-spot .ensures .0 cs h)
 
 pub first-spot-spec : {M : Type 1} → statement M
 first-spot-spec =
@@ -74,10 +74,10 @@ first-spot-spec =
     slice-aggregate-spread
     slice-aggregate-spread-2
     spread-requires
-    slice-aggregate-enter-faces
-    slice-aggregate-enter-faces-2
-    slice-aggregate-enter-faces-3
-    slice-aggregate-enter-faces-4
-    slice-aggregate-enter-faces-5
-    enter-faces-requires
+    slice-aggregate-faces-spot
+    slice-aggregate-faces-spot-2
+    slice-aggregate-faces-spot-3
+    slice-aggregate-faces-spot-4
+    slice-aggregate-faces-spot-5
+    faces-spot-requires
     returns)

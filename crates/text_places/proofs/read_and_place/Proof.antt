@@ -8,7 +8,7 @@ use Rattle.text_places.proofs.read_and_place.Tie as tie
 use Rattle.text_places.proofs.read_and_place.Reads as reads
 use Rattle.text_places.proofs.read_and_place.Lts as lts
 use Rattle.building_tests.proofs.Bounds.most.Reads as most-reads
-use Rattle.mesh_text.proofs.read_text.Reads as read-text-reads
+use Rattle.text_reading.proofs.read_text.Reads as read-text-reads
 use Rattle.text_places.proofs.place_at.Reads as place-at-reads
 use Rattle.text_places.proofs.place_first.Reads as place-first-reads
 

@@ -13,7 +13,7 @@ use Rattle.mesh_answers.specs.Lines.{decimalDigits, decimalBytes}
 use Rattle.mesh_answers.proofs.Laws.{length-bits}
 use Rattle.listings.specs.Handing.{bitsOf}
 use Rattle.listing_printing.proofs.Laws.{written-same}
-use Rattle.text_printing.specs.Faces.{listedAt}
+use Rattle.text_printing.specs.Faces.{listedPairAt}
 use Rattle.text_printing.proofs.Laws.{listed-room, parts-of}
 use Rattle.text_printing.proofs.write_listed.Statement.{statement}
 use Rattle.text_printing.proofs.write_listed.Tie as tie
@@ -43,7 +43,7 @@ write-requires : tie.Need-write-requires
 write-requires c κs =
     let args = c .before .before .before .before .before .before .before .before .args in
     let pre = c .before .before .before .before .before .before .before .before .pre in
-    let r = listed-room (listedAt (listsIn Two [] [] [] (args .listed .now) (args .beside .now)) (args .i)) in
+    let r = listed-room (listedPairAt (listsIn Two [] [] [] (args .listed .now) (args .beside .now)) (args .i)) in
     let q = pre .1 .1 .1 in
     omega arith
 
@@ -52,7 +52,7 @@ write-decimal-requires c κs =
     let c8 = c .before .before .before .before .before .before .before .before in
     let args = c8 .before .before .before .before .args in
     let pre = c8 .before .before .before .before .pre in
-    let r = listed-room (listedAt (listsIn Two [] [] [] (args .listed .now) (args .beside .now)) (args .i)) in
+    let r = listed-room (listedPairAt (listsIn Two [] [] [] (args .listed .now) (args .beside .now)) (args .i)) in
     let q = pre .1 .1 .1 in
     let d = ap (λ (n : ℕ). length (decimalDigits 20 n))
     (c .before .before .before .before .before .before .before .wide .ensures) in
@@ -67,7 +67,7 @@ write-bits-requires c κs =
     let pre = c8 .before .before .before .before .before .before .before .before .pre in
     let wide = c8 .before .before .before .wide in
     let write = c .before .before .before .before .before .before .before .write in
-    let r = listed-room (listedAt (listsIn Two [] [] [] (args .listed .now) (args .beside .now)) (args .i)) in
+    let r = listed-room (listedPairAt (listsIn Two [] [] [] (args .listed .now) (args .beside .now)) (args .i)) in
     let q = pre .1 .1 .1 in
     let d = ap (λ (n : ℕ). length (decimalDigits 20 n)) (wide .ensures) in
     let e = write .ensures .place in
@@ -88,7 +88,7 @@ write-requires-2 c κs =
     let write = c8 .before .before .before .before .write in
     let write-decimal = c8 .write-decimal in
     let write-bits = c .before .before .before .before .write-bits in
-    let r = listed-room (listedAt (listsIn Two [] [] [] (args .listed .now) (args .beside .now)) (args .i)) in
+    let r = listed-room (listedPairAt (listsIn Two [] [] [] (args .listed .now) (args .beside .now)) (args .i)) in
     let q = pre .1 .1 .1 in
     let d = ap (λ (n : ℕ). length (decimalDigits 20 n)) (c16 .wide .ensures) in
     let e = write .ensures .place in

@@ -11,7 +11,7 @@ use Rattle.building_tests.specs.Lent.{listsIn}
 use Rattle.mesh_answers.specs.Writing.{Written}
 use Rattle.mesh_printing.specs.Printing.{listedPart}
 use Rattle.listing_printing.proofs.Laws.{lines-start, lines-turn-room, lines-turn, lines-end}
-use Rattle.text_printing.specs.Faces.{listedAt, listedFrom}
+use Rattle.text_printing.specs.Faces.{listedPairAt, listedFrom}
 use Rattle.text_printing.proofs.write_points.Statement.{statement}
 use Rattle.text_printing.proofs.write_points.Tie as tie
 
@@ -28,7 +28,7 @@ loop-holds c =
       omega arith,
       refl,
       lines-start listedPart _ _
-          (λ k. listedAt (listsIn Two [] [] [] (args .listed .now) (args .beside .now)) (args .a + k)),
+          (λ k. listedPairAt (listsIn Two [] [] [] (args .listed .now) (args .beside .now)) (args .a + k)),
     )
 
 add-write-listed : tie.Need-add-write-listed Inv-loop μ-loop
@@ -51,7 +51,7 @@ write-listed-requires c κs =
         (
           pre .1 .1 .0 _ (let lt = loop-test .taken in let g = pre .0 in let e = pre .1 .0 in omega arith),
           lines-turn-room listedPart _ _
-              (λ k. listedAt (listsIn Two [] [] [] (args .listed .now) (args .beside .now)) (args .a + k)) (loop .i)
+              (λ k. listedPairAt (listsIn Two [] [] [] (args .listed .now) (args .beside .now)) (args .a + k)) (loop .i)
               (loop .inv .2) (loop .inv .1) (loop-test .taken) (pre .1 .1 .1),
         ),
       ),
@@ -71,7 +71,7 @@ loop-again c =
           omega arith,
       c .before .before .write-listed .kept .0 ∙ loop .inv .1,
       lines-turn listedPart _ _
-          (λ k. listedAt (listsIn Two [] [] [] (args .listed .now) (args .beside .now)) (args .a + k)) (loop .i)
+          (λ k. listedPairAt (listsIn Two [] [] [] (args .listed .now) (args .beside .now)) (args .a + k)) (loop .i)
           (loop .inv .2) (c .before .before .write-listed .ensures),
     )
 
@@ -82,7 +82,7 @@ returns : tie.Need-returns Inv-loop μ-loop
 returns c =
     let args = c .before .before .before .before .before .args in
     lines-end listedPart _ _
-    (λ k. listedAt (listsIn Two [] [] [] (args .listed .now) (args .beside .now)) (args .a + k))
+    (λ k. listedPairAt (listsIn Two [] [] [] (args .listed .now) (args .beside .now)) (args .a + k))
     (c .before .loop .inv .2) (c .before .loop .inv .0) (c .loop-test .left)
 
 pub write-points-spec : {M : Type 1} → statement M

@@ -13,7 +13,7 @@ use Rattle.told_texts.proofs.faces_and_whole.Tie as tie
 use Rattle.told_texts.proofs.faces_and_whole.Reads as reads
 use Rattle.told_texts.proofs.faces_and_whole.Lts as lts
 use Rattle.told_texts.proofs.pair_spot.Reads as pair-spot-reads
-use Rattle.whole_tests.proofs.whole_verdict.Reads as whole-verdict-reads
+use Rattle.whole_tests.proofs.whole_told.Reads as whole-told-reads
 
 -- src/lib.rt:100:9
 slice-aggregate-pair-spot : tie.Need-slice-aggregate-pair-spot
@@ -46,8 +46,8 @@ array-share-prefix-mates : tie.Need-array-share-prefix-mates
 array-share-prefix-mates c = search needs
 
 -- src/lib.rt:106:53
-slice-aggregate-whole-verdict : tie.Need-slice-aggregate-whole-verdict
-slice-aggregate-whole-verdict c =
+slice-aggregate-whole-told : tie.Need-slice-aggregate-whole-told
+slice-aggregate-whole-told c =
     let c8 = c .before .before .before .before .before .before .before .before in
     let args = c8 .before .before .before .before .args in
     let pre = c8 .before .before .before .before .pre in
@@ -60,8 +60,8 @@ array-share-prefix-seconds : tie.Need-array-share-prefix-seconds
 array-share-prefix-seconds c = search needs
 
 -- src/lib.rt:106:66
-slice-aggregate-whole-verdict-2 : tie.Need-slice-aggregate-whole-verdict-2
-slice-aggregate-whole-verdict-2 c =
+slice-aggregate-whole-told-2 : tie.Need-slice-aggregate-whole-told-2
+slice-aggregate-whole-told-2 c =
     let c8 = c .before .before .before .before .before .before .before .before in
     let args = c8 .before .before .before .before .before .args in
     let pre = c8 .before .before .before .before .before .pre in
@@ -70,8 +70,8 @@ slice-aggregate-whole-verdict-2 c =
     (omega (arith, pair-spot .kept .1 .1 .1 .1 .1 .1 .0, length-replicate {A = ℕ} 16384 0, pre .few)))
 
 -- src/lib.rt:106:24
-whole-verdict-requires : tie.Need-whole-verdict-requires
-whole-verdict-requires c κs =
+whole-told-requires : tie.Need-whole-told-requires
+whole-told-requires c κs =
     let c8 = c .before .before .before .before .before .before .before .before in
     let args = c8 .before .before .before .before .before .args in
     let pre = c8 .before .before .before .before .before .pre in
@@ -113,10 +113,10 @@ returns-3 c =
     let pair-spot = c .before .before .before .before .before .before .before .pair-spot in
     λ cs h. whole-met
     (listsIn (args .version) cs (args .sides .now) (args .firsts .now) (args .listed .now) (args .beside .now))
-    (pair-spot .result) (c .whole-verdict .result) (pair-spot .ensures .0 cs h)
+    (pair-spot .result) (c .whole-told .result) (pair-spot .ensures .0 cs h)
     (c .before .before .before .enum-told .given .1)
     (whole-is (args .version) cs (args .sides .now) (args .firsts .now) (args .listed .now) (args .beside .now)
-    (c .whole-verdict .result) (c .whole-verdict .ensures cs h))
+    (c .whole-told .result) (c .whole-told .ensures cs h))
 
 pub faces-and-whole-spec : {M : Type 1} → statement M
 faces-and-whole-spec =
@@ -129,10 +129,10 @@ faces-and-whole-spec =
     enum-known-g-2
     enum-told
     array-share-prefix-mates
-    slice-aggregate-whole-verdict
+    slice-aggregate-whole-told
     array-share-prefix-seconds
-    slice-aggregate-whole-verdict-2
-    whole-verdict-requires
+    slice-aggregate-whole-told-2
+    whole-told-requires
     returns
     returns-2
     returns-3)

@@ -10,7 +10,7 @@ use Rattle.told_texts.proofs.pair_spot.Statement.{statement}
 use Rattle.told_texts.proofs.pair_spot.Tie as tie
 use Rattle.told_texts.proofs.pair_spot.Reads as reads
 use Rattle.told_texts.proofs.pair_spot.Lts as lts
-use Rattle.face_grounds.proofs.enter_faces.Reads as enter-faces-reads
+use Rattle.face_grounds.proofs.faces_spot.Reads as faces-spot-reads
 use Rattle.face_places.proofs.spread.Reads as spread-reads
 
 -- src/lib.rt:79:27
@@ -26,20 +26,20 @@ spread-requires : tie.Need-spread-requires
 spread-requires c κs = search needs
 
 -- src/lib.rt:86:9
-slice-aggregate-enter-faces : tie.Need-slice-aggregate-enter-faces
-slice-aggregate-enter-faces c = search needs
+slice-aggregate-faces-spot : tie.Need-slice-aggregate-faces-spot
+slice-aggregate-faces-spot c = search needs
 
 -- src/lib.rt:87:9
-slice-aggregate-enter-faces-2 : tie.Need-slice-aggregate-enter-faces-2
-slice-aggregate-enter-faces-2 c = search needs
+slice-aggregate-faces-spot-2 : tie.Need-slice-aggregate-faces-spot-2
+slice-aggregate-faces-spot-2 c = search needs
 
 -- src/lib.rt:88:9
-slice-aggregate-enter-faces-3 : tie.Need-slice-aggregate-enter-faces-3
-slice-aggregate-enter-faces-3 c = search needs
+slice-aggregate-faces-spot-3 : tie.Need-slice-aggregate-faces-spot-3
+slice-aggregate-faces-spot-3 c = search needs
 
 -- src/lib.rt:80:5
-enter-faces-requires : tie.Need-enter-faces-requires
-enter-faces-requires c κs =
+faces-spot-requires : tie.Need-faces-spot-requires
+faces-spot-requires c κs =
     let c8 = c .before .before .before .before .before .before .before .before in
     let args = c8 .before .before .before .before .before .before .before .before .args in
     let pre = c8 .before .before .before .before .before .before .before .before .pre in
@@ -56,11 +56,11 @@ enter-faces-requires c κs =
 
 -- src/lib.rt:58:1
 same-length : tie.Need-same-length
-same-length c = c .before .before .before .before .before .before .enter-faces .kept .1 .1 .1 .1 .1 .1 .1 .1 .0
+same-length c = c .before .before .before .before .before .before .faces-spot .kept .1 .1 .1 .1 .1 .1 .1 .1 .0
 
 -- src/lib.rt:58:1
 same-length-2 : tie.Need-same-length-2
-same-length-2 c = c .before .before .before .before .before .before .enter-faces .kept .1 .1 .1 .1 .1 .1 .1 .1 .1 .0
+same-length-2 c = c .before .before .before .before .before .before .faces-spot .kept .1 .1 .1 .1 .1 .1 .1 .1 .1 .0
 
 -- src/lib.rt:58:1
 returns : tie.Need-returns
@@ -70,14 +70,14 @@ returns c =
     let args = c16 .before .before .before .before .before .before .before .args in
     let pre = c16 .before .before .before .before .before .before .before .pre in
     let spread = c8 .before .before .before .before .before .before .spread in
-    let enter-faces = c .before .before .before .before .before .before .enter-faces in (
+    let faces-spot = c .before .before .before .before .before .before .faces-spot in (
       λ cs h. first-is (args .version) cs (args .sides .now) (args .firsts .now) (args .listed .now) (args .beside .now)
-          (enter-faces .result) (enter-faces .ensures .0 cs h),
+          (faces-spot .result) (faces-spot .ensures .0 cs h),
       λ t. pairs (args .sides .now) (args .firsts .now) (args .listed .now) (args .beside .now) (args .np) (pre .0)
-          (args .mates .now) (args .seconds .now) (pre .1) (spread .last .1 .1 .0) (enter-faces .last .1 .1 .1 .1 .1 .1 .0)
-          (enter-faces .last .1 .1 .1 .1 .1 .1 .1 .0) (enter-faces .last .1 .1 .1 .1 .1 .1 .1 .1 .0)
-          (enter-faces .last .1 .1 .1 .1 .1 .1 .1 .1 .1 .0) (spread .ensures .to)
-          (omega (arith, enter-faces .kept .1 .1 .1 .1 .1 .1 .1 .1 .1 .0, pre .1 .seconds-fit)) (enter-faces .ensures .1 t),
+          (args .mates .now) (args .seconds .now) (pre .1) (spread .last .1 .1 .0) (faces-spot .last .1 .1 .1 .1 .1 .1 .0)
+          (faces-spot .last .1 .1 .1 .1 .1 .1 .1 .0) (faces-spot .last .1 .1 .1 .1 .1 .1 .1 .1 .0)
+          (faces-spot .last .1 .1 .1 .1 .1 .1 .1 .1 .1 .0) (spread .ensures .to)
+          (omega (arith, faces-spot .kept .1 .1 .1 .1 .1 .1 .1 .1 .1 .0, pre .1 .seconds-fit)) (faces-spot .ensures .1 t),
     )
 
 pub pair-spot-spec : {M : Type 1} → statement M
@@ -87,10 +87,10 @@ pair-spot-spec =
     slice-aggregate-spread
     slice-aggregate-spread-2
     spread-requires
-    slice-aggregate-enter-faces
-    slice-aggregate-enter-faces-2
-    slice-aggregate-enter-faces-3
-    enter-faces-requires
+    slice-aggregate-faces-spot
+    slice-aggregate-faces-spot-2
+    slice-aggregate-faces-spot-3
+    faces-spot-requires
     same-length
     same-length-2
     returns)

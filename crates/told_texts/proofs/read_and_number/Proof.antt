@@ -12,7 +12,7 @@ use Rattle.told_texts.proofs.read_and_number.Tie as tie
 use Rattle.told_texts.proofs.read_and_number.Reads as reads
 use Rattle.told_texts.proofs.read_and_number.Lts as lts
 use Rattle.building_tests.proofs.Bounds.most.Reads as most-reads
-use Rattle.mesh_text.proofs.read_text.Reads as read-text-reads
+use Rattle.text_reading.proofs.read_text.Reads as read-text-reads
 use Rattle.told_texts.proofs.number_first.Reads as number-first-reads
 
 -- src/lib.rt:202:9
