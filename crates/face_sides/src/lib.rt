@@ -46,7 +46,10 @@ fn listed_points(s: &[u8], at: usize, ps: &mut [u32], ds: &mut [f64], n: usize) 
     requires { ⌜ (at ≤ length (now s)) × (n ≤ at) ⌝ }
     ensures run { λ r. ⌜ r ≡ runAnswer length (many (now (s .entry)) (bytes " [") (listedForm (now (s .entry))) (length (now (s .entry))) at) ⌝ }
     ensures points { λ r. ⌜ AtRun r (now (ps .exit) ≡ stored pointsIn (now (ps .entry)) n (many (now (s .entry)) (bytes " [") (listedForm (now (s .entry))) (length (now (s .entry))) at)) ⌝ }
-    ensures intervals { λ r. ⌜ AtRun r (now (ds .exit) ≡ stored intervalsIn (now (ds .entry)) n (many (now (s .entry)) (bytes " [") (listedForm (now (s .entry))) (length (now (s .entry))) at)) ⌝ }
+    ensures intervals { λ r. ⌜
+        AtRun r
+        (now (ds .exit)
+        ≡ stored intervalsIn (now (ds .entry)) n (many (now (s .entry)) (bytes " [") (listedForm (now (s .entry))) (length (now (s .entry))) at)) ⌝ }
 {
     let mut i = at;
     let mut k: usize = 0;

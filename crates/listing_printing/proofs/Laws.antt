@@ -125,7 +125,8 @@ module _ {A : Type 0} (f : A → List ℕ) (out₀ : List ℕ) (at : ℕ) where
       lines-turn v = written-same (sym (lines-more f g p)) (written-append w v)
 
 -- a line: its head, two runs of fields, its end
-pub line-of : {out : List ℕ} {at : ℕ} {a : List ℕ} {i : ℕ} {o1 : List ℕ} {b b′ : List ℕ} {j : ℕ} {o2 : List ℕ} {c c′ : List ℕ} {k : ℕ} {o3 : List ℕ} {d : List ℕ} {r : ℕ} {o4 : List ℕ}
+pub line-of : {out : List ℕ} {at : ℕ} {a : List ℕ} {i : ℕ} {o1 : List ℕ} {b b′ : List ℕ} {j : ℕ} {o2 : List ℕ}
+    {c c′ : List ℕ} {k : ℕ} {o3 : List ℕ} {d : List ℕ} {r : ℕ} {o4 : List ℕ}
     → Written out at a i o1 → Written o1 i b j o2 → Written o2 j c k o3 → Written o3 k d r o4 → b ≡ b′ → c ≡ c′
     → Written out at (a ++ ((b′ ++ c′) ++ d)) r o4
 line-of wa wb wc wd eb ec = written-append wa (written-append (written-append (written-same eb wb) (written-same ec wc)) wd)

@@ -80,7 +80,8 @@ module _ (c : Counts) (m : Mesh) where
 
   -- how long the listing is
   pub length-parts : length (listingOf m c)
-      ≡ 9 + (length (flat pointLine (upTo (c .points) (pointLineRow m))) + (length (flat edgeLine (upTo (c .edges) (edgeLineRow m))) + (length (flat faceLine (upTo (c .faces) (faceLineRow m))) + 6)))
+      ≡ 9 + (length (flat pointLine (upTo (c .points) (pointLineRow m))) + (length (flat edgeLine (upTo (c .edges) (edgeLineRow m)))
+      + (length (flat faceLine (upTo (c .faces) (faceLineRow m))) + 6)))
   length-parts =
       let p = flat pointLine (upTo (c .points) (pointLineRow m)) in
       let e = flat edgeLine (upTo (c .edges) (edgeLineRow m)) in

@@ -47,10 +47,10 @@ pub fn put_number(xs: &mut [f64], i: usize, x: f64)
 }
 
 // Stores a word, where the list has such a row.
-pub fn put_word(xs: &mut [u32], i: usize, x: u32)
-    ensures { λ r. ⌜ now (xs .exit) ≡ set (now (xs .entry)) i x ⌝ }
+pub fn put_word(xs: &mut [u32], i: usize, word: u32)
+    ensures { λ r. ⌜ now (xs .exit) ≡ set (now (xs .entry)) i word ⌝ }
 {
     if i < xs.len() {
-        xs[i] = x;
+        xs[i] = word;
     }
 }

@@ -18,7 +18,9 @@ use Rattle.listing_printing.proofs.write_points.Lts as lts
 use Rattle.listing_printing.proofs.write_point.Reads as write-point-reads
 
 abbrev Inv-loop : tie.InvT-loop
-Inv-loop out₀ at positions points n i₀ p₀ out i p = (p ≤ n) × (length out ≡ length out₀) × Written out₀ at (flat pointLine (upTo p (pointLineRow (meshOf positions points [] [] [])))) i out
+Inv-loop out₀ at positions points n i₀ p₀ out i p =
+    (p ≤ n) × (length out ≡ length out₀)
+    × Written out₀ at (flat pointLine (upTo p (pointLineRow (meshOf positions points [] [] [])))) i out
 
 abbrev μ-loop : tie.MeasureT-loop
 μ-loop out₀ at positions points n i₀ p₀ out i p = n - p

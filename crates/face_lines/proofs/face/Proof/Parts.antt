@@ -24,7 +24,8 @@ module _ (s : List ℕ) (at : ℕ) where
       let a = run-of listedIn (times 4 (sideForm s) at) (sym er ∙ ec) in
       takes-sides s at h (a .0) i (a .1) .1
 
-  pub no-end : {r : Run} {c i : ℕ} → r ≡ runAnswer listedIn (times 4 (sideForm s) at) → r ≡ Run.Of c i → stands s i (bytes "]\n") ≡ false → Run.None ≡ runAnswer listedIn (faceForm s at)
+  pub no-end : {r : Run} {c i : ℕ} → r ≡ runAnswer listedIn (times 4 (sideForm s) at) → r ≡ Run.Of c i → stands s i (bytes "]\n") ≡ false
+      → Run.None ≡ runAnswer listedIn (faceForm s at)
   unfolding faceForm
   no-end {r} {c} {i} er ec es = rw (run-of listedIn (times 4 (sideForm s) at) (sym er ∙ ec) .1, literal-none s (bytes "]\n") i es)
 
