@@ -120,7 +120,7 @@ fn middle_point(positions: &[f64], edges: &[u32], intervals: &[f64], e: usize) -
 }
 
 // The edge point of edge e, from its m and the face points that stand in the new table of positions.
-fn edge_point(
+pub fn edge_point(
     edges: &[u32],
     intervals: &[f64],
     newpositions: &[f64],
