@@ -35,7 +35,8 @@ use Rattle.steps.proofs.SameRefinement.{faces-fewer}
 use Rattle.settling.specs.Settling.{SidesFit, edgeRowsOf}
 use Rattle.position_rules.specs.Fits.{EdgesFit, NewPointsFit}
 use Rattle.position_rules.proofs.Audited.{edges-fit as rows-fit, face-point-fits, edge-point-fits, old-point-fits}
-use Rattle.placing.specs.Placing.{came, FacePointsFit, EdgePointsFit, OldPointsFit, MidRows, refinedTables}
+use Rattle.placing.specs.Placing.{came, FacePointsFit, EdgePointsFit, OldPointsFit, refinedTables}
+use Rattle.edition_points.specs.Over.{MidRows}
 use Rattle.steps.specs.Positions.{placedAll}
 use Rattle.steps.specs.Step.{refinedCounts, madeOf, placedRows, made}
 use Rattle.steps.proofs.NewPositions.{PointRows}

@@ -10,7 +10,7 @@ use Rattle.making.proofs.make_first.Statement.{statement}
 use Rattle.making.proofs.make_first.Tie as tie
 use Rattle.making.proofs.make_first.Reads as reads
 use Rattle.making.proofs.make_first.Lts as lts
-use Rattle.placing.proofs.place_first.Reads as place-first-reads
+use Rattle.edition_points.proofs.place_first.Reads as place-first-reads
 use Rattle.visiting.proofs.refined_rows.Reads as refined-rows-reads
 
 -- src/lib.rt:52:5

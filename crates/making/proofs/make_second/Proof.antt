@@ -9,7 +9,7 @@ use Rattle.making.proofs.make_second.Statement.{statement}
 use Rattle.making.proofs.make_second.Tie as tie
 use Rattle.making.proofs.make_second.Reads as reads
 use Rattle.making.proofs.make_second.Lts as lts
-use Rattle.placing.proofs.place_second.Reads as place-second-reads
+use Rattle.edition_points.proofs.place_second.Reads as place-second-reads
 use Rattle.settling.proofs.settle_joins.Reads as settle-joins-reads
 use Rattle.settling_starts.proofs.settle_starts.Reads as settle-starts-reads
 use Rattle.visiting.proofs.refined_rows.Reads as refined-rows-reads

@@ -11,12 +11,13 @@ use Rattle.positions.specs.Position.{placedAt}
 use Rattle.tables.specs.Records.{positionAt}
 use Rattle.tables.proofs.Laws.{length-putRow}
 use Rattle.steps.specs.Positions.{so-far, placedBy}
-use Rattle.placing.specs.Placing.{MiddlesThere}
-use Rattle.placing.proofs.Laws.{placed-more, placed-ends, overRow, overRule, point-over}
-use Rattle.placing.proofs.place_over.Statement.{statement}
-use Rattle.placing.proofs.place_over.Tie as tie
-use Rattle.placing.proofs.place_over.Reads as reads
-use Rattle.placing.proofs.place_over.Lts as lts
+use Rattle.edition_points.specs.Over.{MiddlesThere}
+use Rattle.edition_points.proofs.Laws.{overRow, overRule, point-over}
+use Rattle.placing.proofs.Laws.{placed-more, placed-ends}
+use Rattle.edition_points.proofs.place_over.Statement.{statement}
+use Rattle.edition_points.proofs.place_over.Tie as tie
+use Rattle.edition_points.proofs.place_over.Reads as reads
+use Rattle.edition_points.proofs.place_over.Lts as lts
 use Rattle.edge_points.proofs.edge_point.Reads as edge-point-reads
 use Rattle.positions.proofs.Position.placed.Reads as placed-reads
 use Rattle.records.proofs.load_position.Reads as load-position-reads

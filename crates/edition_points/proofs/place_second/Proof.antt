@@ -1,17 +1,17 @@
 -- place_second meets its contract: m stands in the rows of the edge points when these are put over it.
-use Rattle.placing.proofs.Laws.{second-stopped, second-placed, middles-there, over-fits}
+use Rattle.edition_points.proofs.Laws.{second-stopped, second-placed, middles-there, over-fits}
 use Rattle.placing.specs.Placing.{came, refinedTables}
 use Rattle.tables.specs.Mesh.{Mesh, meshOf}
 use mathlib.Core.Bool.{Bool}
 use mathlib.Core.Path.{_∙_, ap}
 use borrow.Author.Tests.{not-true, not-false}
 use borrow.Author.Needs.{needs}
-use Rattle.placing.proofs.place_second.Statement.{statement}
-use Rattle.placing.proofs.place_second.Tie as tie
-use Rattle.placing.proofs.place_second.Reads as reads
-use Rattle.placing.proofs.place_second.Lts as lts
-use Rattle.placing.proofs.place_over.Reads as place-over-reads
-use Rattle.placing.proofs.place_three.Reads as place-three-reads
+use Rattle.edition_points.proofs.place_second.Statement.{statement}
+use Rattle.edition_points.proofs.place_second.Tie as tie
+use Rattle.edition_points.proofs.place_second.Reads as reads
+use Rattle.edition_points.proofs.place_second.Lts as lts
+use Rattle.edition_points.proofs.place_over.Reads as place-over-reads
+use Rattle.edition_points.proofs.place_three.Reads as place-three-reads
 
 -- src/lib.rt:326:9
 place-three-requires : tie.Need-place-three-requires

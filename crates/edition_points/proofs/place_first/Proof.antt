@@ -1,14 +1,14 @@
 -- place_first meets its contract: nothing is put over the edge points.
-use Rattle.placing.proofs.Laws.{first-placed}
+use Rattle.edition_points.proofs.Laws.{first-placed}
 use Rattle.placing.specs.Placing.{refinedTables}
 use Rattle.tables.specs.Mesh.{meshOf}
 use mathlib.Core.Path.{_∙_}
 use borrow.Author.Needs.{needs}
-use Rattle.placing.proofs.place_first.Statement.{statement}
-use Rattle.placing.proofs.place_first.Tie as tie
-use Rattle.placing.proofs.place_first.Reads as reads
-use Rattle.placing.proofs.place_first.Lts as lts
-use Rattle.placing.proofs.place_three.Reads as place-three-reads
+use Rattle.edition_points.proofs.place_first.Statement.{statement}
+use Rattle.edition_points.proofs.place_first.Tie as tie
+use Rattle.edition_points.proofs.place_first.Reads as reads
+use Rattle.edition_points.proofs.place_first.Lts as lts
+use Rattle.edition_points.proofs.place_three.Reads as place-three-reads
 
 -- src/lib.rt:288:5
 place-three-requires : tie.Need-place-three-requires

@@ -1,18 +1,19 @@
 -- place_three meets its contract: the loops one after the other.
-use Rattle.placing.proofs.Laws.{faces-placed, stopped-at-faces, stopped-at-edges, three-placed, edges-fit-length, points-fit-length}
+use Rattle.edition_points.proofs.Laws.{faces-placed, stopped-at-faces, stopped-at-edges, three-placed}
+use Rattle.placing.proofs.Laws.{edges-fit-length, points-fit-length}
 use Rattle.placing.specs.Placing.{came, refinedTables}
 use Rattle.tables.specs.Mesh.{Mesh, meshOf}
 use mathlib.Core.Bool.{Bool}
 use mathlib.Core.Path.{_∙_, ap}
 use borrow.Author.Tests.{not-true, not-false}
 use borrow.Author.Needs.{needs}
-use Rattle.placing.proofs.place_three.Statement.{statement}
-use Rattle.placing.proofs.place_three.Tie as tie
-use Rattle.placing.proofs.place_three.Reads as reads
-use Rattle.placing.proofs.place_three.Lts as lts
+use Rattle.edition_points.proofs.place_three.Statement.{statement}
+use Rattle.edition_points.proofs.place_three.Tie as tie
+use Rattle.edition_points.proofs.place_three.Reads as reads
+use Rattle.edition_points.proofs.place_three.Lts as lts
 use Rattle.placing.proofs.place_face_points.Reads as place-face-points-reads
 use Rattle.placing.proofs.place_old_points.Reads as place-old-points-reads
 use Rattle.placing.proofs.place_weighted_points.Reads as place-weighted-points-reads
 
 -- src/lib.rt:191:9
 place-face-points-requires : tie.Need-place-face-points-requires
