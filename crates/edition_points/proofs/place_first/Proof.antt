@@ -6,19 +6,13 @@ use mathlib.Core.Path.{_∙_}
 use borrow.Author.Needs.{needs}
 use Rattle.edition_points.proofs.place_first.Statement.{statement}
 use Rattle.edition_points.proofs.place_first.Tie as tie
-use Rattle.edition_points.proofs.place_first.Reads as reads
-use Rattle.edition_points.proofs.place_first.Lts as lts
-use Rattle.edition_points.proofs.place_three.Reads as place-three-reads
 
--- src/lib.rt:288:5
 place-three-requires : tie.Need-place-three-requires
 place-three-requires c κs = search needs
 
--- src/lib.rt:266:1
 same-length : tie.Need-same-length
 same-length c = search needs
 
--- src/lib.rt:266:1
 returns : tie.Need-returns
 returns c =
     let c8 = c .before .before .before .before .before .before .before .before in

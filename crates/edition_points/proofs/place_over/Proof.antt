@@ -16,13 +16,6 @@ use Rattle.edition_points.proofs.Laws.{overRow, overRule, point-over}
 use Rattle.placing.proofs.Laws.{placed-more, placed-ends}
 use Rattle.edition_points.proofs.place_over.Statement.{statement}
 use Rattle.edition_points.proofs.place_over.Tie as tie
-use Rattle.edition_points.proofs.place_over.Reads as reads
-use Rattle.edition_points.proofs.place_over.Lts as lts
-use Rattle.edge_points.proofs.edge_point.Reads as edge-point-reads
-use Rattle.positions.proofs.Position.placed.Reads as placed-reads
-use Rattle.records.proofs.load_position.Reads as load-position-reads
-use Rattle.records.proofs.store_position.Reads as store-position-reads
-use Rattle.tables.proofs.index.Reads as index-reads
 
 abbrev Inv-loop : tie.InvT-loop
 Inv-loop edges intervals ne newedges newfaces newpositions₀ e₀ newpositions e =
@@ -33,12 +26,10 @@ Inv-loop edges intervals ne newedges newfaces newpositions₀ e₀ newpositions 
 abbrev μ-loop : tie.MeasureT-loop
 μ-loop edges intervals ne newedges newfaces newpositions₀ e₀ newpositions e = ne - e
 
--- src/lib.rt:246:5
 loop-holds : tie.Need-loop-holds Inv-loop μ-loop
 loop-holds c =
     (omega arith, refl, λ ps there. unfold placedBy in refl)
 
--- src/lib.rt:247:34
 mul-index : tie.Need-mul-index Inv-loop μ-loop
 mul-index c =
     omega (
@@ -46,7 +37,6 @@ mul-index c =
       c .before .before .before .before .before .before .before .pre .row-there (c .before .loop .e) (omega arith),
     )
 
--- src/lib.rt:247:34
 add-index : tie.Need-add-index Inv-loop μ-loop
 add-index c =
     omega (
@@ -54,7 +44,6 @@ add-index c =
       c .before .before .before .before .before .before .before .pre .row-there (c .before .loop .e) (omega arith),
     )
 
--- src/lib.rt:247:25
 mul-index-2 : tie.Need-mul-index-2 Inv-loop μ-loop
 mul-index-2 c =
     omega (
@@ -62,24 +51,20 @@ mul-index-2 c =
       c .before .before .before .before .before .before .before .pre .row-there (c .before .loop .e) (omega arith),
     )
 
--- src/lib.rt:247:25
 shared-slice-read-index : tie.Need-shared-slice-read-index Inv-loop μ-loop
 shared-slice-read-index c =
     let pre = c .before .before .before .before .before .before .before .before .pre in
     omega (arith, pre .row-there (c .before .before .loop .e) (omega arith))
 
--- src/lib.rt:247:13
 index-requires : tie.Need-index-requires Inv-loop μ-loop
 index-requires c κs = search needs
 
--- src/lib.rt:248:13
 load-position-requires : tie.Need-load-position-requires Inv-loop μ-loop
 load-position-requires c κs =
     let pre = c .before .before .before .before .before .before .before .before .before .before .pre in
     let loop = c .before .before .before .before .loop in
     omega (arith, c .before .index .ensures, loop .inv .1, pre .place-there (loop .e) (omega arith))
 
--- src/lib.rt:249:35
 edge-point-requires : tie.Need-edge-point-requires Inv-loop μ-loop
 edge-point-requires c κs =
     let c8 = c .before .before .before .before .before .before .before .before in
@@ -87,23 +72,18 @@ edge-point-requires c κs =
     let loop = c .before .before .before .before .before .before .loop in
     pre .sides-there (loop .newpositions) (loop .inv .1) (loop .e) (omega arith)
 
--- src/lib.rt:249:35
 placed-requires : tie.Need-placed-requires Inv-loop μ-loop
 placed-requires c κs = search needs
 
--- src/lib.rt:249:24
 enum-known-x : tie.Need-enum-known-x Inv-loop μ-loop
 enum-known-x c = search needs
 
--- src/lib.rt:257:13
 enum-told : tie.Need-enum-told Inv-loop μ-loop
 enum-told c = search needs
 
--- src/lib.rt:257:13
 same-length : tie.Need-same-length Inv-loop μ-loop
 same-length c = search needs
 
--- src/lib.rt:257:13
 returns : tie.Need-returns Inv-loop μ-loop
 returns c =
     let c8 = c .before .before .before .before .before .before .before .before in
@@ -124,7 +104,6 @@ returns c =
     (loop .e) (loop .newpositions) (omega arith) (loop .inv .2 ps there)
     (ap placedAt (made ps there) ∙ sym (c .before .before .placed .ensures) ∙ c .enum-told .given .1)
 
--- src/lib.rt:259:9
 store-position-requires : tie.Need-store-position-requires Inv-loop μ-loop
 store-position-requires c κs =
     let c8 = c .before .before .before .before .before .before .before .before in
@@ -133,15 +112,12 @@ store-position-requires c κs =
     omega
     (arith, c8 .before .index .ensures, loop .inv .1, c16 .before .before .pre .place-there (loop .e) (omega arith))
 
--- src/lib.rt:260:9
 add-e : tie.Need-add-e Inv-loop μ-loop
 add-e c = search needs
 
--- src/lib.rt:246:5
 loop-less : tie.Need-loop-less Inv-loop μ-loop
 loop-less c = search needs
 
--- src/lib.rt:246:5
 loop-again : tie.Need-loop-again Inv-loop μ-loop
 loop-again c =
     let c8 = c .before .before .before .before .before .before .before .before in
@@ -169,11 +145,9 @@ loop-again c =
           (so-far (a .newpositions .now)) (loop .e) (loop .newpositions) (loop .inv .2 ps there) (ap placedAt (made ps there) ∙ told)),
     )
 
--- src/lib.rt:228:1
 same-length-2 : tie.Need-same-length-2 Inv-loop μ-loop
 same-length-2 c = search needs
 
--- src/lib.rt:228:1
 returns-2 : tie.Need-returns-2 Inv-loop μ-loop
 returns-2 c =
     let a = c .before .before .before .before .before .before .before .args in

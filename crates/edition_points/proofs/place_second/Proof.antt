@@ -8,20 +8,13 @@ use borrow.Author.Tests.{not-true, not-false}
 use borrow.Author.Needs.{needs}
 use Rattle.edition_points.proofs.place_second.Statement.{statement}
 use Rattle.edition_points.proofs.place_second.Tie as tie
-use Rattle.edition_points.proofs.place_second.Reads as reads
-use Rattle.edition_points.proofs.place_second.Lts as lts
-use Rattle.edition_points.proofs.place_over.Reads as place-over-reads
-use Rattle.edition_points.proofs.place_three.Reads as place-three-reads
 
--- src/lib.rt:326:9
 place-three-requires : tie.Need-place-three-requires
 place-three-requires c κs = search needs
 
--- src/lib.rt:338:9
 same-length : tie.Need-same-length
 same-length c = search needs
 
--- src/lib.rt:338:9
 returns : tie.Need-returns
 returns c =
     let c8 = c .before .before .before .before .before .before .before .before in
@@ -33,7 +26,6 @@ returns c =
     second-stopped m (a .counts) s (a .newpositions .now)
     (three .ensures ∙ ap (λ (b : Bool). came b left) (not-true (three .result) (c .if1 .taken)))
 
--- src/lib.rt:340:5
 place-over-requires : tie.Need-place-over-requires
 place-over-requires c κs =
     let c8 = c .before .before .before .before .before .before .before .before in
@@ -41,11 +33,9 @@ place-over-requires c κs =
     over-fits (c .before .before .before .before .place-three .kept .1 .1 .1 .1 .1 .1 .1 .1 .0) (pre .1 .0)
     (pre .1 .1 .1)
 
--- src/lib.rt:303:1
 same-length-2 : tie.Need-same-length-2
 same-length-2 c = search needs
 
--- src/lib.rt:303:1
 returns-2 : tie.Need-returns-2
 returns-2 c =
     let c8 = c .before .before .before .before .before .before .before .before in

@@ -9,21 +9,13 @@ use borrow.Author.Tests.{not-true, not-false}
 use borrow.Author.Needs.{needs}
 use Rattle.edition_points.proofs.place_three.Statement.{statement}
 use Rattle.edition_points.proofs.place_three.Tie as tie
-use Rattle.edition_points.proofs.place_three.Reads as reads
-use Rattle.edition_points.proofs.place_three.Lts as lts
-use Rattle.placing.proofs.place_face_points.Reads as place-face-points-reads
-use Rattle.placing.proofs.place_old_points.Reads as place-old-points-reads
-use Rattle.placing.proofs.place_weighted_points.Reads as place-weighted-points-reads
 
--- src/lib.rt:191:9
 place-face-points-requires : tie.Need-place-face-points-requires
 place-face-points-requires c κs = search needs
 
--- src/lib.rt:201:9
 same-length : tie.Need-same-length
 same-length c = search needs
 
--- src/lib.rt:201:9
 returns : tie.Need-returns
 returns c =
     let c8 = c .before .before .before .before .before .before .before .before in
@@ -36,18 +28,15 @@ returns c =
     (faces-placed m (a .counts) s _
     (one .ensures ∙ ap (λ (b : Bool). came b left) (not-true (one .result) (c .if1 .taken))))
 
--- src/lib.rt:203:9
 place-weighted-points-requires : tie.Need-place-weighted-points-requires
 place-weighted-points-requires c κs =
     let c8 = c .before .before .before .before .before .before .before .before in
     let pre = c8 .before .before .before .before .before .before .pre in
     edges-fit-length (c .before .before .before .before .place-face-points .kept .1 .1 .1 .1 .1 .1 .1 .0) (pre .1 .0)
 
--- src/lib.rt:213:9
 same-length-2 : tie.Need-same-length-2
 same-length-2 c = search needs
 
--- src/lib.rt:213:9
 returns-2 : tie.Need-returns-2
 returns-2 c =
     let c8 = c .before .before .before .before .before .before .before .before in
@@ -64,7 +53,6 @@ returns-2 c =
     ∙ ap (λ (b : Bool). came b left) (not-false (one .result) (c .before .before .before .before .before .if1 .left))))
     (two .ensures ∙ ap (λ (b : Bool). came b left2) (not-true (two .result) (c .if2 .taken)))
 
--- src/lib.rt:215:5
 place-old-points-requires : tie.Need-place-old-points-requires
 place-old-points-requires c κs =
     let c8 = c .before .before .before .before .before .before .before .before in
@@ -73,11 +61,9 @@ place-old-points-requires c κs =
     points-fit-length (c .before .before .before .before .place-weighted-points .kept .1 .1 .1 .1 .1 .1 .0
     ∙ c8 .before .place-face-points .kept .1 .1 .1 .1 .1 .1 .1 .0) (pre .1 .1)
 
--- src/lib.rt:168:1
 same-length-3 : tie.Need-same-length-3
 same-length-3 c = search needs
 
--- src/lib.rt:168:1
 returns-3 : tie.Need-returns-3
 returns-3 c =
     let c8 = c .before .before .before .before .before .before .before .before in

@@ -5,48 +5,34 @@ use Rattle.tables.specs.Mesh.{Mesh, meshOf}
 use borrow.Author.Needs.{needs}
 use Rattle.making.proofs.make.Statement.{statement}
 use Rattle.making.proofs.make.Tie as tie
-use Rattle.making.proofs.make.Reads as reads
-use Rattle.making.proofs.make.Lts as lts
-use Rattle.making.proofs.make_first.Reads as make-first-reads
-use Rattle.making.proofs.make_second.Reads as make-second-reads
 
--- src/lib.rt:174:13
 enum-told : tie.Need-enum-told
 enum-told c = search needs
 
--- src/lib.rt:166:27
 make-first-requires : tie.Need-make-first-requires
 make-first-requires c κs = search needs
 
--- src/lib.rt:188:13
 enum-told-2 : tie.Need-enum-told-2
 enum-told-2 c = search needs
 
--- src/lib.rt:180:28
 make-second-requires : tie.Need-make-second-requires
 make-second-requires c κs = search needs
 
--- src/lib.rt:139:1
 same-length : tie.Need-same-length
 same-length c = search needs
 
--- src/lib.rt:139:1
 same-length-2 : tie.Need-same-length-2
 same-length-2 c = search needs
 
--- src/lib.rt:139:1
 same-length-3 : tie.Need-same-length-3
 same-length-3 c = search needs
 
--- src/lib.rt:139:1
 same-length-4 : tie.Need-same-length-4
 same-length-4 c = search needs
 
--- src/lib.rt:139:1
 same-length-5 : tie.Need-same-length-5
 same-length-5 c = search needs
 
--- src/lib.rt:139:1
 returns : tie.Need-returns
 returns c =
     let c8 = c .before .before .before .before .before .before .before .before in
@@ -59,27 +45,21 @@ returns c =
     ap (λ k. made k m (a .counts) (a .order .now) t) (c16 .enum-told .given .1)
     ∙ c8 .before .before .make-first .ensures
 
--- src/lib.rt:139:1
 same-length-6 : tie.Need-same-length-6
 same-length-6 c = search needs
 
--- src/lib.rt:139:1
 same-length-7 : tie.Need-same-length-7
 same-length-7 c = search needs
 
--- src/lib.rt:139:1
 same-length-8 : tie.Need-same-length-8
 same-length-8 c = search needs
 
--- src/lib.rt:139:1
 same-length-9 : tie.Need-same-length-9
 same-length-9 c = search needs
 
--- src/lib.rt:139:1
 same-length-10 : tie.Need-same-length-10
 same-length-10 c = search needs
 
--- src/lib.rt:139:1
 returns-2 : tie.Need-returns-2
 returns-2 c =
     let c8 = c .before .before .before .before .before .before .before .before in

@@ -8,12 +8,7 @@ use Rattle.tables.specs.Mesh.{Mesh, meshOf}
 use borrow.Author.Needs.{needs}
 use Rattle.making.proofs.make_first.Statement.{statement}
 use Rattle.making.proofs.make_first.Tie as tie
-use Rattle.making.proofs.make_first.Reads as reads
-use Rattle.making.proofs.make_first.Lts as lts
-use Rattle.edition_points.proofs.place_first.Reads as place-first-reads
-use Rattle.visiting.proofs.refined_rows.Reads as refined-rows-reads
 
--- src/lib.rt:52:5
 refined-rows-requires : tie.Need-refined-rows-requires
 refined-rows-requires c κs =
     let c8 = c .before .before .before .before .before .before .before .before in
@@ -26,7 +21,6 @@ refined-rows-requires c κs =
       (new-rows-hold m (a .counts) (a .order .now) t pre, visits-fit m (a .counts) (a .order .now) t pre),
     )
 
--- src/lib.rt:64:5
 place-first-requires : tie.Need-place-first-requires
 place-first-requires c κs =
     let c8 = c .before .before .before .before .before .before .before .before in
@@ -44,27 +38,21 @@ place-first-requires c κs =
     (v .kept .1 .1 .1 .1 .1 .0) (v .kept .1 .1 .1 .1 .1 .1 .1 .0) in
     (fit .0, (fit .1, fit .2))
 
--- src/lib.rt:27:1
 same-length : tie.Need-same-length
 same-length c = search needs
 
--- src/lib.rt:27:1
 same-length-2 : tie.Need-same-length-2
 same-length-2 c = search needs
 
--- src/lib.rt:27:1
 same-length-3 : tie.Need-same-length-3
 same-length-3 c = search needs
 
--- src/lib.rt:27:1
 same-length-4 : tie.Need-same-length-4
 same-length-4 c = search needs
 
--- src/lib.rt:27:1
 same-length-5 : tie.Need-same-length-5
 same-length-5 c = search needs
 
--- src/lib.rt:27:1
 returns : tie.Need-returns
 returns c =
     let c8 = c .before .before .before .before .before .before .before .before in

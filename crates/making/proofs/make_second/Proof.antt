@@ -7,14 +7,7 @@ use Rattle.tables.specs.Mesh.{Mesh, meshOf}
 use borrow.Author.Needs.{needs}
 use Rattle.making.proofs.make_second.Statement.{statement}
 use Rattle.making.proofs.make_second.Tie as tie
-use Rattle.making.proofs.make_second.Reads as reads
-use Rattle.making.proofs.make_second.Lts as lts
-use Rattle.edition_points.proofs.place_second.Reads as place-second-reads
-use Rattle.settling.proofs.settle_joins.Reads as settle-joins-reads
-use Rattle.settling_starts.proofs.settle_starts.Reads as settle-starts-reads
-use Rattle.visiting.proofs.refined_rows.Reads as refined-rows-reads
 
--- src/lib.rt:103:5
 refined-rows-requires : tie.Need-refined-rows-requires
 refined-rows-requires c κs =
     let c8 = c .before .before .before .before .before .before .before .before in
@@ -27,7 +20,6 @@ refined-rows-requires c κs =
       (new-rows-hold m (a .counts) (a .order .now) t pre, visits-fit m (a .counts) (a .order .now) t pre),
     )
 
--- src/lib.rt:115:5
 settle-joins-requires : tie.Need-settle-joins-requires
 settle-joins-requires c κs =
     let c8 = c .before .before .before .before .before .before .before .before in
@@ -43,7 +35,6 @@ settle-joins-requires c κs =
     sides-fit m (a .counts) (a .order .now) t (c24 .before .before .pre) s
     (v .ensures (a .positions .now) (a .newpositions .now))
 
--- src/lib.rt:116:5
 settle-starts-requires : tie.Need-settle-starts-requires
 settle-starts-requires c κs =
     let c8 = c .before .before .before .before .before .before .before .before in
@@ -59,7 +50,6 @@ settle-starts-requires c κs =
     (v .last .1 .1 .1 .1 .1 .1 .1 .0) (v .result) in
     starts-fit m (a .counts) (a .order .now) t (pre) s (v .ensures (a .positions .now) (a .newpositions .now))
 
--- src/lib.rt:125:5
 place-second-requires : tie.Need-place-second-requires
 place-second-requires c κs =
     let c8 = c .before .before .before .before .before .before .before .before in
@@ -83,27 +73,21 @@ place-second-requires c κs =
       ),
     )
 
--- src/lib.rt:78:1
 same-length : tie.Need-same-length
 same-length c = search needs
 
--- src/lib.rt:78:1
 same-length-2 : tie.Need-same-length-2
 same-length-2 c = search needs
 
--- src/lib.rt:78:1
 same-length-3 : tie.Need-same-length-3
 same-length-3 c = search needs
 
--- src/lib.rt:78:1
 same-length-4 : tie.Need-same-length-4
 same-length-4 c = search needs
 
--- src/lib.rt:78:1
 same-length-5 : tie.Need-same-length-5
 same-length-5 c = search needs
 
--- src/lib.rt:78:1
 returns : tie.Need-returns
 returns c =
     let c8 = c .before .before .before .before .before .before .before .before in

@@ -3,25 +3,18 @@ use borrow.Author.Needs.{needs}
 use Rattle.settling.proofs.Laws.{side-fit-length, both-settled}
 use Rattle.settling.proofs.settle_joins.Statement.{statement}
 use Rattle.settling.proofs.settle_joins.Tie as tie
-use Rattle.settling.proofs.settle_joins.Reads as reads
-use Rattle.settling.proofs.settle_joins.Lts as lts
-use Rattle.settling.proofs.settle_side.Reads as settle-side-reads
 
--- src/lib.rt:64:13
 settle-side-requires : tie.Need-settle-side-requires
 settle-side-requires c κs = search needs
 
--- src/lib.rt:74:13
 settle-side-requires-2 : tie.Need-settle-side-requires-2
 settle-side-requires-2 c κs =
     let pre = c .before .before .before .before .before .before .before .before .before .pre in
     side-fit-length (c .before .before .before .settle-side .kept .1 .1 .1 .1 .0) (pre .right)
 
--- src/lib.rt:47:1
 same-length : tie.Need-same-length
 same-length c = search needs
 
--- src/lib.rt:47:1
 returns : tie.Need-returns
 returns c =
     let c8 = c .before .before .before .before .before .before .before .before in

@@ -4,23 +4,15 @@ use mathlib.Core.Path.{_∙_}
 use Rattle.settling_starts.proofs.Laws.{mids-length, centres-length, all-settled}
 use Rattle.settling_starts.proofs.settle_starts.Statement.{statement}
 use Rattle.settling_starts.proofs.settle_starts.Tie as tie
-use Rattle.settling_starts.proofs.settle_starts.Reads as reads
-use Rattle.settling_starts.proofs.settle_starts.Lts as lts
-use Rattle.settling_starts.proofs.settle_centres.Reads as settle-centres-reads
-use Rattle.settling_starts.proofs.settle_mids.Reads as settle-mids-reads
-use Rattle.settling_starts.proofs.settle_olds.Reads as settle-olds-reads
 
--- src/lib.rt:144:13
 settle-olds-requires : tie.Need-settle-olds-requires
 settle-olds-requires c κs = search needs
 
--- src/lib.rt:145:13
 settle-mids-requires : tie.Need-settle-mids-requires
 settle-mids-requires c κs =
     let pre = c .before .before .before .before .before .before .before .before .before .before .before .pre in
     mids-length (c .before .before .before .settle-olds .kept .1 .1 .1 .1 .0) (pre .mids)
 
--- src/lib.rt:146:13
 settle-centres-requires : tie.Need-settle-centres-requires
 settle-centres-requires c κs =
     let c8 = c .before .before .before .before .before .before .before .before in
@@ -28,11 +20,9 @@ settle-centres-requires c κs =
     centres-length (c .before .before .before .settle-mids .kept .1 .1 .0
     ∙ c .before .before .before .before .before .before .before .settle-olds .kept .1 .1 .1 .1 .0) (pre .centres)
 
--- src/lib.rt:125:1
 same-length : tie.Need-same-length
 same-length c = search needs
 
--- src/lib.rt:125:1
 returns : tie.Need-returns
 returns c =
     let c8 = c .before .before .before .before .before .before .before .before in
