@@ -19,19 +19,29 @@ make-second-requires : tie.Need-make-second-requires
 make-second-requires c κs = search needs
 
 same-length : tie.Need-same-length
-same-length c = search needs
+same-length c =
+    let make-first = c .before .before .before .before .before .before .before .before .before .before .make-first in
+    make-first .kept .1 .1 .1 .1 .1 .1 .1 .0
 
 same-length-2 : tie.Need-same-length-2
-same-length-2 c = search needs
+same-length-2 c =
+    let make-first = c .before .before .before .before .before .before .before .before .before .before .make-first in
+    make-first .kept .1 .1 .1 .1 .1 .1 .1 .1 .0
 
 same-length-3 : tie.Need-same-length-3
-same-length-3 c = search needs
+same-length-3 c =
+    let make-first = c .before .before .before .before .before .before .before .before .before .before .make-first in
+    make-first .kept .1 .1 .1 .1 .1 .1 .1 .1 .1 .0
 
 same-length-4 : tie.Need-same-length-4
-same-length-4 c = search needs
+same-length-4 c =
+    let make-first = c .before .before .before .before .before .before .before .before .before .before .make-first in
+    make-first .kept .1 .1 .1 .1 .1 .1 .1 .1 .1 .1 .0
 
 same-length-5 : tie.Need-same-length-5
-same-length-5 c = search needs
+same-length-5 c =
+    let make-first = c .before .before .before .before .before .before .before .before .before .before .make-first in
+    make-first .kept .1 .1 .1 .1 .1 .1 .1 .1 .1 .1 .1 .0
 
 returns : tie.Need-returns
 returns c =
@@ -46,19 +56,29 @@ returns c =
     ∙ c8 .before .before .make-first .ensures
 
 same-length-6 : tie.Need-same-length-6
-same-length-6 c = search needs
+same-length-6 c =
+    let make-second = c .before .before .before .before .before .before .before .before .before .before .make-second in
+    make-second .kept .1 .1 .1 .1 .1 .1 .1 .0
 
 same-length-7 : tie.Need-same-length-7
-same-length-7 c = search needs
+same-length-7 c =
+    let make-second = c .before .before .before .before .before .before .before .before .before .before .make-second in
+    make-second .kept .1 .1 .1 .1 .1 .1 .1 .1 .0
 
 same-length-8 : tie.Need-same-length-8
-same-length-8 c = search needs
+same-length-8 c =
+    let make-second = c .before .before .before .before .before .before .before .before .before .before .make-second in
+    make-second .kept .1 .1 .1 .1 .1 .1 .1 .1 .1 .0
 
 same-length-9 : tie.Need-same-length-9
-same-length-9 c = search needs
+same-length-9 c =
+    let make-second = c .before .before .before .before .before .before .before .before .before .before .make-second in
+    make-second .kept .1 .1 .1 .1 .1 .1 .1 .1 .1 .1 .0
 
 same-length-10 : tie.Need-same-length-10
-same-length-10 c = search needs
+same-length-10 c =
+    let make-second = c .before .before .before .before .before .before .before .before .before .before .make-second in
+    make-second .kept .1 .1 .1 .1 .1 .1 .1 .1 .1 .1 .1 .0
 
 returns-2 : tie.Need-returns-2
 returns-2 c =

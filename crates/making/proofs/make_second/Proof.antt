@@ -1,4 +1,5 @@
 -- make_second meets its contract: the visits, what is settled, then the positions.
+use mathlib.Core.Path.{_∙_}
 use Rattle.making.proofs.Laws.{old-rows-hold, new-rows-hold, visits-fit, sides-fit, starts-fit, places-fit, mid-rows, made-of-parts}
 use Rattle.splitting.specs.Scratch.{tablesOf}
 use Rattle.refined_meshes.specs.declared.Edition.the-variants.{Second}
@@ -74,19 +75,36 @@ place-second-requires c κs =
     )
 
 same-length : tie.Need-same-length
-same-length c = search needs
+same-length c = c .before .before .place-second .kept .1 .1 .1 .1 .1 .1 .1 .1 .0
 
 same-length-2 : tie.Need-same-length-2
-same-length-2 c = search needs
+same-length-2 c =
+    let c8 = c .before .before .before .before .before .before .before .before in
+    let c16 = c8 .before .before .before .before .before .before .before .before in
+    let c24 = c16 .before .before .before .before .before .before .before .before in
+    c8 .settle-starts .kept .1 .1 .1 .1 .1 .1 .0 ∙ c24 .before .refined-rows .kept .1 .1 .1 .1 .0
 
 same-length-3 : tie.Need-same-length-3
-same-length-3 c = search needs
+same-length-3 c =
+    let c8 = c .before .before .before .before .before .before .before .before in
+    let c16 = c8 .before .before .before .before .before .before .before .before in
+    let c24 = c16 .before .before .before .before .before .before .before .before in
+    c24 .before .refined-rows .kept .1 .1 .1 .1 .1 .0
 
 same-length-4 : tie.Need-same-length-4
-same-length-4 c = search needs
+same-length-4 c =
+    let c8 = c .before .before .before .before .before .before .before .before in
+    let c16 = c8 .before .before .before .before .before .before .before .before in
+    let c24 = c16 .before .before .before .before .before .before .before .before in
+    let settle-joins = c8 .before .before .before .before .before .before .settle-joins in
+    settle-joins .kept .1 .1 .1 .1 .0 ∙ c24 .before .refined-rows .kept .1 .1 .1 .1 .1 .1 .0
 
 same-length-5 : tie.Need-same-length-5
-same-length-5 c = search needs
+same-length-5 c =
+    let c8 = c .before .before .before .before .before .before .before .before in
+    let c16 = c8 .before .before .before .before .before .before .before .before in
+    let c24 = c16 .before .before .before .before .before .before .before .before in
+    c24 .before .refined-rows .kept .1 .1 .1 .1 .1 .1 .1 .0
 
 returns : tie.Need-returns
 returns c =
