@@ -2,7 +2,7 @@
 // equation 15's m, by the edition (document 02, §5).
 // Carries over the second loop of `global_subdivide` in t_nurcc/mod.rs, one edge at a time, each operation rounded in the Rust's order.
 // Not here: face points (`face_points`), old points (`old_points`), the rows of the new points (`placing`).
-// Contract: `weighted_point`. Definitions: `position_rules`, specs/EdgePoint.antt; what the code asks: specs/Sides.antt.
+// Contracts: `weighted_point`, `edge_point`. Definitions: `position_rules`, specs/EdgePoint.antt; what the code asks: specs/Sides.antt.
 ghost use mathlib.Core.Path.{_≡_};
 ghost use Prim.Native.Nat.{_+_, _*_, _≤_, _<_};
 ghost use lib.ListN.{length};
@@ -120,7 +120,7 @@ fn middle_point(positions: &[f64], edges: &[u32], intervals: &[f64], e: usize) -
 }
 
 // The edge point of edge e, from its m and the face points that stand in the new table of positions.
-fn edge_point(
+pub fn edge_point(
     edges: &[u32],
     intervals: &[f64],
     newpositions: &[f64],

@@ -5,6 +5,7 @@ use mathlib.Core.Bool.{Bool, true, false}
 use mathlib.Core.List.{List, []}
 use Prim.Native.Nat.{ℕ, _+_, _*_, _≤_, _<_}
 use native.Mathlib.Omega.{arith}
+use native.Mathlib.Decide.{decLt}
 use lib.ListN.{length, getD}
 use lib.Ieee.{Float}
 use Rattle.tables.specs.Mesh.{Mesh, none, start, dest, corner, meshOf}
@@ -35,8 +36,11 @@ use Rattle.settling.specs.Settling.{SidesFit, edgeRowsOf}
 use Rattle.position_rules.specs.Fits.{EdgesFit, NewPointsFit}
 use Rattle.position_rules.proofs.Audited.{edges-fit as rows-fit, face-point-fits, edge-point-fits, old-point-fits}
 use Rattle.placing.specs.Placing.{came, FacePointsFit, EdgePointsFit, OldPointsFit, refinedTables}
+use Rattle.edition_points.specs.Over.{MidRows}
 use Rattle.steps.specs.Positions.{placedAll}
-use Rattle.steps.specs.Step.{madeOf, placedRows, made}
+use Rattle.steps.specs.Step.{refinedCounts, madeOf, placedRows, made}
+use Rattle.steps.proofs.NewPositions.{PointRows}
+use Rattle.steps.proofs.OneStep.{point-rows}
 use Rattle.making.specs.Making.{Ready, madeAs}
 
 module _ (m : Mesh) (c : Counts) (order : List ℕ) (t : Mesh) (ready : Ready m c order t) where
@@ -167,6 +171,18 @@ module _ (m : Mesh) (c : Counts) (order : List ℕ) (t : Mesh) (ready : Ready m 
                 };
           }
 
+  -- What the second edition asks of the rows of edge points: each edge has its own, behind those of the old points.
+  pub mid-rows : (s : State) → s ≡ rowsMade → MidRows (c .points) (c .edges) (s .edges)
+  unfolding settledRows settled
+  mid-rows s same = rw same (record { behind = λ e l. not-old e l (decLt (getD (rowsMade .edges) (e * 8 + 1) 0) (c .points)); apart = rows .edge-edge })
+    where
+      rows : PointRows c (settledRows First m (c .points) (c .edges) (c .faces) order t) (refinedCounts c .points)
+      rows = point-rows First m c holds order t [] (refines [])
+
+      not-old : (e : ℕ) → e < c .edges → Dec (getD (rowsMade .edges) (e * 8 + 1) 0 < c .points) → c .points ≤ getD (rowsMade .edges) (e * 8 + 1) 0
+      not-old e l (yes b) = absurd (rows .edge-old e (getD (rowsMade .edges) (e * 8 + 1) 0) l b refl)
+      not-old e l (no b) = omega arith
+
   -- The rows s that the visits made, their lengths, and the table of new positions.
   module _ (s : State) (same : s ≡ rowsMade) (edges-there : c .edges * 8 ≤ length (s .edges)) (faces-there : c .faces * 5 ≤ length (s .faces))
       (newpositions : List Float) (places-there : (c .points + c .edges + c .faces) * 3 ≤ length newpositions) where
@@ -193,7 +209,7 @@ module _ (m : Mesh) (c : Counts) (order : List ℕ) (t : Mesh) (ready : Ready m 
           face-place = λ f l. omega (arith, face-place f l);
         }
 
-    pub faces-fit : FacePointsFit (m .positions) (m .edges) (m .intervals) (m .faces) (c .edges) (c .faces) (s .faces) newpositions
+    faces-fit : FacePointsFit (m .positions) (m .edges) (m .intervals) (m .faces) (c .edges) (c .faces) (s .faces) newpositions
     faces-fit =
         record {
           rule-fits = face-point-fits m (c .points) (c .edges) (c .faces) audited;
@@ -201,7 +217,7 @@ module _ (m : Mesh) (c : Counts) (order : List ℕ) (t : Mesh) (ready : Ready m 
           place-there = λ f l. omega (arith, face-place f l);
         }
 
-    pub edges-fit : EdgePointsFit (m .positions) (m .edges) (m .intervals) (c .edges) (s .edges) (s .faces) newpositions
+    edges-fit : EdgePointsFit (m .positions) (m .edges) (m .intervals) (c .edges) (s .edges) (s .faces) newpositions
     edges-fit =
         record {
           rule-fits = λ new e.
@@ -210,13 +226,29 @@ module _ (m : Mesh) (c : Counts) (order : List ℕ) (t : Mesh) (ready : Ready m 
           place-there = λ i l. omega (arith, edge-place i l);
         }
 
-    pub points-fit : OldPointsFit (m .positions) (m .points) (m .edges) (m .intervals) (c .points) (s .edges) (s .faces) newpositions
+    points-fit : OldPointsFit (m .positions) (m .points) (m .edges) (m .intervals) (c .points) (s .edges) (s .faces) newpositions
     points-fit =
         record {
           rule-fits = λ new e.
               old-point-fits m (c .points) (c .edges) (c .faces) audited new (s .edges) (s .faces) (new-points-fit new e) few-faces;
           place-there = λ p l. omega arith;
         }
+
+  -- All three, of the table of new positions as it is handed in.
+  pub places-fit : (s : State) → s ≡ rowsMade → length (s .edges) ≡ length (t .edges) → length (s .faces) ≡ length (t .faces)
+      → FacePointsFit (m .positions) (m .edges) (m .intervals) (m .faces) (c .edges) (c .faces) (s .faces) (t .positions)
+      × EdgePointsFit (m .positions) (m .edges) (m .intervals) (c .edges) (s .edges) (s .faces) (t .positions)
+      × OldPointsFit (m .positions) (m .points) (m .edges) (m .intervals) (c .points) (s .edges) (s .faces) (t .positions)
+  places-fit s same es fs =
+      let held = new-rows-hold in
+      let edges-there : c .edges * 8 ≤ length (s .edges) = rw es (held .edges) in
+      let faces-there : c .faces * 5 ≤ length (s .faces) = rw fs (held .faces) in
+      let room = ready .points-room in
+      let places-there : (c .points + c .edges + c .faces) * 3 ≤ length (t .positions) = omega (arith, room) in (
+        faces-fit s same edges-there faces-there (t .positions) places-there,
+        edges-fit s same edges-there faces-there (t .positions) places-there,
+        points-fit s same edges-there faces-there (t .positions) places-there,
+      )
 
 -- The visits made the rows s, the intervals js and the points qs were settled, and the loops over the points came so far.
 pub made-of-parts : (ed : Edition) (m : Mesh) (c : Counts) (order : List ℕ) (t : Mesh) (s : State) (js : List Float) (qs : List ℕ) (r : Bool) (ps : List Float)

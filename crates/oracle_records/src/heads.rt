@@ -9,8 +9,8 @@
 //   11 to 15 the same of the scratch tables
 ghost use Prim.Native.Nat.{_≤_};
 use building_tests::Bounds;
-use oracle_builds::built::Change;
-use oracle_builds::built::Lengths;
+use oracle_builds::Change;
+use oracle_builds::Lengths;
 use oracle_tables::fields::field;
 use oracle_tables::fields::word;
 

@@ -1,22 +1,20 @@
-// The positions of the points after a step, put into their rows of the scratch tables: the face points, then what weighs for the edges
-// at old points, then the old points. In the first edition the edge points weigh; in the second m does, and the edge points are put over
-// it at the end. Each loop ends at the first position that is not finite.
+// The positions of the points after a step, put into their rows of the scratch tables: the face points, what weighs for the edges at old
+// points, the old points, a loop for each. Each loop ends at the first position that is not finite.
 // Names: `newedges` and `newfaces` are the tables of edges and faces of the refined mesh, `newpositions` its table of positions.
-// Not here: the rules (`face_points`, `edge_points`, `old_points`), the rows (`visiting`).
-// Definitions: `steps`, specs/Positions.antt; what the loops ask: specs/Placing.antt.
+// Not here: the rules (`face_points`, `edge_points`, `old_points`), the loops one after the other (`edition_points`), the rows (`visiting`).
+// Contracts: `place_face_points`, `place_weighted_points`, `place_old_points`. Definitions: `steps`, specs/Positions.antt; what the loops
+// ask: specs/Placing.antt. Laws for callers: `proofs/Laws.antt`.
 ghost use mathlib.Core.Path.{_≡_};
-ghost use mathlib.Core.List.{[]};
 ghost use Prim.Native.Nat.{_+_, _*_};
 ghost use lib.ListN.{getD};
 ghost use Rattle.tables.specs.Layout.{edgeWidth, destWord, faceWidth, firstCornerWord};
-ghost use Rattle.tables.specs.Mesh.{meshOf};
-ghost use Rattle.position_rules.specs.FacePoint.{facePointIn};
 ghost use Rattle.tables.specs.Parts.{withoutPoints};
+ghost use Rattle.position_rules.specs.FacePoint.{facePointIn};
 ghost use Rattle.position_rules.specs.EdgePoint.{weightedPoint};
 ghost use Rattle.position_rules.specs.OldPoint.{oldPoint};
 ghost use Rattle.position_rules.specs.Places.{edgePointAt, facePointAt};
-ghost use Rattle.steps.specs.Positions.{so-far, placedBy, placedOver, placedAll};
-ghost use Rattle.placing.specs.Placing.{came, FacePointsFit, EdgePointsFit, OldPointsFit, refinedTables};
+ghost use Rattle.steps.specs.Positions.{so-far, placedBy};
+ghost use Rattle.placing.specs.Placing.{came, FacePointsFit, EdgePointsFit, OldPointsFit};
 use edge_points::weighted_point;
 use face_points::face_point;
 use old_points::old_point;
@@ -24,7 +22,6 @@ use positions::Placed;
 use positions::Position;
 use records::store_position;
 use refined_meshes::Edition;
-use tables::Counts;
 use tables::DEST_WORD;
 use tables::EDGE_WIDTH;
 use tables::FACE_WIDTH;
@@ -35,7 +32,7 @@ use tables::index;
 
 // Puts the face points of the first nf faces into their rows, and says whether all are finite. One pair of arrays holds the border of each
 // face in its turn.
-fn place_face_points(
+pub fn place_face_points(
     positions: &[f64],
     edges: &[u32],
     intervals: &[f64],
@@ -80,7 +77,7 @@ fn place_face_points(
 
 // Puts what weighs for the first ne edges into the rows of their edge points, and says whether all are finite. In the first edition that
 // is the edge points.
-fn place_weighted_points(
+pub fn place_weighted_points(
     positions: &[f64],
     edges: &[u32],
     intervals: &[f64],
@@ -122,7 +119,7 @@ fn place_weighted_points(
 }
 
 // Puts the old points into their rows, and says whether all are finite.
-fn place_old_points(
+pub fn place_old_points(
     positions: &[f64],
     points: &[u32],
     edges: &[u32],
@@ -158,108 +155,4 @@ fn place_old_points(
         p += 1;
     }
     true
-}
-
-// Puts the edge points over what weighed for the edges, where that was m, and says whether all are finite.
-fn place_over(
-    positions: &[f64],
-    edges: &[u32],
-    intervals: &[f64],
-    counts: Counts,
-    newedges: &[u32],
-    newfaces: &[u32],
-    newpositions: &mut [f64],
-    edition: Edition,
-) -> bool
-    requires { ⌜ EdgePointsFit (now positions) (now edges) (now intervals) (counts .edges) (now newedges) (now newfaces) (now newpositions) ⌝ }
-    ensures { λ r. ⌜
-        placedOver edition (withoutPoints (now (positions .entry)) (now (edges .entry)) (now (intervals .entry)) []) counts
-        (refinedTables (now (newedges .entry)) (now (newfaces .entry))) (so-far (now (newpositions .entry)))
-        ≡ came r (now (newpositions .exit)) ⌝ }
-{
-    match edition {
-        Edition::First => true,
-        Edition::Second => place_weighted_points(
-            positions,
-            edges,
-            intervals,
-            counts.edges,
-            newedges,
-            newfaces,
-            newpositions,
-            Edition::First,
-        ),
-    }
-}
-
-// Puts all new positions into their rows, and says whether all are finite.
-pub fn place_all(
-    positions: &[f64],
-    points: &[u32],
-    edges: &[u32],
-    intervals: &[f64],
-    faces: &[u32],
-    counts: Counts,
-    newedges: &[u32],
-    newfaces: &[u32],
-    newpositions: &mut [f64],
-    edition: Edition,
-) -> bool
-    requires { ⌜ FacePointsFit (now positions) (now edges) (now intervals) (now faces) (counts .edges) (counts .faces) (now newfaces) (now newpositions) ⌝ }
-    requires { ⌜ EdgePointsFit (now positions) (now edges) (now intervals) (counts .edges) (now newedges) (now newfaces) (now newpositions) ⌝ }
-    requires { ⌜ OldPointsFit (now positions) (now points) (now edges) (now intervals) (counts .points) (now newedges) (now newfaces) (now newpositions) ⌝ }
-    ensures { λ r. ⌜
-        placedAll edition
-        (meshOf (now (positions .entry)) (now (points .entry)) (now (edges .entry)) (now (intervals .entry)) (now (faces .entry)))
-        counts
-        (refinedTables (now (newedges .entry)) (now (newfaces .entry)))
-        (now (newpositions .entry))
-        ≡ came r (now (newpositions .exit)) ⌝ }
-{
-    if !place_face_points(
-        positions,
-        edges,
-        intervals,
-        faces,
-        counts.edges,
-        counts.faces,
-        newfaces,
-        newpositions,
-    ) {
-        return false;
-    }
-    if !place_weighted_points(
-        positions,
-        edges,
-        intervals,
-        counts.edges,
-        newedges,
-        newfaces,
-        newpositions,
-        edition,
-    ) {
-        return false;
-    }
-    if !place_old_points(
-        positions,
-        points,
-        edges,
-        intervals,
-        counts.points,
-        newedges,
-        newfaces,
-        newpositions,
-    ) {
-        return false;
-    }
-    place_over(
-        positions,
-        edges,
-        intervals,
-        counts,
-        newedges,
-        newfaces,
-        newpositions,
-        edition,
-    )
 }

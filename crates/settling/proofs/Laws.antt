@@ -9,7 +9,6 @@ use lib.ListN.{length, set}
 use lib.Ieee.{Float}
 use Rattle.tables.specs.Layout.{leftCwWord, leftAcwWord, rightCwWord, rightAcwWord}
 use Rattle.tables.specs.Parts.{edgeTables}
-use Rattle.refined_meshes.specs.declared.Edition.{Edition}
 use Rattle.refined_meshes.specs.declared.Edition.the-variants.{Second}
 use Rattle.refined_meshes.specs.Settled.{neighbourAt, quarterAt, settledSide, settledIntervals, intervalsOfEdition}
 use Rattle.refined_meshes.proofs.Turns.{turns-none, turns-turn}
@@ -49,12 +48,10 @@ side-fit-length same fit =
       join-there = λ e l. rw same (fit .join-there e l);
     }
 
--- Both sides, one after the other, in the edition that settles them.
+-- Both sides, one after the other.
 pub both-settled :
-    (ed : Edition) → ed ≡ Second → (es : List ℕ) (is : List Float) (ne : ℕ) (es' : List ℕ) (js xs ys : List Float)
+    (es : List ℕ) (is : List Float) (ne : ℕ) (es' : List ℕ) (js xs ys : List Float)
     → xs ≡ settledSide es is es' leftAcwWord leftAcwWord leftCwWord ne js → ys ≡ settledSide es is es' rightCwWord rightAcwWord rightCwWord ne xs
-    → ys ≡ intervalsOfEdition ed (edgeTables es is) ne (edgeRowsOf es' js)
+    → ys ≡ intervalsOfEdition Second (edgeTables es is) ne (edgeRowsOf es' js)
 unfolding settledIntervals
-both-settled ed q es is ne es' js xs ys h k =
-    k ∙ ap (settledSide es is es' rightCwWord rightAcwWord rightCwWord ne) h
-    ∙ ap (λ e. intervalsOfEdition e (edgeTables es is) ne (edgeRowsOf es' js)) (sym q)
+both-settled es is ne es' js xs ys h k = k ∙ ap (settledSide es is es' rightCwWord rightAcwWord rightCwWord ne) h

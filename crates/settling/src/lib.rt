@@ -1,13 +1,13 @@
 // What the second edition of a step settles in the scratch tables once all faces are visited (document 02, §5): the intervals of the
-// joining edges, a quarter of the sum of two whole intervals as they stood before the step. The first edition leaves what the visits left.
+// joining edges, a quarter of the sum of two whole intervals as they stood before the step.
 // Names: `newedges` and `newintervals` are the tables of edges and intervals of the refined mesh.
 // Not here: the visits (`visiting`), the positions (`placing`).
 // Contract: `settle_joins`. Definitions: `refined_meshes`, specs/Settled.antt; what the loops ask: specs/Settling.antt.
 ghost use mathlib.Core.Path.{_≡_};
+ghost use Rattle.refined_meshes.specs.declared.Edition.the-variants.{Second};
 ghost use Rattle.refined_meshes.specs.Settled.{settledSide, intervalsOfEdition};
 ghost use Rattle.tables.specs.Parts.{edgeTables};
 ghost use Rattle.settling.specs.Settling.{SideFits, SidesFit, edgeRowsOf};
-use refined_meshes::Edition;
 use tables::EDGE_WIDTH;
 use tables::LEFT_ACW_WORD;
 use tables::LEFT_CW_WORD;
@@ -43,44 +43,38 @@ fn settle_side(
     }
 }
 
-// Settles the joining edges on both sides of the first ne edges, in the edition that settles them.
+// Settles the joining edges on both sides of the first ne edges.
 pub fn settle_joins(
     edges: &[u32],
     intervals: &[f64],
     ne: usize,
     newedges: &[u32],
     newintervals: &mut [f64],
-    edition: Edition,
 )
     requires { ⌜ SidesFit (now edges) (now intervals) ne (now newedges) (now newintervals) ⌝ }
     ensures { λ _. ⌜
         now (newintervals .exit)
-        ≡ intervalsOfEdition edition (edgeTables (now (edges .entry)) (now (intervals .entry))) ne
+        ≡ intervalsOfEdition Second (edgeTables (now (edges .entry)) (now (intervals .entry))) ne
         (edgeRowsOf (now (newedges .entry)) (now (newintervals .entry))) ⌝ }
 {
-    match edition {
-        Edition::First => {}
-        Edition::Second => {
-            settle_side(
-                edges,
-                intervals,
-                ne,
-                newedges,
-                newintervals,
-                LEFT_ACW_WORD,
-                LEFT_ACW_WORD,
-                LEFT_CW_WORD,
-            );
-            settle_side(
-                edges,
-                intervals,
-                ne,
-                newedges,
-                newintervals,
-                RIGHT_CW_WORD,
-                RIGHT_ACW_WORD,
-                RIGHT_CW_WORD,
-            );
-        }
-    }
+    settle_side(
+        edges,
+        intervals,
+        ne,
+        newedges,
+        newintervals,
+        LEFT_ACW_WORD,
+        LEFT_ACW_WORD,
+        LEFT_CW_WORD,
+    );
+    settle_side(
+        edges,
+        intervals,
+        ne,
+        newedges,
+        newintervals,
+        RIGHT_CW_WORD,
+        RIGHT_ACW_WORD,
+        RIGHT_CW_WORD,
+    );
 }

@@ -13,7 +13,6 @@ use lib.ListN.{length, getD, set}
 use borrow.Author.Tests.{eq-eqb, ne-eqb}
 use Rattle.tables.specs.Mesh.{meshOf, edgeTable, dest, corner}
 use Rattle.tables.specs.declared.Counts.{Counts}
-use Rattle.refined_meshes.specs.declared.Edition.{Edition}
 use Rattle.refined_meshes.specs.declared.Edition.the-variants.{Second}
 use Rattle.refined_meshes.specs.State.{stateOf}
 use Rattle.refined_meshes.specs.Starts.{newHalf, oldStart, centreJoin, startsPut, settledStarts, pointsOfEdition}
@@ -75,14 +74,13 @@ pub centres-length :
 centres-length same fit = record { centres = fit .centres; new-faces = fit .new-faces; rows = λ f l. rw same (fit .rows f l) }
 
 pub all-settled :
-    (ed : Edition) → ed ≡ Second → (ps es fs : List ℕ) (c : Counts) (newedges newfaces newpoints xs ys zs : List ℕ)
+    (ps es fs : List ℕ) (c : Counts) (newedges newfaces newpoints xs ys zs : List ℕ)
     → xs ≡ startsPut (c .points) (λ p. p) (oldStart (meshOf [] ps es [] []) (edgeTable newedges)) newpoints
     → ys ≡ startsPut (c .edges) (dest (edgeTable newedges)) (newHalf (edgeTable newedges)) xs
     → zs ≡ startsPut (c .faces) (λ f. corner (meshOf [] [] [] [] newfaces) f 0) (centreJoin (meshOf [] [] es [] fs) (edgeTable newedges)) ys
-    → zs ≡ pointsOfEdition ed (meshOf [] ps es [] fs) (c .points) (c .edges) (c .faces) (stateOf newpoints newedges [] newfaces 0 0 0)
+    → zs ≡ pointsOfEdition Second (meshOf [] ps es [] fs) (c .points) (c .edges) (c .faces) (stateOf newpoints newedges [] newfaces 0 0 0)
 unfolding settledStarts
-all-settled ed q ps es fs c newedges newfaces newpoints xs ys zs h k j =
+all-settled ps es fs c newedges newfaces newpoints xs ys zs h k j =
     j
     ∙ ap (startsPut (c .faces) (λ f. corner (meshOf [] [] [] [] newfaces) f 0) (centreJoin (meshOf [] [] es [] fs) (edgeTable newedges)))
     (k ∙ ap (startsPut (c .edges) (dest (edgeTable newedges)) (newHalf (edgeTable newedges))) h)
-    ∙ ap (λ e. pointsOfEdition e (meshOf [] ps es [] fs) (c .points) (c .edges) (c .faces) (stateOf newpoints newedges [] newfaces 0 0 0)) (sym q)

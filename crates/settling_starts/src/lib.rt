@@ -1,16 +1,16 @@
 // The start edges of points that the second edition of a step settles in the scratch tables once all faces are visited (document 02, §6
 // and §7): an old point keeps its start edge, or has the new half of it; a midpoint has its destination half, a face point the joining edge
-// for its face's old start edge. The first edition leaves what the visits left.
+// for its face's old start edge.
 // Names: `newpoints`, `newedges` and `newfaces` are the tables of points, edges and faces of the refined mesh.
 // Not here: the visits (`visiting`), the intervals of joining edges (`settling`).
 // Contract: `settle_starts`. Definitions: `refined_meshes`, specs/Starts.antt; what the functions ask: specs/Fits.antt.
 ghost use mathlib.Core.Path.{_≡_};
 ghost use mathlib.Core.List.{[]};
 ghost use Rattle.tables.specs.Mesh.{meshOf, edgeTable, dest, corner};
+ghost use Rattle.refined_meshes.specs.declared.Edition.the-variants.{Second};
 ghost use Rattle.refined_meshes.specs.State.{stateOf};
 ghost use Rattle.refined_meshes.specs.Starts.{newHalf, oldStart, centreJoin, startsPut, pointsOfEdition};
 ghost use Rattle.settling_starts.specs.Fits.{HalfFits, OldFits, CentreFits, OldsFit, MidsFit, CentresFit, StartsFit};
-use refined_meshes::Edition;
 use tables::Counts;
 use tables::DEST_WORD;
 use tables::EDGE_WIDTH;
@@ -121,7 +121,7 @@ fn settle_centres(
     }
 }
 
-// Settles the start edges of all points of the refined mesh, in the edition that settles them.
+// Settles the start edges of all points of the refined mesh.
 pub fn settle_starts(
     points: &[u32],
     edges: &[u32],
@@ -130,20 +130,14 @@ pub fn settle_starts(
     newedges: &[u32],
     newfaces: &[u32],
     newpoints: &mut [u32],
-    edition: Edition,
 )
     requires { ⌜ StartsFit (now points) (now edges) (now faces) counts (now newedges) (now newfaces) (now newpoints) ⌝ }
     ensures { λ _. ⌜
         now (newpoints .exit)
-        ≡ pointsOfEdition edition (meshOf [] (now (points .entry)) (now (edges .entry)) [] (now (faces .entry))) (counts .points) (counts .edges)
+        ≡ pointsOfEdition Second (meshOf [] (now (points .entry)) (now (edges .entry)) [] (now (faces .entry))) (counts .points) (counts .edges)
         (counts .faces) (stateOf (now (newpoints .entry)) (now (newedges .entry)) [] (now (newfaces .entry)) 0 0 0) ⌝ }
 {
-    match edition {
-        Edition::First => {}
-        Edition::Second => {
-            settle_olds(points, edges, counts.points, newedges, newpoints);
-            settle_mids(counts.edges, newedges, newpoints);
-            settle_centres(edges, faces, counts.faces, newedges, newfaces, newpoints);
-        }
-    }
+    settle_olds(points, edges, counts.points, newedges, newpoints);
+    settle_mids(counts.edges, newedges, newpoints);
+    settle_centres(edges, faces, counts.faces, newedges, newfaces, newpoints);
 }

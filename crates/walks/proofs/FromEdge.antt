@@ -1,6 +1,7 @@
 -- One step from an edge, as its record gives it, against the step in the tables. The record is `edge`, loaded from row e of the table
 -- of edges es. Assumes nothing.
 --     face-at, face-nowhere       `face_side` finds the face on a side of the edge, or on none
+--     point-at, point-nowhere     `point_end` finds the point at an end of the edge, or at none
 --     at-origin, at-dest          the next edge about a point, anticlockwise or clockwise, as `choice` says of the end at
 --                                 which the point is: the point is the origin of the edge; it is not
 use mathlib.Core.Path.{_≡_, refl, sym, _∙_, ap}
@@ -11,16 +12,17 @@ use borrow.Author.Tests.{lt-ltb, eq-eqb, ne-eqb}
 use lib.Dec.{eqb}
 use lib.ListN.{getD}
 use Rattle.t_spline.specs.Edge.{connectionOf}
-use Rattle.t_spline.specs.Ends.{acwOnSide, firstEnd, pointAtEnd, sideOf}
+use Rattle.t_spline.specs.Ends.{acwAtEnd, otherEnd, acwOnSide, firstEnd, pointAtEnd, endOf, sideOf}
 use Rattle.t_spline.specs.declared.TnurccEdge.{TnurccEdge}
 use Rattle.t_spline.specs.declared.TnurccConnection.{TnurccConnection}
 use Rattle.t_spline.specs.declared.TnurccVertexEnd.{TnurccVertexEnd}
 use Rattle.t_spline.specs.declared.TnurccVertexEnd.the-variants.{Origin, Dest}
 use Rattle.t_spline.specs.declared.TnurccFaceSide.{TnurccFaceSide}
 use Rattle.t_spline.specs.declared.TnurccFaceSide.the-variants.{Left, Right}
+use Rattle.t_spline.specs.declared.PointEnd.the-variants as PointEnds
 use Rattle.t_spline.specs.declared.FaceSide.the-variants as FaceSides
 use Rattle.tables.specs.Loaded.{edgeWordsAt}
-use Rattle.walks.specs.Steps.{toIf, faceStep}
+use Rattle.walks.specs.Steps.{toIf, faceStep, pointStep}
 use Rattle.walks.specs.declared.Step.{Step}
 use Rattle.walks.specs.declared.Step.the-variants.{To, Lost}
 
@@ -53,6 +55,37 @@ module _ (es : List ℕ) (e : ℕ) {edge : TnurccEdge} (loaded : edge ≡ edgeWo
       where
         go : (l r : Bool) → cond l (FaceSides.At Left) (cond r (FaceSides.At Right) FaceSides.Nowhere) ≡ FaceSides.Nowhere → Lost ≡ faceIf l r
         go true r q = cc
+        go false true q = cc
+        go false false q = refl
+
+  module _ (ne p : ℕ) (below : e < ne) where
+    -- the step, by whether the point is the origin and the destination
+    abbrev pointIf : Bool → Bool → Step
+    pointIf o d = toIf (o || d) (cond o (getD es (e * 8 + 1) 0) (getD es (e * 8) 0)) (cond o (getD es (e * 8 + 4) 0) (getD es (e * 8 + 6) 0))
+
+    point-is : pointIf (eqb (getD es (e * 8) 0) p) (eqb (getD es (e * 8 + 1) 0) p) ≡ pointStep es ne p e
+    point-is = rw (lt-ltb e ne below)
+
+    pub point-at : {end other : TnurccVertexEnd} {q n : ℕ} → endOf edge p ≡ PointEnds.At end → other ≡ otherEnd end
+        → q ≡ pointAtEnd edge other → n ≡ connectionOf edge (acwAtEnd end) → To q n ≡ pointStep es ne p e
+    point-at {end} found ho hq hn =
+        rw (hq, ho, hn, loaded)
+        (go (eqb (getD es (e * 8) 0) p) (eqb (getD es (e * 8 + 1) 0) p) end (ap (λ (x : TnurccEdge). endOf x p) (sym loaded) ∙ found) ∙ point-is)
+      where
+        go : (o d : Bool) (s : TnurccVertexEnd) → cond o (PointEnds.At Origin) (cond d (PointEnds.At Dest) PointEnds.Nowhere) ≡ PointEnds.At s
+            → To (pointAtEnd (edgeWordsAt es e) (otherEnd s)) (connectionOf (edgeWordsAt es e) (acwAtEnd s)) ≡ pointIf o d
+        go true d Origin q = refl
+        go true d Dest q = cc
+        go false true Origin q = cc
+        go false true Dest q = refl
+        go false false s q = cc
+
+    pub point-nowhere : endOf edge p ≡ PointEnds.Nowhere → Lost ≡ pointStep es ne p e
+    point-nowhere found =
+        go (eqb (getD es (e * 8) 0) p) (eqb (getD es (e * 8 + 1) 0) p) (ap (λ (x : TnurccEdge). endOf x p) (sym loaded) ∙ found) ∙ point-is
+      where
+        go : (o d : Bool) → cond o (PointEnds.At Origin) (cond d (PointEnds.At Dest) PointEnds.Nowhere) ≡ PointEnds.Nowhere → Lost ≡ pointIf o d
+        go true d q = cc
         go false true q = cc
         go false false q = refl
 

@@ -17,10 +17,9 @@ ghost use Rattle.walks.specs.Places.{endNumber};
 ghost use Rattle.walks.specs.Steps.{faceStep, pointStep};
 use records::load_edge_words;
 use t_spline::FaceSide;
+use t_spline::PointEnd;
 use t_spline::TnurccVertexEnd;
-use tables::DEST_WORD;
 use tables::EDGE_WIDTH;
-use tables::LEFT_CW_WORD;
 use tables::LONGEST_BORDER;
 use tables::LONGEST_PERIMETER;
 use tables::index;
@@ -84,8 +83,7 @@ pub fn face_step(edges: &[u32], ne: usize, f: usize, e: usize) -> Step
     }
 }
 
-// One step about point p from edge e, among the edges below ne. The words are found by the number of the end, so that the answer of
-// the comparison with the origin, which no one can foretell, is no branch.
+// One step about point p from edge e, among the edges below ne.
 pub fn point_step(edges: &[u32], ne: usize, p: usize, e: usize) -> Step
     requires { ⌜ ne * edgeWidth ≤ length (now edges) ⌝ }
     ensures { λ r. ⌜ r ≡ pointStep (now (edges .entry)) ne p e ⌝ }
@@ -93,14 +91,13 @@ pub fn point_step(edges: &[u32], ne: usize, p: usize, e: usize) -> Step
     if ne <= e {
         return Step::Lost;
     }
-    let b = e * EDGE_WIDTH;
-    let s = end_number(index(edges[b]), p);
-    if index(edges[b + s]) != p {
-        return Step::Lost;
-    }
-    Step::To {
-        point: edges[b + DEST_WORD - s],
-        next: edges[b + LEFT_CW_WORD + SIDE_WIDTH * s],
+    let edge = load_edge_words(edges, e);
+    match edge.point_end(p) {
+        PointEnd::At(end) => Step::To {
+            point: edge.point_at_end(end.other()),
+            next: edge.acw_edge_from_end(end),
+        },
+        PointEnd::Nowhere => Step::Lost,
     }
 }
 

@@ -1,6 +1,6 @@
 -- build_zeroed meets its contract: all faces are entered, then the whole is judged, or the tables are zeroed.
 use native.Mathlib.Omega.{arith}
-use mathlib.Core.Path.{refl}
+use mathlib.Core.Path.{_∙_, refl}
 use Rattle.built_meshes.specs.Lists.{offset}
 use Rattle.tables.specs.Mesh.{meshOf}
 use Rattle.building_tests.specs.Lent.{listsIn}
@@ -23,6 +23,9 @@ enter-faces-requires c κs =
       standing-none l m (args .chain .now) (pre .0) (omega (arith, pre .1 .0)) (pre .1 .1),
       (lent-rooms l m (args .chain .now) r (pre .1 .0), (r .faces-few, (r .faces-fit, (r .all-listed, r .firsts-given)))),
     )
+
+enum-known-k : tie.Need-enum-known-k
+enum-known-k c = search needs
 
 conclude-requires : tie.Need-conclude-requires
 conclude-requires c κs =
@@ -53,6 +56,9 @@ conclude-requires c κs =
       ),
     )
 
+enum-known-g : tie.Need-enum-known-g
+enum-known-g c = search needs
+
 zero-rows-requires : tie.Need-zero-rows-requires
 zero-rows-requires c κs =
     let c8 = c .before .before .before .before .before .before .before .before in
@@ -79,6 +85,39 @@ zero-rows-requires c κs =
       ),
     )
 
+same-length : tie.Need-same-length
+same-length c = c .before .before .before .before .before .before .before .before .before .before .conclude .kept .1 .0
+
+same-length-2 : tie.Need-same-length-2
+same-length-2 c =
+    let c8 = c .before .before .before .before .before .before .before .before in
+    let c16 = c8 .before .before .before .before .before .before .before .before in
+    let c24 = c16 .before .before .before .before .before .before .before .before in
+    let enter-faces = c24 .before .before .before .before .before .enter-faces in
+    c8 .before .before .conclude .kept .1 .1 .0 ∙ enter-faces .kept .1 .1 .1 .1 .1 .0
+
+same-length-3 : tie.Need-same-length-3
+same-length-3 c =
+    let c8 = c .before .before .before .before .before .before .before .before in
+    let c16 = c8 .before .before .before .before .before .before .before .before in
+    let c24 = c16 .before .before .before .before .before .before .before .before in
+    let enter-faces = c24 .before .before .before .before .before .enter-faces in
+    c8 .before .before .conclude .kept .1 .1 .1 .0 ∙ enter-faces .kept .1 .1 .1 .1 .1 .1 .0
+
+same-length-4 : tie.Need-same-length-4
+same-length-4 c = search needs
+
+same-length-5 : tie.Need-same-length-5
+same-length-5 c = search needs
+
+same-length-6 : tie.Need-same-length-6
+same-length-6 c =
+    let c8 = c .before .before .before .before .before .before .before .before in
+    let c16 = c8 .before .before .before .before .before .before .before .before in
+    let c24 = c16 .before .before .before .before .before .before .before .before in
+    let enter-faces = c24 .before .before .before .before .before .enter-faces in
+    enter-faces .kept .1 .1 .1 .1 .1 .1 .1 .1 .1 .0
+
 returns : tie.Need-returns
 returns c =
     let c8 = c .before .before .before .before .before .before .before .before in
@@ -97,6 +136,29 @@ returns c =
     (enter-faces .last .1 .1 .1 .1 .1 .1 .1 .1 .0)) _
     (rw (k .given .1) at (enter-faces .ensures .0 (args .coordinates .now) (args .positions .now) refl))
     (c8 .before .before .conclude .ensures)
+
+same-length-7 : tie.Need-same-length-7
+same-length-7 c = search needs
+
+same-length-8 : tie.Need-same-length-8
+same-length-8 c = search needs
+
+same-length-9 : tie.Need-same-length-9
+same-length-9 c = search needs
+
+same-length-10 : tie.Need-same-length-10
+same-length-10 c = search needs
+
+same-length-11 : tie.Need-same-length-11
+same-length-11 c = search needs
+
+same-length-12 : tie.Need-same-length-12
+same-length-12 c =
+    let c8 = c .before .before .before .before .before .before .before .before in
+    let c16 = c8 .before .before .before .before .before .before .before .before in
+    let c24 = c16 .before .before .before .before .before .before .before .before in
+    let enter-faces = c24 .before .before .before .before .before .enter-faces in
+    enter-faces .kept .1 .1 .1 .1 .1 .1 .1 .1 .1 .0
 
 returns-2 : tie.Need-returns-2
 returns-2 c =
@@ -122,21 +184,21 @@ build-zeroed-spec =
     tie.close
     (tie.spec
     enter-faces-requires
-    (λ c. search needs)
+    enum-known-k
     conclude-requires
-    (λ c. search needs)
+    enum-known-g
     zero-rows-requires
-    (λ c. search needs)
-    (λ c. search needs)
-    (λ c. search needs)
-    (λ c. search needs)
-    (λ c. search needs)
-    (λ c. search needs)
+    same-length
+    same-length-2
+    same-length-3
+    same-length-4
+    same-length-5
+    same-length-6
     returns
-    (λ c. search needs)
-    (λ c. search needs)
-    (λ c. search needs)
-    (λ c. search needs)
-    (λ c. search needs)
-    (λ c. search needs)
+    same-length-7
+    same-length-8
+    same-length-9
+    same-length-10
+    same-length-11
+    same-length-12
     returns-2)

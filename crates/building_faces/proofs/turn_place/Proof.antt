@@ -4,13 +4,25 @@ use lib.Ieee.{nan}
 use native.Mathlib.Omega.{arith}
 use Prim.Native.Nat.{ℕ, _+_}
 use mathlib.Core.List.{[]}
-use mathlib.Core.Path.{refl, ap}
+use mathlib.Core.Path.{_∙_, refl, ap}
 use Rattle.perimeters.proofs.Laws.{next-below}
 use Rattle.tables.specs.Mesh.{meshOf}
 use Rattle.building_faces.proofs.Turns.{placed-point, room-lent, made-counted, turn-stopped, turn-first, turn-more, stands-first, joined-fits, stands-more}
 use borrow.Author.Needs.{needs}
 use Rattle.building_faces.proofs.turn_place.Statement.{statement}
 use Rattle.building_faces.proofs.turn_place.Tie as tie
+
+add-p : tie.Need-add-p
+add-p c = search needs
+
+mul-p : tie.Need-mul-p
+mul-p c = search needs
+
+shared-slice-read-p : tie.Need-shared-slice-read-p
+shared-slice-read-p c = search needs
+
+next-place-requires : tie.Need-next-place-requires
+next-place-requires c κs = search needs
 
 add-q : tie.Need-add-q
 add-q c =
@@ -81,6 +93,30 @@ enter-requires c κs =
       ),
     )
 
+enum-known-count : tie.Need-enum-known-count
+enum-known-count c = search needs
+
+same-length : tie.Need-same-length
+same-length c = c .before .before .before .before .before .before .before .before .before .before .before .before .enter .kept .0
+
+same-length-2 : tie.Need-same-length-2
+same-length-2 c =
+    let c8 = c .before .before .before .before .before .before .before .before in
+    let enter = c8 .before .before .before .before .enter in
+    enter .kept .1 .0
+
+same-length-3 : tie.Need-same-length-3
+same-length-3 c =
+    let c8 = c .before .before .before .before .before .before .before .before in
+    let enter = c8 .before .before .before .before .enter in
+    enter .kept .1 .1 .0
+
+same-length-4 : tie.Need-same-length-4
+same-length-4 c =
+    let c8 = c .before .before .before .before .before .before .before .before in
+    let enter = c8 .before .before .before .before .enter in
+    enter .kept .1 .1 .1 .0
+
 returns : tie.Need-returns
 returns c =
     let c8 = c .before .before .before .before .before .before .before .before in
@@ -133,6 +169,33 @@ connect-requires c κs =
     (pre .1 .1 .1 .1 .1 (omega arith)) (enter .last .1 .1 .0)
     (rw (enter .kept .1 .1 .0) (omega (arith, pre .1 .1 .1 .0)))
 
+enum-known-g : tie.Need-enum-known-g
+enum-known-g c = search needs
+
+same-length-5 : tie.Need-same-length-5
+same-length-5 c =
+    let c8 = c .before .before .before .before .before .before .before .before in
+    let c16 = c8 .before .before .before .before .before .before .before .before in
+    c16 .before .enter .kept .0
+
+same-length-6 : tie.Need-same-length-6
+same-length-6 c =
+    let c8 = c .before .before .before .before .before .before .before .before in
+    let c16 = c8 .before .before .before .before .before .before .before .before in
+    c .before .before .connect .kept .0 ∙ c16 .before .enter .kept .1 .0
+
+same-length-7 : tie.Need-same-length-7
+same-length-7 c =
+    let c8 = c .before .before .before .before .before .before .before .before in
+    let c16 = c8 .before .before .before .before .before .before .before .before in
+    c16 .before .enter .kept .1 .1 .0
+
+same-length-8 : tie.Need-same-length-8
+same-length-8 c =
+    let c8 = c .before .before .before .before .before .before .before .before in
+    let c16 = c8 .before .before .before .before .before .before .before .before in
+    c16 .before .enter .kept .1 .1 .1 .0
+
 returns-2 : tie.Need-returns-2
 returns-2 c =
     let c8 = c .before .before .before .before .before .before .before .before in
@@ -167,6 +230,20 @@ returns-2 c =
           (pre .1 .1 .1 .1 .1 (omega arith)) (enter .last .1 .1 .0) (connect .last .0) (connect .ensures .1),
     )
 
+same-length-9 : tie.Need-same-length-9
+same-length-9 c = c .before .before .before .before .before .before .before .before .before .before .before .enter .kept .0
+
+same-length-10 : tie.Need-same-length-10
+same-length-10 c = c .before .before .before .before .before .before .before .before .before .before .before .enter .kept .1 .0
+
+same-length-11 : tie.Need-same-length-11
+same-length-11 c = c .before .before .before .before .before .before .before .before .before .before .before .enter .kept .1 .1 .0
+
+same-length-12 : tie.Need-same-length-12
+same-length-12 c =
+    let enter = c .before .before .before .before .before .before .before .before .before .before .before .enter in
+    enter .kept .1 .1 .1 .0
+
 returns-3 : tie.Need-returns-3
 returns-3 c =
     let c8 = c .before .before .before .before .before .before .before .before in
@@ -193,10 +270,10 @@ pub turn-place-spec : {M : Type 1} → statement M
 turn-place-spec =
     tie.close
     (tie.spec
-    (λ c. search needs)
-    (λ c. search needs)
-    (λ c. search needs)
-    (λ c κs. search needs)
+    add-p
+    mul-p
+    shared-slice-read-p
+    next-place-requires
     add-q
     mul-q
     shared-slice-read-q
@@ -205,21 +282,21 @@ turn-place-spec =
     mul-v
     shared-slice-read-v
     enter-requires
-    (λ c. search needs)
-    (λ c. search needs)
-    (λ c. search needs)
-    (λ c. search needs)
-    (λ c. search needs)
+    enum-known-count
+    same-length
+    same-length-2
+    same-length-3
+    same-length-4
     returns
     connect-requires
-    (λ c. search needs)
-    (λ c. search needs)
-    (λ c. search needs)
-    (λ c. search needs)
-    (λ c. search needs)
+    enum-known-g
+    same-length-5
+    same-length-6
+    same-length-7
+    same-length-8
     returns-2
-    (λ c. search needs)
-    (λ c. search needs)
-    (λ c. search needs)
-    (λ c. search needs)
+    same-length-9
+    same-length-10
+    same-length-11
+    same-length-12
     returns-3)

@@ -26,19 +26,19 @@ enter-places-requires c κs =
 
 -- src/lib.rt:63:9
 same-length : tie.Need-same-length
-same-length c = search needs
+same-length c = c .before .before .before .before .before .before .before .before .before .enter-places .kept .1 .1 .0
 
 -- src/lib.rt:63:9
 same-length-2 : tie.Need-same-length-2
-same-length-2 c = search needs
+same-length-2 c = c .before .before .before .before .before .before .before .before .before .enter-places .kept .1 .1 .1 .0
 
 -- src/lib.rt:63:9
 same-length-3 : tie.Need-same-length-3
-same-length-3 c = search needs
+same-length-3 c = c .before .before .before .before .before .before .before .before .before .enter-places .kept .1 .1 .1 .1 .0
 
 -- src/lib.rt:63:9
 same-length-4 : tie.Need-same-length-4
-same-length-4 c = search needs
+same-length-4 c = c .before .before .before .before .before .before .before .before .before .enter-places .kept .1 .1 .1 .1 .1 .0
 
 -- src/lib.rt:63:9
 returns : tie.Need-returns
@@ -77,19 +77,31 @@ runs-with-requires c κs =
 
 -- src/lib.rt:67:9
 same-length-5 : tie.Need-same-length-5
-same-length-5 c = search needs
+same-length-5 c =
+    let c8 = c .before .before .before .before .before .before .before .before in
+    let enter-places = c8 .before .before .before .before .enter-places in
+    enter-places .kept .1 .1 .0
 
 -- src/lib.rt:67:9
 same-length-6 : tie.Need-same-length-6
-same-length-6 c = search needs
+same-length-6 c =
+    let c8 = c .before .before .before .before .before .before .before .before in
+    let enter-places = c8 .before .before .before .before .enter-places in
+    enter-places .kept .1 .1 .1 .0
 
 -- src/lib.rt:67:9
 same-length-7 : tie.Need-same-length-7
-same-length-7 c = search needs
+same-length-7 c =
+    let c8 = c .before .before .before .before .before .before .before .before in
+    let enter-places = c8 .before .before .before .before .enter-places in
+    enter-places .kept .1 .1 .1 .1 .0
 
 -- src/lib.rt:67:9
 same-length-8 : tie.Need-same-length-8
-same-length-8 c = search needs
+same-length-8 c =
+    let c8 = c .before .before .before .before .before .before .before .before in
+    let enter-places = c8 .before .before .before .before .enter-places in
+    enter-places .kept .1 .1 .1 .1 .1 .0
 
 -- src/lib.rt:67:9
 returns-2 : tie.Need-returns-2
@@ -109,19 +121,31 @@ returns-2 c =
 
 -- src/lib.rt:41:1
 same-length-9 : tie.Need-same-length-9
-same-length-9 c = search needs
+same-length-9 c =
+    let c8 = c .before .before .before .before .before .before .before .before in
+    let enter-places = c8 .before .before .before .before .enter-places in
+    enter-places .kept .1 .1 .0
 
 -- src/lib.rt:41:1
 same-length-10 : tie.Need-same-length-10
-same-length-10 c = search needs
+same-length-10 c =
+    let c8 = c .before .before .before .before .before .before .before .before in
+    let enter-places = c8 .before .before .before .before .enter-places in
+    enter-places .kept .1 .1 .1 .0
 
 -- src/lib.rt:41:1
 same-length-11 : tie.Need-same-length-11
-same-length-11 c = search needs
+same-length-11 c =
+    let c8 = c .before .before .before .before .before .before .before .before in
+    let enter-places = c8 .before .before .before .before .enter-places in
+    enter-places .kept .1 .1 .1 .1 .0
 
 -- src/lib.rt:41:1
 same-length-12 : tie.Need-same-length-12
-same-length-12 c = search needs
+same-length-12 c =
+    let c8 = c .before .before .before .before .before .before .before .before in
+    let enter-places = c8 .before .before .before .before .enter-places in
+    enter-places .kept .1 .1 .1 .1 .1 .0
 
 -- src/lib.rt:41:1
 returns-3 : tie.Need-returns-3

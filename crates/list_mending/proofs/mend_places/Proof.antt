@@ -59,16 +59,25 @@ choose-turns-requires c κs =
     )
 
 same-length : tie.Need-same-length
-same-length c = search needs
+same-length c =
+    let c8 = c .before .before .before .before .before .before .before .before in
+    let c16 = c8 .before .before .before .before .before .before .before .before in
+    c16 .before .before .spread .kept .1 .1 .0
 
 same-length-2 : tie.Need-same-length-2
-same-length-2 c = search needs
+same-length-2 c =
+    let c8 = c .before .before .before .before .before .before .before .before in
+    let c16 = c8 .before .before .before .before .before .before .before .before in
+    c16 .before .before .spread .kept .1 .1 .1 .0
 
 same-length-3 : tie.Need-same-length-3
-same-length-3 c = search needs
+same-length-3 c =
+    let pair-faces =
+    c .before .before .before .before .before .before .before .before .before .before .before .pair-faces in
+    pair-faces .kept .1 .1 .1 .1 .1 .0
 
 same-length-4 : tie.Need-same-length-4
-same-length-4 c = search needs
+same-length-4 c = c .before .before .before .choose-turns .kept .1 .1 .1 .0
 
 returns : tie.Need-returns
 returns c =
@@ -90,13 +99,19 @@ returns c =
     (pairs .ensures .1) (turn .last .1 .1 .1 .0) (turn .result) (turn .ensures) (c .if1 .taken)
 
 same-length-5 : tie.Need-same-length-5
-same-length-5 c = search needs
+same-length-5 c =
+    let c8 = c .before .before .before .before .before .before .before .before in
+    let spread = c8 .before .before .before .before .spread in
+    spread .kept .1 .1 .0
 
 same-length-6 : tie.Need-same-length-6
-same-length-6 c = search needs
+same-length-6 c =
+    let c8 = c .before .before .before .before .before .before .before .before in
+    let spread = c8 .before .before .before .before .spread in
+    spread .kept .1 .1 .1 .0
 
 same-length-7 : tie.Need-same-length-7
-same-length-7 c = search needs
+same-length-7 c = c .before .before .before .before .before .pair-faces .kept .1 .1 .1 .1 .1 .0
 
 returns-2 : tie.Need-returns-2
 returns-2 c =
@@ -108,16 +123,25 @@ returns-2 c =
     (pairs .result) (pairs .ensures .0) (args .turned .now) (c .before .g .given .0 .0) (c .before .g .given .1)
 
 same-length-8 : tie.Need-same-length-8
-same-length-8 c = search needs
+same-length-8 c =
+    let c8 = c .before .before .before .before .before .before .before .before in
+    let c16 = c8 .before .before .before .before .before .before .before .before in
+    c16 .before .before .spread .kept .1 .1 .0
 
 same-length-9 : tie.Need-same-length-9
-same-length-9 c = search needs
+same-length-9 c =
+    let c8 = c .before .before .before .before .before .before .before .before in
+    let c16 = c8 .before .before .before .before .before .before .before .before in
+    c16 .before .before .spread .kept .1 .1 .1 .0
 
 same-length-10 : tie.Need-same-length-10
-same-length-10 c = search needs
+same-length-10 c =
+    let pair-faces =
+    c .before .before .before .before .before .before .before .before .before .before .before .pair-faces in
+    pair-faces .kept .1 .1 .1 .1 .1 .0
 
 same-length-11 : tie.Need-same-length-11
-same-length-11 c = search needs
+same-length-11 c = c .before .before .before .choose-turns .kept .1 .1 .1 .0
 
 returns-3 : tie.Need-returns-3
 returns-3 c =

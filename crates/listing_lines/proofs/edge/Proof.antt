@@ -27,7 +27,7 @@ enum-told c = search needs
 
 -- src/lib.rt:84:9
 same-length : tie.Need-same-length
-same-length c = search needs
+same-length c = c .before .before .before .before .words .kept .1 .1 .1 .0
 
 -- src/lib.rt:84:9
 returns : tie.Need-returns
@@ -51,11 +51,13 @@ enum-told-2 c = search needs
 
 -- src/lib.rt:87:9
 same-length-2 : tie.Need-same-length-2
-same-length-2 c = search needs
+same-length-2 c =
+    let words = c .before .before .before .before .before .before .before .before .before .before .before .words in
+    words .kept .1 .1 .1 .0
 
 -- src/lib.rt:87:9
 same-length-3 : tie.Need-same-length-3
-same-length-3 c = search needs
+same-length-3 c = c .before .before .before .before .coordinates .kept .1 .1 .1 .0
 
 -- src/lib.rt:87:9
 returns-2 : tie.Need-returns-2
@@ -82,11 +84,14 @@ stands-requires c κs =
 
 -- src/lib.rt:90:9
 same-length-4 : tie.Need-same-length-4
-same-length-4 c = search needs
+same-length-4 c =
+    let c8 = c .before .before .before .before .before .before .before .before in
+    let words = c8 .before .before .before .before .before .before .before .words in
+    words .kept .1 .1 .1 .0
 
 -- src/lib.rt:90:9
 same-length-5 : tie.Need-same-length-5
-same-length-5 c = search needs
+same-length-5 c = c .before .before .before .before .before .before .before .before .coordinates .kept .1 .1 .1 .0
 
 -- src/lib.rt:90:9
 returns-3 : tie.Need-returns-3
@@ -113,11 +118,14 @@ add-t20 c =
 
 -- src/lib.rt:77:1
 same-length-6 : tie.Need-same-length-6
-same-length-6 c = search needs
+same-length-6 c =
+    let c8 = c .before .before .before .before .before .before .before .before in
+    let words = c8 .before .before .before .before .before .before .before .words in
+    words .kept .1 .1 .1 .0
 
 -- src/lib.rt:77:1
 same-length-7 : tie.Need-same-length-7
-same-length-7 c = search needs
+same-length-7 c = c .before .before .before .before .before .before .before .before .coordinates .kept .1 .1 .1 .0
 
 -- src/lib.rt:77:1
 returns-4 : tie.Need-returns-4

@@ -25,7 +25,7 @@ enum-told c = search needs
 
 -- src/lib.rt:102:9
 same-length : tie.Need-same-length
-same-length c = search needs
+same-length c = c .before .before .before .before .words .kept .1 .1 .1 .0
 
 -- src/lib.rt:102:9
 returns : tie.Need-returns
@@ -44,7 +44,7 @@ stands-requires c κs =
 
 -- src/lib.rt:105:9
 same-length-2 : tie.Need-same-length-2
-same-length-2 c = search needs
+same-length-2 c = c .before .before .before .before .before .before .before .before .words .kept .1 .1 .1 .0
 
 -- src/lib.rt:105:9
 returns-2 : tie.Need-returns-2
@@ -65,7 +65,7 @@ add-t14 c =
 
 -- src/lib.rt:96:1
 same-length-3 : tie.Need-same-length-3
-same-length-3 c = search needs
+same-length-3 c = c .before .before .before .before .before .before .before .before .words .kept .1 .1 .1 .0
 
 -- src/lib.rt:96:1
 returns-3 : tie.Need-returns-3

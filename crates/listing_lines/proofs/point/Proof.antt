@@ -27,7 +27,7 @@ enum-told c = search needs
 
 -- src/lib.rt:62:9
 same-length : tie.Need-same-length
-same-length c = search needs
+same-length c = c .before .before .before .before .coordinates .kept .1 .1 .1 .0
 
 -- src/lib.rt:62:9
 returns : tie.Need-returns
@@ -51,11 +51,14 @@ enum-told-2 c = search needs
 
 -- src/lib.rt:65:9
 same-length-2 : tie.Need-same-length-2
-same-length-2 c = search needs
+same-length-2 c =
+    let coordinates =
+    c .before .before .before .before .before .before .before .before .before .before .before .coordinates in
+    coordinates .kept .1 .1 .1 .0
 
 -- src/lib.rt:65:9
 same-length-3 : tie.Need-same-length-3
-same-length-3 c = search needs
+same-length-3 c = c .before .before .before .before .words .kept .1 .1 .1 .0
 
 -- src/lib.rt:65:9
 returns-2 : tie.Need-returns-2
@@ -69,11 +72,14 @@ returns-2 c =
 
 -- src/lib.rt:68:9
 same-length-4 : tie.Need-same-length-4
-same-length-4 c = search needs
+same-length-4 c =
+    let c8 = c .before .before .before .before .before .before .before .before in
+    let coordinates = c8 .before .before .before .before .before .coordinates in
+    coordinates .kept .1 .1 .1 .0
 
 -- src/lib.rt:68:9
 same-length-5 : tie.Need-same-length-5
-same-length-5 c = search needs
+same-length-5 c = c .before .before .before .before .before .before .words .kept .1 .1 .1 .0
 
 -- src/lib.rt:68:9
 returns-3 : tie.Need-returns-3
@@ -103,11 +109,14 @@ stands-requires c κs =
 
 -- src/lib.rt:71:9
 same-length-6 : tie.Need-same-length-6
-same-length-6 c = search needs
+same-length-6 c =
+    let c8 = c .before .before .before .before .before .before .before .before in
+    let coordinates = c8 .before .before .before .before .before .before .before .before .coordinates in
+    coordinates .kept .1 .1 .1 .0
 
 -- src/lib.rt:71:9
 same-length-7 : tie.Need-same-length-7
-same-length-7 c = search needs
+same-length-7 c = c .before .before .before .before .before .before .before .before .before .words .kept .1 .1 .1 .0
 
 -- src/lib.rt:71:9
 returns-4 : tie.Need-returns-4
@@ -134,11 +143,14 @@ add-t20 c =
 
 -- src/lib.rt:55:1
 same-length-8 : tie.Need-same-length-8
-same-length-8 c = search needs
+same-length-8 c =
+    let c8 = c .before .before .before .before .before .before .before .before in
+    let coordinates = c8 .before .before .before .before .before .before .before .before .coordinates in
+    coordinates .kept .1 .1 .1 .0
 
 -- src/lib.rt:55:1
 same-length-9 : tie.Need-same-length-9
-same-length-9 c = search needs
+same-length-9 c = c .before .before .before .before .before .before .before .before .before .words .kept .1 .1 .1 .0
 
 -- src/lib.rt:55:1
 returns-5 : tie.Need-returns-5

@@ -1,146 +1,114 @@
-use Prim.Native.Nat.{_≤_, _*_, _+_}
-use native.Mathlib.Omega.{arith}
-use lib.ListN.{length}
-use Rattle.making.proofs.Laws.{old-rows-hold, new-rows-hold, visits-fit, sides-fit, starts-fit, faces-fit, edges-fit, points-fit, made-of-parts}
-use Rattle.splitting.specs.Scratch.{tablesOf}
-use Rattle.refined_meshes.specs.State.{State}
+-- make meets its contract, edition by edition.
+use mathlib.Core.Path.{_∙_, ap}
+use Rattle.steps.specs.Step.{made}
 use Rattle.tables.specs.Mesh.{Mesh, meshOf}
 use borrow.Author.Needs.{needs}
 use Rattle.making.proofs.make.Statement.{statement}
 use Rattle.making.proofs.make.Tie as tie
-use Rattle.making.proofs.make.Reads as reads
-use Rattle.making.proofs.make.Lts as lts
-use Rattle.placing.proofs.place_all.Reads as place-all-reads
-use Rattle.settling.proofs.settle_joins.Reads as settle-joins-reads
-use Rattle.settling_starts.proofs.settle_starts.Reads as settle-starts-reads
-use Rattle.visiting.proofs.refined_rows.Reads as refined-rows-reads
 
--- src/lib.rt:50:5
-refined-rows-requires : tie.Need-refined-rows-requires
-refined-rows-requires c κs =
-    let c8 = c .before .before .before .before .before .before .before .before in
-    let a = c8 .before .before .before .before .before .before .before .args in
-    let pre = c8 .before .before .before .before .before .before .before .pre in
-    let m : Mesh = meshOf (a .positions .now) (a .points .now) (a .edges .now) (a .intervals .now) (a .faces .now) in
-    let t : Mesh = meshOf (a .newpositions .now) (a .newpoints .now) (a .newedges .now) (a .newintervals .now)
-    (a .newfaces .now) in (
-      old-rows-hold m (a .counts) (a .order .now) t (pre),
-      (new-rows-hold m (a .counts) (a .order .now) t (pre), visits-fit m (a .counts) (a .order .now) t (pre)),
-    )
+enum-told : tie.Need-enum-told
+enum-told c = search needs
 
--- src/lib.rt:62:5
-settle-joins-requires : tie.Need-settle-joins-requires
-settle-joins-requires c κs =
-    let c8 = c .before .before .before .before .before .before .before .before in
-    let c16 = c8 .before .before .before .before .before .before .before .before in
-    let c24 = c16 .before .before .before .before .before .before .before .before in
-    let a = c24 .before .before .args in
-    let v = c8 .before .before .refined-rows in
-    let m : Mesh = meshOf (a .positions .now) (a .points .now) (a .edges .now) (a .intervals .now) (a .faces .now) in
-    let t : Mesh = meshOf (a .newpositions .now) (a .newpoints .now) (a .newedges .now) (a .newintervals .now)
-    (a .newfaces .now) in
-    let s : State = tablesOf (v .last .1 .1 .1 .1 .0) (v .last .1 .1 .1 .1 .1 .0) (v .last .1 .1 .1 .1 .1 .1 .0)
-    (v .last .1 .1 .1 .1 .1 .1 .1 .0) (v .result) in
-    sides-fit m (a .counts) (a .order .now) t (c24 .before .before .pre) s
-    (v .ensures (a .positions .now) (a .newpositions .now))
+make-first-requires : tie.Need-make-first-requires
+make-first-requires c κs = search needs
 
--- src/lib.rt:70:5
-settle-starts-requires : tie.Need-settle-starts-requires
-settle-starts-requires c κs =
-    let c8 = c .before .before .before .before .before .before .before .before in
-    let c16 = c8 .before .before .before .before .before .before .before .before in
-    let c24 = c16 .before .before .before .before .before .before .before .before in
-    let a = c24 .before .before .before .before .before .before .before .before .args in
-    let pre = c24 .before .before .before .before .before .before .before .before .pre in
-    let v = c16 .refined-rows in
-    let m : Mesh = meshOf (a .positions .now) (a .points .now) (a .edges .now) (a .intervals .now) (a .faces .now) in
-    let t : Mesh = meshOf (a .newpositions .now) (a .newpoints .now) (a .newedges .now) (a .newintervals .now)
-    (a .newfaces .now) in
-    let s : State = tablesOf (v .last .1 .1 .1 .1 .0) (v .last .1 .1 .1 .1 .1 .0) (v .last .1 .1 .1 .1 .1 .1 .0)
-    (v .last .1 .1 .1 .1 .1 .1 .1 .0) (v .result) in
-    starts-fit m (a .counts) (a .order .now) t (pre) s (v .ensures (a .positions .now) (a .newpositions .now))
+enum-told-2 : tie.Need-enum-told-2
+enum-told-2 c = search needs
 
--- src/lib.rt:80:5
-place-all-requires : tie.Need-place-all-requires
-place-all-requires c κs =
-    let c8 = c .before .before .before .before .before .before .before .before in
-    let c16 = c8 .before .before .before .before .before .before .before .before in
-    let c24 = c16 .before .before .before .before .before .before .before .before in
-    let c32 = c24 .before .before .before .before .before .before .before .before in
-    let a = c32 .before .before .before .before .before .before .args in
-    let pre = c32 .before .before .before .before .before .before .pre in
-    let v = c16 .before .before .before .before .before .before .refined-rows in
-    let m : Mesh = meshOf (a .positions .now) (a .points .now) (a .edges .now) (a .intervals .now) (a .faces .now) in
-    let t : Mesh = meshOf (a .newpositions .now) (a .newpoints .now) (a .newedges .now) (a .newintervals .now)
-    (a .newfaces .now) in
-    let s : State = tablesOf (v .last .1 .1 .1 .1 .0) (v .last .1 .1 .1 .1 .1 .0) (v .last .1 .1 .1 .1 .1 .1 .0)
-    (v .last .1 .1 .1 .1 .1 .1 .1 .0) (v .result) in
-    let same = v .ensures (a .positions .now) (a .newpositions .now) in
-    let held = new-rows-hold m (a .counts) (a .order .now) t (pre) in
-    let edges-there : a .counts .edges * 8 ≤ length (s .edges) = rw (v .kept .1 .1 .1 .1 .1 .0) (held .edges) in
-    let faces-there : a .counts .faces * 5 ≤ length (s .faces) = rw (v .kept .1 .1 .1 .1 .1 .1 .1 .0) (held .faces) in
-    let room = pre .points-room in
-    let places-there : (a .counts .points + a .counts .edges + a .counts .faces) * 3 ≤ length (a .newpositions .now) =
-    omega (arith, room) in (
-      faces-fit m (a .counts) (a .order .now) t (pre) s same edges-there faces-there (a .newpositions .now) places-there,
-      (
-        edges-fit m (a .counts) (a .order .now) t (pre) s same edges-there faces-there (a .newpositions .now) places-there,
-        points-fit m (a .counts) (a .order .now) t (pre) s same edges-there faces-there (a .newpositions .now) places-there,
-      ),
-    )
+make-second-requires : tie.Need-make-second-requires
+make-second-requires c κs = search needs
 
--- src/lib.rt:24:1
 same-length : tie.Need-same-length
-same-length c = search needs
+same-length c =
+    let make-first = c .before .before .before .before .before .before .before .before .before .before .make-first in
+    make-first .kept .1 .1 .1 .1 .1 .1 .1 .0
 
--- src/lib.rt:24:1
 same-length-2 : tie.Need-same-length-2
-same-length-2 c = search needs
+same-length-2 c =
+    let make-first = c .before .before .before .before .before .before .before .before .before .before .make-first in
+    make-first .kept .1 .1 .1 .1 .1 .1 .1 .1 .0
 
--- src/lib.rt:24:1
 same-length-3 : tie.Need-same-length-3
-same-length-3 c = search needs
+same-length-3 c =
+    let make-first = c .before .before .before .before .before .before .before .before .before .before .make-first in
+    make-first .kept .1 .1 .1 .1 .1 .1 .1 .1 .1 .0
 
--- src/lib.rt:24:1
 same-length-4 : tie.Need-same-length-4
-same-length-4 c = search needs
+same-length-4 c =
+    let make-first = c .before .before .before .before .before .before .before .before .before .before .make-first in
+    make-first .kept .1 .1 .1 .1 .1 .1 .1 .1 .1 .1 .0
 
--- src/lib.rt:24:1
 same-length-5 : tie.Need-same-length-5
-same-length-5 c = search needs
+same-length-5 c =
+    let make-first = c .before .before .before .before .before .before .before .before .before .before .make-first in
+    make-first .kept .1 .1 .1 .1 .1 .1 .1 .1 .1 .1 .1 .0
 
--- src/lib.rt:24:1
 returns : tie.Need-returns
 returns c =
     let c8 = c .before .before .before .before .before .before .before .before in
     let c16 = c8 .before .before .before .before .before .before .before .before in
     let c24 = c16 .before .before .before .before .before .before .before .before in
-    let c32 = c24 .before .before .before .before .before .before .before .before in
-    let c40 = c32 .before .before .before .before .before .before .before .before in
-    let a = c40 .before .args in
-    let v = c24 .before .refined-rows in
-    let settle-joins = c8 .before .before .before .before .before .before .settle-joins in
-    let place-all = c .before .before .place-all in
+    let a = c24 .before .before .before .before .before .args in
     let m : Mesh = meshOf (a .positions .now) (a .points .now) (a .edges .now) (a .intervals .now) (a .faces .now) in
     let t : Mesh = meshOf (a .newpositions .now) (a .newpoints .now) (a .newedges .now) (a .newintervals .now)
     (a .newfaces .now) in
-    let s : State = tablesOf (v .last .1 .1 .1 .1 .0) (v .last .1 .1 .1 .1 .1 .0) (v .last .1 .1 .1 .1 .1 .1 .0)
-    (v .last .1 .1 .1 .1 .1 .1 .1 .0) (v .result) in
-    made-of-parts (a .edition) m (a .counts) (a .order .now) t s _ _ (place-all .result)
-    (place-all .last .1 .1 .1 .1 .1 .1 .1 .1 .0) (v .ensures (a .positions .now) (a .newpositions .now))
-    (settle-joins .ensures) (c8 .settle-starts .ensures) (place-all .ensures)
+    ap (λ k. made k m (a .counts) (a .order .now) t) (c16 .enum-told .given .1)
+    ∙ c8 .before .before .make-first .ensures
+
+same-length-6 : tie.Need-same-length-6
+same-length-6 c =
+    let make-second = c .before .before .before .before .before .before .before .before .before .before .make-second in
+    make-second .kept .1 .1 .1 .1 .1 .1 .1 .0
+
+same-length-7 : tie.Need-same-length-7
+same-length-7 c =
+    let make-second = c .before .before .before .before .before .before .before .before .before .before .make-second in
+    make-second .kept .1 .1 .1 .1 .1 .1 .1 .1 .0
+
+same-length-8 : tie.Need-same-length-8
+same-length-8 c =
+    let make-second = c .before .before .before .before .before .before .before .before .before .before .make-second in
+    make-second .kept .1 .1 .1 .1 .1 .1 .1 .1 .1 .0
+
+same-length-9 : tie.Need-same-length-9
+same-length-9 c =
+    let make-second = c .before .before .before .before .before .before .before .before .before .before .make-second in
+    make-second .kept .1 .1 .1 .1 .1 .1 .1 .1 .1 .1 .0
+
+same-length-10 : tie.Need-same-length-10
+same-length-10 c =
+    let make-second = c .before .before .before .before .before .before .before .before .before .before .make-second in
+    make-second .kept .1 .1 .1 .1 .1 .1 .1 .1 .1 .1 .1 .0
+
+returns-2 : tie.Need-returns-2
+returns-2 c =
+    let c8 = c .before .before .before .before .before .before .before .before in
+    let c16 = c8 .before .before .before .before .before .before .before .before in
+    let c24 = c16 .before .before .before .before .before .before .before .before in
+    let a = c24 .before .before .before .before .before .args in
+    let m : Mesh = meshOf (a .positions .now) (a .points .now) (a .edges .now) (a .intervals .now) (a .faces .now) in
+    let t : Mesh = meshOf (a .newpositions .now) (a .newpoints .now) (a .newedges .now) (a .newintervals .now)
+    (a .newfaces .now) in
+    ap (λ k. made k m (a .counts) (a .order .now) t) (c16 .enum-told2 .given .1)
+    ∙ c8 .before .before .make-second .ensures
 
 pub make-spec : {M : Type 1} → statement M
 make-spec =
     tie.close
     (tie.spec
-    refined-rows-requires
-    settle-joins-requires
-    settle-starts-requires
-    place-all-requires
+    enum-told
+    make-first-requires
+    enum-told-2
+    make-second-requires
     same-length
     same-length-2
     same-length-3
     same-length-4
     same-length-5
-    returns)
+    returns
+    same-length-6
+    same-length-7
+    same-length-8
+    same-length-9
+    same-length-10
+    returns-2)

@@ -1,4 +1,5 @@
 -- write_built meets its contract: the line of the counts, then those of the step.
+use mathlib.Core.Path.{_∙_}
 use Rattle.tables.specs.Mesh.{meshOf}
 use Rattle.refine_text.proofs.Outputs.{ready, written-both, step-room}
 use borrow.Author.Needs.{needs}
@@ -27,22 +28,41 @@ write-stepped-requires c κs =
     )
 
 same-length : tie.Need-same-length
-same-length c = search needs
+same-length c =
+    let c8 = c .before .before .before .before .before .before .before .before in
+    let c16 = c8 .before .before .before .before .before .before .before .before in
+    let write-mesh = c16 .before .before .before .before .before .before .before .write-mesh in
+    c .before .before .write-stepped .kept .0 ∙ write-mesh .kept .0
 
 same-length-2 : tie.Need-same-length-2
-same-length-2 c = search needs
+same-length-2 c =
+    let c8 = c .before .before .before .before .before .before .before .before in
+    let numbered-step = c8 .before .before .before .before .before .before .before .numbered-step in
+    numbered-step .kept .0
 
 same-length-3 : tie.Need-same-length-3
-same-length-3 c = search needs
+same-length-3 c =
+    let c8 = c .before .before .before .before .before .before .before .before in
+    let numbered-step = c8 .before .before .before .before .before .before .before .numbered-step in
+    numbered-step .kept .1 .0
 
 same-length-4 : tie.Need-same-length-4
-same-length-4 c = search needs
+same-length-4 c =
+    let c8 = c .before .before .before .before .before .before .before .before in
+    let numbered-step = c8 .before .before .before .before .before .before .before .numbered-step in
+    numbered-step .kept .1 .1 .0
 
 same-length-5 : tie.Need-same-length-5
-same-length-5 c = search needs
+same-length-5 c =
+    let c8 = c .before .before .before .before .before .before .before .before in
+    let numbered-step = c8 .before .before .before .before .before .before .before .numbered-step in
+    numbered-step .kept .1 .1 .1 .0
 
 same-length-6 : tie.Need-same-length-6
-same-length-6 c = search needs
+same-length-6 c =
+    let c8 = c .before .before .before .before .before .before .before .before in
+    let numbered-step = c8 .before .before .before .before .before .before .before .numbered-step in
+    numbered-step .kept .1 .1 .1 .1 .0
 
 returns : tie.Need-returns
 returns c =

@@ -1,54 +1,32 @@
--- settle_joins meets its contract: the first edition settles nothing, the second both sides one after the other.
+-- settle_joins meets its contract: both sides are settled one after the other.
 use borrow.Author.Needs.{needs}
 use Rattle.settling.proofs.Laws.{side-fit-length, both-settled}
 use Rattle.settling.proofs.settle_joins.Statement.{statement}
 use Rattle.settling.proofs.settle_joins.Tie as tie
-use Rattle.settling.proofs.settle_joins.Reads as reads
-use Rattle.settling.proofs.settle_joins.Lts as lts
-use Rattle.settling.proofs.settle_side.Reads as settle-side-reads
 
-enum-told : tie.Need-enum-told
-enum-told c = search needs
-
--- src/lib.rt:69:17
-enum-told-2 : tie.Need-enum-told-2
-enum-told-2 c = search needs
-
--- src/lib.rt:64:13
 settle-side-requires : tie.Need-settle-side-requires
 settle-side-requires c κs = search needs
 
--- src/lib.rt:74:13
 settle-side-requires-2 : tie.Need-settle-side-requires-2
 settle-side-requires-2 c κs =
-    let pre = c .before .before .before .before .before .before .before .before .before .before .before .pre in
+    let pre = c .before .before .before .before .before .before .before .before .before .pre in
     side-fit-length (c .before .before .before .settle-side .kept .1 .1 .1 .1 .0) (pre .right)
 
--- src/lib.rt:47:1
-returns : tie.Need-returns
-returns c = search needs
-
--- src/lib.rt:47:1
 same-length : tie.Need-same-length
 same-length c = search needs
 
--- src/lib.rt:47:1
-returns-2 : tie.Need-returns-2
-returns-2 c =
+returns : tie.Need-returns
+returns c =
     let c8 = c .before .before .before .before .before .before .before .before in
-    let a = c8 .before .before .before .before .before .before .args in
-    both-settled (a .edition) (c8 .enum-told2 .given .1) (a .edges .now) (a .intervals .now) (a .ne) (a .newedges .now)
-    (a .newintervals .now) _ _ (c .before .before .before .before .before .before .settle-side .ensures)
-    (c .before .before .settle-side2 .ensures)
+    let a = c8 .before .before .before .before .args in
+    both-settled (a .edges .now) (a .intervals .now) (a .ne) (a .newedges .now) (a .newintervals .now) _ _
+    (c .before .before .before .before .before .before .settle-side .ensures) (c .before .before .settle-side2 .ensures)
 
 pub settle-joins-spec : {M : Type 1} → statement M
 settle-joins-spec =
     tie.close
     (tie.spec
-    enum-told
-    enum-told-2
     settle-side-requires
     settle-side-requires-2
-    returns
     same-length
-    returns-2)
+    returns)

@@ -8,9 +8,6 @@ use Rattle.refined_meshes.specs.Settled.{settledSide}
 use Rattle.settling.proofs.Laws.{side-none, side-turn, side-end}
 use Rattle.settling.proofs.settle_side.Statement.{statement}
 use Rattle.settling.proofs.settle_side.Tie as tie
-use Rattle.settling.proofs.settle_side.Reads as reads
-use Rattle.settling.proofs.settle_side.Lts as lts
-use Rattle.tables.proofs.index.Reads as index-reads
 
 abbrev Inv-loop : tie.InvT-loop
 Inv-loop edges intervals ne newedges newintervals₀ w next prev e₀ newintervals e =
@@ -20,81 +17,66 @@ Inv-loop edges intervals ne newedges newintervals₀ w next prev e₀ newinterva
 abbrev μ-loop : tie.MeasureT-loop
 μ-loop edges intervals ne newedges newintervals₀ w next prev e₀ newintervals e = ne - e
 
--- src/lib.rt:36:5
 loop-holds : tie.Need-loop-holds Inv-loop μ-loop
 loop-holds c = (omega arith, refl, side-none _ _ _ _ _ _ _)
 
--- src/lib.rt:37:17
 mul-b : tie.Need-mul-b Inv-loop μ-loop
 mul-b c = omega (arith, c .before .before .before .before .before .before .pre .rows)
 
--- src/lib.rt:38:33
 add-index : tie.Need-add-index Inv-loop μ-loop
 add-index c =
     let pre = c .before .before .before .before .before .before .pre in
     omega (arith, pre .rows, pre .next-word)
 
--- src/lib.rt:38:27
 mul-index : tie.Need-mul-index Inv-loop μ-loop
 mul-index c =
     let pre = c .before .before .before .before .before .before .pre in
     omega (arith, pre .rows, pre .next-word)
 
--- src/lib.rt:38:27
 shared-slice-read-index : tie.Need-shared-slice-read-index Inv-loop μ-loop
 shared-slice-read-index c =
     let pre = c .before .before .before .before .before .before .before .pre in
     omega (arith, pre .rows, pre .next-word)
 
--- src/lib.rt:38:13
 index-requires : tie.Need-index-requires Inv-loop μ-loop
 index-requires c κs = search needs
 
--- src/lib.rt:39:34
 add-index-2 : tie.Need-add-index-2 Inv-loop μ-loop
 add-index-2 c =
     let pre = c .before .before .before .before .before .before .before .before .pre in
     omega (arith, pre .rows, pre .prev-word)
 
--- src/lib.rt:39:28
 mul-index-2 : tie.Need-mul-index-2 Inv-loop μ-loop
 mul-index-2 c =
     let pre = c .before .before .before .before .before .before .before .before .pre in
     omega (arith, pre .rows, pre .prev-word)
 
--- src/lib.rt:39:28
 shared-slice-read-index-2 : tie.Need-shared-slice-read-index-2 Inv-loop μ-loop
 shared-slice-read-index-2 c =
     let pre = c .before .before .before .before .before .before .before .before .before .pre in
     omega (arith, pre .rows, pre .prev-word)
 
--- src/lib.rt:39:13
 index-requires-2 : tie.Need-index-requires-2 Inv-loop μ-loop
 index-requires-2 c κs = search needs
 
--- src/lib.rt:40:35
 add-index-3 : tie.Need-add-index-3 Inv-loop μ-loop
 add-index-3 c =
     let pre = c .before .before .before .before .before .before .before .before .before .before .pre in
     omega (arith, pre .new-rows, pre .join-word)
 
--- src/lib.rt:40:26
 mul-index-3 : tie.Need-mul-index-3 Inv-loop μ-loop
 mul-index-3 c =
     let pre = c .before .before .before .before .before .before .before .before .before .before .pre in
     omega (arith, pre .new-rows, pre .join-word)
 
--- src/lib.rt:40:26
 shared-slice-read-index-3 : tie.Need-shared-slice-read-index-3 Inv-loop μ-loop
 shared-slice-read-index-3 c =
     let pre = c .before .before .before .before .before .before .before .before .before .before .before .pre in
     omega (arith, pre .new-rows, pre .join-word)
 
--- src/lib.rt:40:13
 index-requires-3 : tie.Need-index-requires-3 Inv-loop μ-loop
 index-requires-3 c κs = search needs
 
--- src/lib.rt:41:31
 mul-newintervals : tie.Need-mul-newintervals Inv-loop μ-loop
 mul-newintervals c =
     let c8 = c .before .before .before .before .before .before .before .before in
@@ -105,7 +87,6 @@ mul-newintervals c =
       pre .next-there (c .before .before .before .before .before .before .before .loop .e) (omega arith),
     )
 
--- src/lib.rt:41:31
 shared-slice-read-newintervals : tie.Need-shared-slice-read-newintervals Inv-loop μ-loop
 shared-slice-read-newintervals c =
     let c8 = c .before .before .before .before .before .before .before .before in
@@ -113,14 +94,12 @@ shared-slice-read-newintervals c =
     omega
     (arith, c .before .before .before .before .before .index .ensures, pre .next-there (c8 .loop .e) (omega arith))
 
--- src/lib.rt:41:50
 mul-newintervals-2 : tie.Need-mul-newintervals-2 Inv-loop μ-loop
 mul-newintervals-2 c =
     let c8 = c .before .before .before .before .before .before .before .before in
     let pre = c8 .before .before .before .before .before .pre in
     omega (arith, c .before .before .before .index2 .ensures, pre .prev-there (c8 .loop .e) (omega arith))
 
--- src/lib.rt:41:50
 shared-slice-read-newintervals-2 : tie.Need-shared-slice-read-newintervals-2 Inv-loop μ-loop
 shared-slice-read-newintervals-2 c =
     let c8 = c .before .before .before .before .before .before .before .before in
@@ -128,7 +107,6 @@ shared-slice-read-newintervals-2 c =
     omega
     (arith, c .before .before .before .before .index2 .ensures, pre .prev-there (c8 .before .loop .e) (omega arith))
 
--- src/lib.rt:41:9
 mul-newintervals-3 : tie.Need-mul-newintervals-3 Inv-loop μ-loop
 mul-newintervals-3 c =
     let c8 = c .before .before .before .before .before .before .before .before in
@@ -136,7 +114,6 @@ mul-newintervals-3 c =
     let loop = c8 .before .loop in
     omega (arith, c .before .before .index3 .ensures, loop .inv .1, pre .join-there (loop .e) (omega arith))
 
--- src/lib.rt:41:9
 slice-write-newintervals : tie.Need-slice-write-newintervals Inv-loop μ-loop
 slice-write-newintervals c =
     let c8 = c .before .before .before .before .before .before .before .before in
@@ -144,15 +121,12 @@ slice-write-newintervals c =
     let loop = c8 .before .loop in
     omega (arith, c .before .before .index3 .ensures, loop .inv .1, pre .join-there (loop .e) (omega arith))
 
--- src/lib.rt:42:9
 add-e : tie.Need-add-e Inv-loop μ-loop
 add-e c = search needs
 
--- src/lib.rt:36:5
 loop-less : tie.Need-loop-less Inv-loop μ-loop
 loop-less c = search needs
 
--- src/lib.rt:36:5
 loop-again : tie.Need-loop-again Inv-loop μ-loop
 loop-again c =
     let loop = c .before .before .before .before .before .before .before .before .before .loop in (
@@ -165,11 +139,9 @@ loop-again c =
           )),
     )
 
--- src/lib.rt:20:1
 same-length : tie.Need-same-length Inv-loop μ-loop
 same-length c = search needs
 
--- src/lib.rt:20:1
 returns : tie.Need-returns Inv-loop μ-loop
 returns c =
     let a = c .before .before .before .before .before .before .args in

@@ -2,47 +2,34 @@
 use borrow.Author.Needs.{needs}
 use Rattle.settling_starts.proofs.new_half.Statement.{statement}
 use Rattle.settling_starts.proofs.new_half.Tie as tie
-use Rattle.settling_starts.proofs.new_half.Reads as reads
-use Rattle.settling_starts.proofs.new_half.Lts as lts
-use Rattle.tables.proofs.index.Reads as index-reads
 
--- src/lib.rt:31:31
 mul-index : tie.Need-mul-index
 mul-index c = search needs
 
--- src/lib.rt:31:31
 add-index : tie.Need-add-index
 add-index c = search needs
 
--- src/lib.rt:31:22
 mul-index-2 : tie.Need-mul-index-2
 mul-index-2 c = search needs
 
--- src/lib.rt:31:22
 shared-slice-read-index : tie.Need-shared-slice-read-index
 shared-slice-read-index c = search needs
 
--- src/lib.rt:31:9
 index-requires : tie.Need-index-requires
 index-requires c κs = search needs
 
--- src/lib.rt:32:14
 mul-result : tie.Need-mul-result
 mul-result c = search needs
 
--- src/lib.rt:32:14
 add-result : tie.Need-add-result
 add-result c = search needs
 
--- src/lib.rt:32:5
 mul-result-2 : tie.Need-mul-result-2
 mul-result-2 c = search needs
 
--- src/lib.rt:32:5
 shared-slice-read-result : tie.Need-shared-slice-read-result
 shared-slice-read-result c = search needs
 
--- src/lib.rt:27:1
 returns : tie.Need-returns
 returns c = rw (c .before .index .ensures)
 

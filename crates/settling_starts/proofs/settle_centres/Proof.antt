@@ -10,10 +10,6 @@ use Rattle.tables.specs.Mesh.{meshOf, edgeTable, corner}
 use Rattle.refined_meshes.specs.Starts.{centreJoin, startsPut}
 use Rattle.settling_starts.proofs.Laws.{starts-none, starts-turn, starts-end}
 use Rattle.settling_starts.proofs.settle_centres.Tie as tie
-use Rattle.settling_starts.proofs.settle_centres.Reads as reads
-use Rattle.settling_starts.proofs.settle_centres.Lts as lts
-use Rattle.settling_starts.proofs.centre_start.Reads as centre-start-reads
-use Rattle.tables.proofs.index.Reads as index-reads
 
 abbrev Inv-loop : tie.InvT-loop
 Inv-loop edges faces nf newedges newfaces newpoints₀ f₀ newpoints f =
@@ -24,73 +20,59 @@ Inv-loop edges faces nf newedges newfaces newpoints₀ f₀ newpoints f =
 abbrev μ-loop : tie.MeasureT-loop
 μ-loop edges faces nf newedges newfaces newpoints₀ f₀ newpoints f = nf - f
 
--- src/lib.rt:122:5
 loop-holds : tie.Need-loop-holds Inv-loop μ-loop
 loop-holds c = (omega arith, refl, starts-none _ _ _)
 
--- src/lib.rt:123:32
 mul-index : tie.Need-mul-index Inv-loop μ-loop
 mul-index c = search needs
 
--- src/lib.rt:123:32
 add-index : tie.Need-add-index Inv-loop μ-loop
 add-index c = search needs
 
--- src/lib.rt:123:23
 mul-index-2 : tie.Need-mul-index-2 Inv-loop μ-loop
 mul-index-2 c = search needs
 
--- src/lib.rt:123:23
 shared-slice-read-index : tie.Need-shared-slice-read-index Inv-loop μ-loop
 shared-slice-read-index c = search needs
 
--- src/lib.rt:123:13
 index-requires : tie.Need-index-requires Inv-loop μ-loop
 index-requires c κs = search needs
 
--- src/lib.rt:124:13
 centre-start-requires : tie.Need-centre-start-requires Inv-loop μ-loop
 centre-start-requires c κs =
     let pre = c .before .before .before .before .before .before .before .before .before .pre in
     pre .centres (c .before .before .before .loop .f) (omega arith)
 
--- src/lib.rt:125:19
 mul-newpoints : tie.Need-mul-newpoints Inv-loop μ-loop
 mul-newpoints c =
     let pre = c .before .before .before .before .before .before .before .before .before .before .pre in
     let loop = c .before .before .before .before .loop in
     omega (arith, c .before .index .ensures, loop .inv .1, pre .rows (loop .f) (omega arith))
 
--- src/lib.rt:125:19
 add-newpoints : tie.Need-add-newpoints Inv-loop μ-loop
 add-newpoints c =
     let pre = c .before .before .before .before .before .before .before .before .before .before .pre in
     let loop = c .before .before .before .before .loop in
     omega (arith, c .before .index .ensures, loop .inv .1, pre .rows (loop .f) (omega arith))
 
--- src/lib.rt:125:9
 mul-newpoints-2 : tie.Need-mul-newpoints-2 Inv-loop μ-loop
 mul-newpoints-2 c =
     let pre = c .before .before .before .before .before .before .before .before .before .before .pre in
     let loop = c .before .before .before .before .loop in
     omega (arith, c .before .index .ensures, loop .inv .1, pre .rows (loop .f) (omega arith))
 
--- src/lib.rt:125:9
 slice-write-newpoints : tie.Need-slice-write-newpoints Inv-loop μ-loop
 slice-write-newpoints c =
     let pre = c .before .before .before .before .before .before .before .before .before .before .pre in
     let loop = c .before .before .before .before .loop in
     omega (arith, c .before .index .ensures, loop .inv .1, pre .rows (loop .f) (omega arith))
 
--- src/lib.rt:126:9
 add-f : tie.Need-add-f Inv-loop μ-loop
 add-f c = search needs
 
--- src/lib.rt:122:5
 loop-less : tie.Need-loop-less Inv-loop μ-loop
 loop-less c = search needs
 
--- src/lib.rt:122:5
 loop-again : tie.Need-loop-again Inv-loop μ-loop
 loop-again c =
     let loop = c .before .before .before .before .loop in (
@@ -100,11 +82,9 @@ loop-again c =
           (c .before .index .ensures) (c .centre-start .ensures),
     )
 
--- src/lib.rt:106:1
 same-length : tie.Need-same-length Inv-loop μ-loop
 same-length c = search needs
 
--- src/lib.rt:106:1
 returns : tie.Need-returns Inv-loop μ-loop
 returns c =
     let args = c .before .before .before .before .before .before .before .args in

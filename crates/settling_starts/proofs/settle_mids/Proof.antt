@@ -10,10 +10,6 @@ use Rattle.tables.specs.Mesh.{edgeTable, dest}
 use Rattle.refined_meshes.specs.Starts.{newHalf, startsPut}
 use Rattle.settling_starts.proofs.Laws.{starts-none, starts-turn, starts-end}
 use Rattle.settling_starts.proofs.settle_mids.Tie as tie
-use Rattle.settling_starts.proofs.settle_mids.Reads as reads
-use Rattle.settling_starts.proofs.settle_mids.Lts as lts
-use Rattle.settling_starts.proofs.new_half.Reads as new-half-reads
-use Rattle.tables.proofs.index.Reads as index-reads
 
 abbrev Inv-loop : tie.InvT-loop
 Inv-loop ne newedges newpoints₀ e₀ newpoints e =
@@ -23,38 +19,30 @@ Inv-loop ne newedges newpoints₀ e₀ newpoints e =
 abbrev μ-loop : tie.MeasureT-loop
 μ-loop ne newedges newpoints₀ e₀ newpoints e = ne - e
 
--- src/lib.rt:97:5
 loop-holds : tie.Need-loop-holds Inv-loop μ-loop
 loop-holds c = (omega arith, refl, starts-none _ _ _)
 
--- src/lib.rt:98:32
 mul-index : tie.Need-mul-index Inv-loop μ-loop
 mul-index c = omega (arith, c .before .before .before .before .pre .halves (c .before .loop .e) (omega arith) .row)
 
--- src/lib.rt:98:32
 add-index : tie.Need-add-index Inv-loop μ-loop
 add-index c = omega (arith, c .before .before .before .before .pre .halves (c .before .loop .e) (omega arith) .row)
 
--- src/lib.rt:98:23
 mul-index-2 : tie.Need-mul-index-2 Inv-loop μ-loop
 mul-index-2 c = omega (arith, c .before .before .before .before .pre .halves (c .before .loop .e) (omega arith) .row)
 
--- src/lib.rt:98:23
 shared-slice-read-index : tie.Need-shared-slice-read-index Inv-loop μ-loop
 shared-slice-read-index c =
     omega
     (arith, c .before .before .before .before .before .pre .halves (c .before .before .loop .e) (omega arith) .row)
 
--- src/lib.rt:98:13
 index-requires : tie.Need-index-requires Inv-loop μ-loop
 index-requires c κs = search needs
 
--- src/lib.rt:99:13
 new-half-requires : tie.Need-new-half-requires Inv-loop μ-loop
 new-half-requires c κs =
     c .before .before .before .before .before .before .pre .halves (c .before .before .before .loop .e) (omega arith)
 
--- src/lib.rt:100:19
 mul-newpoints : tie.Need-mul-newpoints Inv-loop μ-loop
 mul-newpoints c =
     let loop = c .before .before .before .before .loop in
@@ -65,7 +53,6 @@ mul-newpoints c =
       c .before .before .before .before .before .before .before .pre .rows (loop .e) (omega arith),
     )
 
--- src/lib.rt:100:19
 add-newpoints : tie.Need-add-newpoints Inv-loop μ-loop
 add-newpoints c =
     let loop = c .before .before .before .before .loop in
@@ -76,7 +63,6 @@ add-newpoints c =
       c .before .before .before .before .before .before .before .pre .rows (loop .e) (omega arith),
     )
 
--- src/lib.rt:100:9
 mul-newpoints-2 : tie.Need-mul-newpoints-2 Inv-loop μ-loop
 mul-newpoints-2 c =
     let loop = c .before .before .before .before .loop in
@@ -87,7 +73,6 @@ mul-newpoints-2 c =
       c .before .before .before .before .before .before .before .pre .rows (loop .e) (omega arith),
     )
 
--- src/lib.rt:100:9
 slice-write-newpoints : tie.Need-slice-write-newpoints Inv-loop μ-loop
 slice-write-newpoints c =
     let loop = c .before .before .before .before .loop in
@@ -98,15 +83,12 @@ slice-write-newpoints c =
       c .before .before .before .before .before .before .before .pre .rows (loop .e) (omega arith),
     )
 
--- src/lib.rt:101:9
 add-e : tie.Need-add-e Inv-loop μ-loop
 add-e c = search needs
 
--- src/lib.rt:97:5
 loop-less : tie.Need-loop-less Inv-loop μ-loop
 loop-less c = search needs
 
--- src/lib.rt:97:5
 loop-again : tie.Need-loop-again Inv-loop μ-loop
 loop-again c =
     let loop = c .before .before .before .before .loop in (
@@ -116,11 +98,9 @@ loop-again c =
           (c .before .index .ensures) (c .new-half .ensures),
     )
 
--- src/lib.rt:90:1
 same-length : tie.Need-same-length Inv-loop μ-loop
 same-length c = search needs
 
--- src/lib.rt:90:1
 returns : tie.Need-returns Inv-loop μ-loop
 returns c =
     let args = c .before .before .before .before .args in

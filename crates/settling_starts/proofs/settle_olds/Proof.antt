@@ -10,9 +10,6 @@ use Rattle.tables.specs.Mesh.{meshOf, edgeTable}
 use Rattle.refined_meshes.specs.Starts.{oldStart, startsPut}
 use Rattle.settling_starts.proofs.Laws.{starts-none, starts-turn, starts-end}
 use Rattle.settling_starts.proofs.settle_olds.Tie as tie
-use Rattle.settling_starts.proofs.settle_olds.Reads as reads
-use Rattle.settling_starts.proofs.settle_olds.Lts as lts
-use Rattle.settling_starts.proofs.old_start.Reads as old-start-reads
 
 abbrev Inv-loop : tie.InvT-loop
 Inv-loop points edges np newedges newpoints₀ p₀ newpoints p =
@@ -22,39 +19,30 @@ Inv-loop points edges np newedges newpoints₀ p₀ newpoints p =
 abbrev μ-loop : tie.MeasureT-loop
 μ-loop points edges np newedges newpoints₀ p₀ newpoints p = np - p
 
--- src/lib.rt:82:5
 loop-holds : tie.Need-loop-holds Inv-loop μ-loop
 loop-holds c = (omega arith, refl, starts-none _ _ _)
 
--- src/lib.rt:83:13
 old-start-requires : tie.Need-old-start-requires Inv-loop μ-loop
 old-start-requires c κs = c .before .before .before .before .before .before .pre .olds (c .before .loop .p) (omega arith)
 
--- src/lib.rt:84:19
 mul-newpoints : tie.Need-mul-newpoints Inv-loop μ-loop
 mul-newpoints c = search needs
 
--- src/lib.rt:84:19
 add-newpoints : tie.Need-add-newpoints Inv-loop μ-loop
 add-newpoints c = search needs
 
--- src/lib.rt:84:9
 mul-newpoints-2 : tie.Need-mul-newpoints-2 Inv-loop μ-loop
 mul-newpoints-2 c = search needs
 
--- src/lib.rt:84:9
 slice-write-newpoints : tie.Need-slice-write-newpoints Inv-loop μ-loop
 slice-write-newpoints c = search needs
 
--- src/lib.rt:85:9
 add-p : tie.Need-add-p Inv-loop μ-loop
 add-p c = search needs
 
--- src/lib.rt:82:5
 loop-less : tie.Need-loop-less Inv-loop μ-loop
 loop-less c = search needs
 
--- src/lib.rt:82:5
 loop-again : tie.Need-loop-again Inv-loop μ-loop
 loop-again c =
     let loop = c .before .before .loop in (
@@ -63,11 +51,9 @@ loop-again c =
       starts-turn _ _ (loop .p) (loop .newpoints) _ (loop .p) _ (loop .inv .2) refl (c .old-start .ensures),
     )
 
--- src/lib.rt:68:1
 same-length : tie.Need-same-length Inv-loop μ-loop
 same-length c = search needs
 
--- src/lib.rt:68:1
 returns : tie.Need-returns Inv-loop μ-loop
 returns c =
     let args = c .before .before .before .before .before .before .args in

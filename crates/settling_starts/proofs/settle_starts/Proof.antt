@@ -1,59 +1,35 @@
--- settle_starts meets its contract: the first edition settles nothing, the second old points, midpoints and face points one after the other.
+-- settle_starts meets its contract: old points, midpoints and face points are settled one after the other.
 use borrow.Author.Needs.{needs}
 use mathlib.Core.Path.{_∙_}
 use Rattle.settling_starts.proofs.Laws.{mids-length, centres-length, all-settled}
 use Rattle.settling_starts.proofs.settle_starts.Statement.{statement}
 use Rattle.settling_starts.proofs.settle_starts.Tie as tie
-use Rattle.settling_starts.proofs.settle_starts.Reads as reads
-use Rattle.settling_starts.proofs.settle_starts.Lts as lts
-use Rattle.settling_starts.proofs.settle_centres.Reads as settle-centres-reads
-use Rattle.settling_starts.proofs.settle_mids.Reads as settle-mids-reads
-use Rattle.settling_starts.proofs.settle_olds.Reads as settle-olds-reads
 
-enum-told : tie.Need-enum-told
-enum-told c = search needs
-
--- src/lib.rt:144:65
-enum-told-2 : tie.Need-enum-told-2
-enum-told-2 c = search needs
-
--- src/lib.rt:144:13
 settle-olds-requires : tie.Need-settle-olds-requires
 settle-olds-requires c κs = search needs
 
--- src/lib.rt:145:13
 settle-mids-requires : tie.Need-settle-mids-requires
 settle-mids-requires c κs =
-    let c8 = c .before .before .before .before .before .before .before .before in
-    let pre = c8 .before .before .before .before .before .pre in
+    let pre = c .before .before .before .before .before .before .before .before .before .before .before .pre in
     mids-length (c .before .before .before .settle-olds .kept .1 .1 .1 .1 .0) (pre .mids)
 
--- src/lib.rt:146:13
 settle-centres-requires : tie.Need-settle-centres-requires
 settle-centres-requires c κs =
     let c8 = c .before .before .before .before .before .before .before .before in
-    let c16 = c8 .before .before .before .before .before .before .before .before in
+    let pre = c8 .before .before .before .before .before .before .before .pre in
     centres-length (c .before .before .before .settle-mids .kept .1 .1 .0
-    ∙ c .before .before .before .before .before .before .before .settle-olds .kept .1 .1 .1 .1 .0)
-    (c16 .before .pre .centres)
+    ∙ c .before .before .before .before .before .before .before .settle-olds .kept .1 .1 .1 .1 .0) (pre .centres)
 
--- src/lib.rt:125:1
-returns : tie.Need-returns
-returns c = rw (c .enum-told .given .1)
-
--- src/lib.rt:125:1
 same-length : tie.Need-same-length
 same-length c = search needs
 
--- src/lib.rt:125:1
-returns-2 : tie.Need-returns-2
-returns-2 c =
+returns : tie.Need-returns
+returns c =
     let c8 = c .before .before .before .before .before .before .before .before in
     let c16 = c8 .before .before .before .before .before .before .before .before in
-    let a = c16 .before .before .before .before .args in
-    let enum-told2 = c8 .before .before .before .before .enum-told2 in
-    all-settled (a .edition) (enum-told2 .given .1) (a .points .now) (a .edges .now) (a .faces .now) (a .counts)
-    (a .newedges .now) (a .newfaces .now) (a .newpoints .now) _ _ _ (c8 .before .before .settle-olds .ensures)
+    let a = c16 .before .before .args in
+    all-settled (a .points .now) (a .edges .now) (a .faces .now) (a .counts) (a .newedges .now) (a .newfaces .now)
+    (a .newpoints .now) _ _ _ (c8 .before .before .settle-olds .ensures)
     (c .before .before .before .before .before .before .settle-mids .ensures)
     (c .before .before .settle-centres .ensures)
 
@@ -61,11 +37,8 @@ pub settle-starts-spec : {M : Type 1} → statement M
 settle-starts-spec =
     tie.close
     (tie.spec
-    enum-told
-    enum-told-2
     settle-olds-requires
     settle-mids-requires
     settle-centres-requires
-    returns
     same-length
-    returns-2)
+    returns)

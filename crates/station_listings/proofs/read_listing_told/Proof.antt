@@ -23,23 +23,38 @@ reading-number-requires c κs = search needs
 
 -- src/lib.rt:95:1
 same-length : tie.Need-same-length
-same-length c = search needs
+same-length c =
+    let c8 = c .before .before .before .before .before .before .before .before in
+    let read-listing = c8 .before .before .before .before .before .read-listing in
+    read-listing .kept .1 .0
 
 -- src/lib.rt:95:1
 same-length-2 : tie.Need-same-length-2
-same-length-2 c = search needs
+same-length-2 c =
+    let c8 = c .before .before .before .before .before .before .before .before in
+    let read-listing = c8 .before .before .before .before .before .read-listing in
+    read-listing .kept .1 .1 .0
 
 -- src/lib.rt:95:1
 same-length-3 : tie.Need-same-length-3
-same-length-3 c = search needs
+same-length-3 c =
+    let c8 = c .before .before .before .before .before .before .before .before in
+    let read-listing = c8 .before .before .before .before .before .read-listing in
+    read-listing .kept .1 .1 .1 .0
 
 -- src/lib.rt:95:1
 same-length-4 : tie.Need-same-length-4
-same-length-4 c = search needs
+same-length-4 c =
+    let c8 = c .before .before .before .before .before .before .before .before in
+    let read-listing = c8 .before .before .before .before .before .read-listing in
+    read-listing .kept .1 .1 .1 .1 .0
 
 -- src/lib.rt:95:1
 same-length-5 : tie.Need-same-length-5
-same-length-5 c = search needs
+same-length-5 c =
+    let c8 = c .before .before .before .before .before .before .before .before in
+    let read-listing = c8 .before .before .before .before .before .read-listing in
+    read-listing .kept .1 .1 .1 .1 .1 .0
 
 -- src/lib.rt:95:1
 returns : tie.Need-returns

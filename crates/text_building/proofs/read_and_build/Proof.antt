@@ -5,6 +5,15 @@ use borrow.Author.Needs.{needs}
 use Rattle.text_building.proofs.read_and_build.Statement.{statement}
 use Rattle.text_building.proofs.read_and_build.Tie as tie
 
+most-requires : tie.Need-most-requires
+most-requires c κs = search needs
+
+read-text-requires : tie.Need-read-text-requires
+read-text-requires c κs = search needs
+
+enum-known-version : tie.Need-enum-known-version
+enum-known-version c = search needs
+
 build-first-requires : tie.Need-build-first-requires
 build-first-requires c κs =
     let c8 = c .before .before .before .before .before .before .before .before in
@@ -26,6 +35,12 @@ build-first-requires c κs =
     })
     (most .ensures) (read-text .ensures .0) (version .given .1) in
     (h .coordinates, (h .lengths, (h .listed, (h .intervals, h .firsts))))
+
+enum-told : tie.Need-enum-told
+enum-told c = search needs
+
+enum-told-2 : tie.Need-enum-told-2
+enum-told-2 c = search needs
 
 same-length : tie.Need-same-length
 same-length c =
@@ -67,6 +82,31 @@ same-length-5 c =
     let c32 = c24 .before .before .before .before .before .before .before .before in
     c32 .before .before .read-text .kept .1 .1 .1 .1 .1 .1 .0
 
+same-length-6 : tie.Need-same-length-6
+same-length-6 c =
+    let build-first = c .before .before .before .before .before .before .before .before .before .before .build-first in
+    build-first .kept .1 .1 .1 .1 .1 .1 .1 .1 .1 .0
+
+same-length-7 : tie.Need-same-length-7
+same-length-7 c =
+    let build-first = c .before .before .before .before .before .before .before .before .before .before .build-first in
+    build-first .kept .1 .1 .1 .1 .1 .1 .1 .1 .1 .1 .0
+
+same-length-8 : tie.Need-same-length-8
+same-length-8 c =
+    let build-first = c .before .before .before .before .before .before .before .before .before .before .build-first in
+    build-first .kept .1 .1 .1 .1 .1 .1 .1 .1 .1 .1 .1 .0
+
+same-length-9 : tie.Need-same-length-9
+same-length-9 c =
+    let build-first = c .before .before .before .before .before .before .before .before .before .before .build-first in
+    build-first .kept .1 .1 .1 .1 .1 .1 .1 .1 .1 .1 .1 .1 .0
+
+same-length-10 : tie.Need-same-length-10
+same-length-10 c =
+    let build-first = c .before .before .before .before .before .before .before .before .before .before .build-first in
+    build-first .kept .1 .1 .1 .1 .1 .1 .1 .1 .1 .1 .1 .1 .1 .0
+
 returns : tie.Need-returns
 returns c =
     let c8 = c .before .before .before .before .before .before .before .before in
@@ -90,6 +130,36 @@ returns c =
     (meshOf (args .positions .now) (args .points .now) (args .edges .now) (args .intervals .now) (args .faces .now))
     (most .ensures) (read-text .ensures .0) (version .given .1) _ (c8 .before .before .build-first .ensures)
 
+same-length-11 : tie.Need-same-length-11
+same-length-11 c =
+    let c8 = c .before .before .before .before .before .before .before .before in
+    let read-text = c8 .before .before .before .before .read-text in
+    read-text .kept .1 .1 .0
+
+same-length-12 : tie.Need-same-length-12
+same-length-12 c =
+    let c8 = c .before .before .before .before .before .before .before .before in
+    let read-text = c8 .before .before .before .before .read-text in
+    read-text .kept .1 .1 .1 .0
+
+same-length-13 : tie.Need-same-length-13
+same-length-13 c =
+    let c8 = c .before .before .before .before .before .before .before .before in
+    let read-text = c8 .before .before .before .before .read-text in
+    read-text .kept .1 .1 .1 .1 .0
+
+same-length-14 : tie.Need-same-length-14
+same-length-14 c =
+    let c8 = c .before .before .before .before .before .before .before .before in
+    let read-text = c8 .before .before .before .before .read-text in
+    read-text .kept .1 .1 .1 .1 .1 .0
+
+same-length-15 : tie.Need-same-length-15
+same-length-15 c =
+    let c8 = c .before .before .before .before .before .before .before .before in
+    let read-text = c8 .before .before .before .before .read-text in
+    read-text .kept .1 .1 .1 .1 .1 .1 .0
+
 returns-2 : tie.Need-returns-2
 returns-2 c =
     let c8 = c .before .before .before .before .before .before .before .before in
@@ -108,6 +178,36 @@ returns-2 c =
     })
     (meshOf (args .positions .now) (args .points .now) (args .edges .now) (args .intervals .now) (args .faces .now))
     (most .ensures) (read-text .ensures .0) (c .enum-told .given .1)
+
+same-length-16 : tie.Need-same-length-16
+same-length-16 c =
+    let c8 = c .before .before .before .before .before .before .before .before in
+    let read-text = c8 .before .before .before .before .read-text in
+    read-text .kept .1 .1 .0
+
+same-length-17 : tie.Need-same-length-17
+same-length-17 c =
+    let c8 = c .before .before .before .before .before .before .before .before in
+    let read-text = c8 .before .before .before .before .read-text in
+    read-text .kept .1 .1 .1 .0
+
+same-length-18 : tie.Need-same-length-18
+same-length-18 c =
+    let c8 = c .before .before .before .before .before .before .before .before in
+    let read-text = c8 .before .before .before .before .read-text in
+    read-text .kept .1 .1 .1 .1 .0
+
+same-length-19 : tie.Need-same-length-19
+same-length-19 c =
+    let c8 = c .before .before .before .before .before .before .before .before in
+    let read-text = c8 .before .before .before .before .read-text in
+    read-text .kept .1 .1 .1 .1 .1 .0
+
+same-length-20 : tie.Need-same-length-20
+same-length-20 c =
+    let c8 = c .before .before .before .before .before .before .before .before in
+    let read-text = c8 .before .before .before .before .read-text in
+    read-text .kept .1 .1 .1 .1 .1 .1 .0
 
 returns-3 : tie.Need-returns-3
 returns-3 c =
@@ -134,32 +234,32 @@ pub read-and-build-spec : {M : Type 1} → statement M
 read-and-build-spec =
     tie.close
     (tie.spec
-    (λ c κs. search needs)
-    (λ c κs. search needs)
-    (λ c. search needs)
+    most-requires
+    read-text-requires
+    enum-known-version
     build-first-requires
-    (λ c. search needs)
-    (λ c. search needs)
+    enum-told
+    enum-told-2
     same-length
     same-length-2
     same-length-3
     same-length-4
     same-length-5
-    (λ c. search needs)
-    (λ c. search needs)
-    (λ c. search needs)
-    (λ c. search needs)
-    (λ c. search needs)
+    same-length-6
+    same-length-7
+    same-length-8
+    same-length-9
+    same-length-10
     returns
-    (λ c. search needs)
-    (λ c. search needs)
-    (λ c. search needs)
-    (λ c. search needs)
-    (λ c. search needs)
+    same-length-11
+    same-length-12
+    same-length-13
+    same-length-14
+    same-length-15
     returns-2
-    (λ c. search needs)
-    (λ c. search needs)
-    (λ c. search needs)
-    (λ c. search needs)
-    (λ c. search needs)
+    same-length-16
+    same-length-17
+    same-length-18
+    same-length-19
+    same-length-20
     returns-3)

@@ -39,19 +39,34 @@ enum-told-2 : tie.Need-enum-told-2
 enum-told-2 c = search needs
 
 same-length : tie.Need-same-length
-same-length c = search needs
+same-length c =
+    let c8 = c .before .before .before .before .before .before .before .before in
+    let read-text = c8 .before .before .before .before .before .before .before .before .read-text in
+    read-text .kept .1 .1 .0
 
 same-length-2 : tie.Need-same-length-2
-same-length-2 c = search needs
+same-length-2 c =
+    let c8 = c .before .before .before .before .before .before .before .before in
+    let read-text = c8 .before .before .before .before .before .before .before .before .read-text in
+    read-text .kept .1 .1 .1 .0
 
 same-length-3 : tie.Need-same-length-3
-same-length-3 c = search needs
+same-length-3 c =
+    let c8 = c .before .before .before .before .before .before .before .before in
+    let read-text = c8 .before .before .before .before .before .before .before .before .read-text in
+    read-text .kept .1 .1 .1 .1 .0
 
 same-length-4 : tie.Need-same-length-4
-same-length-4 c = search needs
+same-length-4 c =
+    let c8 = c .before .before .before .before .before .before .before .before in
+    let read-text = c8 .before .before .before .before .before .before .before .before .read-text in
+    read-text .kept .1 .1 .1 .1 .1 .0
 
 same-length-5 : tie.Need-same-length-5
-same-length-5 c = search needs
+same-length-5 c =
+    let c8 = c .before .before .before .before .before .before .before .before in
+    let read-text = c8 .before .before .before .before .before .before .before .before .read-text in
+    read-text .kept .1 .1 .1 .1 .1 .1 .0
 
 returns : tie.Need-returns
 returns c =
@@ -72,19 +87,34 @@ returns c =
     (args .i) (c .before .before .before .before .c .given .1) _ (c .told-first .ensures)
 
 same-length-6 : tie.Need-same-length-6
-same-length-6 c = search needs
+same-length-6 c =
+    let c8 = c .before .before .before .before .before .before .before .before in
+    let read-text = c8 .before .before .before .before .read-text in
+    read-text .kept .1 .1 .0
 
 same-length-7 : tie.Need-same-length-7
-same-length-7 c = search needs
+same-length-7 c =
+    let c8 = c .before .before .before .before .before .before .before .before in
+    let read-text = c8 .before .before .before .before .read-text in
+    read-text .kept .1 .1 .1 .0
 
 same-length-8 : tie.Need-same-length-8
-same-length-8 c = search needs
+same-length-8 c =
+    let c8 = c .before .before .before .before .before .before .before .before in
+    let read-text = c8 .before .before .before .before .read-text in
+    read-text .kept .1 .1 .1 .1 .0
 
 same-length-9 : tie.Need-same-length-9
-same-length-9 c = search needs
+same-length-9 c =
+    let c8 = c .before .before .before .before .before .before .before .before in
+    let read-text = c8 .before .before .before .before .read-text in
+    read-text .kept .1 .1 .1 .1 .1 .0
 
 same-length-10 : tie.Need-same-length-10
-same-length-10 c = search needs
+same-length-10 c =
+    let c8 = c .before .before .before .before .before .before .before .before in
+    let read-text = c8 .before .before .before .before .read-text in
+    read-text .kept .1 .1 .1 .1 .1 .1 .0
 
 returns-2 : tie.Need-returns-2
 returns-2 c =
@@ -104,19 +134,34 @@ returns-2 c =
     (c24 .before .pre .1 .1 .1 .1 .1) (args .f) (args .i) (c .enum-told .given .1)
 
 same-length-11 : tie.Need-same-length-11
-same-length-11 c = search needs
+same-length-11 c =
+    let c8 = c .before .before .before .before .before .before .before .before in
+    let read-text = c8 .before .before .before .before .read-text in
+    read-text .kept .1 .1 .0
 
 same-length-12 : tie.Need-same-length-12
-same-length-12 c = search needs
+same-length-12 c =
+    let c8 = c .before .before .before .before .before .before .before .before in
+    let read-text = c8 .before .before .before .before .read-text in
+    read-text .kept .1 .1 .1 .0
 
 same-length-13 : tie.Need-same-length-13
-same-length-13 c = search needs
+same-length-13 c =
+    let c8 = c .before .before .before .before .before .before .before .before in
+    let read-text = c8 .before .before .before .before .read-text in
+    read-text .kept .1 .1 .1 .1 .0
 
 same-length-14 : tie.Need-same-length-14
-same-length-14 c = search needs
+same-length-14 c =
+    let c8 = c .before .before .before .before .before .before .before .before in
+    let read-text = c8 .before .before .before .before .read-text in
+    read-text .kept .1 .1 .1 .1 .1 .0
 
 same-length-15 : tie.Need-same-length-15
-same-length-15 c = search needs
+same-length-15 c =
+    let c8 = c .before .before .before .before .before .before .before .before in
+    let read-text = c8 .before .before .before .before .read-text in
+    read-text .kept .1 .1 .1 .1 .1 .1 .0
 
 returns-3 : tie.Need-returns-3
 returns-3 c =

@@ -1,4 +1,5 @@
 -- read_and_mend meets its contract: of a text that is read, the first entries of the lists are those of the text.
+use mathlib.Core.Path.{_∙_, refl}
 use Rattle.building_tests.specs.declared.Bounds.the-variants.{General}
 use Rattle.mesh_text.specs.Reading.{TextLists}
 use Rattle.text_building.proofs.Laws.{fits}
@@ -18,11 +19,14 @@ enum-known-version c = search needs
 
 mend-first-requires : tie.Need-mend-first-requires
 mend-first-requires c κs =
-    let version = c .before .before .before .before .before .before .before in
-    let read = version .before .before .before .before .before .before .before .before .before .before .before .before in
-    let most = read .before .before .before .before .before .before in
-    let start = most .before .before .before .before .before .before .before .before in
-    let args = start .args in
+    let c8 = c .before .before .before .before .before .before .before .before in
+    let c16 = c8 .before .before .before .before .before .before .before .before in
+    let c24 = c16 .before .before .before .before .before .before .before .before in
+    let c32 = c24 .before .before .before .before .before .before .before .before in
+    let args = c32 .before .args in
+    let most = c24 .before .most in
+    let read-text = c16 .before .before .before .read-text in
+    let version = c .before .before .before .before .before .before .before .version in
     let lent : TextLists = record {
       coordinates = args .coordinates .now;
       lengths = args .sides .now;
@@ -30,9 +34,9 @@ mend-first-requires c κs =
       listed = args .listed .now;
       intervals = args .beside .now;
     } in
-    let h = fits General (args .text .now) lent (most .most .ensures) (read .read-text .ensures .0) (version .version .given .1) in
-    let s = said-first (args .text .now) lent (most .most .ensures) (read .read-text .ensures .0) (start .pre .1 .1 .1 .1 .1)
-    (version .version .given .1) in
+    let h = fits General (args .text .now) lent (most .ensures) (read-text .ensures .0) (version .given .1) in
+    let s = said-first (args .text .now) lent (most .ensures) (read-text .ensures .0) (c32 .before .pre .1 .1 .1 .1 .1)
+    (version .given .1) in
     (h .coordinates, (h .lengths, (h .firsts, (h .listed, (h .intervals, s)))))
 
 enum-told : tie.Need-enum-told
@@ -54,22 +58,42 @@ same-length-2 c =
     c24 .before .before .before .before .before .before .read-text .kept .1 .1 .0
 
 same-length-3 : tie.Need-same-length-3
-same-length-3 c = search needs
+same-length-3 c =
+    let c8 = c .before .before .before .before .before .before .before .before in
+    let c16 = c8 .before .before .before .before .before .before .before .before in
+    let c24 = c16 .before .before .before .before .before .before .before .before in
+    let read-text = c24 .before .before .before .before .before .before .read-text in
+    c8 .before .before .mend-first .kept .1 .1 .0 ∙ read-text .kept .1 .1 .1 .0
 
 same-length-4 : tie.Need-same-length-4
-same-length-4 c = search needs
+same-length-4 c =
+    let c8 = c .before .before .before .before .before .before .before .before in
+    let c16 = c8 .before .before .before .before .before .before .before .before in
+    let c24 = c16 .before .before .before .before .before .before .before .before in
+    let read-text = c24 .before .before .before .before .before .before .read-text in
+    c8 .before .before .mend-first .kept .1 .1 .1 .0 ∙ read-text .kept .1 .1 .1 .1 .0
 
 same-length-5 : tie.Need-same-length-5
-same-length-5 c = search needs
+same-length-5 c =
+    let c8 = c .before .before .before .before .before .before .before .before in
+    let c16 = c8 .before .before .before .before .before .before .before .before in
+    let c24 = c16 .before .before .before .before .before .before .before .before in
+    let read-text = c24 .before .before .before .before .before .before .read-text in
+    c8 .before .before .mend-first .kept .1 .1 .1 .1 .0 ∙ read-text .kept .1 .1 .1 .1 .1 .0
 
 same-length-6 : tie.Need-same-length-6
-same-length-6 c = search needs
+same-length-6 c =
+    let c8 = c .before .before .before .before .before .before .before .before in
+    let c16 = c8 .before .before .before .before .before .before .before .before in
+    let c24 = c16 .before .before .before .before .before .before .before .before in
+    let read-text = c24 .before .before .before .before .before .before .read-text in
+    c8 .before .before .mend-first .kept .1 .1 .1 .1 .1 .0 ∙ read-text .kept .1 .1 .1 .1 .1 .1 .0
 
 returns : tie.Need-returns
 returns c = search needs
 
 same-length-7 : tie.Need-same-length-7
-same-length-7 c = search needs
+same-length-7 c = refl
 
 same-length-8 : tie.Need-same-length-8
 same-length-8 c =
@@ -98,22 +122,22 @@ same-length-12 c =
 
 returns-2 : tie.Need-returns-2
 returns-2 c =
-    let args = c .before .before .before .before .before .before .before .before .before .before .before .before .before .before .before
-    .before .before .before .before .before .before .before .before .before .before .before .args in
-    not-text (args .text .now)
-    (record {
+    let c8 = c .before .before .before .before .before .before .before .before in
+    let c16 = c8 .before .before .before .before .before .before .before .before in
+    let c24 = c16 .before .before .before .before .before .before .before .before in
+    let args = c24 .before .before .args in
+    let read-text = c8 .before .before .before .before .read-text in
+    not-text (args .text .now) (record {
       coordinates = args .coordinates .now;
       lengths = args .sides .now;
       firsts = args .firsts .now;
       listed = args .listed .now;
       intervals = args .beside .now;
-    })
-    (c .before .before .before .before .before .before .before .before .before .before .before .before .before .before .before .before
-    .before .before .most .ensures) (c .before .before .before .before .before .before .before .before .before .before .before
-    .before .read-text .ensures .0) (c .enum-told .given .1)
+    }) (c16 .before .before .most .ensures) (read-text .ensures .0)
+    (c .enum-told .given .1)
 
 same-length-13 : tie.Need-same-length-13
-same-length-13 c = search needs
+same-length-13 c = refl
 
 same-length-14 : tie.Need-same-length-14
 same-length-14 c =
@@ -142,22 +166,20 @@ same-length-18 c =
 
 returns-3 : tie.Need-returns-3
 returns-3 c =
-    let args = c .before .before .before .before .before .before .before .before .before .before .before .before .before .before .before
-    .before .before .before .before .before .before .before .before .before .before .before .args in
-    let pre = c .before .before .before .before .before .before .before .before .before .before .before .before .before .before .before
-    .before .before .before .before .before .before .before .before .before .before .before .pre in
-    over-limits (args .text .now)
-    (record {
+    let c8 = c .before .before .before .before .before .before .before .before in
+    let c16 = c8 .before .before .before .before .before .before .before .before in
+    let c24 = c16 .before .before .before .before .before .before .before .before in
+    let args = c24 .before .before .args in
+    let pre = c24 .before .before .pre in
+    let read-text = c8 .before .before .before .before .read-text in
+    over-limits (args .text .now) (record {
       coordinates = args .coordinates .now;
       lengths = args .sides .now;
       firsts = args .firsts .now;
       listed = args .listed .now;
       intervals = args .beside .now;
-    })
-    (c .before .before .before .before .before .before .before .before .before .before .before .before .before .before .before .before
-    .before .before .most .ensures) (c .before .before .before .before .before .before .before .before .before .before .before
-    .before .read-text .ensures .0) (pre .1 .1 .1 .1 .1) (pre .0) (pre .1 .0) (pre .1 .1 .0) (pre .1 .1 .1 .0)
-    (pre .1 .1 .1 .1 .0) (c .enum-told2 .given .1)
+    }) (c16 .before .before .most .ensures) (read-text .ensures .0) (pre .1 .1 .1 .1 .1)
+    (pre .0) (pre .1 .0) (pre .1 .1 .0) (pre .1 .1 .1 .0) (pre .1 .1 .1 .1 .0) (c .enum-told2 .given .1)
 
 pub read-and-mend-spec : {M : Type 1} → statement M
 read-and-mend-spec =

@@ -3,8 +3,8 @@ use lib.Seq.{length-take-le}
 use mathlib.Core.Path.{sym}
 use native.Mathlib.Omega.{arith}
 use borrow.Author.Needs.{needs}
-use Rattle.oracle_builds.proofs.trials.count_changes.Statement.{statement}
-use Rattle.oracle_builds.proofs.trials.count_changes.Tie as tie
+use Rattle.oracle_trials.proofs.count_changes.Statement.{statement}
+use Rattle.oracle_trials.proofs.count_changes.Tie as tie
 
 slice-aggregate-count-changes-in : tie.Need-slice-aggregate-count-changes-in
 slice-aggregate-count-changes-in c =

@@ -2,8 +2,8 @@
 use lib.Seq.{length-take-le}
 use mathlib.Core.Path.{sym}
 use borrow.Author.Needs.{needs}
-use Rattle.oracle_builds.proofs.trials.unformed_cut.Statement.{statement}
-use Rattle.oracle_builds.proofs.trials.unformed_cut.Tie as tie
+use Rattle.oracle_trials.proofs.unformed_cut.Statement.{statement}
+use Rattle.oracle_trials.proofs.unformed_cut.Tie as tie
 
 slice-aggregate-unformed : tie.Need-slice-aggregate-unformed
 slice-aggregate-unformed c = sym (length-take-le _ (c .before .before .args .text .now) (c .before .before .pre))

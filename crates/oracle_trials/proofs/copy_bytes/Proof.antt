@@ -4,8 +4,8 @@ use mathlib.Core.Path.{_≡_}
 use lib.ListN.{length}
 use native.Mathlib.Omega.{arith}
 use borrow.Author.Needs.{needs}
-use Rattle.oracle_builds.proofs.trials.copy_bytes.Statement.{statement}
-use Rattle.oracle_builds.proofs.trials.copy_bytes.Tie as tie
+use Rattle.oracle_trials.proofs.copy_bytes.Statement.{statement}
+use Rattle.oracle_trials.proofs.copy_bytes.Tie as tie
 
 abbrev Inv-loop : tie.InvT-loop
 Inv-loop text copied₀ n i₀ copied i = (i ≤ n) × (n ≤ length text) × (n ≤ length copied₀) × (length copied ≡ length copied₀)

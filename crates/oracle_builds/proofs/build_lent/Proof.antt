@@ -2,8 +2,8 @@
 use lib.Seq.{length-take-le}
 use mathlib.Core.Path.{sym}
 use borrow.Author.Needs.{needs}
-use Rattle.oracle_builds.proofs.built.build_lent.Statement.{statement}
-use Rattle.oracle_builds.proofs.built.build_lent.Tie as tie
+use Rattle.oracle_builds.proofs.build_lent.Statement.{statement}
+use Rattle.oracle_builds.proofs.build_lent.Tie as tie
 
 slice-aggregate-build-text : tie.Need-slice-aggregate-build-text
 slice-aggregate-build-text c =

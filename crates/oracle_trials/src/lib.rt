@@ -1,13 +1,16 @@
-// Many texts, or long lists, from one record: each text cut short, each text with another byte, lists of zeros at the limits.
+// Many texts, or long lists, from one record of the program `oracle_runs`: each text cut short, each text with another byte, lists of zeros
+// at the limits.
+// Not here: building one text or one mesh (`oracle_builds`).
+// Contracts: what callers need to be safe; the run compares what is built with the recorded answers.
 ghost use mathlib.Core.Path.{_≡_};
 ghost use Prim.Native.Nat.{_≤_, _<_};
 ghost use lib.ListN.{length};
-use crate::built::Answer;
-use crate::built::Lengths;
-use crate::built::build_bytes;
-use crate::built::build_lists;
 use building_tests::Bounds;
 use libc::STDOUT_FILENO;
+use oracle_builds::Answer;
+use oracle_builds::Lengths;
+use oracle_builds::build_bytes;
+use oracle_builds::build_lists;
 use oracle_tables::fields::at_most;
 use oracle_tables::held::LentTables;
 use oracle_tables::held::NUMBER;

@@ -2,8 +2,8 @@
 use lib.Seq.{length-take-le}
 use mathlib.Core.Path.{sym}
 use borrow.Author.Needs.{needs}
-use Rattle.oracle_builds.proofs.built.build_lists.Statement.{statement}
-use Rattle.oracle_builds.proofs.built.build_lists.Tie as tie
+use Rattle.oracle_builds.proofs.build_lists.Statement.{statement}
+use Rattle.oracle_builds.proofs.build_lists.Tie as tie
 
 slice-aggregate-build : tie.Need-slice-aggregate-build
 slice-aggregate-build c =
