@@ -9,7 +9,7 @@ An answer of a proof file reaches a fact by a path from where it stands back to 
     long_lines(text)    what of a proof file is not in the layout
     wide_lines(text)    what of any other file is not
 
-Run by itself it says which files of the crates have a line of more than 200 characters, and which proof files an answer in which a
+Run by itself it says which files of the crates have a line of more than 200 bytes, and which proof files an answer in which a
 path of more than eight steps stands twice.
 """
 
@@ -603,7 +603,7 @@ def recounted(unit, far, again, lost):
 
 def long_lines(text):
     """The lines of a proof file that are too wide, and the answers in which a long path stands twice."""
-    out = [f"{k + 1}: {len(l)} characters" for k, l in enumerate(text.split("\n")) if len(l) > HARD]
+    out = wide_lines(text)
     line = 1
     for unit in units(text):
         for a, b, _ in answer_spans(unit):
@@ -617,8 +617,8 @@ def long_lines(text):
 
 
 def wide_lines(text):
-    """The lines of any other file that are too wide."""
-    return [f"{k + 1}: {len(l)} characters" for k, l in enumerate(text.split("\n")) if len(l) > HARD]
+    """The lines of any file that are too wide, by their bytes."""
+    return [f"{k + 1}: {len(l.encode())} bytes" for k, l in enumerate(text.split("\n")) if len(l.encode()) > HARD]
 
 
 def main():

@@ -118,8 +118,12 @@ fn face(s: &[u8], at: usize, ws: &mut [u32], n: usize) -> LinePlace
 fn points(s: &[u8], at: usize, xs: &mut [f64], ws: &mut [u32]) -> Run
     requires { ⌜ at ≤ length (now s) ⌝ }
     ensures run { λ r. ⌜ r ≡ runAnswer length (many (now (s .entry)) (bytes "[point") (pointRowForm (now (s .entry))) (length (now (s .entry))) at) ⌝ }
-    ensures numbers { λ r. ⌜ AtRun r (now (xs .exit) ≡ stored numbersIn (now (xs .entry)) 0 (many (now (s .entry)) (bytes "[point") (pointRowForm (now (s .entry))) (length (now (s .entry))) at)) ⌝ }
-    ensures words { λ r. ⌜ AtRun r (now (ws .exit) ≡ stored wordsIn (now (ws .entry)) 0 (many (now (s .entry)) (bytes "[point") (pointRowForm (now (s .entry))) (length (now (s .entry))) at)) ⌝ }
+    ensures numbers { λ r. ⌜
+        AtRun r (now (xs .exit) ≡ stored numbersIn (now (xs .entry)) 0
+        (many (now (s .entry)) (bytes "[point") (pointRowForm (now (s .entry))) (length (now (s .entry))) at)) ⌝ }
+    ensures words { λ r. ⌜
+        AtRun r (now (ws .exit) ≡ stored wordsIn (now (ws .entry)) 0
+        (many (now (s .entry)) (bytes "[point") (pointRowForm (now (s .entry))) (length (now (s .entry))) at)) ⌝ }
 {
     let mut i = at;
     let mut k: usize = 0;
@@ -138,7 +142,9 @@ fn edges(s: &[u8], at: usize, ws: &mut [u32], xs: &mut [f64]) -> Run
     requires { ⌜ at ≤ length (now s) ⌝ }
     ensures run { λ r. ⌜ r ≡ runAnswer length (many (now (s .entry)) (bytes "[edge") (edgeRowForm (now (s .entry))) (length (now (s .entry))) at) ⌝ }
     ensures words { λ r. ⌜ AtRun r (now (ws .exit) ≡ stored wordsIn (now (ws .entry)) 0 (many (now (s .entry)) (bytes "[edge") (edgeRowForm (now (s .entry))) (length (now (s .entry))) at)) ⌝ }
-    ensures numbers { λ r. ⌜ AtRun r (now (xs .exit) ≡ stored numbersIn (now (xs .entry)) 0 (many (now (s .entry)) (bytes "[edge") (edgeRowForm (now (s .entry))) (length (now (s .entry))) at)) ⌝ }
+    ensures numbers { λ r. ⌜
+        AtRun r (now (xs .exit) ≡ stored numbersIn (now (xs .entry)) 0
+        (many (now (s .entry)) (bytes "[edge") (edgeRowForm (now (s .entry))) (length (now (s .entry))) at)) ⌝ }
 {
     let mut i = at;
     let mut k: usize = 0;

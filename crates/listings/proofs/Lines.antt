@@ -69,7 +69,8 @@ module _ (s : List ℕ) where
   unfolding pointRowForm
   exact-point = record { sound = sound; complete = complete }
     where
-      ended : (at m m1 n : ℕ) (xs ws : List ℕ) (r : ListedRow) → times 3 (coordinateForm s) at ≡ parsed xs m → times 3 (wordForm s) m ≡ parsed ws m1 → (b : Bool) → ltb (last 0 ws) 2 ≡ b
+      ended : (at m m1 n : ℕ) (xs ws : List ℕ) (r : ListedRow) → times 3 (coordinateForm s) at ≡ parsed xs m
+          → times 3 (wordForm s) m ≡ parsed ws m1 → (b : Bool) → ltb (last 0 ws) 2 ≡ b
           → onward (λ z. pure (record { numbers = xs; words = ws })) (choose b (literal s (bytes "]\n")) (λ i. unparsed) m1) ≡ parsed r n
           → Prints s pointFields FitPoint at n r
       ended at m m1 n xs ws r ex ew true eb e =
@@ -90,7 +91,8 @@ module _ (s : List ℕ) where
           let (ws, m1, ew, e2) = onward-found _ (times 3 (wordForm s) m) e1 in
           ended at m m1 n xs ws r ex ew (ltb (last 0 ws) 2) refl e2
 
-      complete : (at : ℕ) (r : ListedRow) → FitPoint r → stands s at (pointFields r) ≡ true → NoDigit s (at + length (pointFields r)) → pointRowForm s at ≡ parsed r (at + length (pointFields r))
+      complete : (at : ℕ) (r : ListedRow) → FitPoint r → stands s at (pointFields r) ≡ true
+          → NoDigit s (at + length (pointFields r)) → pointRowForm s at ≡ parsed r (at + length (pointFields r))
       complete at r (o, h) e g =
           let xs = r .numbers in
           let ws = r .words in
@@ -127,7 +129,8 @@ module _ (s : List ℕ) where
           prints-same s edgeFields FitEdge at n (record { numbers = xs; words = ws }) r rr
           (record { number-count = oo .1 .0; word-count = oo .0 .0; numbers-below = oo .1 .1; words-below = oo .0 .1 }, sr, en)
 
-      complete : (at : ℕ) (r : ListedRow) → FitEdge r → stands s at (edgeFields r) ≡ true → NoDigit s (at + length (edgeFields r)) → edgeRowForm s at ≡ parsed r (at + length (edgeFields r))
+      complete : (at : ℕ) (r : ListedRow) → FitEdge r → stands s at (edgeFields r) ≡ true
+          → NoDigit s (at + length (edgeFields r)) → edgeRowForm s at ≡ parsed r (at + length (edgeFields r))
       complete at r o e g =
           let xs = r .numbers in
           let ws = r .words in
@@ -164,7 +167,8 @@ module _ (s : List ℕ) where
             omega arith,
           )
 
-      complete : (at : ℕ) (r : ListedRow) → FitFace r → stands s at (faceFields r) ≡ true → NoDigit s (at + length (faceFields r)) → faceRowForm s at ≡ parsed r (at + length (faceFields r))
+      complete : (at : ℕ) (r : ListedRow) → FitFace r → stands s at (faceFields r) ≡ true
+          → NoDigit s (at + length (faceFields r)) → faceRowForm s at ≡ parsed r (at + length (faceFields r))
       complete at r o e g =
           let ws = r .words in
           let (sw, se) = stands-parts s (flat numberField ws) (bytes "]\n") at e in

@@ -98,7 +98,8 @@ module _ (ed : Edition) (m : Mesh) (c : Counts) (order : List ℕ) (t : Mesh) wh
   unfolding stepBy ended begun
   taken c' e = go _ refl _ refl _ refl
     where
-      mending : audit m (c .points) (c .edges) (c .faces) ≡ true → eachFaceOnce (c .faces) order ≡ true → roomFor (refinedCounts c) m t ≡ true → (w : Made) → begun ≡ w → Taken ed m c order t c'
+      mending : audit m (c .points) (c .edges) (c .faces) ≡ true → eachFaceOnce (c .faces) order ≡ true → roomFor (refinedCounts c) m t ≡ true
+          → (w : Made) → begun ≡ w → Taken ed m c order t c'
       mending ha ho hr (whole n) hw =
           let q = step-made ha ho hr (whole n) hw in
           let k : Refined (refinedCounts c) ≡ Refined c' = ap (λ x. x .answer) (sym q) ∙ e in

@@ -62,7 +62,8 @@ within-room b c xs ls ps ds qs hp hf hl rx rl rp rd rq =
     )
 
 -- a text over the limits has lists that are over them
-over-counts : (b : Bounds) (s : List ℕ) (t : TextMesh) (n : ℕ) → text s ≡ parsed t n → (xs ls ps ds qs : ℕ) → 12288 ≤ xs → 16384 ≤ ls → 16384 ≤ ps → 16384 ≤ ds → 16384 ≤ qs
+over-counts : (b : Bounds) (s : List ℕ) (t : TextMesh) (n : ℕ) → text s ≡ parsed t n
+    → (xs ls ps ds qs : ℕ) → 12288 ≤ xs → 16384 ≤ ls → 16384 ≤ ps → 16384 ≤ ds → 16384 ≤ qs
     → within (counts t) (limitsOf b) xs ls ps ds qs ≡ false → countsFit (limitsOf b) (listsOf t) ≡ false
 over-counts b s t n e xs ls ps ds qs rx rl rp rd rq w = go (countsFit (limitsOf b) (listsOf t)) refl
   where

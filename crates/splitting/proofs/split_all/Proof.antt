@@ -6,7 +6,8 @@ use Rattle.splitting.proofs.split_all.Statement.{statement}
 use Rattle.splitting.proofs.split_all.Tie as tie
 
 abbrev Inv-loop : tie.InvT-loop
-Inv-loop points₀ edges₀ intervals₀ np perimeter n counts₀ i₀ points edges intervals counts i = Splitting points₀ edges₀ intervals₀ np perimeter n counts₀ points edges intervals counts i
+Inv-loop points₀ edges₀ intervals₀ np perimeter n counts₀ i₀ points edges intervals counts i =
+    Splitting points₀ edges₀ intervals₀ np perimeter n counts₀ points edges intervals counts i
 
 abbrev μ-loop : tie.MeasureT-loop
 μ-loop points₀ edges₀ intervals₀ np perimeter n counts₀ i₀ points edges intervals counts i = n - i

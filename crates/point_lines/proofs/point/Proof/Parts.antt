@@ -26,7 +26,8 @@ module _ (s : List ℕ) (at : ℕ) where
       let a = place-at (times 3 (coordinateForm s) at) (sym er ∙ ei) in
       takes-times s (λ v. 1) (coordinateForm s) 3 (takes-coordinate s) at h (a .0) i (a .1) .1
 
-  pub no-end : {r : LinePlace} {i : ℕ} → r ≡ placeAnswer (times 3 (coordinateForm s) at) → r ≡ LinePlace.At i → stands s i (bytes "]\n") ≡ false → LinePlace.None ≡ placeAnswer (pointForm s at)
+  pub no-end : {r : LinePlace} {i : ℕ} → r ≡ placeAnswer (times 3 (coordinateForm s) at) → r ≡ LinePlace.At i
+      → stands s i (bytes "]\n") ≡ false → LinePlace.None ≡ placeAnswer (pointForm s at)
   unfolding pointForm
   no-end {r} {i} er ei es = rw (place-at (times 3 (coordinateForm s) at) (sym er ∙ ei) .1, literal-none s (bytes "]\n") i es)
 

@@ -31,7 +31,8 @@ module _ (s : List ℕ) (at i v k : ℕ) (inv : numberOf v (times (16 - k) (digi
       let f : 16 - k ≡ suc (16 - (k + 1)) = omega arith in
       let t = times-found (digit s 16) i (16 - (k + 1)) (digit-found s 16 i (rw e at hd)) in
       let r = rw (f, t) at inv in
-      rw e (sym (given-pure (λ (ds : List ℕ) (n : ℕ). Number.Is (value 16 v ds) n) Number.None (λ (l : List ℕ). digitValue (getD s i 0) ∷ l) (times (16 - (k + 1)) (digit s 16) (i + 1))) ∙ r)
+      rw e (sym (given-pure (λ (ds : List ℕ) (n : ℕ). Number.Is (value 16 v ds) n) Number.None (λ (l : List ℕ). digitValue (getD s i 0) ∷ l)
+      (times (16 - (k + 1)) (digit s 16) (i + 1))) ∙ r)
 
   pub bits-none : k < 16 → {d b : ℕ} → d ≡ digitValue b → b ≡ getD s i 0 → 16 ≤ d → Number.None ≡ number (bits s at)
   bits-none hk {d} {b} ed eb hd =

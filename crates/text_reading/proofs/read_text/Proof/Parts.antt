@@ -88,7 +88,10 @@ module _ (s : List ℕ) (limits : Sizes) (l : TextLists) {r : Total} (er : r ≡
         → {xs′ : List Float} {ls′ qs′ ps′ : List ℕ} {ds′ : List Float}
         → xs′ ≡ stored coordinates (l .coordinates) 0 (text s) → ls′ ≡ stored lengthWords (l .lengths) 0 (text s)
         → qs′ ≡ stored firsts (l .firsts) 0 (text s) → ps′ ≡ stored listedPoints (l .listed) 0 (text s) → ds′ ≡ stored intervals (l .intervals) 0 (text s)
-        → record { reading = Reading.Read v (record { points = p; faces = f; listed = c }); lists = record { coordinates = xs′; lengths = ls′; firsts = qs′; listed = ps′; intervals = ds′ } }
+        → record {
+          reading = Reading.Read v (record { points = p; faces = f; listed = c });
+          lists = record { coordinates = xs′; lengths = ls′; firsts = qs′; listed = ps′; intervals = ds′ };
+        }
         ≡ readInto s limits l
     unfolding readInto
     whole ew ex el eq′ ep′ ed =
