@@ -22,8 +22,20 @@ terms-from-requires : tie.Need-terms-from-requires Inv-loop μ-loop
 terms-from-requires c κs =
     let a = c .before .before .before .before .before .args in
     let pre = c .before .before .before .before .before .pre in
-    let border = pre .0 in
-    (omega arith, (omega arith, (border-fits _ _ _ _ _ border (omega arith), (border-fits _ _ _ _ _ border (omega arith), begins-back (a .positions .now) (a .edges .now) (a .intervals .now) (a .points .now) (a .border .now) (a .n) (pre .1 .1 .0) (pre .1 .1 .1) (border .at-least-3)))))
+    let border = pre .0 in (
+      omega arith,
+      (
+        omega arith,
+        (
+          border-fits _ _ _ _ _ border (omega arith),
+          (
+            border-fits _ _ _ _ _ border (omega arith),
+            begins-back (a .positions .now) (a .edges .now) (a .intervals .now) (a .points .now) (a .border .now) (a .n)
+                (pre .1 .1 .0) (pre .1 .1 .1) (border .at-least-3),
+          ),
+        ),
+      ),
+    )
 
 next-place-requires : tie.Need-next-place-requires Inv-loop μ-loop
 next-place-requires c κs = let border = c .before .before .before .before .before .before .pre .0 in omega arith
@@ -31,8 +43,19 @@ next-place-requires c κs = let border = c .before .before .before .before .befo
 terms-to-requires : tie.Need-terms-to-requires Inv-loop μ-loop
 terms-to-requires c κs =
     let pre = c .before .before .before .before .before .before .before .before .pre in
-    let border = pre .0 in
-    (omega arith, (omega (arith, c .before .next-place .ensures .1), (border-fits _ _ _ _ _ border (omega arith), (border-fits _ _ _ _ _ border (c .before .next-place .ensures .1), rw (c .before .next-place .ensures .0) (pre .1 .1 .1 .goes-on 2 (omega arith))))))
+    let border = pre .0 in (
+      omega arith,
+      (
+        omega (arith, c .before .next-place .ensures .1),
+        (
+          border-fits _ _ _ _ _ border (omega arith),
+          (
+            border-fits _ _ _ _ _ border (c .before .next-place .ensures .1),
+            rw (c .before .next-place .ensures .0) (pre .1 .1 .1 .goes-on 2 (omega arith)),
+          ),
+        ),
+      ),
+    )
 
 loop-holds : tie.Need-loop-holds Inv-loop μ-loop
 loop-holds c =
@@ -50,8 +73,19 @@ terms-from-requires-2 c κs =
     let c8 = c .before .before .before .before .before .before .before .before in
     let pre = c8 .before .before .before .before .before .pre in
     let border = pre .0 in
-    let within = c .before .before .before .loop .inv .within in
-    (omega arith, (omega (arith, c .next-place2 .ensures .1), (border-fits _ _ _ _ _ border within, (border-fits _ _ _ _ _ border (c .next-place2 .ensures .1), rw (c .next-place2 .ensures .0) (pre .1 .1 .1 .goes-back _ within)))))
+    let within = c .before .before .before .loop .inv .within in (
+      omega arith,
+      (
+        omega (arith, c .next-place2 .ensures .1),
+        (
+          border-fits _ _ _ _ _ border within,
+          (
+            border-fits _ _ _ _ _ border (c .next-place2 .ensures .1),
+            rw (c .next-place2 .ensures .0) (pre .1 .1 .1 .goes-back _ within),
+          ),
+        ),
+      ),
+    )
 
 next-place-requires-3 : tie.Need-next-place-requires-3 Inv-loop μ-loop
 next-place-requires-3 c κs =
@@ -92,8 +126,21 @@ terms-to-requires-2 c κs =
     let loop = c .before .before .before .before .before .before .loop in
     let border = pre .0 in
     let here = summed-place (a .positions .now) (a .edges .now) (a .intervals .now) (a .points .now) (a .border .now)
-    (a .n) _ _ _ _ _ (loop .inv) in
-    (omega (arith, here), (omega (arith, c .before .next-place3 .ensures .1), (border-fits _ _ _ _ _ border here, (border-fits _ _ _ _ _ border (c .before .next-place3 .ensures .1), rw (c .before .next-place3 .ensures .0) (summed-on (a .positions .now) (a .edges .now) (a .intervals .now) (a .points .now) (a .border .now) (a .n) (pre .1 .1 .0) (pre .1 .1 .1) _ _ _ _ _ (loop .inv) (omega (arith, c .before .before .before .before .before .loop-test .taken)) (border .at-least-3))))))
+    (a .n) _ _ _ _ _ (loop .inv) in (
+      omega (arith, here),
+      (
+        omega (arith, c .before .next-place3 .ensures .1),
+        (
+          border-fits _ _ _ _ _ border here,
+          (
+            border-fits _ _ _ _ _ border (c .before .next-place3 .ensures .1),
+            rw (c .before .next-place3 .ensures .0)
+                (summed-on (a .positions .now) (a .edges .now) (a .intervals .now) (a .points .now) (a .border .now) (a .n) (pre .1 .1 .0) (pre .1 .1 .1)
+                _ _ _ _ _ (loop .inv) (omega (arith, c .before .before .before .before .before .loop-test .taken)) (border .at-least-3)),
+          ),
+        ),
+      ),
+    )
 
 add-index : tie.Need-add-index Inv-loop μ-loop
 add-index c =
