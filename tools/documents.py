@@ -16,7 +16,7 @@ ROOT = Path(__file__).resolve().parent.parent
 # `handover`, `mend_text`, `mend` and of the functions for C cite.
 STATED = """
     audited_meshes/Audit audited_meshes/Claims building_tests/Lent built_meshes/Building built_meshes/Builds built_meshes/Claims
-    built_meshes/Connects built_meshes/LentContent closed_meshes/Refinement closed_meshes/Renumbering crossings/Claims explained_edges/Claims
+    building_claims/Connects building_claims/LentContent closed_meshes/Refinement closed_meshes/Renumbering crossings/Claims explained_edges/Claims
     filed_pieces/Pieces filed_pieces/TextTwo full_agreement/Agreement handover_outputs/Claims handover_outputs/Output listings/Claims listings/Handing
     mend_outputs/Claims mend_outputs/Output mended_lists/Claims mended_lists/Grounds mended_texts/Claims
     mesh_printing/Claims outcomes/Outcomes refine_outputs/Bytes refine_outputs/Claims refine_outputs/Output refined_meshes/Refines
@@ -40,6 +40,7 @@ ABOUT = {
     "mesh_lines": "the lines of mesh texts 1 and 2",
     "mesh_text": "mesh texts 1 and 2",
     "built_meshes": "building",
+    "building_claims": "what else is claimed of building, and lists to compute it on",
     "building_tests": "the lists that building is handed",
     "text_meshes": "building from a text",
     "refined_meshes": "the visits of a refinement, and what the second edition settles after them",

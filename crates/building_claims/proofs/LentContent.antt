@@ -23,28 +23,28 @@ use Rattle.tables.specs.declared.Counts.{Counts}
 use Rattle.audited_meshes.specs.Folds.{oneIf}
 use Rattle.audited_meshes.specs.Walks.{touches, Touches}
 use Rattle.audited_meshes.proofs.Folds.{below-suc, sumTo-cong}
 use Rattle.built_meshes.specs.Lists.{Lists, pointsOf, facesOf, size, rowsOf}
 use Rattle.built_meshes.specs.Places.{pointOf, nextOf, besideOf, Runs, Between, Earlier}
 use Rattle.built_meshes.specs.Building.{build}
 use Rattle.built_meshes.specs.Builds.{Edge-of, Builds}
 use Rattle.built_meshes.specs.Answers.{groundNumber}
 use Rattle.built_meshes.specs.Grounds.{Few-rows, few-points, few-faces, few-edges, Where, Met, over-counts}
 use Rattle.built_meshes.specs.Grounds.{unfit-number, few-rows, face-size, out-of-range, point-twice, first-point, non-rectangular}
 use Rattle.built_meshes.specs.Grounds.{triple-face, same-way, missing-face, no-edge, missed-edge, edge}
-use Rattle.built_meshes.specs.LentContent.{Same-numbers, Same-counted, Shows-nothing, Lent-content}
+use Rattle.building_claims.specs.LentContent.{Same-numbers, Same-counted, Shows-nothing, Lent-content}
 use Rattle.built_meshes.specs.declared.Version.{Version}
 use Rattle.built_meshes.specs.declared.Version.the-variants.{One, Two}
 use Rattle.built_meshes.specs.declared.Ground.{Ground}
 use Rattle.built_meshes.specs.declared.Ground.the-variants.{OverCounts, UnfitNumber, FewRows, FaceSize, OutOfRange}
 use Rattle.built_meshes.specs.declared.Ground.the-variants.{PointTwice, FirstPoint, NonRectangularFace, EdgeTripleFace}
 use Rattle.built_meshes.specs.declared.Ground.the-variants.{SameWay, MissingFace, NoEdge, MissedEdge}
 use Rattle.built_meshes.specs.declared.Built.{Built}
 use Rattle.built_meshes.specs.declared.Built.the-variants.{Accepted, Refused}
 use Rattle.built_meshes.proofs.Rows.{row}
 use Rattle.built_meshes.proofs.Made.{earlier-not, earlier-differs}
 use Rattle.built_meshes.proofs.Begin.{getD-zeroed}
 use Rattle.built_meshes.proofs.Builds.{earlier-or}
 use Rattle.built_meshes.proofs.Theorem.{first-ground, refusals-hold, accepts-exactly, accepted-audited, accepted-builds}
 
 -- of two numbers
 compare : {A : Type 0} (k n : ℕ) → (k < n → A) → (k ≡ n → A) → (n < k → A) → A

@@ -8,12 +8,12 @@ use lib.ListN.{replicate}
 use lib.Ieee.{Float, ofBits, neg, add, sub, le, lt, binary64}
 use Rattle.edge_links.specs.Connect.{linksOf}
 use Rattle.tables.specs.Mesh.{none}
 use Rattle.built_meshes.specs.Lists.{Lists, generalLimits}
 use Rattle.built_meshes.specs.Building.{build}
-use Rattle.built_meshes.specs.Pieces.{unit, two, nought, backToBack}
-use Rattle.built_meshes.proofs.Cases.{justEnough, Piece, piece, asExpected, allOf}
+use Rattle.building_claims.specs.Pieces.{unit, two, nought, backToBack}
+use Rattle.building_claims.proofs.Cases.{justEnough, Piece, piece, asExpected, allOf}
 use Rattle.built_meshes.specs.declared.Version.the-variants.{One}
 use Rattle.built_meshes.specs.declared.Built.the-variants.{Accepted}
 
 -- n numbers, no two alike
 abbrev numbers : ℕ → List Float

@@ -9,14 +9,14 @@ use lib.ListN.{length, replicate}
 use lib.Ieee.{Float, nan, inf, ofBits, neg, add, sub, le, lt, binary64}
 use Rattle.edge_links.specs.Connect.{linksOf}
 use Rattle.tables.specs.Mesh.{Mesh, none}
 use Rattle.built_meshes.specs.Lists.{Lists, generalLimits, refineLimits, pointsOf, facesOf}
 use Rattle.tables.specs.declared.Sizes.{Sizes}
 use Rattle.built_meshes.specs.Answers.{builtNumbers}
 use Rattle.built_meshes.specs.Building.{build}
-use Rattle.built_meshes.specs.Pieces.{unit, two, nought, backToBack}
+use Rattle.building_claims.specs.Pieces.{unit, two, nought, backToBack}
 use Rattle.built_meshes.specs.declared.Version.the-variants.{One}
 use Rattle.built_meshes.specs.declared.Ground.the-variants.{SameWay}
 use Rattle.built_meshes.specs.declared.Built.the-variants.{Accepted, Refused}
 
 -- ---- pieces
 

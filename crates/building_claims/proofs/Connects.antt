@@ -24,26 +24,26 @@ use Rattle.edge_links.specs.Joinable.{shareFace, joinable}
 use Rattle.tables.specs.Mesh.{Mesh}
 use Rattle.t_nurcc_edge.specs.Joinable.{joinableRows}
 use Rattle.closed_meshes.specs.Renumbering.{sumTo}
 use Rattle.built_meshes.specs.Lists.{Lists, pointsOf, facesOf, size, offset, rowsOf}
 use Rattle.built_meshes.specs.Faces.{faceVerdict}
 use Rattle.built_meshes.specs.Edges.{Entered, entered}
 use Rattle.built_meshes.specs.Perimeters.{BuildState, FaceState, Progress, on, turn, places}
 use Rattle.built_meshes.specs.Places.{pointOf, nextOf}
 use Rattle.built_meshes.specs.Building.{facePassed}
-use Rattle.built_meshes.specs.Connects.{turnConnects, placesConnect, closeConnects, begun, faceConnects, facesConnect, Always-connects}
+use Rattle.building_claims.specs.Connects.{turnConnects, placesConnect, closeConnects, begun, faceConnects, facesConnect, Always-connects}
 use Rattle.built_meshes.specs.declared.Verdict.{Verdict}
 use Rattle.built_meshes.specs.declared.Verdict.the-variants.{Fit}
 use Rattle.built_meshes.proofs.Made.{intervalOf}
 use Rattle.built_meshes.proofs.Connecting.{firstOf, secondOf}
 use Rattle.built_meshes.proofs.Rows.{row}
 use Rattle.built_meshes.proofs.Invariant.{FaceSound, Sits}
 use Rattle.built_meshes.proofs.Entering.{Came, goes, stops}
 use Rattle.built_meshes.proofs.Perimeter.{Ready, ready-same, Done, Chained, Faces, Around, Round, round, halts, a-face}
 use Rattle.built_meshes.proofs.Perimeter.{entering, turn-came, places-came, around-begun, last-place, offset-suc, wraps}
 use Rattle.built_meshes.proofs.Before.{Clear-lists}
 use Rattle.built_meshes.proofs.Faces.{Face-verdict, fit, unfit, verdict-is, So-far, Along, along, stopped-at, face-came, so-far-none}
 use Rattle.built_meshes.proofs.Begin.{counts-is, numbers-is, rows-is, ready, faces-none}
 use Rattle.built_meshes.proofs.Theorem.{clear}
 
 -- ---- two edges that share a face and a point
 
