@@ -2,8 +2,8 @@
 use native.Mathlib.Omega.{arith}
 use Rattle.perimeters.proofs.Laws.{next-below}
 use borrow.Author.Needs.{needs}
-use Rattle.building_faces.proofs.interval_place.Statement.{statement}
-use Rattle.building_faces.proofs.interval_place.Tie as tie
+use Rattle.interval_places.proofs.interval_place.Statement.{statement}
+use Rattle.interval_places.proofs.interval_place.Tie as tie
 
 returns-2 : tie.Need-returns-2
 returns-2 c =
