@@ -21,7 +21,7 @@ STATED = """
     mend_outputs/Claims mend_outputs/Output mended_lists/Claims mended_lists/Grounds mended_texts/Claims
     mesh_printing/Claims outcomes/Outcomes refine_outputs/Bytes refine_outputs/Claims refine_outputs/Output refined_meshes/Refines
     explained_texts/Numbers explained_texts/Places refined_meshes/SplitStarts refusal_places/Claims renumbered_meshes/Claims runs/Runs station/Station
-    station_audits/Told station_building/Told station_listings/Told station_mending/Told station_places/Told station_steps/Told step_runs/Claims
+    station_audits/Told station_building/Told station_listings/Told station_mending/Told station_places/Told station_steps/Told ordered_runs/Claims
     steps/FirstGround steps/LentScratch steps/OneStep steps/Step text_meshes/Claims text_meshes/TextBuilding text_printing/Faces
     told_edges/Claims whole_grounds/Claims
 """.split()
@@ -50,7 +50,7 @@ ABOUT = {
     "renumbered_meshes": "meshes that are one but for the numbers of their rows",
     "runs": "demand 3",
     "full_agreement": "full agreement of visiting orders",
-    "step_runs": "a list of steps as a function makes it",
+    "ordered_runs": "a list of steps as a function makes it",
     "outcomes": "demand 1",
     "mesh_answers": "the lines of an answer",
     "listings": "the handover listing",

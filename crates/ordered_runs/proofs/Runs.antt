@@ -19,7 +19,7 @@ use Rattle.steps.specs.Step.{StepOutcome, step}
 use Rattle.runs.specs.Lengths.{SameLengths}
 use Rattle.runs.proofs.Lengths.{lengths-refl, lengths-trans}
 use Rattle.runs.specs.Runs.{Lent, countsAfter, oneMore, outcome, after, run, accepted, lent}
-use Rattle.step_runs.specs.Runs.{ordersOf, handing, handed, scratchAfter, RunOutcome, ran}
+use Rattle.ordered_runs.specs.Runs.{ordersOf, handing, handed, scratchAfter, RunOutcome, ran}
 
 -- ---- orders one behind the other
 

@@ -3,11 +3,11 @@ use Prim.Native.Nat.{_-_}
 use mathlib.Core.Path.{_≡_, refl, _∙_}
 use lib.ListN.{length, drop}
 use lib.Ieee.{nan, eq}
-use Rattle.oracle_tables.specs.Kept.{fillingNumber, keptNumbers}
-use Rattle.oracle_tables.proofs.Laws.{all-stop, all-turn, all-end, differs, is-same}
+use Rattle.filled_rows.specs.Filled.{fillingNumber, keptNumbers}
+use Rattle.filled_rows.proofs.Laws.{all-stop, all-turn, all-end, differs, is-same}
 use borrow.Author.Needs.{needs}
-use Rattle.oracle_tables.proofs.rows.kept_numbers.Statement.{statement}
-use Rattle.oracle_tables.proofs.rows.kept_numbers.Tie as tie
+use Rattle.filled_rows.proofs.kept_numbers.Statement.{statement}
+use Rattle.filled_rows.proofs.kept_numbers.Tie as tie
 
 abbrev Inv-loop : tie.InvT-loop
 Inv-loop numbers from i₀ i = keptNumbers (drop i numbers) ≡ keptNumbers (drop from numbers)

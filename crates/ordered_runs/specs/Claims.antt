@@ -13,7 +13,7 @@ use Rattle.audited_meshes.specs.Audit.{audit}
 use Rattle.refined_meshes.specs.declared.Edition.{Edition}
 use Rattle.steps.specs.OneStep.{Binary64}
 use Rattle.runs.specs.Runs.{Lent, Handed, NumberedOrder, run, accepted, lent, TwoRuns}
-use Rattle.step_runs.specs.Runs.{handed, ran}
+use Rattle.ordered_runs.specs.Runs.{handed, ran}
 
 abbrev pub In-orders : Type 0
 In-orders = (ed : Edition) (l : Lent) (t : Mesh) (orders : List (List ℕ)) → map (λ (h : Handed). h .order) (handed ed l t orders) ≡ orders

@@ -4,11 +4,11 @@ use mathlib.Core.Path.{_≡_, refl, _∙_}
 use lib.ListN.{length, drop}
 use borrow.Author.Tests.{ne-eqb, eq-eqb}
 use lib.Dec.{eqb}
-use Rattle.oracle_tables.specs.Kept.{fillingWord, keptWords}
-use Rattle.oracle_tables.proofs.Laws.{all-stop, all-turn, all-end}
+use Rattle.filled_rows.specs.Filled.{fillingWord, keptWords}
+use Rattle.filled_rows.proofs.Laws.{all-stop, all-turn, all-end}
 use borrow.Author.Needs.{needs}
-use Rattle.oracle_tables.proofs.rows.kept_words.Statement.{statement}
-use Rattle.oracle_tables.proofs.rows.kept_words.Tie as tie
+use Rattle.filled_rows.proofs.kept_words.Statement.{statement}
+use Rattle.filled_rows.proofs.kept_words.Tie as tie
 
 abbrev Inv-loop : tie.InvT-loop
 Inv-loop words from i₀ i = keptWords (drop i words) ≡ keptWords (drop from words)

@@ -5,8 +5,8 @@ use mathlib.Core.List.{List, [], _∷_}
 use Prim.Native.Nat.{ℕ}
 use Rattle.runs.specs.Runs.{after, outcome, lent}
 use Rattle.runs.proofs.Runs.{theorem}
-use Rattle.step_runs.specs.Runs.{handing, handed, ran}
-use Rattle.step_runs.specs.Claims.{In-orders, Runs-share}
+use Rattle.ordered_runs.specs.Runs.{handing, handed, ran}
+use Rattle.ordered_runs.specs.Claims.{In-orders, Runs-share}
 
 pub in-orders : In-orders
 unfolding handed
