@@ -22,7 +22,7 @@ STATED = """
     mesh_printing/Claims outcomes/Outcomes refine_outputs/Bytes refine_outputs/Claims refine_outputs/Output refined_meshes/Refines
     explained_texts/Numbers explained_texts/Places refined_meshes/SplitStarts refusal_places/Claims renumbered_meshes/Claims runs/Runs station/Station
     station_audits/Told station_building/Told station_listings/Told station_mending/Told station_places/Told station_steps/Told ordered_runs/Claims
-    steps/FirstGround steps/LentScratch steps/OneStep steps/Step text_meshes/Claims text_meshes/TextBuilding printed_faces/Faces
+    steps/FirstGround steps/LentScratch steps/OneStep steps/Step text_meshes/Claims text_meshes/TextBuilding mesh_printing/Faces
     told_edges/Claims whole_grounds/Claims
 """.split()
 
@@ -56,7 +56,6 @@ ABOUT = {
     "listings": "the handover listing",
     "mesh_printing": "the printing of mesh texts 1 and 2",
     "mended_lists": "faces of lists turned round, and the choice of faces",
-    "printed_faces": "the faces of lists as a text says them",
     "mended_texts": "faces of a text turned round, the mender of texts",
     "refine_outputs": "what the program `refine` writes",
     "handover_outputs": "what the program `handover` writes",

@@ -24,9 +24,9 @@ use Rattle.built_meshes.proofs.Perimeter.{offset-suc}
 use Rattle.listings.specs.Handing.{upTo, bitsOf}
 use Rattle.listings.proofs.Parts.{flat-append, flat-one, length-flat, all-to}
 use Rattle.listings.proofs.WrittenBack.{upTo-all, all-at}
 use Rattle.mesh_printing.specs.Printing.{FitListed, FitSide, FitTextFace, FitText}
 use Rattle.text_meshes.specs.TextBuilding.{listsOf}
-use Rattle.printed_faces.specs.Faces.{listedPairAt, listedFrom, sideIn, faceIn, facesIn, FiniteIntervals}
+use Rattle.mesh_printing.specs.Faces.{listedPairAt, listedFrom, sideIn, faceIn, facesIn, FiniteIntervals}
 
 -- ---- lists joined
 
