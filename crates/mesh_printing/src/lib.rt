@@ -3,6 +3,6 @@
 // text says them: those of the lists that a text stands for are the text's.
 // Not here: the grammar (`mesh_lines`, `mesh_text`), the printing of numbers (`mesh_answers`), the code that writes face lines
 // (`text_printing`).
-// Definitions: `specs/Printing.antt`, `specs/Faces.antt`. Claims: `specs/Claims.antt`, proved in `proofs/Theorem.antt` over `proofs/Parts.antt` (the lines are
-// found exactly where they are printed). The faces of a text's lists: `proofs/Again.antt`. Printed texts:
-// `proofs/Cases.antt`.
+// Definitions: `specs/Printing.antt`, `specs/Faces.antt`. Claims: `specs/Claims.antt`, proved in `proofs/Theorem.antt` over
+// `proofs/Parts.antt` (the lines are found exactly where they are printed). The faces of a text's lists: `proofs/Again.antt`. Printed
+// texts: `proofs/Cases.antt`.
