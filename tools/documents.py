@@ -16,13 +16,13 @@ ROOT = Path(__file__).resolve().parent.parent
 # `handover`, `mend_text`, `mend` and of the functions for C cite.
 STATED = """
     audited_meshes/Audit audited_meshes/Claims building_tests/Lent built_meshes/Building built_meshes/Builds built_meshes/Claims
-    built_meshes/Connects built_meshes/LentContent closed_meshes/Refinement closed_meshes/Renumbering crossings/Claims explained_edges/Claims
+    building_claims/Connects building_claims/LentContent closed_meshes/Refinement closed_meshes/Renumbering crossings/Claims explained_edges/Claims
     filed_pieces/Pieces filed_pieces/TextTwo full_agreement/Agreement handover_outputs/Claims handover_outputs/Output listings/Claims listings/Handing
     mend_outputs/Claims mend_outputs/Output mended_lists/Claims mended_lists/Grounds mended_texts/Claims
     mesh_printing/Claims outcomes/Outcomes refine_outputs/Bytes refine_outputs/Claims refine_outputs/Output refined_meshes/Refines
     explained_texts/Numbers explained_texts/Places refined_meshes/SplitStarts refusal_places/Claims renumbered_meshes/Claims runs/Runs station/Station
-    station_audits/Told station_building/Told station_listings/Told station_mending/Told station_places/Told station_steps/Told step_runs/Claims
-    steps/FirstGround steps/LentScratch steps/OneStep steps/Step text_meshes/Claims text_meshes/TextBuilding text_printing/Faces
+    station_audits/Told station_building/Told station_listings/Told station_mending/Told station_places/Told station_steps/Told ordered_runs/Claims
+    steps/FirstGround steps/LentScratch steps/OneStep steps/Step text_meshes/Claims text_meshes/TextBuilding mesh_printing/Faces
     told_edges/Claims whole_grounds/Claims
 """.split()
 
@@ -40,6 +40,7 @@ ABOUT = {
     "mesh_lines": "the lines of mesh texts 1 and 2",
     "mesh_text": "mesh texts 1 and 2",
     "built_meshes": "building",
+    "building_claims": "what else is claimed of building, and lists to compute it on",
     "building_tests": "the lists that building is handed",
     "text_meshes": "building from a text",
     "refined_meshes": "the visits of a refinement, and what the second edition settles after them",
@@ -49,13 +50,12 @@ ABOUT = {
     "renumbered_meshes": "meshes that are one but for the numbers of their rows",
     "runs": "demand 3",
     "full_agreement": "full agreement of visiting orders",
-    "step_runs": "a list of steps as a function makes it",
+    "ordered_runs": "a list of steps as a function makes it",
     "outcomes": "demand 1",
     "mesh_answers": "the lines of an answer",
     "listings": "the handover listing",
     "mesh_printing": "the printing of mesh texts 1 and 2",
     "mended_lists": "faces of lists turned round, and the choice of faces",
-    "text_printing": "the faces of lists as a text says them",
     "mended_texts": "faces of a text turned round, the mender of texts",
     "refine_outputs": "what the program `refine` writes",
     "handover_outputs": "what the program `handover` writes",

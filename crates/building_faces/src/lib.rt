@@ -1,7 +1,8 @@
 // Faces entered into the tables: one place of a perimeter after the other, each edge connected to the one before and the first to
 // the last, then the face's row (document 01, "Building"; grounds 10 to 15 and 43).
 // Carries over the loop of `try_new` of t_nurcc/mod.rs.
-// Not here: the places stepped (`perimeters`), the grounds of the lists and of the whole (`building_lists`, `building_whole`).
+// Not here: the places stepped (`perimeters`), where the interval of an edge is written (`interval_places`), the grounds of the lists
+// and of the whole (`building_lists`, `building_whole`).
 // Definitions: `Perimeters` and `Building` of `built_meshes`; `specs/Rings.antt`. Laws: `proofs/Turns.antt`.
 ghost use mathlib.Core.Path.{_≡_};
 ghost use mathlib.Core.List.{List, []};
@@ -9,8 +10,7 @@ ghost use Prim.Native.Nat.{ℕ, _+_, _*_, _/_, _≤_, _<_};
 ghost use lib.Ieee.{Float};
 ghost use lib.ListN.{length};
 ghost use Rattle.built_meshes.specs.Lists.{offset, generalLimits};
-ghost use Rattle.perimeters.specs.Places.{nextPlace};
-ghost use Rattle.built_meshes.specs.Perimeters.{FaceState, BuildState, Progress, on, intervalPlace, turn, places, closedUp};
+ghost use Rattle.built_meshes.specs.Perimeters.{FaceState, BuildState, Progress, on, turn, places, closedUp};
 ghost use Rattle.built_meshes.specs.Building.{facePassed, facesFrom};
 ghost use Rattle.building_tests.specs.Lent.{lists, listsIn, FirstsGiven};
 ghost use Rattle.edge_search.specs.Chains.{Standing};
@@ -24,6 +24,7 @@ use built_meshes::Verdict;
 use built_meshes::Version;
 use edge_search::Entry;
 use edge_search::enter;
+use interval_places::interval_place;
 use perimeters::next_place;
 use records::store_face;
 use t_nurcc_edge::connect;
@@ -48,19 +49,6 @@ pub enum Turned {
 pub enum Faced {
     On(u32),
     Stopped(Ground),
-}
-
-// The place beside whose point the interval of place i is written; `next` is the place after it.
-fn interval_place(version: Version, n: usize, i: usize, next: usize) -> usize
-    requires { ⌜ i < n ⌝ }
-    requires { ⌜ next ≡ nextPlace n i ⌝ }
-    ensures { λ r. ⌜ r ≡ intervalPlace version n i ⌝ }
-    ensures { λ r. ⌜ r < n ⌝ }
-{
-    match version {
-        Version::One => i,
-        Version::Two => next,
-    }
 }
 
 // Enters place i of the perimeter of face f, and connects its edge to the one before.

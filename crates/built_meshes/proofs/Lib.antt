@@ -16,7 +16,3 @@ pub mod Finished
 pub mod Builds
 pub mod Refusals
 pub mod Theorem
-pub mod LentContent
-pub mod Connects
-pub mod Cases
-pub mod Pyramid

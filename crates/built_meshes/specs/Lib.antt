@@ -8,8 +8,5 @@ pub mod Places
 pub mod Building
 pub mod Beyond
 pub mod Builds
-pub mod Connects
 pub mod Grounds
 pub mod Claims
-pub mod LentContent
-pub mod Pieces

@@ -7,9 +7,7 @@
 // 22), `specs/Building.antt` (the whole), `specs/Answers.antt` (document 01's numbers).
 // Claims: `specs/Claims.antt`, over `specs/Grounds.antt` (when each ground is met, of the places of `specs/Places.antt`, and their
 // order) and `specs/Beyond.antt` (the rows that are never touched), and `specs/Builds.antt` (what an accepted build leaves), proved
-// in `proofs/Theorem.antt`; `specs/LentContent.antt` (what lent tables held shows nowhere) and `specs/Connects.antt` (every `connect`
-// finds a state), proved in the files of `proofs/` with their names. Computed pieces: `specs/Pieces.antt`, `proofs/Cases.antt`,
-// `proofs/Pyramid.antt`; document 01's own stand in `filed_pieces`.
+// in `proofs/Theorem.antt`. What else is claimed of building, and pieces that are computed, stand in `building_claims`.
 use tables::Counts;
 
 // The version of lists, which is that of the mesh text they stand for (document 02, §4). The versions differ at three places: which

@@ -1,5 +1,5 @@
 // The rows that a mesh with given counts takes in five tables: whether they are there, and made zero.
-// Not here: the rows copied over those of other tables (`row_copies`).
+// Not here: the rows moved over those of other tables (`row_moves`).
 // Contracts: `rows_for`, `zero_rows`. Definitions: `tables`, specs/Counted.antt.
 ghost use mathlib.Core.Path.{_≡_};
 ghost use Prim.Native.Nat.{_*_, _≤_};

@@ -3,15 +3,19 @@
 --     laid-edges-fit          its edges are there
 --     laid-points-fit         its points are there, the first four again too
 --     laid-four-again         the first four of its points stand again behind the last
+--     laid-corners            about the point between two of its edges, a step clockwise goes to the next one, one anticlockwise back
 --     facePoint-of-laid       the sum over the windows of that border gives the face point
-use mathlib.Core.Path.{_≡_, refl, sym, _∙_, ap, fun-ext}
+use mathlib.Core.Path.{_≡_, refl, sym, _∙_, ap, subst, fun-ext}
 use mathlib.Core.List.{List}
 use Prim.Native.Nat.{ℕ, _+_, _<_}
 use native.Mathlib.Omega.{arith}
+use native.Mathlib.Decide.{decLt}
+use native.Mathlib.Numerals.{add-one}
 use lib.ListN.{getD, length}
 use lib.Ieee.{Float}
-use Rattle.perimeters.specs.Places.{around}
-use Rattle.perimeters.proofs.Laws.{around-below}
+use Rattle.perimeters.specs.Places.{around, nextPlace}
+use Rattle.perimeters.proofs.Laws.{around-below, next-more, next-last, next-below}
+use Rattle.audited_meshes.specs.Walks.{firstPoint}
 use Rattle.tables.specs.Parts.{faceTables, withoutPoints}
 use Rattle.tables.specs.Records.{positionAt}
 use Rattle.walks.specs.Border.{borderOf, border, BorderLaid}
@@ -20,12 +24,12 @@ use Rattle.walks.specs.declared.FaceBorder.{FaceBorder}
 use Rattle.walks.specs.declared.Passed.{Passed}
 use Rattle.walks.specs.declared.Passed.the-variants as Passed
 use Rattle.walks.proofs.Border.{laid-passed, laid-edge, laid-point}
-use Rattle.walks.proofs.Laws.{border-walk, border-point-again}
+use Rattle.walks.proofs.Laws.{getD-padded, border-walk, border-point, border-point-again}
 use Rattle.refined_meshes.proofs.Turns.{turns-cong}
 use Rattle.position_rules.specs.declared.WeightedSum.{WeightedSum}
 use Rattle.position_rules.specs.Sums.{withTerm}
 use Rattle.position_rules.specs.FacePoint.{noWindows, windowWeight, windowSum, overWeight, facePointIn}
-use Rattle.position_rules.specs.Fits.{BorderFits, PointsFit, FacePointFits}
+use Rattle.position_rules.specs.Fits.{BorderFits, PointsFit, CornersTurn, FacePointFits}
 use Rattle.face_points.specs.Terms.{FourAgain}
 use Rattle.position_rules.proofs.FacePoint.{never-lost, border-edges-fit, border-points-fit, facePoint-of-border}
 
@@ -100,6 +104,40 @@ module _ (ps : List Float) (es : List ℕ) (is : List Float) (fs : List ℕ) (ne
 
     pub laid-four-again : FourAgain qs n
     laid-four-again = record { again = λ j l. point-is (n + j) (omega arith) ∙ first-four j l ∙ sym (point-is j (omega arith)) }
+
+    -- the edges and the points of the border in the arrays
+    edge-at : (j : ℕ) → j < n → getD xs j 0 ≡ getD (h .border) j 0
+    edge-at j l =
+        edge-is j l
+        ∙ ap (λ (b : FaceBorder). getD (b .edges) j 0) (border-walk (faceTables es fs) ne f ∙ ap (borderOf (faceTables es fs) f) (h .walked))
+        ∙ getD-padded 64 (h .border) j
+
+    point-at : (j : ℕ) → j < n → getD qs j 0 ≡ firstPoint (faceTables es fs) f (getD (h .border) j 0)
+    point-at j l =
+        point-is j (omega arith)
+        ∙ ap (λ (b : FaceBorder). getD (b .points) j 0) (border-walk (faceTables es fs) ne f ∙ ap (borderOf (faceTables es fs) f) (h .walked))
+        ∙ border-point (faceTables es fs) f (h .border) j (omega (arith, count))
+
+    -- the point after the edge at the place j
+    point-after : (j : ℕ) → j < n → getD qs (j + 1) 0 ≡ firstPoint (faceTables es fs) f (getD (h .border) (nextPlace n j) 0)
+    point-after j l = go (decLt (j + 1) n)
+      where
+        go : Dec (j + 1 < n) → getD qs (j + 1) 0 ≡ firstPoint (faceTables es fs) f (getD (h .border) (nextPlace n j) 0)
+        go (yes b) =
+            point-at (j + 1) b
+            ∙ ap (λ (i : ℕ). firstPoint (faceTables es fs) f (getD (h .border) i 0)) (add-one j ∙ sym (next-more n j (omega arith)))
+        go (no b) =
+            ap (λ (i : ℕ). getD qs i 0) (omega arith) ∙ laid-four-again .again 0 (omega arith) ∙ point-at 0 (omega arith)
+            ∙ ap (λ (i : ℕ). firstPoint (faceTables es fs) f (getD (h .border) i 0)) (sym (next-last n j (omega arith)))
+
+    pub laid-corners : CornersTurn es (λ j. getD qs (j + 1) 0) xs n
+    laid-corners =
+        let turn = subst (λ k. CornersTurn es (λ j. firstPoint (faceTables es fs) f (getD (h .border) (nextPlace k j) 0)) (h .border) k)
+        (sym count) (h .corners) in
+        record {
+          goes-on = λ j l. rw (point-after j l, edge-at j l, edge-at (nextPlace n j) (next-below n j l)) (turn .goes-on j l);
+          goes-back = λ j l. rw (point-after j l, edge-at j l, edge-at (nextPlace n j) (next-below n j l)) (turn .goes-back j l);
+        }
 
     pub facePoint-of-laid : (s : WeightedSum) → s ≡ windowSum ps es is (λ j. getD qs j 0) (λ j. getD xs (around n j) 0) n
         → overWeight s ≡ facePointIn (withoutPoints ps es is fs) ne f

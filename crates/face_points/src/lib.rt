@@ -9,13 +9,16 @@ ghost use lib.ListN.{length, getD};
 ghost use Rattle.perimeters.specs.Places.{around};
 ghost use Rattle.tables.specs.Layout.{longestPerimeter, longestBorder};
 ghost use Rattle.positions.specs.Position.{placedAt};
+ghost use Rattle.position_rules.specs.Intervals.{acwAbout, cwAbout};
 ghost use Rattle.position_rules.specs.FacePoint.{windowSum, facePointIn};
 ghost use Rattle.tables.specs.Parts.{withoutPoints};
-ghost use Rattle.position_rules.specs.Fits.{EdgeFits, BorderFits, PointsFit, FacePointFits};
+ghost use Rattle.position_rules.specs.Fits.{EdgeFits, BorderFits, PointsFit, CornersTurn, FacePointFits};
 ghost use Rattle.face_points.specs.Terms.{termsAbout, six, FourAgain};
 use perimeters::next_place;
 use position_rules::WeightedSum;
+use position_rules::intervals::a1;
 use position_rules::intervals::a2;
+use position_rules::intervals::c1;
 use position_rules::intervals::c2;
 use positions::Placed;
 use positions::Position;
@@ -33,20 +36,6 @@ struct Terms {
     c2: f64,
 }
 
-// The terms of edge e about p.
-fn terms_about(edges: &[u32], intervals: &[f64], p: usize, e: usize) -> Terms
-    requires { ⌜ EdgeFits (now edges) (now intervals) e ⌝ }
-    ensures { λ r. ⌜ r ≡ termsAbout (now (edges .entry)) (now (intervals .entry)) p e ⌝ }
-{
-    let a = a2(edges, intervals, p, e);
-    let c = c2(edges, intervals, p, e);
-    Terms {
-        d: intervals[e],
-        a2: a,
-        c2: c,
-    }
-}
-
 // The terms of one edge, then those of another.
 fn six_terms(s: Terms, t: Terms) -> f64
     ensures { λ r. ⌜ r ≡ six s t ⌝ }
@@ -54,25 +43,61 @@ fn six_terms(s: Terms, t: Terms) -> f64
     s.d + s.a2 + s.c2 + t.d + t.a2 + t.c2
 }
 
-// The terms of the edge at place i of a border, about p.
-fn terms_at(
+// The terms about p of the edge at place i of a border, which begins at p: one step anticlockwise from it is the edge at the place before.
+fn terms_from(
+    edges: &[u32],
+    intervals: &[f64],
+    border: &[u32; LONGEST_PERIMETER],
+    p: u32,
+    before: usize,
+    i: usize,
+) -> Terms
+    requires { ⌜ before < longestPerimeter ⌝ }
+    requires { ⌜ i < longestPerimeter ⌝ }
+    requires { ⌜ EdgeFits (now edges) (now intervals) (getD (now border) before 0) ⌝ }
+    requires { ⌜ EdgeFits (now edges) (now intervals) (getD (now border) i 0) ⌝ }
+    requires { ⌜ acwAbout (now edges) p (getD (now border) i 0) ≡ getD (now border) before 0 ⌝ }
+    ensures { λ r. ⌜ r ≡ termsAbout (now (edges .entry)) (now (intervals .entry)) p (getD (now (border .entry)) i 0) ⌝ }
+{
+    let e = index(border[i]);
+    let a = a1(edges, intervals, index(p), index(border[before]));
+    let c = c2(edges, intervals, index(p), e);
+    Terms {
+        d: intervals[e],
+        a2: a,
+        c2: c,
+    }
+}
+
+// The same of one that ends at p: one step clockwise from it is the edge at the place after.
+fn terms_to(
     edges: &[u32],
     intervals: &[f64],
     border: &[u32; LONGEST_PERIMETER],
     p: u32,
     i: usize,
+    after: usize,
 ) -> Terms
     requires { ⌜ i < longestPerimeter ⌝ }
+    requires { ⌜ after < longestPerimeter ⌝ }
     requires { ⌜ EdgeFits (now edges) (now intervals) (getD (now border) i 0) ⌝ }
+    requires { ⌜ EdgeFits (now edges) (now intervals) (getD (now border) after 0) ⌝ }
+    requires { ⌜ cwAbout (now edges) p (getD (now border) i 0) ≡ getD (now border) after 0 ⌝ }
     ensures { λ r. ⌜ r ≡ termsAbout (now (edges .entry)) (now (intervals .entry)) p (getD (now (border .entry)) i 0) ⌝ }
 {
     let e = index(border[i]);
-    terms_about(edges, intervals, index(p), e)
+    let a = a2(edges, intervals, index(p), e);
+    let c = c1(edges, intervals, index(p), index(border[after]));
+    Terms {
+        d: intervals[e],
+        a2: a,
+        c2: c,
+    }
 }
 
 // The sum of the middle points of n windows at their weights. The weight of the window p0 .. p4 is p2p3 about p3, then p0p1
 // about p0; times p1p2 about p1, then p3p4 about p4. Two of these four are those of the window before it: p0p1 about p0 was its
-// p1p2 about p1, and p2p3 about p3 its p3p4 about p4; k is the place of p2p3. The other two of the last window are those two of the
+// p1p2 about p1, and p2p3 about p3 its p3p4 about p4; k is the place of p3p4. The other two of the last window are those two of the
 // first, as the border comes round. The Rust sums the weights from -0.
 fn window_sum(
     positions: &[f64],
@@ -85,6 +110,7 @@ fn window_sum(
     requires { ⌜ BorderFits (now edges) (now intervals) (now border) n ⌝ }
     requires { ⌜ PointsFit (now positions) (now points) n ⌝ }
     requires { ⌜ FourAgain (now points) n ⌝ }
+    requires { ⌜ CornersTurn (now edges) (λ j. getD (now points) (j + 1) 0) (now border) n ⌝ }
     ensures { λ r. ⌜
         r
         ≡ windowSum (now (positions .entry)) (now (edges .entry)) (now (intervals .entry)) (λ j. getD (now (points .entry)) j 0)
@@ -94,22 +120,23 @@ fn window_sum(
         sum: Position::origin(),
         weight: -0.0,
     };
-    let start = terms_at(edges, intervals, border, points[0], 0);
-    let ahead = terms_at(edges, intervals, border, points[3], 2);
     let last = n - 1;
+    let start = terms_from(edges, intervals, border, points[0], last, 0);
+    let mut k = next_place(n, 2);
+    let ahead = terms_to(edges, intervals, border, points[3], 2, k);
     let mut first = start;
     let mut third = ahead;
-    let mut k = 2;
     let mut i = 0;
     while i < last {
-        let second = terms_at(edges, intervals, border, points[i + 1], next_place(n, i));
-        k = next_place(n, k);
-        let fourth = terms_at(edges, intervals, border, points[i + 4], k);
+        let second = terms_from(edges, intervals, border, points[i + 1], i, next_place(n, i));
+        let after = next_place(n, k);
+        let fourth = terms_to(edges, intervals, border, points[i + 4], k, after);
         let w = six_terms(third, first) * six_terms(second, fourth);
         let p = load_position(positions, index(points[i + 2]));
         s = s.with_term(p, w);
         first = second;
         third = fourth;
+        k = after;
         i += 1;
     }
     let w = six_terms(third, first) * six_terms(start, ahead);

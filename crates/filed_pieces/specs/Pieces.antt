@@ -14,7 +14,7 @@ use Rattle.tables.specs.declared.Counts.{Counts}
 use Rattle.built_meshes.specs.Lists.{Lists, generalLimits, rowsOf}
 use Rattle.built_meshes.specs.Answers.{builtNumbers}
 use Rattle.built_meshes.specs.Building.{BuildOutcome, build}
-use Rattle.built_meshes.specs.Pieces.{unit, two, nought, tiny, aboveTiny, cube, backToBack, even}
+use Rattle.building_claims.specs.Pieces.{unit, two, nought, tiny, aboveTiny, cube, backToBack, even}
 use Rattle.built_meshes.specs.declared.Version.the-variants.{One}
 use Rattle.built_meshes.specs.declared.Built.{Built}
 use Rattle.built_meshes.specs.declared.Built.the-variants.{Accepted, Refused}

@@ -12,7 +12,7 @@ use lib.Ieee.{Float, ofBits, binary64}
 use Rattle.built_meshes.specs.Lists.{Lists, generalLimits, rowsOf}
 use Rattle.built_meshes.specs.Answers.{builtNumbers}
 use Rattle.built_meshes.specs.Building.{build}
-use Rattle.built_meshes.specs.Pieces.{unit, two, nought, tiny, backToBack, withFirsts}
+use Rattle.building_claims.specs.Pieces.{unit, two, nought, tiny, backToBack, withFirsts}
 use Rattle.built_meshes.specs.declared.Version.the-variants.{One, Two}
 use Rattle.filed_pieces.specs.Pieces.{used}
 

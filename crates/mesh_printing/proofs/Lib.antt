@@ -1,3 +1,4 @@
 pub mod Parts
 pub mod Theorem
 pub mod Cases
+pub mod Again

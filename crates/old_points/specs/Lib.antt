@@ -1,1 +1,2 @@
+pub mod Fan
 pub mod Sides

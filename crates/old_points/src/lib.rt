@@ -13,13 +13,13 @@ ghost use Rattle.positions.specs.Position.{placedAt};
 ghost use Rattle.t_spline.specs.Edge.{none, commonFace};
 ghost use Rattle.tables.specs.Layout.{edgeWidth};
 ghost use Rattle.tables.specs.Records.{edgeAt};
-ghost use Rattle.position_rules.specs.OldPoint.{edgeWeight, faceWeight, radialTerms, radialSum, moved, oldPoint};
+ghost use Rattle.position_rules.specs.OldPoint.{radialSum, moved, oldPoint};
 ghost use Rattle.position_rules.specs.Places.{edgePointAt, facePointAt};
-ghost use Rattle.position_rules.specs.Fits.{EdgeFits, RadialFits, OldPointFits};
+ghost use Rattle.position_rules.specs.Fits.{EdgeFits, RadialFits, TurnsBack, OldPointFits};
+ghost use Rattle.old_points.specs.Fan.{fanAbout, edgeWeightIn, termsIn, BetweenFits};
 ghost use Rattle.old_points.specs.Sides.{hasFace, likelyFace};
 use position_rules::WeightedSum;
 use position_rules::intervals::a1;
-use position_rules::intervals::a2;
 use position_rules::intervals::acw_about;
 use position_rules::intervals::c1;
 use position_rules::intervals::c2;
@@ -35,23 +35,35 @@ use tables::EDGE_WIDTH;
 use tables::LEFT_FACE_WORD;
 use tables::index;
 
-// 0.5 (A1 + C1) (A2 + C2) of edge r about p.
-fn edge_weight(edges: &[u32], intervals: &[f64], p: usize, r: usize) -> f64
-    requires { ⌜ EdgeFits (now edges) (now intervals) r ⌝ }
-    ensures { λ w. ⌜ w ≡ edgeWeight (now (edges .entry)) (now (intervals .entry)) p r ⌝ }
-{
-    0.5
-        * (a1(edges, intervals, p, r) + c1(edges, intervals, p, r))
-        * (a2(edges, intervals, p, r) + c2(edges, intervals, p, r))
+// The intervals about edge r of a point: of the edges two steps and one step clockwise, of r, of the edge one step anticlockwise.
+struct Fan {
+    c2: f64,
+    c1: f64,
+    d: f64,
+    a1: f64,
 }
 
-// A1 of edge r about p, times C1 of the next edge.
-fn face_weight(edges: &[u32], intervals: &[f64], p: usize, r: usize, next: usize) -> f64
+// The intervals about edge r of the point p.
+fn fan_about(edges: &[u32], intervals: &[f64], p: usize, r: usize) -> Fan
     requires { ⌜ EdgeFits (now edges) (now intervals) r ⌝ }
-    requires { ⌜ EdgeFits (now edges) (now intervals) next ⌝ }
-    ensures { λ w. ⌜ w ≡ faceWeight (now (edges .entry)) (now (intervals .entry)) p r next ⌝ }
+    ensures { λ f. ⌜ f ≡ fanAbout (now (edges .entry)) (now (intervals .entry)) p r ⌝ }
 {
-    a1(edges, intervals, p, r) * c1(edges, intervals, p, next)
+    let far = c2(edges, intervals, p, r);
+    let before = c1(edges, intervals, p, r);
+    let next = a1(edges, intervals, p, r);
+    Fan {
+        c2: far,
+        c1: before,
+        d: intervals[r],
+        a1: next,
+    }
+}
+
+// 0.5 (A1 + C1) (A2 + C2).
+fn edge_weight(fan: Fan, a2: f64) -> f64
+    ensures { λ w. ⌜ w ≡ edgeWeightIn fan a2 ⌝ }
+{
+    0.5 * (fan.a1 + fan.c1) * (a2 + fan.c2)
 }
 
 // 0 if the test holds, else 1.
@@ -106,35 +118,34 @@ fn face_between(edges: &[u32], intervals: &[f64], r: usize, next: usize) -> usiz
     index(load_edge(edges, intervals, r).common_face(load_edge(edges, intervals, next)))
 }
 
-// The sum s with the terms of edge r and of the face between it and the next edge anticlockwise about p.
+// The sum s with the terms of edge r and of the face between it and the next edge. C1 of the next edge is the interval of r.
 fn radial_terms(
     edges: &[u32],
     intervals: &[f64],
     newpositions: &[f64],
     newedges: &[u32],
     newfaces: &[u32],
-    p: usize,
     r: usize,
+    next: usize,
+    fan: Fan,
+    a2: f64,
     s: WeightedSum,
 ) -> WeightedSum
-    requires { ⌜ RadialFits (now edges) (now intervals) r (now newpositions) (now newedges) (now newfaces) ⌝ }
+    requires { ⌜ BetweenFits (now edges) (now intervals) r next (now newpositions) (now newedges) (now newfaces) ⌝ }
     ensures { λ t. ⌜
-        t ≡ radialTerms (now (edges .entry)) (now (intervals .entry)) (edgePointAt (now (newpositions .entry))
-        (now (newedges .entry))) (facePointAt (now (newpositions .entry)) (now (newfaces .entry))) p r s ⌝ }
+        t ≡ termsIn (now (edges .entry)) (now (intervals .entry)) (edgePointAt (now (newpositions .entry))
+        (now (newedges .entry))) (facePointAt (now (newpositions .entry)) (now (newfaces .entry))) r next fan a2 s ⌝ }
 {
-    let next = acw_about(edges, p, r);
     let f = face_between(edges, intervals, r, next);
     let edge_term = s.with_term(
         load_edge_point(newpositions, newedges, r),
-        edge_weight(edges, intervals, p, r),
+        edge_weight(fan, a2),
     );
-    edge_term.with_term(
-        load_face_point(newpositions, newfaces, f),
-        face_weight(edges, intervals, p, r, next),
-    )
+    edge_term.with_term(load_face_point(newpositions, newfaces, f), fan.a1 * fan.d)
 }
 
-// The terms of n edges about p, anticlockwise from the start edge.
+// The terms of n edges about p, anticlockwise from the start edge. What is known about an edge is kept for the next one, so that each turn
+// of the loop takes one step about p.
 fn radial_sum(
     edges: &[u32],
     intervals: &[f64],
@@ -146,6 +157,7 @@ fn radial_sum(
     n: usize,
 ) -> WeightedSum
     requires { ⌜ RadialFits (now edges) (now intervals) start (now newpositions) (now newedges) (now newfaces) ⌝ }
+    requires { ⌜ TurnsBack (now edges) p start ⌝ }
     ensures { λ t. ⌜
         t ≡ radialSum (now (edges .entry)) (now (intervals .entry)) (edgePointAt (now (newpositions .entry))
         (now (newedges .entry))) (facePointAt (now (newpositions .entry)) (now (newfaces .entry))) p start n ⌝ }
@@ -155,10 +167,33 @@ fn radial_sum(
         weight: 0.0,
     };
     let mut r = start;
+    let mut next = acw_about(edges, p, start);
+    let mut fan = fan_about(edges, intervals, p, start);
     let mut i = 0;
     while i < n {
-        s = radial_terms(edges, intervals, newpositions, newedges, newfaces, p, r, s);
-        r = acw_about(edges, p, r);
+        let after = acw_about(edges, p, next);
+        let a2 = intervals[after];
+        s = radial_terms(
+            edges,
+            intervals,
+            newpositions,
+            newedges,
+            newfaces,
+            r,
+            next,
+            fan,
+            a2,
+            s,
+        );
+        let ahead = Fan {
+            c2: fan.c1,
+            c1: fan.d,
+            d: fan.a1,
+            a1: a2,
+        };
+        fan = ahead;
+        r = next;
+        next = after;
         i += 1;
     }
     s

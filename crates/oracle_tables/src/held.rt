@@ -1,11 +1,8 @@
 // The tables that are lent to building and refining: five arrays by value, filled before a mesh is built in them.
 ghost use Prim.Native.Nat.{_≤_};
 use crate::fields::cut;
-
-// The filling of words and of numbers.
-pub const WORD: u32 = 2779096485;
-
-pub const NUMBER: f64 = 1234.5;
+use filled_rows::NUMBER;
+use filled_rows::WORD;
 
 // Tables of 400 points, 800 edges and 400 faces: room for each sample and its steps.
 pub struct Tables {

@@ -1,13 +1,13 @@
 // What stands in the rows of lent tables that hold no mesh. A row that still has the filling was not touched.
 ghost use mathlib.Core.Path.{_≡_};
 ghost use Prim.Native.Nat.{_≤_, _-_};
-ghost use lib.ListN.{length, drop};
-ghost use Rattle.oracle_tables.specs.Kept.{keptWords, keptNumbers, kept};
+ghost use lib.ListN.{length};
+ghost use Rattle.oracle_tables.specs.Kept.{kept};
 use crate::fields::at_most;
-use crate::held::NUMBER;
 use crate::held::Tables;
-use crate::held::WORD;
 use crate::listing::bits_of;
+use filled_rows::kept_numbers;
+use filled_rows::kept_words;
 use libc::STDOUT_FILENO;
 use tables::Counts;
 use tables::EDGE_WIDTH;
@@ -50,34 +50,6 @@ fn count_zero_numbers(numbers: &[f64], from: usize) -> usize
         i += 1;
     }
     i - from
-}
-
-// Whether all words from a place on are as filled.
-fn kept_words(words: &[u32], from: usize) -> bool
-    ensures { λ r. ⌜ r ≡ keptWords (drop from (now (words .entry))) ⌝ }
-{
-    let mut i = from;
-    while i < words.len() {
-        if words[i] != WORD {
-            return false;
-        }
-        i += 1;
-    }
-    true
-}
-
-// Whether all numbers from a place on are as filled.
-fn kept_numbers(numbers: &[f64], from: usize) -> bool
-    ensures { λ r. ⌜ r ≡ keptNumbers (drop from (now (numbers .entry))) ⌝ }
-{
-    let mut i = from;
-    while i < numbers.len() {
-        if numbers[i] != NUMBER {
-            return false;
-        }
-        i += 1;
-    }
-    true
 }
 
 // Writes how many words from a place on are zero, and whether all that follow are as filled.

@@ -21,6 +21,7 @@ use Rattle.audited_meshes.specs.Audited.{EdgeInRange, FaceWalked, Audited}
 use Rattle.audited_meshes.proofs.Audited.{on-face-is, faceWalk-is}
 use Rattle.walks.proofs.Back.{back-on}
 use Rattle.position_rules.specs.Intervals.{acwAbout}
+use Rattle.position_rules.proofs.Turning.{border-turns, radial-back}
 use Rattle.position_rules.specs.Fits.{EdgesFit, FacePointFits, EdgePointFits, NewPointsFit, OldPointFits}
 
 -- the face that an edge with the faces l and r has in common with one with the faces l′ and r′
@@ -101,6 +102,7 @@ module _ (m : Mesh) (np ne nf : ℕ) (a : Audited m np ne nf) where
         edges-below = λ j b.
             on-face-is m ne f (getD (w .edges) j 0) .0
             (back-on (acwOfFace m f) (λ e. ltb e ne && borders m f e) (faceStart m f) 64 (w .edges) came j b) .0;
+        corners = border-turns m np ne nf a f (w .edges) came;
       }
 
   module _ (new : List Float) (es′ fs′ : List ℕ) (n : NewPointsFit ne nf new es′ fs′) where
@@ -129,6 +131,7 @@ module _ (m : Mesh) (np ne nf : ℕ) (a : Audited m np ne nf) where
             fit = record { fit = edges-fit; new-fit = n; common-below = common-below h };
             below = a .start-in-range p l;
           };
+          turns-back = record { goes-back = radial-back m np ne nf a p l };
         }
 
 -- the border of a face of an audited mesh

@@ -5,4 +5,5 @@ pub mod Fits
 pub mod Floats
 pub mod Joins
 pub mod Sums
+pub mod Turning
 pub mod Windows

@@ -9,10 +9,9 @@ ghost use Rattle.steps.specs.Step.{made};
 ghost use Rattle.steps.specs.Rows.{Room};
 ghost use Rattle.making.specs.Making.{madeAs};
 ghost use Rattle.step_parts.specs.Passed.{TestsPassed};
-use counted_rows::zero_rows;
 use making::make_in_rows;
 use refined_meshes::Edition;
-use row_copies::copy_rows;
+use row_moves::move_rows;
 use tables::Counts;
 use tables::EDGE_WIDTH;
 use tables::FACE_WIDTH;
@@ -71,7 +70,7 @@ pub fn make_from_rows(
     )
 }
 
-// Copies the refined mesh, of the counts c, from scratch to the tables, and zeroes scratch.
+// Moves the refined mesh, of the counts c, from scratch to the tables: scratch is zeroed.
 pub fn commit(
     c: Counts,
     newpositions: &mut [f64],
@@ -95,7 +94,7 @@ pub fn commit(
         meshOf (now (newpositions .exit)) (now (newpoints .exit)) (now (newedges .exit)) (now (newintervals .exit)) (now (newfaces .exit))
         ≡ zeroedRows c (meshOf (now (newpositions .entry)) (now (newpoints .entry)) (now (newedges .entry)) (now (newintervals .entry)) (now (newfaces .entry))) ⌝ }
 {
-    copy_rows(
+    move_rows(
         c,
         newpositions,
         newpoints,
@@ -108,5 +107,4 @@ pub fn commit(
         intervals,
         faces,
     );
-    zero_rows(c, newpositions, newpoints, newedges, newintervals, newfaces);
 }

@@ -1,15 +1,15 @@
 // A list of steps of refining, made one after the other in the same tables: each is handed its order, of orders that stand one
 // behind the other, and the scratch that the step before it left.
 // So `Demand3` of `runs` speaks of what this function makes: what it leaves is what a run of these steps leaves.
-// Not here: one step (`refining`), what is claimed of runs (`runs`).
-// Contract: `run_steps`. Definitions: `specs/Runs.antt`. Laws: `proofs/Runs.antt`.
+// Not here: one step (`refining`), what is claimed of runs (`runs`), such a list as a definition (`ordered_runs`).
+// Contract: `run_steps`. Definitions: `Runs` of `ordered_runs`, with its laws.
 // Names: `newpositions`, `newpoints`, `newedges`, `newintervals` and `newfaces` are the scratch tables of positions, points, edges, intervals, faces.
 ghost use mathlib.Core.Path.{_≡_};
 ghost use Prim.Native.Nat.{_<_, min};
 ghost use Rattle.tables.specs.Mesh.{meshOf};
 ghost use Rattle.steps.specs.OneStep.{Binary64};
 ghost use Rattle.runs.specs.Runs.{countsAfter, oneMore, lent};
-ghost use Rattle.step_runs.specs.Runs.{RunOutcome, ordersOf, ran};
+ghost use Rattle.ordered_runs.specs.Runs.{RunOutcome, ordersOf, ran};
 use refined_meshes::Edition;
 use refining::step;
 use steps::Stepped;

@@ -24,7 +24,7 @@ use Rattle.mesh_answers.specs.Writing.{Written}
 use Rattle.mesh_answers.proofs.Laws.{written-append, length-bits}
 use Rattle.listings.specs.Handing.{upTo}
 use Rattle.mesh_printing.specs.Printing.{listedPart, sidePart, textFaceLine}
-use Rattle.text_printing.specs.Faces.{listedFrom, sideAt, sideIn, facesIn, PrintingRoom, PrintingRooms}
+use Rattle.mesh_printing.specs.Faces.{listedFrom, sideAt, sideIn, facesIn, PrintingRoom, PrintingRooms}
 
 -- ---- parts of lines
 

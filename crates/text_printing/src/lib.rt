@@ -1,7 +1,6 @@
 // The face lines of a mesh text (document 01, "Mesh text"), written from the lists that a text stands for.
-// Not here: the printing of a whole text as a definition (`mesh_printing`), the reading of texts (`text_reading`).
-// Contract: `write_face_lines`. Definitions: `specs/Faces.antt`. Laws: `proofs/Laws.antt` (lines from their parts),
-// `proofs/Again.antt` (the faces of a text's lists are those of the text).
+// Not here: the printing of a whole text and the faces of lists as definitions (`mesh_printing`), the reading of texts (`text_reading`).
+// Contract: `write_face_lines`. Definitions: `Printing` and `Faces` of `mesh_printing`. Laws: `proofs/Laws.antt` (lines from their parts).
 ghost use mathlib.Core.Path.{_≡_};
 ghost use mathlib.Core.Bool.{true};
 ghost use mathlib.Core.List.{[]};
@@ -14,7 +13,7 @@ ghost use Rattle.built_meshes.specs.declared.Version.the-variants.{Two};
 ghost use Rattle.building_tests.specs.Lent.{listsIn};
 ghost use Rattle.mesh_answers.specs.Writing.{Written};
 ghost use Rattle.mesh_printing.specs.Printing.{listedPart, sidePart, textFaceLine};
-ghost use Rattle.text_printing.specs.Faces.{listedPairAt, listedFrom, sideAt, faceIn, facesIn, PrintingRoom, PrintingRooms, FiniteIntervals};
+ghost use Rattle.mesh_printing.specs.Faces.{listedPairAt, listedFrom, sideAt, faceIn, facesIn, PrintingRoom, PrintingRooms, FiniteIntervals};
 use building_tests::faces::face_size;
 use listing_printing::wide;
 use mesh_answers::write;

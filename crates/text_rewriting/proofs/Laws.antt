@@ -29,8 +29,8 @@ use Rattle.mesh_printing.specs.Printing.{FitText, headLine, textPointLine, text
 use Rattle.mesh_printing.proofs.Theorem.{text-exactly}
 use Rattle.text_meshes.specs.TextBuilding.{listsOf}
 use Rattle.listings.specs.Handing.{upTo}
-use Rattle.text_printing.specs.Faces.{sideAt, facesIn, PrintingRooms, FiniteIntervals}
-use Rattle.text_printing.proofs.Again.{faces-again}
+use Rattle.mesh_printing.specs.Faces.{sideAt, facesIn, PrintingRooms, FiniteIntervals}
+use Rattle.mesh_printing.proofs.Again.{faces-again}
 use Rattle.mended_lists.specs.Reversal.{Choice, reversed}
 use Rattle.mended_lists.specs.Parts.{facesTurned}
 use Rattle.mended_lists.specs.Mending.{mending}

@@ -1,5 +1,5 @@
 -- face_point meets its contract: the border is the one of the definition, and so is the sum over its windows. The walk is never lost.
-use Rattle.face_points.proofs.Laid.{laid-never-lost, laid-edges-fit, laid-points-fit, laid-four-again, facePoint-of-laid}
+use Rattle.face_points.proofs.Laid.{laid-never-lost, laid-edges-fit, laid-points-fit, laid-four-again, laid-corners, facePoint-of-laid}
 use Rattle.positions.specs.Position.{placedAt}
 use mathlib.Core.Path.{_∙_, ap}
 use borrow.Author.Needs.{needs}
@@ -25,7 +25,10 @@ window-sum-requires c κs =
       laid-edges-fit _ _ _ _ _ _ (pre .0) _ _ _ _ _ (lay-border .ensures) (c .before .before .before .n .given .1),
       (
         laid-points-fit _ _ _ _ _ _ (pre .0) _ _ _ _ _ (lay-border .ensures) (c .before .before .before .n .given .1),
-        laid-four-again _ _ _ _ _ _ (pre .0) _ _ _ _ _ (lay-border .ensures) (c .before .before .before .n .given .1),
+        (
+          laid-four-again _ _ _ _ _ _ (pre .0) _ _ _ _ _ (lay-border .ensures) (c .before .before .before .n .given .1),
+          laid-corners _ _ _ _ _ _ (pre .0) _ _ _ _ _ (lay-border .ensures) (c .before .before .before .n .given .1),
+        ),
       ),
     )
 

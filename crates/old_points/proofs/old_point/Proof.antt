@@ -7,7 +7,7 @@ use Rattle.old_points.proofs.old_point.Tie as tie
 radial-sum-requires : tie.Need-radial-sum-requires
 radial-sum-requires c κs =
     let pre = c .before .before .before .before .before .before .before .before .before .before .pre in
-    rw (c .before .index .ensures, c .before .before .load-point .ensures) (pre .radial-fits)
+    rw (c .before .index .ensures, c .before .before .load-point .ensures) (pre .radial-fits, pre .turns-back)
 
 returns : tie.Need-returns
 unfolding oldPoint

@@ -1,6 +1,6 @@
 -- accepted_after meets its contract, by the answers in turn.
 use borrow.Author.Needs.{needs}
-use Rattle.step_runs.proofs.Runs.{one-more}
+use Rattle.ordered_runs.proofs.Runs.{one-more}
 use Rattle.step_runs.proofs.accepted_after.Statement.{statement}
 use Rattle.step_runs.proofs.accepted_after.Tie as tie
 

@@ -5,7 +5,7 @@ use native.Mathlib.Omega.{arith}
 use lib.ListN.{length}
 use Rattle.tables.specs.Mesh.{meshOf}
 use borrow.Author.Needs.{needs}
-use Rattle.step_runs.proofs.Runs.{end-within, Going, going-start, going-turn, going-end}
+use Rattle.ordered_runs.proofs.Runs.{end-within, Going, going-start, going-turn, going-end}
 use Rattle.step_runs.proofs.run_steps.Statement.{statement}
 use Rattle.step_runs.proofs.run_steps.Tie as tie
 

@@ -8,7 +8,7 @@ use lib.ListN.{length}
 use Rattle.built_meshes.specs.declared.Version.the-variants.{Two}
 use Rattle.building_tests.specs.Lent.{listsIn}
 use Rattle.listing_printing.proofs.Laws.{short-line-of}
-use Rattle.text_printing.specs.Faces.{faceIn}
+use Rattle.mesh_printing.specs.Faces.{faceIn}
 use Rattle.text_printing.proofs.Laws.{face-room}
 use Rattle.text_printing.proofs.write_face.Statement.{statement}
 use Rattle.text_printing.proofs.write_face.Tie as tie

@@ -14,7 +14,7 @@ use Rattle.mesh_answers.specs.Writing.{Written}
 use Rattle.mesh_printing.specs.Printing.{textFaceLine}
 use Rattle.listings.specs.Handing.{upTo}
 use Rattle.listing_printing.proofs.Laws.{lines-start, lines-turn-room, lines-turn, lines-end}
-use Rattle.text_printing.specs.Faces.{faceIn}
+use Rattle.mesh_printing.specs.Faces.{faceIn}
 use Rattle.text_printing.proofs.Laws.{face-in, offset-none, offset-more}
 use Rattle.text_printing.proofs.write_face_lines.Statement.{statement}
 use Rattle.text_printing.proofs.write_face_lines.Tie as tie

@@ -13,7 +13,7 @@ use Rattle.mesh_answers.specs.Lines.{decimalDigits, decimalBytes}
 use Rattle.mesh_answers.proofs.Laws.{length-bits}
 use Rattle.listings.specs.Handing.{bitsOf}
 use Rattle.listing_printing.proofs.Laws.{written-same}
-use Rattle.text_printing.specs.Faces.{listedPairAt}
+use Rattle.mesh_printing.specs.Faces.{listedPairAt}
 use Rattle.text_printing.proofs.Laws.{listed-room, parts-of}
 use Rattle.text_printing.proofs.write_listed.Statement.{statement}
 use Rattle.text_printing.proofs.write_listed.Tie as tie

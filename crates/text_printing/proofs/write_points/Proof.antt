@@ -11,7 +11,7 @@ use Rattle.building_tests.specs.Lent.{listsIn}
 use Rattle.mesh_answers.specs.Writing.{Written}
 use Rattle.mesh_printing.specs.Printing.{listedPart}
 use Rattle.listing_printing.proofs.Laws.{lines-start, lines-turn-room, lines-turn, lines-end}
-use Rattle.text_printing.specs.Faces.{listedPairAt, listedFrom}
+use Rattle.mesh_printing.specs.Faces.{listedPairAt, listedFrom}
 use Rattle.text_printing.proofs.write_points.Statement.{statement}
 use Rattle.text_printing.proofs.write_points.Tie as tie
 

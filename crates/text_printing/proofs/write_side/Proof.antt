@@ -9,7 +9,7 @@ use Rattle.built_meshes.specs.declared.Version.the-variants.{Two}
 use Rattle.building_tests.specs.Lent.{listsIn}
 use Rattle.mesh_answers.specs.Lines.{decimalDigits, decimalBytes}
 use Rattle.listing_printing.proofs.Laws.{written-same}
-use Rattle.text_printing.specs.Faces.{sideAt}
+use Rattle.mesh_printing.specs.Faces.{sideAt}
 use Rattle.text_printing.proofs.Laws.{side-room, parts-of}
 use Rattle.text_printing.proofs.write_side.Statement.{statement}
 use Rattle.text_printing.proofs.write_side.Tie as tie

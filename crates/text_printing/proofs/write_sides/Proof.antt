@@ -14,7 +14,7 @@ use Rattle.mesh_answers.specs.Writing.{Written}
 use Rattle.mesh_printing.specs.Printing.{sidePart}
 use Rattle.listings.specs.Handing.{upTo}
 use Rattle.listing_printing.proofs.Laws.{written-same, lines-start, lines-turn-room, lines-turn, lines-end}
-use Rattle.text_printing.specs.Faces.{sideIn}
+use Rattle.mesh_printing.specs.Faces.{sideIn}
 use Rattle.text_printing.proofs.Laws.{side-fits, from-more, side-same}
 use Rattle.text_printing.proofs.write_sides.Statement.{statement}
 use Rattle.text_printing.proofs.write_sides.Tie as tie

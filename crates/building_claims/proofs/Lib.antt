@@ -1,0 +1,4 @@
+pub mod LentContent
+pub mod Connects
+pub mod Cases
+pub mod Pyramid

@@ -1,0 +1,3 @@
+pub mod Connects
+pub mod LentContent
+pub mod Pieces
