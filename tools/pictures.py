@@ -106,13 +106,18 @@ def refinement():
 
 
 def layers():
-    """The crates in the layers of crates.txt."""
-    found = []
+    """The crates in the layers of the map in crates.txt, which names each of them once."""
+    found, listed = [], []
     for row in (ROOT / "crates.txt").read_text().splitlines():
         if row.startswith("# -- "):
             found.append((re.sub(r" \(.*", "", row[5:]), []))
+        elif re.match(r"# \w+: ", row):
+            found[-1][1].append(row[2:].split(":")[0])
         elif re.match(r"\w+:", row):
-            found[-1][1].append(row.split(":")[0])
+            listed.append(row.split(":")[0])
+    named = [crate for _, crates in found for crate in crates]
+    if sorted(named) != sorted(listed):
+        sys.exit("pictures: the map of crates.txt and its crates differ: %s" % sorted(set(named) ^ set(listed)))
     parts, y = [], 20
     for title, crates in found:
         rows = [crates[k : k + 5] for k in range(0, len(crates), 5)]

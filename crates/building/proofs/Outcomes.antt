@@ -1,5 +1,4 @@
 -- How building begins and ends, over plain variables. Assumes nothing.
---     concluded-fit, concluded-unfit    the ends of `conclude`
 --     Rooms, rooms, rooms-of            what the tables have room for when no ground up to 4 holds, and when they are zeroed
 --     standing-none, lent-rooms         nothing stands in zeroed tables, and there is a row and a link for each edge
 --     stopped-outcome, on-outcome       the answer when a face was refused, and when all faces stand
@@ -38,26 +37,8 @@ use Rattle.building_tests.specs.declared.Bounds.{Bounds}
 use Rattle.building_tests.specs.declared.Bounds.the-variants.{General, Refine}
 use Rattle.edge_search.specs.Chains.{buckets, Newest, Standing}
 use Rattle.building_faces.specs.Rings.{stateAt, ListedRoom}
-use Rattle.building.specs.Concluding.{concluded, answeredFrom, Begun, Zeroed}
-
--- ---- the ends of `conclude`
-
-module _ (cs : List Float) (np nl nf : ℕ) (m : Mesh) (k : ℕ) (v : Verdict) where
-  pub concluded-fit : (row : ℕ) (ps : List Float) (pts : List ℕ) → v ≡ Fit → row ≡ k → ps ≡ over (np * 3) cs (m .positions)
-      → pts ≡ marked np (m .points)
-      → _≡_ {A = BuildOutcome}
-      (record {
-        answer = Accepted (record { points = np; edges = row; faces = nf });
-        tables = meshOf ps pts (m .edges) (m .intervals) (m .faces);
-      })
-      (concluded cs np nl nf m k v)
-  unfolding concluded
-  concluded-fit row ps pts h r a b = rw (h, r, a, b)
-
-  pub concluded-unfit : (g : Ground) (new : Mesh) → v ≡ Unfit g → new ≡ zeroedRows (countsOf np nl nf) m
-      → _≡_ {A = BuildOutcome} (record { answer = Refused g; tables = new }) (concluded cs np nl nf m k v)
-  unfolding concluded
-  concluded-unfit g new h z = rw (h, z)
+use Rattle.building_ends.specs.Concluding.{concluded}
+use Rattle.building.specs.Beginning.{answeredFrom, Begun, Zeroed}
 
 -- ---- before the faces
 

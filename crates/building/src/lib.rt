@@ -1,99 +1,34 @@
 // Building: lists of coordinates, side lengths, first points, listed points and intervals, of either version, become a mesh in the lent tables, or meet the first ground
 // that holds (document 01, "Building" and "Grounds"; document 02, §4).
 // Carries over `try_new` of t_nurcc/mod.rs.
-// Contract: `build`. Definitions: `Building` of `built_meshes`; `specs/Concluding.antt`.
+// Not here: the end, once all faces stand (`building_ends`).
+// Contract: `build`. Definitions: `Building` of `built_meshes`; `specs/Beginning.antt`.
 ghost use mathlib.Core.Path.{_≡_};
-ghost use Prim.Native.Nat.{ℕ, _+_, _*_, _/_, _≤_, _<_};
+ghost use Prim.Native.Nat.{ℕ, _+_, _/_, _≤_, _<_};
 ghost use lib.ListN.{length, getD};
-ghost use Rattle.tables.specs.Layout.{positionWidth, pointWidth, edgeWidth, faceWidth};
 ghost use Rattle.tables.specs.Mesh.{Mesh, meshOf};
 ghost use Rattle.built_meshes.specs.Lists.{generalLimits, rowsOf};
 ghost use Rattle.built_meshes.specs.Answers.{builtNumbers};
 ghost use Rattle.built_meshes.specs.Building.{BuildOutcome, build};
 ghost use Rattle.tables.specs.Counted.{zeroedRows};
-ghost use Rattle.built_meshes.specs.Whole.{wholeVerdict};
 ghost use Rattle.building_tests.specs.Lent.{listsIn, limitsOf};
 ghost use Rattle.edge_search.specs.Chains.{buckets};
-ghost use Rattle.building.specs.Concluding.{concluded, answeredFrom, Begun, Zeroed};
+ghost use Rattle.building.specs.Beginning.{answeredFrom, Begun, Zeroed};
+use building_ends::conclude;
 use building_faces::Faced;
 use building_faces::enter_faces;
 use building_lists::counts_fit;
 use building_lists::numbers_fit;
 use building_tests::Bounds;
 use building_tests::MOST_LISTED;
-use building_whole::whole::mark_points;
-use building_whole::whole::whole_verdict;
 use built_meshes::Built;
 use built_meshes::Ground;
-use built_meshes::Verdict;
 use built_meshes::Version;
 use counted_rows::rows_for;
 use counted_rows::zero_rows;
 use edge_search::BUCKETS;
 use tables::Counts;
 use tables::POSITION_WIDTH;
-use tables::copy_numbers;
-use tables::index;
-
-// The verdict on the whole when k edges stand, and the tables by it: finished, or their counted rows made zero.
-fn conclude(
-    coordinates: &[f64],
-    positions: &mut [f64],
-    points: &mut [u32],
-    edges: &mut [u32],
-    intervals: &mut [f64],
-    faces: &mut [u32],
-    nl: usize,
-    nf: usize,
-    k: u32,
-) -> Built
-    requires { ⌜ length (now coordinates) / positionWidth * positionWidth ≤ length (now positions) ⌝ }
-    requires { ⌜ length (now coordinates) / positionWidth * pointWidth ≤ length (now points) ⌝ }
-    requires { ⌜ nl * edgeWidth ≤ length (now edges) ⌝ }
-    requires { ⌜ nl ≤ length (now intervals) ⌝ }
-    requires { ⌜ nf * faceWidth ≤ length (now faces) ⌝ }
-    requires { ⌜ k ≤ nl ⌝ }
-    ensures { λ r. ⌜
-        _≡_ {A = BuildOutcome} (record {
-          answer = r;
-          tables = meshOf (now (positions .exit)) (now (points .exit))
-              (now (edges .exit)) (now (intervals .exit)) (now (faces .exit));
-        }) (concluded (now (coordinates .entry))
-        (length (now (coordinates .entry)) / positionWidth) nl nf
-        (meshOf (now (positions .entry)) (now (points .entry)) (now (edges .entry)) (now (intervals .entry)) (now (faces .entry))) k
-        (wholeVerdict
-        (meshOf (now (positions .entry)) (now (points .entry)) (now (edges .entry)) (now (intervals .entry)) (now (faces .entry)))
-        (length (now (coordinates .entry)) / positionWidth) k)) ⌝ }
-{
-    let np = coordinates.len() / POSITION_WIDTH;
-    let ne = index(k);
-    match whole_verdict(points, edges, np, ne) {
-        Verdict::Fit => {
-            copy_numbers(coordinates, positions, np * POSITION_WIDTH);
-            mark_points(points, np);
-            Built::Accepted(Counts {
-                points: np,
-                edges: ne,
-                faces: nf,
-            })
-        }
-        Verdict::Unfit(g) => {
-            zero_rows(
-                Counts {
-                    points: np,
-                    edges: nl,
-                    faces: nf,
-                },
-                positions,
-                points,
-                edges,
-                intervals,
-                faces,
-            );
-            Built::Refused(g)
-        }
-    }
-}
 
 // The words of the chains: a link for each bucket, and one for each edge.
 const CHAIN: usize = BUCKETS + MOST_LISTED;

@@ -1,5 +1,5 @@
-// The end of a step that has passed its tests: the refined mesh made and committed, or ground 33.
-// Not here: the parts (`step_parts`), the tests (`step_grounds`), the whole step (`refining`).
+// The end of a step that has passed its tests: the refined mesh made and moved to the tables, or ground 33.
+// Not here: the parts (`step_parts`, `row_moves`), the tests (`step_grounds`), the whole step (`refining`).
 // Contract: `finish`. Definition: `steps`, specs/Step.antt, `step`. Laws: `proofs/Laws.antt`.
 ghost use mathlib.Core.Path.{_≡_};
 ghost use Rattle.tables.specs.Mesh.{meshOf};
@@ -7,12 +7,12 @@ ghost use Rattle.steps.specs.Step.{step, StepOutcome};
 ghost use Rattle.step_parts.specs.Passed.{TestsPassed};
 use counted_rows::zero_rows;
 use refined_meshes::Edition;
-use step_parts::commit;
-use step_parts::make_from_rows;
+use row_moves::move_rows;
+use step_parts::make_in_rows;
 use steps::Stepped;
 use tables::Counts;
 
-// Makes the step of an edition to the counts c: the refined mesh is made in scratch and, if all is finite, copied to the tables; scratch is
+// Makes the step of an edition to the counts c: the refined mesh is made in scratch and, if all is finite, moved to the tables; scratch is
 // zeroed either way.
 pub fn finish(
     positions: &mut [f64],
@@ -44,7 +44,7 @@ pub fn finish(
         counts (now (order .entry))
         (meshOf (now (newpositions .entry)) (now (newpoints .entry)) (now (newedges .entry)) (now (newintervals .entry)) (now (newfaces .entry)))) ⌝ }
 {
-    if make_from_rows(
+    if make_in_rows(
         positions,
         points,
         edges,
@@ -60,7 +60,7 @@ pub fn finish(
         newfaces,
         edition,
     ) {
-        commit(
+        move_rows(
             c,
             newpositions,
             newpoints,

@@ -2,13 +2,11 @@
 // positions. Each edition has its own function, so that the loops stand in functions of their own, which both call: in one function with
 // all of them a step takes a tenth longer.
 // Names: `newpositions`, `newpoints`, `newedges`, `newintervals` and `newfaces` are the scratch tables of positions, points, edges, intervals, faces.
-// Not here: whether a step may be made (`step_grounds`), and the tables written back (`refining`).
+// Not here: the rows of which it is made and in which (`step_parts`), whether a step may be made (`step_grounds`).
 // Definitions: `steps`, specs/Step.antt, `made`; what must hold: specs/Making.antt.
 ghost use mathlib.Core.Path.{_≡_};
 ghost use Rattle.refined_meshes.specs.declared.Edition.the-variants.{First, Second};
 ghost use Rattle.steps.specs.Step.{made};
-ghost use Rattle.tables.specs.Counted.{firstRows, zeroedRows};
-ghost use Rattle.steps.specs.Rows.{Room};
 ghost use Rattle.tables.specs.Mesh.{meshOf};
 ghost use Rattle.making.specs.Making.{Ready, madeAs};
 use edition_points::place_first;
@@ -17,9 +15,6 @@ use refined_meshes::Edition;
 use settling::settle_joins;
 use settling_starts::settle_starts;
 use tables::Counts;
-use tables::EDGE_WIDTH;
-use tables::FACE_WIDTH;
-use tables::POINT_WIDTH;
 use visiting::refined_rows;
 
 // Makes the refined mesh of the first edition of the mesh with these counts, visiting its faces in the order, and says whether all its
@@ -128,7 +123,7 @@ fn make_second(
 }
 
 // Makes the refined mesh of an edition.
-fn make(
+pub fn make(
     positions: &[f64],
     points: &[u32],
     edges: &[u32],
@@ -184,58 +179,4 @@ fn make(
             newfaces,
         ),
     }
-}
-
-// Makes the refined mesh, of the counts c, in the first rows of the scratch tables, and says whether all its positions are finite.
-// Further rows are not touched.
-pub fn make_in_rows(
-    positions: &[f64],
-    points: &[u32],
-    edges: &[u32],
-    intervals: &[f64],
-    faces: &[u32],
-    counts: Counts,
-    order: &[u32],
-    c: Counts,
-    newpositions: &mut [f64],
-    newpoints: &mut [u32],
-    newedges: &mut [u32],
-    newintervals: &mut [f64],
-    newfaces: &mut [u32],
-    edition: Edition,
-) -> bool
-    requires { ⌜ Room c (meshOf (now newpositions) (now newpoints) (now newedges) (now newintervals) (now newfaces)) ⌝ }
-    requires { ⌜
-        Ready (meshOf (now positions) (now points) (now edges) (now intervals) (now faces)) counts (now order)
-        (firstRows c (meshOf (now newpositions) (now newpoints) (now newedges) (now newintervals) (now newfaces))) ⌝ }
-    ensures { λ r. ⌜
-        made edition
-        (meshOf (now (positions .entry)) (now (points .entry)) (now (edges .entry)) (now (intervals .entry)) (now (faces .entry)))
-        counts
-        (now (order .entry))
-        (firstRows c (meshOf (now (newpositions .entry)) (now (newpoints .entry)) (now (newedges .entry)) (now (newintervals .entry)) (now (newfaces .entry))))
-        ≡ madeAs r (firstRows c (meshOf (now (newpositions .exit)) (now (newpoints .exit)) (now (newedges .exit)) (now (newintervals .exit)) (now (newfaces .exit)))) ⌝ }
-    ensures { λ _. ⌜
-        zeroedRows c (meshOf (now (newpositions .exit)) (now (newpoints .exit)) (now (newedges .exit)) (now (newintervals .exit)) (now (newfaces .exit)))
-        ≡ zeroedRows c (meshOf (now (newpositions .entry)) (now (newpoints .entry)) (now (newedges .entry)) (now (newintervals .entry)) (now (newfaces .entry))) ⌝ }
-{
-    let p = c.points * POINT_WIDTH;
-    let e = c.edges * EDGE_WIDTH;
-    let i = c.edges;
-    let f = c.faces * FACE_WIDTH;
-    make(
-        positions,
-        points,
-        edges,
-        intervals,
-        faces,
-        counts,
-        order,
-        &mut newpositions[..p],
-        &mut newpoints[..p],
-        &mut newedges[..e],
-        &mut newintervals[..i],
-        &mut newfaces[..f],
-        edition,
-    )
 }

@@ -8,11 +8,11 @@ use borrow.Author.Needs.{needs}
 use Rattle.finishing.proofs.finish.Statement.{statement}
 use Rattle.finishing.proofs.finish.Tie as tie
 
-make-from-rows-requires : tie.Need-make-from-rows-requires
-make-from-rows-requires c κs = search needs
+make-in-rows-requires : tie.Need-make-in-rows-requires
+make-in-rows-requires c κs = search needs
 
-commit-requires : tie.Need-commit-requires
-commit-requires c κs =
+move-rows-requires : tie.Need-move-rows-requires
+move-rows-requires c κs =
     let c8 = c .before .before .before .before .before .before .before .before in
     let c16 = c8 .before .before .before .before .before .before .before .before in
     let c24 = c16 .before .before .before .before .before .before .before .before in
@@ -20,52 +20,54 @@ commit-requires c κs =
     let c40 = c32 .before .before .before .before .before .before .before .before in
     let a = c40 .before .before .before .args in
     let p = c40 .before .before .before .pre in
-    let v = c16 .before .before .before .before .before .make-from-rows in
+    let v = c16 .before .before .before .before .before .make-in-rows in
     let t : Mesh = meshOf (a .newpositions .now) (a .newpoints .now) (a .newedges .now) (a .newintervals .now)
     (a .newfaces .now) in
     let t₁ : Mesh = meshOf (v .last .1 .1 .1 .1 .1 .1 .1 .1 .0) (v .last .1 .1 .1 .1 .1 .1 .1 .1 .1 .0)
     (v .last .1 .1 .1 .1 .1 .1 .1 .1 .1 .1 .0) (v .last .1 .1 .1 .1 .1 .1 .1 .1 .1 .1 .1 .0)
-    (v .last .1 .1 .1 .1 .1 .1 .1 .1 .1 .1 .1 .1 .0) in (
-      rooms-kept (a .c) t t₁ (v .kept .1 .1 .1 .1 .1 .1 .1 .1 .0) (v .kept .1 .1 .1 .1 .1 .1 .1 .1 .1 .0)
-          (v .kept .1 .1 .1 .1 .1 .1 .1 .1 .1 .1 .0) (v .kept .1 .1 .1 .1 .1 .1 .1 .1 .1 .1 .1 .0)
-          (v .kept .1 .1 .1 .1 .1 .1 .1 .1 .1 .1 .1 .1 .0) (p .scratch),
-      p .room,
+    (v .last .1 .1 .1 .1 .1 .1 .1 .1 .1 .1 .1 .1 .0) in
+    let r = rooms-kept (a .c) t t₁ (v .kept .1 .1 .1 .1 .1 .1 .1 .1 .0) (v .kept .1 .1 .1 .1 .1 .1 .1 .1 .1 .0)
+    (v .kept .1 .1 .1 .1 .1 .1 .1 .1 .1 .1 .0) (v .kept .1 .1 .1 .1 .1 .1 .1 .1 .1 .1 .1 .0)
+    (v .kept .1 .1 .1 .1 .1 .1 .1 .1 .1 .1 .1 .1 .0) (p .scratch) in
+    let s = p .room in (
+      r .positions,
+      (r .points, (r .edges, (r .intervals, (r .faces, (s .positions, (s .points, (s .edges, (s .intervals, s .faces)))))))),
     )
 
 same-length : tie.Need-same-length
 same-length c =
     let c8 = c .before .before .before .before .before .before .before .before in
     let c16 = c8 .before .before .before .before .before .before .before .before in
-    let commit = c16 .before .before .before .before .commit in
-    commit .kept .1 .1 .1 .1 .1 .1 .0
+    let move-rows = c16 .before .before .before .before .move-rows in
+    move-rows .kept .1 .1 .1 .1 .1 .1 .0
 
 same-length-2 : tie.Need-same-length-2
 same-length-2 c =
     let c8 = c .before .before .before .before .before .before .before .before in
     let c16 = c8 .before .before .before .before .before .before .before .before in
-    let commit = c16 .before .before .before .before .commit in
-    commit .kept .1 .1 .1 .1 .1 .1 .1 .0
+    let move-rows = c16 .before .before .before .before .move-rows in
+    move-rows .kept .1 .1 .1 .1 .1 .1 .1 .0
 
 same-length-3 : tie.Need-same-length-3
 same-length-3 c =
     let c8 = c .before .before .before .before .before .before .before .before in
     let c16 = c8 .before .before .before .before .before .before .before .before in
-    let commit = c16 .before .before .before .before .commit in
-    commit .kept .1 .1 .1 .1 .1 .1 .1 .1 .0
+    let move-rows = c16 .before .before .before .before .move-rows in
+    move-rows .kept .1 .1 .1 .1 .1 .1 .1 .1 .0
 
 same-length-4 : tie.Need-same-length-4
 same-length-4 c =
     let c8 = c .before .before .before .before .before .before .before .before in
     let c16 = c8 .before .before .before .before .before .before .before .before in
-    let commit = c16 .before .before .before .before .commit in
-    commit .kept .1 .1 .1 .1 .1 .1 .1 .1 .1 .0
+    let move-rows = c16 .before .before .before .before .move-rows in
+    move-rows .kept .1 .1 .1 .1 .1 .1 .1 .1 .1 .0
 
 same-length-5 : tie.Need-same-length-5
 same-length-5 c =
     let c8 = c .before .before .before .before .before .before .before .before in
     let c16 = c8 .before .before .before .before .before .before .before .before in
-    let commit = c16 .before .before .before .before .commit in
-    commit .kept .1 .1 .1 .1 .1 .1 .1 .1 .1 .1 .0
+    let move-rows = c16 .before .before .before .before .move-rows in
+    move-rows .kept .1 .1 .1 .1 .1 .1 .1 .1 .1 .1 .0
 
 same-length-6 : tie.Need-same-length-6
 same-length-6 c =
@@ -74,8 +76,8 @@ same-length-6 c =
     let c24 = c16 .before .before .before .before .before .before .before .before in
     let c32 = c24 .before .before .before .before .before .before .before .before in
     let c40 = c32 .before .before .before .before .before .before .before .before in
-    let commit = c16 .before .before .before .before .commit in
-    commit .kept .1 .0 ∙ c40 .before .before .make-from-rows .kept .1 .1 .1 .1 .1 .1 .1 .1 .0
+    let move-rows = c16 .before .before .before .before .move-rows in
+    move-rows .kept .1 .0 ∙ c40 .before .before .make-in-rows .kept .1 .1 .1 .1 .1 .1 .1 .1 .0
 
 same-length-7 : tie.Need-same-length-7
 same-length-7 c =
@@ -84,8 +86,8 @@ same-length-7 c =
     let c24 = c16 .before .before .before .before .before .before .before .before in
     let c32 = c24 .before .before .before .before .before .before .before .before in
     let c40 = c32 .before .before .before .before .before .before .before .before in
-    let commit = c16 .before .before .before .before .commit in
-    commit .kept .1 .1 .0 ∙ c40 .before .before .make-from-rows .kept .1 .1 .1 .1 .1 .1 .1 .1 .1 .0
+    let move-rows = c16 .before .before .before .before .move-rows in
+    move-rows .kept .1 .1 .0 ∙ c40 .before .before .make-in-rows .kept .1 .1 .1 .1 .1 .1 .1 .1 .1 .0
 
 same-length-8 : tie.Need-same-length-8
 same-length-8 c =
@@ -94,8 +96,8 @@ same-length-8 c =
     let c24 = c16 .before .before .before .before .before .before .before .before in
     let c32 = c24 .before .before .before .before .before .before .before .before in
     let c40 = c32 .before .before .before .before .before .before .before .before in
-    let commit = c16 .before .before .before .before .commit in
-    commit .kept .1 .1 .1 .0 ∙ c40 .before .before .make-from-rows .kept .1 .1 .1 .1 .1 .1 .1 .1 .1 .1 .0
+    let move-rows = c16 .before .before .before .before .move-rows in
+    move-rows .kept .1 .1 .1 .0 ∙ c40 .before .before .make-in-rows .kept .1 .1 .1 .1 .1 .1 .1 .1 .1 .1 .0
 
 same-length-9 : tie.Need-same-length-9
 same-length-9 c =
@@ -104,8 +106,8 @@ same-length-9 c =
     let c24 = c16 .before .before .before .before .before .before .before .before in
     let c32 = c24 .before .before .before .before .before .before .before .before in
     let c40 = c32 .before .before .before .before .before .before .before .before in
-    let commit = c16 .before .before .before .before .commit in
-    commit .kept .1 .1 .1 .1 .0 ∙ c40 .before .before .make-from-rows .kept .1 .1 .1 .1 .1 .1 .1 .1 .1 .1 .1 .0
+    let move-rows = c16 .before .before .before .before .move-rows in
+    move-rows .kept .1 .1 .1 .1 .0 ∙ c40 .before .before .make-in-rows .kept .1 .1 .1 .1 .1 .1 .1 .1 .1 .1 .1 .0
 
 same-length-10 : tie.Need-same-length-10
 same-length-10 c =
@@ -114,8 +116,8 @@ same-length-10 c =
     let c24 = c16 .before .before .before .before .before .before .before .before in
     let c32 = c24 .before .before .before .before .before .before .before .before in
     let c40 = c32 .before .before .before .before .before .before .before .before in
-    let commit = c16 .before .before .before .before .commit in
-    commit .kept .1 .1 .1 .1 .1 .0 ∙ c40 .before .before .make-from-rows .kept .1 .1 .1 .1 .1 .1 .1 .1 .1 .1 .1 .1 .0
+    let move-rows = c16 .before .before .before .before .move-rows in
+    move-rows .kept .1 .1 .1 .1 .1 .0 ∙ c40 .before .before .make-in-rows .kept .1 .1 .1 .1 .1 .1 .1 .1 .1 .1 .1 .1 .0
 
 returns : tie.Need-returns
 returns c =
@@ -128,9 +130,9 @@ returns c =
     let c56 = c48 .before .before .before .before .before .before .before .before in
     let a = c56 .before .before .before .before .before .before .before .before .args in
     let p = c56 .before .before .before .before .before .before .before .before .pre in
-    let v = c40 .before .before .make-from-rows in
+    let v = c40 .before .before .make-in-rows in
     let if1 = c24 .before .before .before .before .before .before .before .if1 in
-    let commit = c16 .before .before .before .before .commit in
+    let move-rows = c16 .before .before .before .before .move-rows in
     let m : Mesh = meshOf (a .positions .now) (a .points .now) (a .edges .now) (a .intervals .now) (a .faces .now) in
     let t : Mesh = meshOf (a .newpositions .now) (a .newpoints .now) (a .newedges .now) (a .newintervals .now)
     (a .newfaces .now) in
@@ -138,7 +140,7 @@ returns c =
     (v .last .1 .1 .1 .1 .1 .1 .1 .1 .1 .1 .0) (v .last .1 .1 .1 .1 .1 .1 .1 .1 .1 .1 .1 .0)
     (v .last .1 .1 .1 .1 .1 .1 .1 .1 .1 .1 .1 .1 .0) in
     ended-whole m (a .c) t t₁ _ (v .ensures .1) (v .ensures .0 ∙ ap (λ b. madeAs b (firstRows (a .c) t₁)) (if1 .taken))
-    (commit .ensures .0) (commit .ensures .1) ∙ sym (p .stepped)
+    (move-rows .ensures .0) (move-rows .ensures .1) ∙ sym (p .stepped)
 
 zero-rows-requires : tie.Need-zero-rows-requires
 zero-rows-requires c κs =
@@ -148,7 +150,7 @@ zero-rows-requires c κs =
     let c32 = c24 .before .before .before .before .before .before .before .before in
     let a = c32 .before .before .before .before .before .before .args in
     let p = c32 .before .before .before .before .before .before .pre in
-    let v = c16 .make-from-rows in
+    let v = c16 .make-in-rows in
     let t : Mesh = meshOf (a .newpositions .now) (a .newpoints .now) (a .newedges .now) (a .newintervals .now)
     (a .newfaces .now) in
     let t₁ : Mesh = meshOf (v .last .1 .1 .1 .1 .1 .1 .1 .1 .0) (v .last .1 .1 .1 .1 .1 .1 .1 .1 .1 .0)
@@ -199,7 +201,7 @@ returns-2 c =
     let c48 = c40 .before .before .before .before .before .before .before .before in
     let a = c48 .before .args in
     let p = c48 .before .pre in
-    let v = c24 .before .before .before .make-from-rows in
+    let v = c24 .before .before .before .make-in-rows in
     let m : Mesh = meshOf (a .positions .now) (a .points .now) (a .edges .now) (a .intervals .now) (a .faces .now) in
     let t : Mesh = meshOf (a .newpositions .now) (a .newpoints .now) (a .newedges .now) (a .newintervals .now)
     (a .newfaces .now) in
@@ -214,8 +216,8 @@ pub finish-spec : {M : Type 1} → statement M
 finish-spec =
     tie.close
     (tie.spec
-    make-from-rows-requires
-    commit-requires
+    make-in-rows-requires
+    move-rows-requires
     same-length
     same-length-2
     same-length-3

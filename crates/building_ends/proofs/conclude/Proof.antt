@@ -4,10 +4,10 @@ use Prim.Native.Nat.{_/_}
 use mathlib.Core.Path.{_∙_, sym}
 use Rattle.tables.specs.Mesh.{meshOf}
 use Rattle.built_meshes.specs.Whole.{wholeVerdict}
-use Rattle.building.proofs.Outcomes.{concluded-fit, concluded-unfit}
+use Rattle.building_ends.proofs.Ends.{concluded-fit, concluded-unfit}
 use borrow.Author.Needs.{needs}
-use Rattle.building.proofs.conclude.Statement.{statement}
-use Rattle.building.proofs.conclude.Tie as tie
+use Rattle.building_ends.proofs.conclude.Statement.{statement}
+use Rattle.building_ends.proofs.conclude.Tie as tie
 
 returns : tie.Need-returns
 returns c =
