@@ -1,5 +1,6 @@
 -- Steps about a point undo each other on a mesh that passes the audit, since the mesh in its tables is closed. Assumes nothing.
---     corner-on, corner-back     about the point between an edge of a face and the next one: clockwise to the next, anticlockwise back
+--     next-first                 a border runs head to tail
+--     corner                     about the point between an edge of a face and the next one: clockwise to the next, anticlockwise back
 --     border-turns               so about the points of the border of a face
 --     radial-back                so about a point, along its edges
 use mathlib.Core.Path.{_≡_, sym, _∙_, ap, ap₂, subst}
@@ -41,7 +42,7 @@ module _ (m : Mesh) (np ne nf : ℕ) (a : Audited m np ne nf) where
   closed : Closed t
   closed = closed-rows m a
 
-  seen : Seen m t
+  pub seen : Seen m t
   seen = record { stands = rows-stand m a; ends-differ = closed .ends-differ; sides-differ = closed .sides-differ }
 
   -- A step clockwise about the first point of a dart goes to the neighbour on its other side, one anticlockwise to the one on its own.
@@ -77,6 +78,10 @@ module _ (m : Mesh) (np ne nf : ℕ) (a : Audited m np ne nf) where
   next-begins d =
       ap (λ (g : ℕ). firstPoint m g (num (closed .next d))) (sym (ap number (closed .about-faces .cls-step d)))
       ∙ firstPoint-dart seen (closed .next d) ∙ ap number (closed .first-next d)
+
+  -- the next edge about the face of a dart begins where the dart ends
+  pub next-first : (d : Dart (Row ne)) → firstPoint m (face t d .0) (acwOfFace m (face t d .0) (num d)) ≡ second t d .0
+  next-first d = ap (firstPoint m (face t d .0)) (next-edge d) ∙ next-begins d
 
   -- the next edge about the face f after e is g, and g begins at p: clockwise about p from e to g, anticlockwise back
   Corner : ℕ → ℕ → ℕ → Type 0

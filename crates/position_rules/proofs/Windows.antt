@@ -1,6 +1,6 @@
 -- The edges of a face point's windows are the ones between their points. A border runs head to tail, since the mesh that stands in
 -- tables that pass the audit is closed; and no two edges join the same two points. Assumes nothing.
-use mathlib.Core.Path.{_≡_, sym, _∙_, ap, ap₂, subst, subst₂}
+use mathlib.Core.Path.{_≡_, sym, _∙_, ap, subst, subst₂}
 use mathlib.Core.Bool.{_&&_}
 use mathlib.Core.List.{List, [], _∷_, _++_, map}
 use mathlib.Core.Logic.{_⊎_, inl, inr, _↔_, _≢_}
@@ -12,50 +12,33 @@ use lib.ListN.{length, getD, List·getD-append}
 use lib.Seq.{getD-at}
 use Rattle.perimeters.specs.Places.{around}
 use Rattle.perimeters.proofs.Laws.{around-same, around-more}
-use Rattle.closed_meshes.specs.Mesh.{Dart, lft, rgt, second, face}
-use Rattle.closed_meshes.specs.Closed.{Closed}
-use Rattle.closed_meshes.specs.Renumbering.{Row}
+use Rattle.closed_meshes.specs.Mesh.{lft, rgt}
 use Rattle.tables.specs.Mesh.{Mesh, origin, dest, faceStart}
 use Rattle.audited_meshes.specs.Walks.{back, faceWalk, firstPoint, acwOfFace, borders, Touches}
 use Rattle.audited_meshes.specs.Audited.{Borders, SameEnds, Audited}
 use Rattle.audited_meshes.proofs.Audited.{on-face-is}
-use Rattle.audited_meshes.proofs.Rows.{rows, rows-stand}
-use Rattle.audited_meshes.proofs.Darts.{number, num, Seen, acwOfFace-dart, firstPoint-dart}
-use Rattle.audited_meshes.proofs.Closed.{closed-rows}
+use Rattle.audited_meshes.proofs.Darts.{firstPoint-dart}
 use Rattle.audited_meshes.specs.Folds.{again}
 use Rattle.walks.proofs.Back.{back-first, back-on, back-next}
 use Rattle.walks.proofs.Laws.{getD-padded, border-point, border-point-again}
 use Rattle.position_rules.specs.Claims.{borderPoint, WindowEdges}
 use Rattle.position_rules.proofs.Audited.{border-of}
+use Rattle.position_rules.proofs.Turning.{seen, next-first}
 
 -- edge e joins p and q
 Joins : Mesh → ℕ → ℕ → ℕ → Type 0
 Joins m e p q = ((origin m e ≡ p) × (dest m e ≡ q)) ⊎ ((dest m e ≡ p) × (origin m e ≡ q))
 
 module _ (m : Mesh) (np ne nf : ℕ) (a : Audited m np ne nf) where
-  closed : Closed (rows m a)
-  closed = closed-rows m a
-
-  seen : Seen m (rows m a)
-  seen = record { stands = rows-stand m a; ends-differ = closed .ends-differ; sides-differ = closed .sides-differ }
-
-  -- the next edge about the face of a dart begins where the dart ends
-  next-first : (d : Dart (Row ne))
-      → firstPoint m (face (rows m a) d .0) (acwOfFace m (face (rows m a) d .0) (num d)) ≡ second (rows m a) d .0
-  next-first d =
-      ap₂ (λ (g i : ℕ). firstPoint m g i) (sym (ap number (closed .about-faces .cls-step d)))
-      (acwOfFace-dart seen d ∙ sym (ap number (closed .edge-next d)))
-      ∙ firstPoint-dart seen (closed .next d) ∙ ap number (closed .first-next d)
-
   -- an edge joins its own first point and that of the next edge
   joins-next : (f e : ℕ) → e < ne → Borders m f e → Joins m e (firstPoint m f e) (firstPoint m f (acwOfFace m f e))
   unfolding Joins
   joins-next f e l (inl h) =
       subst (λ g. Joins m e (firstPoint m g e) (firstPoint m g (acwOfFace m g e))) h
-      (inl (sym (firstPoint-dart seen (lft (e, l))), sym (next-first (lft (e, l)))))
+      (inl (sym (firstPoint-dart (seen m np ne nf a) (lft (e, l))), sym (next-first m np ne nf a (lft (e, l)))))
   joins-next f e l (inr h) =
       subst (λ g. Joins m e (firstPoint m g e) (firstPoint m g (acwOfFace m g e))) h
-      (inr (sym (firstPoint-dart seen (rgt (e, l))), sym (next-first (rgt (e, l)))))
+      (inr (sym (firstPoint-dart (seen m np ne nf a) (rgt (e, l))), sym (next-first m np ne nf a (rgt (e, l)))))
 
   joins-touches : (e p q : ℕ) → Joins m e p q → Touches m p e × Touches m q e
   unfolding Joins
