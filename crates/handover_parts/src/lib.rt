@@ -1,6 +1,6 @@
 // The parts of the program `handover` that need neither building nor the step: what is written after a step, by its answer and the
 // tables that it left.
-// Not here: the definition of the output (`handover_outputs`), writing a listing (`listing_writing`), the whole output (`handover_text`).
+// Not here: the definition of the output (`handover_outputs`), writing a listing (`listing_writing`), the whole output (`handover`).
 // Contract: `write_handed`. Definition: `steppedBytes` of `handover_outputs`, specs/Output.antt. Laws: `proofs/Lines.antt`.
 ghost use Prim.Native.Nat.{_≤_};
 ghost use lib.ListN.{length};

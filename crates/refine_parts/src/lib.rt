@@ -1,6 +1,6 @@
 // The parts of the program `refine` that need neither building nor the step: the lines that are written after a step, by its answer,
 // and the numbered order.
-// Not here: the definition of the output (`refine_outputs`), the whole output (`refine_text`).
+// Not here: the definition of the output (`refine_outputs`), the whole output (`refine`).
 // Contracts: `write_stepped`, `number_faces`. Definitions: `Output` and `FirstPoint` of `refine_outputs`. Laws: `proofs/Lines.antt`,
 // `proofs/Filling.antt`.
 ghost use mathlib.Core.Path.{_≡_};

@@ -1,9 +1,9 @@
 -- write_built meets its contract: the step, then what is written of it.
 use Rattle.tables.specs.Mesh.{meshOf}
-use Rattle.handover_text.proofs.Outputs.{written-stepped}
+use Rattle.handover.proofs.Outputs.{written-stepped}
 use borrow.Author.Needs.{needs}
-use Rattle.handover_text.proofs.write_built.Statement.{statement}
-use Rattle.handover_text.proofs.write_built.Tie as tie
+use Rattle.handover.proofs.handover_text.write_built.Statement.{statement}
+use Rattle.handover.proofs.handover_text.write_built.Tie as tie
 
 numbered-step-requires : tie.Need-numbered-step-requires
 numbered-step-requires c κs = search needs

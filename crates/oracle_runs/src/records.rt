@@ -1,6 +1,6 @@
 // One record of the input of the program `oracle_runs`: a text is built in tables, the mesh refined and written after each stage, or
 // the number of the ground on which document 01 refuses; then what stands in the rows that hold no mesh.
-// Not here: the records one after the other (`oracle_runs`), the tables (`oracle_tables`), building (`oracle_builds`), steps (`oracle_steps`).
+// Not here: the records one after the other (`main.rt`), the tables (`oracle_tables`), building (`oracle_builds`), steps (`oracle_steps`).
 // Contract: `tell`, what its caller needs to be safe.
 //
 // A record of the input: a label of 32 bytes, the numbers of the head (`heads`), byte 10, a text, further numbers. The kinds:
@@ -41,8 +41,6 @@ use oracle_trials::count_cuts;
 use oracle_trials::tell_tried;
 use oracle_trials::tell_zeros;
 use tables::Counts;
-
-mod heads;
 
 // The bytes of a label; those of a label, the 16 numbers of the head and byte 10.
 const LABEL_BYTES: usize = 32;

@@ -1,10 +1,10 @@
 -- write_built meets its contract: the line of the counts, then those of the step.
 use mathlib.Core.Path.{_∙_}
 use Rattle.tables.specs.Mesh.{meshOf}
-use Rattle.refine_text.proofs.Outputs.{ready, written-both, step-room}
+use Rattle.refine.proofs.Outputs.{ready, written-both, step-room}
 use borrow.Author.Needs.{needs}
-use Rattle.refine_text.proofs.write_built.Statement.{statement}
-use Rattle.refine_text.proofs.write_built.Tie as tie
+use Rattle.refine.proofs.refine_text.write_built.Statement.{statement}
+use Rattle.refine.proofs.refine_text.write_built.Tie as tie
 
 write-mesh-requires : tie.Need-write-mesh-requires
 write-mesh-requires c κs = search needs

@@ -1,6 +1,6 @@
 // What the program `refine` writes for the bytes that it reads (document 01, "Mesh text"): the mesh is built from the text, then
 // refined once in numbered order.
-// Not here: reading and writing (`refine`), the definition and its claims (`refine_outputs`), the lines of a step (`refine_parts`),
+// Not here: reading and writing (`main.rt`), the definition and its claims (`refine_outputs`), the lines of a step (`refine_parts`),
 // the step in numbered order (`numbered_steps`).
 // Contract: `refine`. Definition: `Output` of `refine_outputs`. Laws: `proofs/Outputs.antt`.
 ghost use mathlib.Core.Path.{_≡_};

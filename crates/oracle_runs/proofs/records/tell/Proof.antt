@@ -2,8 +2,8 @@
 use lib.ListN.{length-take}
 use native.Mathlib.Omega.{arith}
 use borrow.Author.Needs.{needs}
-use Rattle.oracle_records.proofs.tell.Statement.{statement}
-use Rattle.oracle_records.proofs.tell.Tie as tie
+use Rattle.oracle_runs.proofs.records.tell.Statement.{statement}
+use Rattle.oracle_runs.proofs.records.tell.Tie as tie
 
 slice-aggregate-write-all : tie.Need-slice-aggregate-write-all
 slice-aggregate-write-all c = omega (arith, length-take 32 (c .before .before .args .bytes .now))

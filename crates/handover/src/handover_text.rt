@@ -1,6 +1,6 @@
 // What the program `handover` writes for the bytes that it reads (document 02, §1): the mesh is built from the text and refined once
 // in numbered order, as `refine` does it, and then listed.
-// Not here: reading and writing (`handover`), the definition and its claims (`handover_outputs`), what is written after the step
+// Not here: reading and writing (`main.rt`), the definition and its claims (`handover_outputs`), what is written after the step
 // (`handover_parts`), the step in numbered order (`numbered_steps`).
 // Contract: `handover`. Definition: `Output` of `handover_outputs`. Laws: `proofs/Outputs.antt`.
 ghost use mathlib.Core.Path.{_≡_};
