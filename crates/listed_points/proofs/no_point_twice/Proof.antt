@@ -11,9 +11,9 @@ use mathlib.Core.Path.{_≡_, _∙_, sym}
 use Rattle.built_meshes.specs.Faces.{noPointTwice}
 use Rattle.audited_meshes.specs.Folds.{every}
 use Rattle.audited_meshes.proofs.Folds.{every-none, every-more, every-stop}
-use Rattle.building_tests.proofs.Laws.{whole}
-use Rattle.building_tests.proofs.faces.no_point_twice.Statement.{statement}
-use Rattle.building_tests.proofs.faces.no_point_twice.Tie as tie
+use Rattle.listed_points.proofs.Laws.{whole}
+use Rattle.listed_points.proofs.no_point_twice.Statement.{statement}
+use Rattle.listed_points.proofs.no_point_twice.Tie as tie
 
 -- whether the listed point i is none of those before it
 abbrev new : List ℕ → ℕ → ℕ → Bool

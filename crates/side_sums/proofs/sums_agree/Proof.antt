@@ -1,43 +1,32 @@
 -- sums_agree meets its contract.
 use borrow.Author.Needs.{needs}
-use Rattle.building_tests.proofs.Laws.{sums-one, sums-both, sums-first}
-use Rattle.building_tests.proofs.faces.sums_agree.Statement.{statement}
-use Rattle.building_tests.proofs.faces.sums_agree.Tie as tie
-use Rattle.building_tests.proofs.faces.sums_agree.Reads as reads
-use Rattle.building_tests.proofs.faces.sums_agree.Lts as lts
-use Rattle.positions.proofs.is_small.Reads as is-small-reads
+use Rattle.side_sums.proofs.Laws.{sums-one, sums-both, sums-first}
+use Rattle.side_sums.proofs.sums_agree.Statement.{statement}
+use Rattle.side_sums.proofs.sums_agree.Tie as tie
 
--- src/faces.rt:182:34
 enum-told : tie.Need-enum-told
 enum-told c = search needs
 
--- src/faces.rt:182:25
 is-small-requires : tie.Need-is-small-requires
 is-small-requires c κs = search needs
 
--- src/faces.rt:184:25
 enum-told-2 : tie.Need-enum-told-2
 enum-told-2 c = search needs
 
--- src/faces.rt:184:16
 is-small-requires-2 : tie.Need-is-small-requires-2
 is-small-requires-2 c κs = search needs
 
--- src/faces.rt:185:17
 is-small-requires-3 : tie.Need-is-small-requires-3
 is-small-requires-3 c κs = search needs
 
--- src/faces.rt:185:17
 returns : tie.Need-returns
 returns c =
     sums-both _ _ _ _ _ (c .before .before .before .enum-told2 .given .1) (c .before .before .is-small2 .ensures)
     (c .before .if1 .taken) (c .is-small3 .ensures)
 
--- src/faces.rt:178:1
 returns-2 : tie.Need-returns-2
 returns-2 c = sums-one _ _ _ _ _ (c .before .enum-told .given .1) (c .is-small .ensures)
 
--- src/faces.rt:178:1
 returns-3 : tie.Need-returns-3
 returns-3 c = sums-first _ _ _ _ _ (c .before .before .enum-told2 .given .1) (c .before .is-small2 .ensures) (c .if1 .left)
 

@@ -9,9 +9,9 @@ use mathlib.Core.Bool.{true, not}
 use mathlib.Core.Path.{_≡_, sym, ap}
 use Rattle.audited_meshes.specs.Folds.{every}
 use Rattle.audited_meshes.proofs.Folds.{every-none, every-more, every-stop}
-use Rattle.building_tests.proofs.Laws.{whole}
-use Rattle.building_tests.proofs.faces.is_new.Statement.{statement}
-use Rattle.building_tests.proofs.faces.is_new.Tie as tie
+use Rattle.listed_points.proofs.Laws.{whole}
+use Rattle.listed_points.proofs.is_new.Statement.{statement}
+use Rattle.listed_points.proofs.is_new.Tie as tie
 
 abbrev Inv-loop : tie.InvT-loop
 Inv-loop listed a i p j₀ j = (j ≤ i) × (every j (λ h. not (eqb (getD listed (a + i) 0) (getD listed (a + h) 0))) ≡ true)

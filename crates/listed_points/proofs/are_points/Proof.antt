@@ -10,9 +10,9 @@ use mathlib.Core.Path.{_≡_, sym}
 use Rattle.built_meshes.specs.Faces.{listedInRange}
 use Rattle.audited_meshes.specs.Folds.{every}
 use Rattle.audited_meshes.proofs.Folds.{every-none, every-more, every-stop}
-use Rattle.building_tests.proofs.Laws.{whole}
-use Rattle.building_tests.proofs.faces.are_points.Statement.{statement}
-use Rattle.building_tests.proofs.faces.are_points.Tie as tie
+use Rattle.listed_points.proofs.Laws.{whole}
+use Rattle.listed_points.proofs.are_points.Statement.{statement}
+use Rattle.listed_points.proofs.are_points.Tie as tie
 
 abbrev Inv-loop : tie.InvT-loop
 Inv-loop listed np a n i₀ i = (i ≤ n) × (every i (λ j. ltb (getD listed (a + j) 0) np) ≡ true)
