@@ -1,8 +1,8 @@
 -- links_back meets its contract: the face that is found is f exactly if one of the two sides has it, and its number chooses the link.
-use Rattle.audit_edges.proofs.EdgeTests.{back-nowhere, back-at}
+use Rattle.linked_edges.proofs.LinkTests.{back-nowhere, back-at}
 use borrow.Author.Needs.{needs}
-use Rattle.audit_edges.proofs.links_back.Statement.{statement}
-use Rattle.audit_edges.proofs.links_back.Tie as tie
+use Rattle.linked_edges.proofs.links_back.Statement.{statement}
+use Rattle.linked_edges.proofs.links_back.Tie as tie
 
 returns : tie.Need-returns
 returns c =

@@ -3,13 +3,13 @@ use Prim.Native.Nat.{ℕ}
 use mathlib.Core.List.{[]}
 use mathlib.Core.Path.{sym, _∙_, ap}
 use borrow.Author.Tests.{not-true, not-false}
-use Rattle.audit_edges.proofs.EdgeTests.{linked-1, linked-2}
+use Rattle.linked_edges.proofs.LinkTests.{linked-1, linked-2}
 use Rattle.tables.specs.Parts.{faceTables}
 use Rattle.audited_meshes.specs.Audit.{acwLinks}
 use Rattle.tables.specs.Mesh.{origin, dest, leftFace, rightFace}
 use borrow.Author.Needs.{needs}
-use Rattle.audit_edges.proofs.is_linked.Statement.{statement}
-use Rattle.audit_edges.proofs.is_linked.Tie as tie
+use Rattle.linked_edges.proofs.is_linked.Statement.{statement}
+use Rattle.linked_edges.proofs.is_linked.Tie as tie
 
 returns : tie.Need-returns
 returns c =

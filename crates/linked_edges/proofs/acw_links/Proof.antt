@@ -4,12 +4,12 @@ use mathlib.Core.List.{[]}
 use mathlib.Core.Bool.{Bool, _&&_}
 use mathlib.Core.Path.{sym, _∙_, ap}
 use borrow.Author.Needs.{needs}
-use Rattle.audit_edges.proofs.EdgeTests.{acw-links-is}
-use Rattle.audit_edges.specs.HalfLinks.{cwBack}
+use Rattle.linked_edges.proofs.LinkTests.{acw-links-is}
+use Rattle.linked_edges.specs.Links.{cwBack}
 use Rattle.tables.specs.Parts.{faceTables}
 use Rattle.audited_meshes.specs.Walks.{touches}
-use Rattle.audit_edges.proofs.acw_links.Statement.{statement}
-use Rattle.audit_edges.proofs.acw_links.Tie as tie
+use Rattle.linked_edges.proofs.acw_links.Statement.{statement}
+use Rattle.linked_edges.proofs.acw_links.Tie as tie
 
 returns : tie.Need-returns
 returns c =
