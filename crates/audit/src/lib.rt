@@ -12,7 +12,7 @@ ghost use Rattle.tables.specs.Layout.{positionWidth, pointWidth, edgeWidth, fac
 ghost use Rattle.tables.specs.Mesh.{valence, meshOf};
 ghost use Rattle.audited_meshes.specs.Audit.{audit};
 ghost use Rattle.tables.specs.Parts.{faceTables, pointTables};
-ghost use Rattle.sole_edges.specs.Sole.{Ends};
+ghost use Rattle.few_edges.specs.Rounds.{Ends};
 ghost use Rattle.audit.specs.Parts.{rowsFit, walksFit};
 use audit_edges::edges_fit;
 use audit_faces::face_walks_fit;

@@ -9,10 +9,10 @@ use borrow.Author.Needs.{needs}
 use lib.ListN.{length, length-set}
 use Rattle.tables.specs.Parts.{pointTables}
 use Rattle.walks.specs.Steps.{pointStep}
-use Rattle.sole_edges.proofs.Comparing.{Comparing, comparing-start, comparing-lost, comparing-next, comparing-stop, comparing-home, comparing-open}
-use Rattle.sole_edges.proofs.Walking.{step-made, step-lost}
-use Rattle.sole_edges.proofs.few_sole.Statement.{statement}
-use Rattle.sole_edges.proofs.few_sole.Tie as tie
+use Rattle.few_edges.proofs.Comparing.{Comparing, comparing-start, comparing-lost, comparing-next, comparing-stop, comparing-home, comparing-open}
+use Rattle.few_edges.proofs.Steps.{step-made, step-lost}
+use Rattle.few_edges.proofs.few_sole.Statement.{statement}
+use Rattle.few_edges.proofs.few_sole.Tie as tie
 
 abbrev Inv-loop : tie.InvT-loop
 Inv-loop points edges ends₀ np ne p k start i₀ n₀ ends i n =

@@ -7,9 +7,9 @@ use borrow.Author.Tests.{eq-eqb, ne-eqb}
 use borrow.Author.Needs.{needs}
 use Rattle.audited_meshes.proofs.Folds.{every-none, every-more, every-stop}
 use Rattle.audit_tests.proofs.Laws.{every-all}
-use Rattle.sole_edges.specs.Sole.{newEnd}
-use Rattle.sole_edges.proofs.is_new_end.Statement.{statement}
-use Rattle.sole_edges.proofs.is_new_end.Tie as tie
+use Rattle.few_edges.specs.Rounds.{newEnd}
+use Rattle.few_edges.proofs.is_new_end.Statement.{statement}
+use Rattle.few_edges.proofs.is_new_end.Tie as tie
 
 abbrev Inv-loop : tie.InvT-loop
 Inv-loop ends n q a₀ a = (a ≤ n) × (newEnd ends a q ≡ true)

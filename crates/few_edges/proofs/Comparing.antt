@@ -13,9 +13,9 @@ use Rattle.tables.specs.Mesh.{Mesh, valence, start, origin, dest}
 use Rattle.audited_meshes.specs.Walks.{acwOfPoint, Touches}
 use Rattle.audited_meshes.proofs.Tests.{every-is, not-is, eqb-is}
 use Rattle.walks.specs.Steps.{pointAcross}
-use Rattle.sole_edges.specs.Sole.{newEnd, walkAfter, edgeAbout, Round, EndsApart, Sole}
-use Rattle.sole_edges.proofs.Joins.{same-of-others}
-use Rattle.sole_edges.proofs.Rounds.{after-one, round-once}
+use Rattle.few_edges.specs.Rounds.{newEnd, walkAfter, edgeAbout, Round, EndsApart, Sole}
+use Rattle.few_edges.proofs.Joins.{same-of-others}
+use Rattle.few_edges.proofs.Rounds.{after-one, round-once}
 
 module _ (m : Mesh) (ne p : ℕ) where
   abbrev pub OnPoint : ℕ → Type 0

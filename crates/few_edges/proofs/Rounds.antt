@@ -14,7 +14,7 @@ use Rattle.audited_meshes.specs.Folds.{occurrences}
 use Rattle.audited_meshes.specs.Walks.{acwOfPoint}
 use Rattle.audited_meshes.specs.Audited.{Passes, last, more}
 use Rattle.audited_meshes.proofs.Walks.{in-longer}
-use Rattle.sole_edges.specs.Sole.{walkAfter, edgeAbout, Round}
+use Rattle.few_edges.specs.Rounds.{walkAfter, edgeAbout, Round}
 
 module _ (step : ℕ → ℕ) where
   pub after-one : (n e : ℕ) → walkAfter step (n + 1) e ≡ step (walkAfter step n e)
