@@ -21,7 +21,7 @@ module _ (m : Mesh) (ne p : ℕ) where
   abbrev pub OnPoint : ℕ → Type 0
   OnPoint e = (e < ne) × Touches m p e
 
-  -- the other end of the edge walkAfter a steps
+  -- the other end of the edge after a steps
   abbrev far : ℕ → ℕ
   far a = pointAcross m p (edgeAbout m p a)
 

@@ -1,8 +1,8 @@
--- Steps about a point from its start edge, and walks that are at their start again walkAfter their valence. Assumes nothing.
+-- Steps about a point from its start edge, and walks that are at their start again after their valence. Assumes nothing.
 --     after-one, after-step               one step more, at the end and at the beginning
 --     once-of-away, round-once            a walk that comes to its start at its last step alone passes no edge twice
 --     steps-of-passes, listed-of-steps    the steps of a walk by its list of edges; the list of a walk by its steps
---     place-of-passed                     walkAfter how many steps a walk comes to an edge of its list
+--     place-of-passed                     after how many steps a walk comes to an edge of its list
 use mathlib.Core.Path.{_≡_, refl, sym, _∙_, ap, subst}
 use mathlib.Core.List.{List, [], _∷_}
 use mathlib.Core.Logic.{_≢_}
@@ -88,7 +88,7 @@ module _ (step : ℕ → ℕ) where
         first-on (suc a) l = absurd (omega arith)
     steps-of-passes e es (more {e = i} {es = rest} o b w) = steps-more i rest o b (steps-of-passes (step i) rest w)
 
-    -- the list of a walk that is at its start walkAfter v steps
+    -- the list of a walk that is at its start after v steps
     pub record Listed (e v : ℕ) : Type 0 where
       pub edges : List ℕ
       pub passes : Passes step On s e edges

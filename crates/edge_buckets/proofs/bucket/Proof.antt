@@ -1,8 +1,8 @@
 -- bucket meets its contract: the test says which point is the lesser.
-use Rattle.edge_search.proofs.Chains.{bucket-less, bucket-more}
+use Rattle.edge_buckets.proofs.Buckets.{bucket-less, bucket-more}
 use borrow.Author.Needs.{needs}
-use Rattle.edge_search.proofs.bucket.Statement.{statement}
-use Rattle.edge_search.proofs.bucket.Tie as tie
+use Rattle.edge_buckets.proofs.bucket.Statement.{statement}
+use Rattle.edge_buckets.proofs.bucket.Tie as tie
 
 returns : tie.Need-returns
 returns c =
