@@ -30,6 +30,7 @@ STATED = """
 ABOUT = {
     "closed_meshes": "closed meshes over any rows, their refinement, names, what two meshes share",
     "positions": "positions, small and finite numbers",
+    "edge_ends": "the numbers of connections, the mark for no row",
     "t_spline": "the neighbours and the faces of an edge",
     "edge_links": "connecting two edges",
     "perimeters": "the places beside a place of a perimeter",

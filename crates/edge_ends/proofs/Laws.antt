@@ -2,10 +2,9 @@
 use mathlib.Core.Path.{_≡_, refl}
 use Prim.Native.Nat.{ℕ, _<_}
 use native.Mathlib.Omega.{arith}
-use Rattle.t_spline.specs.Connection.{indexOf}
-use Rattle.t_spline.specs.Ends.{connectionAt}
-use Rattle.t_spline.specs.declared.TnurccConnection.{TnurccConnection}
-use Rattle.t_spline.specs.declared.TnurccConnection.the-variants.{LeftCw, LeftAcw, RightCw, RightAcw}
+use Rattle.edge_ends.specs.Connection.{indexOf, connectionAt}
+use Rattle.edge_ends.specs.declared.TnurccConnection.{TnurccConnection}
+use Rattle.edge_ends.specs.declared.TnurccConnection.the-variants.{LeftCw, LeftAcw, RightCw, RightAcw}
 
 pub index-below : (c : TnurccConnection) → indexOf c < 4
 index-below LeftCw = omega arith

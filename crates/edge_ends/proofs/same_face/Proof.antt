@@ -1,7 +1,7 @@
 -- same_face meets its contract: the test decides the definition's.
 use borrow.Author.Tests.{eq-eqb, ne-eqb}
-use Rattle.t_spline.proofs.t_nurcc_edge.same_face.Statement.{statement}
-use Rattle.t_spline.proofs.t_nurcc_edge.same_face.Tie as tie
+use Rattle.edge_ends.proofs.same_face.Statement.{statement}
+use Rattle.edge_ends.proofs.same_face.Tie as tie
 
 returns : tie.Need-returns
 returns c = simp (eq-eqb _ _ (c .if1 .taken))

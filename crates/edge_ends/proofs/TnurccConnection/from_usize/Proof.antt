@@ -1,7 +1,7 @@
 -- from_usize meets its contract: each test decides one of the definition's.
 use borrow.Author.Tests.{eq-eqb, ne-eqb}
-use Rattle.t_spline.proofs.TnurccConnection.from_usize.Statement.{statement}
-use Rattle.t_spline.proofs.TnurccConnection.from_usize.Tie as tie
+use Rattle.edge_ends.proofs.TnurccConnection.from_usize.Statement.{statement}
+use Rattle.edge_ends.proofs.TnurccConnection.from_usize.Tie as tie
 
 returns : tie.Need-returns
 returns c = simp (eq-eqb _ _ (c .if1 .taken))
