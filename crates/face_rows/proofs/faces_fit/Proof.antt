@@ -10,8 +10,8 @@ use Rattle.audited_meshes.specs.Folds.{every}
 use Rattle.audited_meshes.proofs.Folds.{every-none, every-more, every-stop}
 use Rattle.audit_tests.proofs.Laws.{every-all}
 use Rattle.audited_meshes.specs.Quick.{faceFit}
-use Rattle.audit_faces.proofs.faces_fit.Statement.{statement}
-use Rattle.audit_faces.proofs.faces_fit.Tie as tie
+use Rattle.face_rows.proofs.faces_fit.Statement.{statement}
+use Rattle.face_rows.proofs.faces_fit.Tie as tie
 use Rattle.tables.specs.Parts.{faceTables}
 
 abbrev Inv-loop : tie.InvT-loop

@@ -4,9 +4,9 @@ use mathlib.Core.Path.{sym, _∙_}
 use native.Mathlib.Omega.{arith}
 use borrow.Author.Tests.{not-true, not-false}
 use borrow.Author.Needs.{needs}
-use Rattle.audit_faces.proofs.FaceTests.{face-start, face-corner, face-last}
-use Rattle.audit_faces.proofs.face_fit.Statement.{statement}
-use Rattle.audit_faces.proofs.face_fit.Tie as tie
+use Rattle.face_rows.proofs.RowTests.{face-start, face-corner, face-last}
+use Rattle.face_rows.proofs.face_fit.Statement.{statement}
+use Rattle.face_rows.proofs.face_fit.Tie as tie
 use Rattle.tables.specs.Parts.{faceTables}
 
 returns : tie.Need-returns

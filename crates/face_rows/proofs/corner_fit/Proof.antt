@@ -2,8 +2,8 @@
 use native.Mathlib.Omega.{arith}
 use borrow.Author.Tests.{lt-ltb, le-ltb}
 use borrow.Author.Needs.{needs}
-use Rattle.audit_faces.proofs.corner_fit.Statement.{statement}
-use Rattle.audit_faces.proofs.corner_fit.Tie as tie
+use Rattle.face_rows.proofs.corner_fit.Statement.{statement}
+use Rattle.face_rows.proofs.corner_fit.Tie as tie
 
 returns : tie.Need-returns
 returns c =
