@@ -1,8 +1,8 @@
 -- join_edge meets its contract: each field is the definition's.
-use Rattle.ring_edges.proofs.Writing.{join-put}
+use Rattle.joining_edges.proofs.Laws.{join-put}
 use borrow.Author.Needs.{needs}
-use Rattle.ring_edges.proofs.join_edge.Statement.{statement}
-use Rattle.ring_edges.proofs.join_edge.Tie as tie
+use Rattle.joining_edges.proofs.join_edge.Statement.{statement}
+use Rattle.joining_edges.proofs.join_edge.Tie as tie
 
 returns : tie.Need-returns
 returns c =
