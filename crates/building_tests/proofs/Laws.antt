@@ -8,20 +8,18 @@
 --     size-some               a size that passes is not 0
 --     verdict-is              the verdict on a face by its five tests
 --     from-more, from-below                   where the points of a side begin, and that they begin within the face
-use mathlib.Core.Path.{_≡_, refl, sym, _∙_, ap}
-use mathlib.Core.Bool.{Bool, true, false, not, _&&_, cond}
+use mathlib.Core.Path.{_≡_, refl, ap}
+use mathlib.Core.Bool.{Bool, true, not, cond}
 use mathlib.Core.List.{List, []}
 use Prim.Native.Nat.{ℕ, zero, suc, _+_, _-_, _*_, _≤_, _<_}
 use mathlib.Core.Logic.{_≢_}
 use native.Mathlib.Nat.{add-zero}
 use native.Mathlib.Numerals.{add-one}
 use native.Mathlib.Omega.{arith}
-use native.Mathlib.Decide.{decLe}
-use lib.Ieee.{Float, nan, add, sub, ofBits, binary64}
+use lib.Ieee.{Float, nan, add, ofBits, binary64}
 use lib.Dec.{eqb}
 use lib.ListN.{getD}
 use Rattle.closed_meshes.specs.Renumbering.{sumTo}
-use Rattle.audited_meshes.specs.Folds.{every}
 use Rattle.audited_meshes.proofs.Tests.{and-is, leb-is}
 use Rattle.built_meshes.specs.Lists.{size, firstsCounted}
 use Rattle.built_meshes.specs.Faces.{sizeFit, listedInRange, noPointTwice, sideFrom, lastBefore, firstFit, firstsFit, sideSum, sumsAgree, sumsFit, faceVerdict}

@@ -1,6 +1,6 @@
 -- The laws of connections. Assumes nothing.
 use mathlib.Core.Path.{_≡_, refl}
-use Prim.Native.Nat.{ℕ, _<_}
+use Prim.Native.Nat.{_<_}
 use native.Mathlib.Omega.{arith}
 use Rattle.edge_ends.specs.Connection.{indexOf, connectionAt}
 use Rattle.edge_ends.specs.declared.TnurccConnection.{TnurccConnection}

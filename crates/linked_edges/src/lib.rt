@@ -3,7 +3,7 @@
 // Contract: `is_linked`. Definitions: `specs/Links.antt`; `Audit` of `audited_meshes`. Laws: `proofs/LinkTests.antt`.
 ghost use mathlib.Core.Path.{_≡_};
 ghost use mathlib.Core.List.{[]};
-ghost use Prim.Native.Nat.{ℕ, _+_, _*_, _≤_, _<_};
+ghost use Prim.Native.Nat.{_+_, _*_, _≤_, _<_};
 ghost use lib.ListN.{length};
 ghost use Rattle.tables.specs.Layout.{edgeWidth};
 ghost use Rattle.tables.specs.Mesh.{leftAcw, rightAcw};

@@ -1,7 +1,7 @@
 -- The walk about a point that notes each edge at its other end, over plain variables: n of k edges are passed, the next is i.
 -- Assumes nothing.
 use mathlib.Core.Path.{_≡_, refl, sym, _∙_, ap, subst}
-use mathlib.Core.Bool.{Bool, true, false, not, _&&_, cond, false≢true}
+use mathlib.Core.Bool.{Bool, true, false, not, cond, false≢true}
 use mathlib.Core.List.{List}
 use mathlib.Core.Logic.{_≢_}
 use Prim.Native.Nat.{ℕ, _+_, _-_, _*_, _/_, _≤_, _<_}
@@ -12,7 +12,7 @@ use lib.Dec.{eqb, ltb}
 use lib.ListN.{length, getD, set, length-set}
 use lib.Seq.{getD-set-same, getD-set-other}
 use Rattle.tables.specs.Mesh.{Mesh, valence, start, origin, dest}
-use Rattle.audited_meshes.specs.Walks.{touches, acwOfPoint, Touches}
+use Rattle.audited_meshes.specs.Walks.{acwOfPoint, Touches}
 use Rattle.audited_meshes.proofs.Tests.{Is, and-is, not-is, eqb-is, ltb-is}
 use Rattle.audited_meshes.proofs.Audited.{touches-is}
 use Rattle.walks.specs.Steps.{pointAcross}
