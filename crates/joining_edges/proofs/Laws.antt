@@ -7,8 +7,8 @@ use lib.Ieee.{Float, nan, add, binary64}
 use Rattle.perimeters.specs.Places.{nextPlace, prevPlace}
 use Rattle.refined_meshes.specs.State.{State, putEdge}
 use Rattle.refined_meshes.specs.Ring.{faceRow, putJoin}
-use Rattle.ring_places.specs.declared.RingRows.{RingRows}
-use Rattle.ring_places.specs.Rings.{ring}
+use Rattle.ring_rows.specs.declared.RingRows.{RingRows}
+use Rattle.ring_rows.specs.Rings.{ring}
 
 module _ (rows : RingRows) (i : ℕ) where
   module _ (pe hs gs ms : List ℕ) (ds : List Float) (s : State) where

@@ -1,17 +1,17 @@
 // The edge that joins a face point to the midpoint of a place of the perimeter, by value.
 // Carries over the fields that `global_subdivide` (t_nurcc/mod.rs) gives it.
 // Not here: the places of the perimeter (`ring_places`), the joining edges in the tables (`ring_edges`).
-// Contract: `join_edge`. Definitions: `refined_meshes`, specs/Ring.antt; `ring_places`, specs/Rings.antt. Laws: `proofs/Laws.antt`.
+// Contract: `join_edge`. Definitions: `refined_meshes`, specs/Ring.antt; `ring_rows`, specs/Rings.antt. Laws: `proofs/Laws.antt`.
 ghost use mathlib.Core.Path.{_≡_};
 ghost use mathlib.Core.List.{List};
 ghost use Prim.Native.Nat.{ℕ, _+_, _<_};
 ghost use Rattle.refined_meshes.specs.State.{State, putEdge};
 ghost use Rattle.refined_meshes.specs.Ring.{putJoin};
-ghost use Rattle.ring_places.specs.Rings.{ring, Small};
+ghost use Rattle.ring_rows.specs.Rings.{ring, Small};
 use perimeters::next_place;
 use perimeters::prev_place;
-use ring_places::RingRows;
-use ring_places::face_row;
+use ring_rows::RingRows;
+use ring_rows::face_row;
 use t_spline::TnurccEdge;
 use tables::LONGEST_PERIMETER;
 

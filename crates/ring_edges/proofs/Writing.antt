@@ -17,8 +17,8 @@ use Rattle.tables.specs.Parts.{faceTables}
 use Rattle.refined_meshes.specs.State.{State, putEdge}
 use Rattle.refined_meshes.specs.Ring.{faceRow, putSide, putFirst, putSecond}
 use Rattle.splitting.specs.Scratch.{tablesOf}
-use Rattle.ring_places.specs.declared.RingRows.{RingRows}
-use Rattle.ring_places.specs.Rings.{ring}
+use Rattle.ring_rows.specs.declared.RingRows.{RingRows}
+use Rattle.ring_rows.specs.Rings.{ring}
 
 -- a word that is stored where it stands changes nothing
 kept : (xs ys : List ℕ) (j : ℕ) → getD ys j 0 ≡ getD xs j 0 → set ys j (getD xs j 0) ≡ ys

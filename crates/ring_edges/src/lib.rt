@@ -3,7 +3,7 @@
 // Carries over the part of `global_subdivide`'s loop over the faces that connects edges (t_nurcc/mod.rs).
 // Not here: the places of the perimeter (`ring_places`), a joining edge by value (`joining_edges`), the new faces (`ring_faces`), the
 // visit itself (`visiting`).
-// Definitions: `refined_meshes`, specs/Ring.antt; `ring_places`, specs/Rings.antt.
+// Definitions: `refined_meshes`, specs/Ring.antt; `ring_rows`, specs/Rings.antt.
 ghost use mathlib.Core.Path.{_≡_};
 ghost use mathlib.Core.List.{List, []};
 ghost use Prim.Native.Nat.{ℕ, _+_, _*_, _≤_, _<_};
@@ -16,14 +16,14 @@ ghost use Rattle.refined_meshes.specs.Turns.{turns};
 ghost use Rattle.refined_meshes.specs.State.{State};
 ghost use Rattle.refined_meshes.specs.Ring.{putSide, putJoin, putFirst, putSecond};
 ghost use Rattle.splitting.specs.Scratch.{tablesOf};
-ghost use Rattle.ring_places.specs.Rings.{ring, Small, EdgesThere};
+ghost use Rattle.ring_rows.specs.Rings.{ring, Small, EdgesThere};
 use joining_edges::join_edge;
 use perimeters::next_place;
 use perimeters::prev_place;
 use records::store_edge;
-use ring_places::RingRows;
-use ring_places::face_row;
-use ring_places::on_left;
+use ring_rows::RingRows;
+use ring_rows::face_row;
+use ring_rows::on_left;
 use tables::EDGE_WIDTH;
 use tables::LEFT_ACW_WORD;
 use tables::LEFT_CW_WORD;

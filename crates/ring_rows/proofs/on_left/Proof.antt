@@ -3,8 +3,8 @@ use lib.Dec.{eqb}
 use Prim.Native.Nat.{ℕ}
 use mathlib.Core.Path.{ap}
 use borrow.Author.Needs.{needs}
-use Rattle.ring_places.proofs.on_left.Statement.{statement}
-use Rattle.ring_places.proofs.on_left.Tie as tie
+use Rattle.ring_rows.proofs.on_left.Statement.{statement}
+use Rattle.ring_rows.proofs.on_left.Tie as tie
 
 returns : tie.Need-returns
 returns c = ap (λ (x : ℕ). eqb x (c .before .before .before .args .f)) (c .index .ensures)

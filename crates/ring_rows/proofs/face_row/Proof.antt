@@ -1,8 +1,8 @@
 -- face_row meets its contract: its test is the definition's.
 use borrow.Author.Tests.{eq-eqb, ne-eqb}
 use borrow.Author.Needs.{needs}
-use Rattle.ring_places.proofs.face_row.Statement.{statement}
-use Rattle.ring_places.proofs.face_row.Tie as tie
+use Rattle.ring_rows.proofs.face_row.Statement.{statement}
+use Rattle.ring_rows.proofs.face_row.Tie as tie
 
 returns : tie.Need-returns
 returns c = simp (eq-eqb _ _ (c .before .if1 .taken))

@@ -1,7 +1,7 @@
 -- first_half meets its contract: its test is the definition's.
 use borrow.Author.Needs.{needs}
-use Rattle.ring_places.proofs.first_half.Statement.{statement}
-use Rattle.ring_places.proofs.first_half.Tie as tie
+use Rattle.ring_rows.proofs.first_half.Statement.{statement}
+use Rattle.ring_rows.proofs.first_half.Tie as tie
 
 returns-2 : tie.Need-returns-2
 returns-2 c = rw (c .before .if1 .left)

@@ -1,15 +1,14 @@
 -- The ring of a face as the code holds it: its rows in a struct, and what stands at its places in arrays.
 --     ring rows es hs gs ms ds      the ring with these rows, the perimeter es, first halves hs, second halves gs, midpoints ms, intervals ds
 --     Small rows                    the rows of a ring are below the ceilings, and its places are 1 to 64
---     EdgesThere es xs n                  the first n of xs are rows of the table of edges es
+--     EdgesThere es xs n            the first n of xs are rows of the table of edges es
 use mathlib.Core.List.{List}
 use Prim.Native.Nat.{ℕ, _+_, _*_, _≤_, _<_}
 use lib.ListN.{length, getD}
 use lib.Ieee.{Float}
-use Rattle.tables.specs.Layout.{edgeWidth, leftFaceWord, leftAcwWord, rightCwWord}
-use Rattle.tables.specs.Layout.{longestPerimeter, pointCeiling, edgeCeiling, faceCeiling}
+use Rattle.tables.specs.Layout.{edgeWidth, longestPerimeter, pointCeiling, edgeCeiling, faceCeiling}
 use Rattle.refined_meshes.specs.Ring.{Ring}
-use Rattle.ring_places.specs.declared.RingRows.{RingRows}
+use Rattle.ring_rows.specs.declared.RingRows.{RingRows}
 
 abbrev pub ring : RingRows → List ℕ → List ℕ → List ℕ → List ℕ → List Float → Ring
 ring rows es hs gs ms ds =

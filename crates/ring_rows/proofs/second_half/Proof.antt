@@ -1,7 +1,7 @@
 -- second_half meets its contract: its test is the definition's.
 use borrow.Author.Needs.{needs}
-use Rattle.ring_places.proofs.second_half.Statement.{statement}
-use Rattle.ring_places.proofs.second_half.Tie as tie
+use Rattle.ring_rows.proofs.second_half.Statement.{statement}
+use Rattle.ring_rows.proofs.second_half.Tie as tie
 
 returns : tie.Need-returns
 returns c = rw (c .before .if1 .taken)
