@@ -12,7 +12,7 @@ ghost use Rattle.built_meshes.specs.Answers.{builtNumbers};
 ghost use Rattle.built_meshes.specs.Building.{BuildOutcome, build};
 ghost use Rattle.tables.specs.Counted.{zeroedRows};
 ghost use Rattle.building_tests.specs.Lent.{listsIn, limitsOf};
-ghost use Rattle.edge_search.specs.Chains.{buckets};
+ghost use Rattle.edge_buckets.specs.Buckets.{buckets};
 ghost use Rattle.building.specs.Beginning.{answeredFrom, Begun, Zeroed};
 use building_ends::conclude;
 use building_faces::Faced;
@@ -26,7 +26,7 @@ use built_meshes::Ground;
 use built_meshes::Version;
 use counted_rows::rows_for;
 use counted_rows::zero_rows;
-use edge_search::BUCKETS;
+use edge_buckets::BUCKETS;
 use tables::Counts;
 use tables::POSITION_WIDTH;
 

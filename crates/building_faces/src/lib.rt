@@ -22,13 +22,13 @@ use building_tests::faces::face_verdict;
 use built_meshes::Ground;
 use built_meshes::Verdict;
 use built_meshes::Version;
+use edge_ends::NONE;
 use edge_search::Entry;
 use edge_search::enter;
 use interval_places::interval_place;
 use perimeters::next_place;
 use records::store_face;
 use t_nurcc_edge::connect;
-use t_spline::NONE;
 use t_spline::TnurccFace;
 use tables::index;
 

@@ -10,7 +10,7 @@ use mathlib.Core.Bool.{true}
 use mathlib.Core.Path.{_≡_, _∙_, sym}
 use Rattle.audited_meshes.specs.Folds.{every}
 use Rattle.audited_meshes.proofs.Folds.{every-none, every-more, every-stop}
-use Rattle.building_tests.proofs.Laws.{whole}
+use Rattle.listed_points.proofs.Laws.{whole}
 use Rattle.building_lists.proofs.all_finite.Statement.{statement}
 use Rattle.building_lists.proofs.all_finite.Tie as tie
 
