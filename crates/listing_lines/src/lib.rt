@@ -20,10 +20,10 @@ use tables::EDGE_WIDTH;
 use tables::FACE_WIDTH;
 use tables::POINT_WIDTH;
 use tables::POSITION_WIDTH;
+use text_ends::ends;
 use text_numbers::Number;
 use text_numbers::decimal;
 use text_numbers::stands;
-use text_sizes::ends;
 
 // A space and a word.
 fn word(s: &[u8], at: usize) -> Number

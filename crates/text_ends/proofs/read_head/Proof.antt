@@ -2,8 +2,8 @@
 use mathlib.Core.Path.{sym, _∙_}
 use Rattle.mesh_text.proofs.Heads.{head-one, head-two, head-missing}
 use borrow.Author.Needs.{needs}
-use Rattle.text_sizes.proofs.read_head.Statement.{statement}
-use Rattle.text_sizes.proofs.read_head.Tie as tie
+use Rattle.text_ends.proofs.read_head.Statement.{statement}
+use Rattle.text_ends.proofs.read_head.Tie as tie
 
 returns : tie.Need-returns
 returns c = head-one _ (sym (c .before .stands .ensures) ∙ c .if1 .taken)

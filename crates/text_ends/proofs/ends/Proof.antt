@@ -3,8 +3,8 @@ use mathlib.Core.Path.{sym, _∙_}
 use borrow.Author.Tests.{not-true, not-false}
 use Rattle.mesh_text.specs.Text.{ends}
 use borrow.Author.Needs.{needs}
-use Rattle.text_sizes.proofs.ends.Statement.{statement}
-use Rattle.text_sizes.proofs.ends.Tie as tie
+use Rattle.text_ends.proofs.ends.Statement.{statement}
+use Rattle.text_ends.proofs.ends.Tie as tie
 
 returns : tie.Need-returns
 unfolding ends
