@@ -1,25 +1,18 @@
 -- `write_counts` meets its contract: one run of bytes after another.
 use native.Mathlib.Omega.{arith}
 use Rattle.mesh_answers.proofs.Laws.{written-append, length-number}
 use borrow.Author.Needs.{needs}
-use Rattle.mesh_answers.proofs.write_counts.Statement.{statement}
-use Rattle.mesh_answers.proofs.write_counts.Tie as tie
-use Rattle.mesh_answers.proofs.write_counts.Reads as reads
-use Rattle.mesh_answers.proofs.write_counts.Lts as lts
-use Rattle.mesh_answers.proofs.write.Reads as write-reads
-use Rattle.mesh_answers.proofs.write_number.Reads as write-number-reads
+use Rattle.answer_lines.proofs.write_counts.Statement.{statement}
+use Rattle.answer_lines.proofs.write_counts.Tie as tie
 
--- src/lib.rt:94:9
 write-requires : tie.Need-write-requires
 write-requires c κs = search needs
 
--- src/lib.rt:95:9
 write-number-requires : tie.Need-write-number-requires
 write-number-requires c κs =
     let l1 = length-number (c .before .before .before .before .before .before .before .args .p) in
     omega arith
 
--- src/lib.rt:96:9
 write-number-requires-2 : tie.Need-write-number-requires-2
 write-number-requires-2 c κs =
     let c8 = c .before .before .before .before .before .before .before .before in
@@ -34,7 +27,6 @@ write-number-requires-2 c κs =
     let l2 = length-number (args .e) in
     omega arith
 
--- src/lib.rt:97:9
 write-number-requires-3 : tie.Need-write-number-requires-3
 write-number-requires-3 c κs =
     let c8 = c .before .before .before .before .before .before .before .before in
@@ -53,11 +45,9 @@ write-number-requires-3 c κs =
     let l3 = length-number (args .f) in
     omega arith
 
--- src/lib.rt:98:19
 slice-aggregate-write : tie.Need-slice-aggregate-write
 slice-aggregate-write c = search needs
 
--- src/lib.rt:98:5
 write-requires-2 : tie.Need-write-requires-2
 write-requires-2 c κs =
     let c8 = c .before .before .before .before .before .before .before .before in
@@ -81,11 +71,9 @@ write-requires-2 c κs =
     let l3 = length-number (args .f) in
     omega arith
 
--- src/lib.rt:90:1
 same-length : tie.Need-same-length
 same-length c = search needs
 
--- src/lib.rt:90:1
 returns : tie.Need-returns
 returns c =
     let c8 = c .before .before .before .before .before .before .before .before in

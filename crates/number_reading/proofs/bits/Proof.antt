@@ -5,12 +5,12 @@ use native.Mathlib.Omega.{arith}
 use mathlib.Core.Path.{_≡_}
 use Prim.Native.Nat.{_≤_, _<_, _-_, _^_}
 use lib.ListN.{length}
 use Rattle.text_numbers.specs.Form.{times}
 use Rattle.text_numbers.specs.Numbers.{bits, digit}
 use Rattle.text_numbers.specs.Answers.{number}
-use Rattle.text_numbers.proofs.bits.Proof.Turn.{numberOf, bits-start, bits-turn, bits-none, bits-end, bits-inside, next-fits, next-below}
-use Rattle.text_numbers.proofs.bits.Statement.{statement}
-use Rattle.text_numbers.proofs.bits.Tie as tie
+use Rattle.number_reading.proofs.bits.Proof.Turn.{numberOf, bits-start, bits-turn, bits-none, bits-end, bits-inside, next-fits, next-below}
+use Rattle.number_reading.proofs.bits.Statement.{statement}
+use Rattle.number_reading.proofs.bits.Tie as tie
 
 abbrev Inv-loop : tie.InvT-loop
 Inv-loop s at v₀ i₀ k₀ v i k =

@@ -6,11 +6,11 @@ use native.Mathlib.Omega.{arith}
 use mathlib.Core.Path.{_≡_}
 use Prim.Native.Nat.{_≤_, _-_}
 use lib.ListN.{length}
 use Rattle.text_numbers.specs.Numbers.{decimalFrom}
 use Rattle.text_numbers.specs.Answers.{number}
-use Rattle.text_numbers.proofs.decimal_from.Proof.Turn.{rest, rest-start, rest-turn, rest-stop, rest-large, rest-inside}
-use Rattle.text_numbers.proofs.decimal_from.Statement.{statement}
-use Rattle.text_numbers.proofs.decimal_from.Tie as tie
+use Rattle.number_reading.proofs.decimal_from.Proof.Turn.{rest, rest-start, rest-turn, rest-stop, rest-large, rest-inside}
+use Rattle.number_reading.proofs.decimal_from.Statement.{statement}
+use Rattle.number_reading.proofs.decimal_from.Tie as tie
 
 abbrev Inv-loop : tie.InvT-loop
 Inv-loop s at first v₀ i₀ v i =

@@ -1,27 +1,19 @@
 -- `write_at` meets its contract: one run of bytes after another.
 use native.Mathlib.Omega.{arith}
 use Rattle.mesh_answers.proofs.Laws.{written-append, length-bits}
 use borrow.Author.Needs.{needs}
-use Rattle.mesh_answers.proofs.write_at.Statement.{statement}
-use Rattle.mesh_answers.proofs.write_at.Tie as tie
-use Rattle.mesh_answers.proofs.write_at.Reads as reads
-use Rattle.mesh_answers.proofs.write_at.Lts as lts
-use Rattle.mesh_answers.proofs.write.Reads as write-reads
-use Rattle.mesh_answers.proofs.write_bits.Reads as write-bits-reads
+use Rattle.answer_lines.proofs.write_at.Statement.{statement}
+use Rattle.answer_lines.proofs.write_at.Tie as tie
 
--- src/lib.rt:122:28
 slice-aggregate-write : tie.Need-slice-aggregate-write
 slice-aggregate-write c = search needs
 
--- src/lib.rt:122:9
 write-requires : tie.Need-write-requires
 write-requires c κs = search needs
 
--- src/lib.rt:123:9
 write-bits-requires : tie.Need-write-bits-requires
 write-bits-requires c κs = search needs
 
--- src/lib.rt:124:9
 write-bits-requires-2 : tie.Need-write-bits-requires-2
 write-bits-requires-2 c κs =
     let p = c .before .before .before .before .before .before .before .before .before .before .before .pre in
@@ -32,7 +24,6 @@ write-bits-requires-2 c κs =
     let l1 = length-bits (c .before .before .before .before .before .before .before .before .before .before .before .args .x) in
     omega arith
 
--- src/lib.rt:125:9
 write-bits-requires-3 : tie.Need-write-bits-requires-3
 write-bits-requires-3 c κs =
     let c8 = c .before .before .before .before .before .before .before .before in
@@ -50,11 +41,9 @@ write-bits-requires-3 c κs =
     let l2 = length-bits (args .y) in
     omega arith
 
--- src/lib.rt:126:19
 slice-aggregate-write-2 : tie.Need-slice-aggregate-write-2
 slice-aggregate-write-2 c = search needs
 
--- src/lib.rt:126:5
 write-requires-2 : tie.Need-write-requires-2
 write-requires-2 c κs =
     let c8 = c .before .before .before .before .before .before .before .before in
@@ -78,11 +67,9 @@ write-requires-2 c κs =
     let l3 = length-bits (args .z) in
     omega arith
 
--- src/lib.rt:118:1
 same-length : tie.Need-same-length
 same-length c = search needs
 
--- src/lib.rt:118:1
 returns : tie.Need-returns
 returns c =
     let c8 = c .before .before .before .before .before .before .before .before in

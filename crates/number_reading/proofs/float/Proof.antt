@@ -1,10 +1,10 @@
 -- `float` meets its contract: above the pattern of infinity, the sign left out, stand the patterns of NaNs.
 mod Pattern
 use mathlib.Core.Path.{sym, _∙_}
-use Rattle.text_numbers.proofs.float.Proof.Pattern.{nan-above, no-nan-below, zero-by-zero}
+use Rattle.number_reading.proofs.float.Proof.Pattern.{nan-above, no-nan-below, zero-by-zero}
 use borrow.Author.Needs.{needs}
-use Rattle.text_numbers.proofs.float.Statement.{statement}
-use Rattle.text_numbers.proofs.float.Tie as tie
+use Rattle.number_reading.proofs.float.Statement.{statement}
+use Rattle.number_reading.proofs.float.Tie as tie
 
 returns : tie.Need-returns
 returns c = zero-by-zero ∙ sym (nan-above _ (c .if1 .taken))

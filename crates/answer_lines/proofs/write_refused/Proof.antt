@@ -1,31 +1,22 @@
 -- `write_refused` meets its contract: one run of bytes after another.
 use native.Mathlib.Omega.{arith}
 use Rattle.mesh_answers.proofs.Laws.{written-append, length-number}
 use borrow.Author.Needs.{needs}
-use Rattle.mesh_answers.proofs.write_refused.Statement.{statement}
-use Rattle.mesh_answers.proofs.write_refused.Tie as tie
-use Rattle.mesh_answers.proofs.write_refused.Reads as reads
-use Rattle.mesh_answers.proofs.write_refused.Lts as lts
-use Rattle.mesh_answers.proofs.write.Reads as write-reads
-use Rattle.mesh_answers.proofs.write_number.Reads as write-number-reads
+use Rattle.answer_lines.proofs.write_refused.Statement.{statement}
+use Rattle.answer_lines.proofs.write_refused.Tie as tie
 
--- src/lib.rt:134:28
 slice-aggregate-write : tie.Need-slice-aggregate-write
 slice-aggregate-write c = search needs
 
--- src/lib.rt:134:9
 write-requires : tie.Need-write-requires
 write-requires c κs = search needs
 
--- src/lib.rt:135:9
 write-number-requires : tie.Need-write-number-requires
 write-number-requires c κs = let l1 = length-number (c .before .before .before .before .before .before .before .args .n) in omega arith
 
--- src/lib.rt:136:19
 slice-aggregate-write-2 : tie.Need-slice-aggregate-write-2
 slice-aggregate-write-2 c = search needs
 
--- src/lib.rt:136:5
 write-requires-2 : tie.Need-write-requires-2
 write-requires-2 c κs =
     let c8 = c .before .before .before .before .before .before .before .before in
@@ -40,11 +31,9 @@ write-requires-2 c κs =
     let l1 = length-number (args .n) in
     omega arith
 
--- src/lib.rt:130:1
 same-length : tie.Need-same-length
 same-length c = search needs
 
--- src/lib.rt:130:1
 returns : tie.Need-returns
 returns c =
     let write = c .before .before .before .before .before .before .before .before .before .before .before .write in

@@ -1,10 +1,10 @@
 -- `decimal` meets its contract: the first digit says which case of the definition holds.
 mod First
 use mathlib.Core.Path.{_∙_}
-use Rattle.text_numbers.proofs.decimal.Proof.First.{first-none, first-zero, first-other, first-inside}
+use Rattle.number_reading.proofs.decimal.Proof.First.{first-none, first-zero, first-other, first-inside}
 use borrow.Author.Needs.{needs}
-use Rattle.text_numbers.proofs.decimal.Statement.{statement}
-use Rattle.text_numbers.proofs.decimal.Tie as tie
+use Rattle.number_reading.proofs.decimal.Statement.{statement}
+use Rattle.number_reading.proofs.decimal.Tie as tie
 
 returns : tie.Need-returns
 returns c = first-none _ _ (c .before .digit-value .ensures) (c .before .before .byte .ensures) (c .if1 .taken)
