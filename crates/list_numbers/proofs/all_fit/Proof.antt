@@ -11,8 +11,8 @@ use mathlib.Core.Path.{_≡_, _∙_, sym}
 use Rattle.audited_meshes.specs.Folds.{every}
 use Rattle.audited_meshes.proofs.Folds.{every-none, every-more, every-stop}
 use Rattle.building_tests.proofs.Laws.{whole}
-use Rattle.building_lists.proofs.all_fit.Statement.{statement}
-use Rattle.building_lists.proofs.all_fit.Tie as tie
+use Rattle.list_numbers.proofs.all_fit.Statement.{statement}
+use Rattle.list_numbers.proofs.all_fit.Tie as tie
 
 abbrev Inv-loop : tie.InvT-loop
 Inv-loop beside k₀ k = (k ≤ length beside) × (every k (λ i. intervalFit (getD beside i nan)) ≡ true)

@@ -2,8 +2,8 @@
 use mathlib.Core.Path.{_∙_, sym}
 use Rattle.built_meshes.specs.Lists.{listedFit}
 use borrow.Author.Needs.{needs}
-use Rattle.building_lists.proofs.numbers_fit.Statement.{statement}
-use Rattle.building_lists.proofs.numbers_fit.Tie as tie
+use Rattle.list_numbers.proofs.numbers_fit.Statement.{statement}
+use Rattle.list_numbers.proofs.numbers_fit.Tie as tie
 
 returns : tie.Need-returns
 unfolding listedFit
