@@ -18,7 +18,6 @@ use building_ends::conclude;
 use building_faces::Faced;
 use building_faces::enter_faces;
 use building_lists::counts_fit;
-use building_lists::numbers_fit;
 use building_tests::Bounds;
 use building_tests::MOST_LISTED;
 use built_meshes::Built;
@@ -27,6 +26,7 @@ use built_meshes::Version;
 use counted_rows::rows_for;
 use counted_rows::zero_rows;
 use edge_buckets::BUCKETS;
+use list_numbers::numbers_fit;
 use tables::Counts;
 use tables::POSITION_WIDTH;
 

@@ -2,7 +2,7 @@
 // the last, then the face's row (document 01, "Building"; grounds 10 to 15 and 43).
 // Carries over the loop of `try_new` of t_nurcc/mod.rs.
 // Not here: the places stepped (`perimeters`), where the interval of an edge is written (`interval_places`), the grounds of the lists
-// and of the whole (`building_lists`, `building_whole`).
+// and of the whole (`building_lists`, `list_numbers`, `building_whole`).
 // Definitions: `Perimeters` and `Building` of `built_meshes`; `specs/Rings.antt`. Laws: `proofs/Turns.antt`.
 ghost use mathlib.Core.Path.{_≡_};
 ghost use mathlib.Core.List.{List, []};

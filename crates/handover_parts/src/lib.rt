@@ -8,9 +8,9 @@ ghost use Rattle.tables.specs.Mesh.{meshOf};
 ghost use Rattle.mesh_answers.specs.Writing.{Written};
 ghost use Rattle.refine_outputs.specs.Output.{outputBytes};
 ghost use Rattle.handover_outputs.specs.Output.{listed, steppedBytes};
+use answer_lines::write_refused;
 use listing_writing::write_listing;
 use listings::Writing;
-use mesh_answers::write_refused;
 use steps::Stepped;
 use tables::Counts;
 

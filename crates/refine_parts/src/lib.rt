@@ -11,9 +11,9 @@ ghost use Rattle.runs.specs.Runs.{numbered};
 ghost use Rattle.mesh_answers.specs.Writing.{Written};
 ghost use Rattle.refine_outputs.specs.Output.{placeLine, stepLines};
 ghost use Rattle.refine_outputs.specs.FirstPoint.{PointThere, PointReady};
-use mesh_answers::write_at;
-use mesh_answers::write_refused;
-use mesh_answers::write_step;
+use answer_lines::write_at;
+use answer_lines::write_refused;
+use answer_lines::write_step;
 use steps::Stepped;
 use tables::Counts;
 
