@@ -9,7 +9,7 @@ ghost use lib.ListN.{length, getD};
 ghost use Rattle.audited_meshes.specs.Folds.{every};
 ghost use Rattle.audited_meshes.specs.Audit.{intervalFit};
 ghost use Rattle.built_meshes.specs.Lists.{listedFit};
-ghost use Rattle.building_tests.specs.Lent.{lists};
+ghost use Rattle.listed_points.specs.Lent.{lists};
 use intervals::interval_fits;
 use positions::is_finite;
 
