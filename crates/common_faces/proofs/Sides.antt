@@ -15,7 +15,7 @@ use lib.Ieee.{Float}
 use Rattle.t_spline.specs.Edge.{none, sameFace, commonFace}
 use Rattle.tables.specs.Layout.{edgeWidth, leftFaceWord, rightFaceWord}
 use Rattle.tables.specs.Records.{edgeAt}
-use Rattle.old_points.specs.Sides.{hasFace, likelyFace}
+use Rattle.common_faces.specs.Sides.{hasFace, likelyFace}
 
 pub number-at-most : (s : ℕ) (t : Bool) → s ≡ cond t 0 1 → s ≤ 1
 number-at-most s true h = let z : s ≡ 0 = h in omega arith

@@ -2,9 +2,9 @@
 use mathlib.Core.Path.{_∙_}
 use borrow.Author.Needs.{needs}
 use Rattle.position_rules.proofs.Fits.{row-there}
-use Rattle.old_points.proofs.Sides.{likely-common}
-use Rattle.old_points.proofs.face_between.Statement.{statement}
-use Rattle.old_points.proofs.face_between.Tie as tie
+use Rattle.common_faces.proofs.Sides.{likely-common}
+use Rattle.common_faces.proofs.face_between.Statement.{statement}
+use Rattle.common_faces.proofs.face_between.Tie as tie
 
 likely-face-requires : tie.Need-likely-face-requires
 likely-face-requires c κs = (row-there _ _ _ (c .before .before .pre .0), row-there _ _ _ (c .before .before .pre .1))

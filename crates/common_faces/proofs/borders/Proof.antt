@@ -1,8 +1,8 @@
 -- borders meets its contract: the test decides the definition's.
 use borrow.Author.Needs.{needs}
 use borrow.Author.Tests.{eq-eqb, ne-eqb}
-use Rattle.old_points.proofs.borders.Statement.{statement}
-use Rattle.old_points.proofs.borders.Tie as tie
+use Rattle.common_faces.proofs.borders.Statement.{statement}
+use Rattle.common_faces.proofs.borders.Tie as tie
 
 returns : tie.Need-returns
 returns c = simp (eq-eqb _ _ (c .if1 .taken))

@@ -1,9 +1,9 @@
 -- has_face meets its contract: the face on the side by number is compared, and so are both.
 use borrow.Author.Needs.{needs}
 use native.Mathlib.Omega.{arith}
-use Rattle.old_points.proofs.Sides.{side-at-most, has-face-answer}
-use Rattle.old_points.proofs.has_face.Statement.{statement}
-use Rattle.old_points.proofs.has_face.Tie as tie
+use Rattle.common_faces.proofs.Sides.{side-at-most, has-face-answer}
+use Rattle.common_faces.proofs.has_face.Statement.{statement}
+use Rattle.common_faces.proofs.has_face.Tie as tie
 
 add-result : tie.Need-add-result
 add-result c =

@@ -1,9 +1,9 @@
 -- likely_face meets its contract: the side by number is that of the definition.
 use borrow.Author.Needs.{needs}
 use native.Mathlib.Omega.{arith}
-use Rattle.old_points.proofs.Sides.{number-at-most, likely-answer}
-use Rattle.old_points.proofs.likely_face.Statement.{statement}
-use Rattle.old_points.proofs.likely_face.Tie as tie
+use Rattle.common_faces.proofs.Sides.{number-at-most, likely-answer}
+use Rattle.common_faces.proofs.likely_face.Statement.{statement}
+use Rattle.common_faces.proofs.likely_face.Tie as tie
 
 add-result : tie.Need-add-result
 add-result c = omega (arith, number-at-most _ (c .before .has-face .result) (c .number-of .ensures))

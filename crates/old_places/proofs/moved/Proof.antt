@@ -1,8 +1,8 @@
 -- moved meets its contract: the two answers are the two cases of the definition.
 use mathlib.Core.Path.{sym, _∙_}
 use borrow.Author.Needs.{needs}
-use Rattle.old_points.proofs.moved.Statement.{statement}
-use Rattle.old_points.proofs.moved.Tie as tie
+use Rattle.old_places.proofs.moved.Statement.{statement}
+use Rattle.old_places.proofs.moved.Tie as tie
 
 returns : tie.Need-returns
 returns c = rw (sym (c .before .is-small .ensures) ∙ c .if1 .taken)
