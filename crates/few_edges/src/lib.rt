@@ -21,7 +21,7 @@ use walks::Step;
 use walks::point_step;
 
 // Whether q stands at none of the first n places of ends.
-pub fn is_new_end(ends: &[u32], n: usize, q: u32) -> bool
+fn is_new_end(ends: &[u32], n: usize, q: u32) -> bool
     requires { ⌜ n ≤ length (now ends) ⌝ }
     ensures { λ r. ⌜ r ≡ newEnd (now (ends .entry)) n q ⌝ }
 {

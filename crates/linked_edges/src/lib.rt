@@ -24,7 +24,7 @@ use walks::touches;
 
 // Whether edge a borders face f and links back to edge e by its clockwise link there. The words are found by the number of the side, so
 // that the answer of the comparison with the left face, which no one can foretell, is no branch.
-pub fn links_back(edges: &[u32], f: u32, a: usize, e: usize) -> bool
+fn links_back(edges: &[u32], f: u32, a: usize, e: usize) -> bool
     requires { ⌜ a * edgeWidth + edgeWidth ≤ length (now edges) ⌝ }
     ensures { λ r. ⌜ r ≡ cwBack (faceTables (now (edges .entry)) []) f a e ⌝ }
 {
@@ -37,7 +37,7 @@ pub fn links_back(edges: &[u32], f: u32, a: usize, e: usize) -> bool
 }
 
 // Whether edge a touches point p, borders face f and links back to edge e by its clockwise link there.
-pub fn acw_links(edges: &[u32], p: u32, f: u32, a: usize, e: usize) -> bool
+fn acw_links(edges: &[u32], p: u32, f: u32, a: usize, e: usize) -> bool
     requires { ⌜ a * edgeWidth + edgeWidth ≤ length (now edges) ⌝ }
     ensures { λ r. ⌜ r ≡ acwLinks (faceTables (now (edges .entry)) []) e p f a ⌝ }
 {

@@ -28,7 +28,7 @@ pub fn are_points(listed: &[u32], np: usize, a: usize, n: usize) -> bool
 }
 
 // Whether the listed point i of a face is none of those before it.
-pub fn is_new(listed: &[u32], a: usize, i: usize) -> bool
+fn is_new(listed: &[u32], a: usize, i: usize) -> bool
     requires { ⌜ a + i < length (now listed) ⌝ }
     ensures { λ r. ⌜ r ≡ every i (λ j. not (eqb (getD (now (listed .entry)) (a + i) 0) (getD (now (listed .entry)) (a + j) 0))) ⌝ }
 {
