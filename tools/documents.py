@@ -30,6 +30,7 @@ STATED = """
 ABOUT = {
     "closed_meshes": "closed meshes over any rows, their refinement, names, what two meshes share",
     "positions": "positions, small and finite numbers",
+    "edge_ends": "the numbers of connections, the mark for no row",
     "t_spline": "the neighbours and the faces of an edge",
     "edge_links": "connecting two edges",
     "perimeters": "the places beside a place of a perimeter",
@@ -41,7 +42,8 @@ ABOUT = {
     "mesh_text": "mesh texts 1 and 2",
     "built_meshes": "building",
     "building_claims": "what else is claimed of building, and lists to compute it on",
-    "building_tests": "the lists that building is handed",
+    "listed_points": "the lists that building is handed, as one record",
+    "building_tests": "the first points and the limits of these lists",
     "text_meshes": "building from a text",
     "refined_meshes": "the visits of a refinement, and what the second edition settles after them",
     "position_rules": "the position rules",
@@ -79,7 +81,7 @@ ABOUT = {
     "station": "the version of the library",
     "filed_pieces": "document 01's starred pieces, and pieces of mesh text 2",
 }
-USE = re.compile(r"^use Rattle·(\w+?)(?:·specs\.specs|\.specs)\.(\w+)", re.M)
+USE = re.compile(r"^(?:pub )?use Rattle·(\w+?)(?:·specs\.specs|\.specs)\.(\w+)", re.M)
 
 
 def read_files():

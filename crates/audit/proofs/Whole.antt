@@ -26,7 +26,7 @@ use Rattle.audited_meshes.proofs.Tests.{and-is, not-is, eqb-is, leb-is, every-i
 use Rattle.audited_meshes.proofs.Audited.{rowsFor-is, edgeInRange-is}
 use Rattle.audited_meshes.proofs.Quick.{quick-is-audit}
 use Rattle.tables.specs.Parts.{faceTables, pointTables, positionTables, edgeTables}
-use Rattle.sole_edges.specs.Sole.{Ends}
+use Rattle.few_edges.specs.Rounds.{Ends}
 use Rattle.audit.specs.Parts.{rowsFit, walksFit}
 use Rattle.audit_tests.specs.Parts.{walkFits, facesWalked}
 use Rattle.audit_tests.proofs.Laws.{every-cong, first-of-three, second-of-three, third-of-three, first-of-four, second-of-four, last-two-of-four}

@@ -1,4 +1,4 @@
--- The tests of a mesh, put together from their parts (`audit_tests`, `audit_edges`, `audit_faces`).
+-- The tests of a mesh, put together from their parts (`audit_tests`, `audit_edges`, `face_rows`, `audit_faces`).
 --     rowsFit ..              the tests of single rows
 --     walksFit ..             the sums and the walks
 use mathlib.Core.Bool.{Bool, _&&_}

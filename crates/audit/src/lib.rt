@@ -2,7 +2,7 @@
 // It is linear in the mesh, save that past 32,768 points those with many edges are walked about once for each so many
 // (`sole_edges`); it has no memory but locals and writes nothing.
 // Not here: what is asked (`audited_meshes`: `audit`, and its quick form, which this code follows), the tests of its rows and
-// walks (`audit_tests`, `audit_edges`, `audit_faces`, `sole_edges`).
+// walks (`audit_tests`, `audit_edges`, `face_rows`, `audit_faces`, `sole_edges`).
 // Contract: `audit`. Definitions: `specs/Parts.antt`. Laws: `proofs/Whole.antt`.
 ghost use mathlib.Core.Path.{_≡_};
 ghost use mathlib.Core.List.{[]};
@@ -12,14 +12,14 @@ ghost use Rattle.tables.specs.Layout.{positionWidth, pointWidth, edgeWidth, fac
 ghost use Rattle.tables.specs.Mesh.{valence, meshOf};
 ghost use Rattle.audited_meshes.specs.Audit.{audit};
 ghost use Rattle.tables.specs.Parts.{faceTables, pointTables};
-ghost use Rattle.sole_edges.specs.Sole.{Ends};
+ghost use Rattle.few_edges.specs.Rounds.{Ends};
 ghost use Rattle.audit.specs.Parts.{rowsFit, walksFit};
 use audit_edges::edges_fit;
 use audit_faces::face_walks_fit;
-use audit_faces::faces_fit;
 use audit_tests::points::points_fit;
 use audit_tests::points::valences_fit;
 use counted_rows::rows_for;
+use face_rows::faces_fit;
 use sole_edges::walks_with_sole_edges;
 use tables::Counts;
 

@@ -22,7 +22,8 @@ use Rattle.audited_meshes.specs.Audited.{Borders, EdgeInRange, AcwLinks, CwLink
 use Rattle.audited_meshes.specs.Quick.{edgeFit}
 use Rattle.audited_meshes.proofs.Tests.{Is, and-is, not-is, eqb-is, self-is, every-is, same-test}
 use Rattle.audited_meshes.proofs.Audited.{edgeInRange-is, acwLinks-is, cwLinks-is}
-use Rattle.audit_edges.specs.HalfLinks.{acwLinked, halfFit}
+use Rattle.linked_edges.specs.Links.{acwLinked}
+use Rattle.audit_edges.specs.HalfLinks.{halfFit}
 
 -- the tests of the half, and then those of the clockwise links
 regrouped : (a b c d : Bool) → (a && (b && c && d)) ≡ (a && b && (c && d))

@@ -1,21 +1,21 @@
 // The tests of the audit about edges: the test of one row and the loops over the rows.
-// Not here: second edges on the same two points (`sole_edges`), the audit made of them (`audit`).
+// Not here: the links of one edge (`linked_edges`), second edges on the same two points (`sole_edges`), the audit made of them (`audit`).
 // Definitions: `specs/HalfLinks.antt` (the test with half of the links), `Quick` of `audited_meshes` (the whole test).
 // Theorem: half of the links are enough (`every-half` in `proofs/Links.antt`).
 ghost use mathlib.Core.Path.{_≡_};
 ghost use mathlib.Core.Bool.{_&&_};
 ghost use mathlib.Core.List.{[]};
-ghost use Prim.Native.Nat.{ℕ, _+_, _*_, _≤_, _<_};
+ghost use Prim.Native.Nat.{_+_, _*_, _≤_, _<_};
 ghost use lib.Dec.{ltb};
 ghost use lib.ListN.{length};
 ghost use Rattle.tables.specs.Layout.{edgeWidth};
-ghost use Rattle.tables.specs.Mesh.{leftAcw, rightAcw};
 ghost use Rattle.audited_meshes.specs.Folds.{every};
-ghost use Rattle.audited_meshes.specs.Audit.{edgeInRange, acwLinks};
+ghost use Rattle.audited_meshes.specs.Audit.{edgeInRange};
 ghost use Rattle.audited_meshes.specs.Quick.{edgeFit};
 ghost use Rattle.tables.specs.Parts.{faceTables, edgeTables};
-ghost use Rattle.audit_edges.specs.HalfLinks.{cwBack, acwLinked, halfFit};
+ghost use Rattle.audit_edges.specs.HalfLinks.{halfFit};
 use intervals::interval_fits;
+use linked_edges::is_linked;
 use tables::DEST_WORD;
 use tables::EDGE_WIDTH;
 use tables::LEFT_ACW_WORD;
@@ -25,9 +25,6 @@ use tables::RIGHT_ACW_WORD;
 use tables::RIGHT_CW_WORD;
 use tables::RIGHT_FACE_WORD;
 use tables::index;
-use walks::SIDE_WIDTH;
-use walks::end_number;
-use walks::touches;
 
 // Whether two row numbers are below n and two below k.
 fn are_below(a: u32, b: u32, c: u32, d: u32, n: usize, k: usize) -> bool
@@ -69,54 +66,6 @@ fn edge_in_range(edges: &[u32], np: usize, ne: usize, nf: usize, e: usize) -> bo
         );
     }
     false
-}
-
-// Whether edge a borders face f and links back to edge e by its clockwise link there. The words are found by the number of the side, so
-// that the answer of the comparison with the left face, which no one can foretell, is no branch.
-fn links_back(edges: &[u32], f: u32, a: usize, e: usize) -> bool
-    requires { ⌜ a * edgeWidth + edgeWidth ≤ length (now edges) ⌝ }
-    ensures { λ r. ⌜ r ≡ cwBack (faceTables (now (edges .entry)) []) f a e ⌝ }
-{
-    let b = a * EDGE_WIDTH;
-    let s = end_number(index(edges[b + LEFT_FACE_WORD]), index(f));
-    if edges[b + LEFT_FACE_WORD + s] != f {
-        return false;
-    }
-    index(edges[b + LEFT_CW_WORD + SIDE_WIDTH * s]) == e
-}
-
-// Whether edge a touches point p, borders face f and links back to edge e by its clockwise link there.
-fn acw_links(edges: &[u32], p: u32, f: u32, a: usize, e: usize) -> bool
-    requires { ⌜ a * edgeWidth + edgeWidth ≤ length (now edges) ⌝ }
-    ensures { λ r. ⌜ r ≡ acwLinks (faceTables (now (edges .entry)) []) e p f a ⌝ }
-{
-    if touches(edges, index(p), a) {
-        return links_back(edges, f, a, e);
-    }
-    false
-}
-
-// Whether the anticlockwise links of edge e lead to edges that link back. They are in range. The clockwise links are not tested: where
-// the anticlockwise links of all edges are undone so, they lead to no side of an edge twice, hence to every side once, and then the
-// clockwise links are undone as well (`every-half` in `proofs/Links.antt`).
-fn is_linked(edges: &[u32], ne: usize, e: usize) -> bool
-    requires { ⌜ ne * edgeWidth ≤ length (now edges) ⌝ }
-    requires { ⌜ e < ne ⌝ }
-    requires { ⌜ leftAcw (faceTables (now edges) []) e < ne ⌝ }
-    requires { ⌜ rightAcw (faceTables (now edges) []) e < ne ⌝ }
-    ensures { λ r. ⌜ r ≡ acwLinked (faceTables (now (edges .entry)) []) e ⌝ }
-{
-    let b = e * EDGE_WIDTH;
-    let origin = edges[b];
-    let dest = edges[b + DEST_WORD];
-    let left = edges[b + LEFT_FACE_WORD];
-    let right = edges[b + RIGHT_FACE_WORD];
-    let left_acw = index(edges[b + LEFT_ACW_WORD]);
-    let right_acw = index(edges[b + RIGHT_ACW_WORD]);
-    if !acw_links(edges, dest, left, left_acw, e) {
-        return false;
-    }
-    acw_links(edges, origin, right, right_acw, e)
 }
 
 // The test of edge e, but for its clockwise links.

@@ -1,18 +1,18 @@
--- The test of one face: what each of its tests decides. Assumes nothing.
+-- The walk of one face, and the sizes of faces in turn: what each test decides. Assumes nothing.
 use mathlib.Core.Path.{_≡_, refl, sym, _∙_, ap, ap₂, subst}
-use mathlib.Core.Bool.{Bool, true, false, not, _&&_, _||_, cond}
+use mathlib.Core.Bool.{Bool, true, false, not, _&&_, cond}
 use mathlib.Core.List.{List, map}
 use mathlib.Core.Logic.{_≢_}
 use Prim.Native.Nat.{ℕ, _+_, _<_, _≤_}
 use native.Mathlib.Omega.{arith}
-use lib.Dec.{eqb, ltb, leb}
+use lib.Dec.{eqb, leb}
 use lib.ListN.{length, getD, length-map}
-use borrow.Author.Tests.{lt-ltb, le-ltb, le-leb, lt-leb, leb-true}
+use borrow.Author.Tests.{le-leb, lt-leb, leb-true}
 use Rattle.closed_meshes.specs.Renumbering.{sumTo}
-use Rattle.tables.specs.Mesh.{Mesh, none, faceStart, corner}
+use Rattle.tables.specs.Mesh.{Mesh}
 use Rattle.audited_meshes.specs.Folds.{every, distinct}
 use Rattle.audited_meshes.specs.Walks.{Walk, back, lost, passed, firstPoint, faceWalk}
-use Rattle.audited_meshes.specs.Quick.{faceFit, faceBack}
+use Rattle.audited_meshes.specs.Quick.{faceBack}
 use Rattle.walks.specs.declared.FaceBorder.{FaceBorder}
 use Rattle.walks.specs.Border.{borderOf, border, BorderLaid}
 use Rattle.walks.specs.Steps.{passedBy}
@@ -24,22 +24,6 @@ use Rattle.walks.proofs.Back.{faceWalk-within}
 use Rattle.audit_tests.specs.Parts.{differAt, faceSize, facesWalked}
 use Rattle.audited_meshes.proofs.Folds.{and-false, every-none, every-more, every-stop}
 use Rattle.audit_tests.proofs.Laws.{every-all, every-cong, sumTo-none, sumTo-more, sumTo-stop, sumTo-all}
-
-module _ (m : Mesh) (np ne f : ℕ) where
-  abbrev pub cornerHere : ℕ → Bool
-  cornerHere k = ltb (corner m f k) np || eqb (corner m f k) none
-
-  pub face-start : ne ≤ faceStart m f → faceFit m np ne f ≡ false
-  unfolding faceFit
-  face-start h = rw (le-ltb (faceStart m f) ne h)
-
-  pub face-corner : (k : ℕ) → k < 4 → cornerHere k ≡ false → faceFit m np ne f ≡ false
-  unfolding faceFit
-  face-corner k l h = rw (every-stop 4 k cornerHere l h) (and-false (ltb (faceStart m f) ne))
-
-  pub face-last : faceStart m f < ne → cornerHere 0 ≡ true → cornerHere 1 ≡ true → cornerHere 2 ≡ true → faceFit m np ne f ≡ cornerHere 3
-  unfolding faceFit every
-  face-last h a b c = rw (lt-ltb (faceStart m f) ne h, a, b, c)
 
 -- ---- the size of a face, by its border
 

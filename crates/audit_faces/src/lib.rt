@@ -1,74 +1,17 @@
-// The tests of the audit about faces: the test of one row and the loops over the rows.
-// Not here: the audit made of them (`audit`). Definitions: `Parts` of `audit_tests`, `Quick` of `audited_meshes`.
+// The tests of the audit about the walks of faces: each comes back and passes no point twice, and their sizes add up.
+// Not here: the rows of faces (`face_rows`), the audit made of them (`audit`).
+// Definitions: `Parts` of `audit_tests`, `Quick` of `audited_meshes`. Laws: `proofs/FaceTests.antt`.
 ghost use mathlib.Core.Path.{_≡_};
-ghost use mathlib.Core.Bool.{_||_};
-ghost use mathlib.Core.List.{[]};
 ghost use Prim.Native.Nat.{_+_, _*_, _≤_};
-ghost use lib.Dec.{eqb, ltb};
 ghost use lib.ListN.{length};
 ghost use Rattle.tables.specs.Layout.{edgeWidth, faceWidth, longestPerimeter, longestBorder};
-ghost use Rattle.tables.specs.Mesh.{none};
 ghost use Rattle.audited_meshes.specs.Folds.{every};
-ghost use Rattle.audited_meshes.specs.Quick.{faceFit};
 ghost use Rattle.audit_tests.specs.Parts.{differAt, faceSize, facesWalked};
 ghost use Rattle.tables.specs.Parts.{faceTables};
 use t_nurcc_face::lay_border;
-use t_spline::NONE;
-use tables::FACE_WIDTH;
-use tables::FIRST_CORNER_WORD;
-use tables::FOURTH_CORNER_WORD;
 use tables::LONGEST_BORDER;
 use tables::LONGEST_PERIMETER;
-use tables::SECOND_CORNER_WORD;
-use tables::THIRD_CORNER_WORD;
-use tables::index;
 use walks::Passed;
-
-// Whether a corner is a point number or the none mark.
-fn corner_fit(word: u32, np: usize) -> bool
-    ensures { λ r. ⌜ r ≡ (ltb word np || eqb word none) ⌝ }
-{
-    if index(word) < np {
-        return true;
-    }
-    word == NONE
-}
-
-// The test of face f.
-fn face_fit(faces: &[u32], np: usize, ne: usize, f: usize) -> bool
-    requires { ⌜ f * faceWidth + faceWidth ≤ length (now faces) ⌝ }
-    ensures { λ r. ⌜ r ≡ faceFit (faceTables [] (now (faces .entry))) np ne f ⌝ }
-{
-    let b = f * FACE_WIDTH;
-    if ne <= index(faces[b]) {
-        return false;
-    }
-    if !corner_fit(faces[b + FIRST_CORNER_WORD], np) {
-        return false;
-    }
-    if !corner_fit(faces[b + SECOND_CORNER_WORD], np) {
-        return false;
-    }
-    if !corner_fit(faces[b + THIRD_CORNER_WORD], np) {
-        return false;
-    }
-    corner_fit(faces[b + FOURTH_CORNER_WORD], np)
-}
-
-// The test of the first nf faces.
-pub fn faces_fit(faces: &[u32], np: usize, ne: usize, nf: usize) -> bool
-    requires { ⌜ nf * faceWidth ≤ length (now faces) ⌝ }
-    ensures { λ r. ⌜ r ≡ every nf (λ f. faceFit (faceTables [] (now (faces .entry))) np ne f) ⌝ }
-{
-    let mut f = 0;
-    while f < nf {
-        if !face_fit(faces, np, ne, f) {
-            return false;
-        }
-        f += 1;
-    }
-    true
-}
 
 // Whether the point at place i is at none of the places before it.
 fn is_new(points: &[u32; LONGEST_BORDER], i: usize) -> bool

@@ -35,7 +35,8 @@ use Rattle.built_meshes.proofs.Theorem.{tablesOf, zeroed-after}
 use Rattle.building_tests.specs.Lent.{lists, listsIn, FirstsGiven, limitsOf}
 use Rattle.building_tests.specs.declared.Bounds.{Bounds}
 use Rattle.building_tests.specs.declared.Bounds.the-variants.{General, Refine}
-use Rattle.edge_search.specs.Chains.{buckets, Newest, Standing}
+use Rattle.edge_buckets.specs.Buckets.{buckets}
+use Rattle.edge_search.specs.Chains.{Newest, Standing}
 use Rattle.building_faces.specs.Rings.{stateAt, ListedRoom}
 use Rattle.building_ends.specs.Concluding.{concluded}
 use Rattle.building.specs.Beginning.{answeredFrom, Begun, Zeroed}

@@ -17,8 +17,8 @@ use Rattle.tables.specs.declared.Sizes.{Sizes}
 use Rattle.t_spline.specs.Edge.{none, sameFace}
 use Rattle.t_spline.specs.Ends.{faceFromSide}
 use Rattle.t_spline.specs.declared.TnurccEdge.{TnurccEdge}
-use Rattle.t_spline.specs.declared.TnurccFaceSide.{TnurccFaceSide}
-use Rattle.t_spline.specs.declared.TnurccFaceSide.the-variants.{Left, Right}
+use Rattle.edge_ends.specs.declared.TnurccFaceSide.{TnurccFaceSide}
+use Rattle.edge_ends.specs.declared.TnurccFaceSide.the-variants.{Left, Right}
 use Rattle.edge_links.specs.Connect.{vertexState}
 use Rattle.edge_links.specs.Joinable.{shareFace, joinable}
 use Rattle.tables.specs.Mesh.{Mesh}

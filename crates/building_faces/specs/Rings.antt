@@ -22,7 +22,8 @@ use Rattle.built_meshes.specs.Lists.{size, generalLimits}
 use Rattle.built_meshes.specs.Faces.{listedInRange}
 use Rattle.built_meshes.specs.Perimeters.{BuildState, FaceState, Progress, on, stopped}
 use Rattle.building_tests.specs.Lent.{lists}
-use Rattle.edge_search.specs.Chains.{buckets, Standing}
+use Rattle.edge_buckets.specs.Buckets.{buckets}
+use Rattle.edge_search.specs.Chains.{Standing}
 use Rattle.building_faces.specs.declared.RingEdges.{RingEdges}
 use Rattle.building_faces.specs.declared.Turned.{Turned}
 use Rattle.building_faces.specs.declared.Turned.the-variants as Turns

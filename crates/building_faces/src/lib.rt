@@ -2,7 +2,7 @@
 // the last, then the face's row (document 01, "Building"; grounds 10 to 15 and 43).
 // Carries over the loop of `try_new` of t_nurcc/mod.rs.
 // Not here: the places stepped (`perimeters`), where the interval of an edge is written (`interval_places`), the grounds of the lists
-// and of the whole (`building_lists`, `building_whole`).
+// and of the whole (`building_lists`, `list_numbers`, `building_whole`).
 // Definitions: `Perimeters` and `Building` of `built_meshes`; `specs/Rings.antt`. Laws: `proofs/Turns.antt`.
 ghost use mathlib.Core.Path.{_≡_};
 ghost use mathlib.Core.List.{List, []};
@@ -22,13 +22,13 @@ use building_tests::faces::face_verdict;
 use built_meshes::Ground;
 use built_meshes::Verdict;
 use built_meshes::Version;
+use edge_ends::NONE;
 use edge_search::Entry;
 use edge_search::enter;
 use interval_places::interval_place;
 use perimeters::next_place;
 use records::store_face;
 use t_nurcc_edge::connect;
-use t_spline::NONE;
 use t_spline::TnurccFace;
 use tables::index;
 

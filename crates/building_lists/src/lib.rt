@@ -1,21 +1,15 @@
-// The tests that building makes of the lists as a whole: grounds 2 and 3.
-// Not here: the limits and the tests of one face (`building_tests`).
-// Contracts: `counts_fit`, `numbers_fit`. Definitions: `Lists` of `built_meshes`.
+// The test that building makes of the lengths of the lists: ground 2.
+// Not here: the numbers of the lists (`list_numbers`), the limits and the tests of one face (`building_tests`).
+// Contract: `counts_fit`. Definitions: `Lists` of `built_meshes`.
 ghost use mathlib.Core.Path.{_≡_};
 ghost use mathlib.Core.List.{[]};
 ghost use Prim.Native.Nat.{_≤_};
-ghost use lib.Ieee.{nan};
-ghost use lib.Ieee.Scale.{finite};
 ghost use lib.ListN.{length, getD};
 ghost use Rattle.closed_meshes.specs.Renumbering.{sumTo};
-ghost use Rattle.audited_meshes.specs.Folds.{every};
-ghost use Rattle.audited_meshes.specs.Audit.{intervalFit};
-ghost use Rattle.built_meshes.specs.Lists.{firstsCounted, countsFit, listedFit};
-ghost use Rattle.building_tests.specs.Lent.{lists, listsIn, limitsOf};
+ghost use Rattle.built_meshes.specs.Lists.{firstsCounted, countsFit};
+ghost use Rattle.building_tests.specs.Lent.{listsIn, limitsOf};
 use building_tests::Bounds;
 use built_meshes::Version;
-use intervals::interval_fits;
-use positions::is_finite;
 use tables::POSITION_WIDTH;
 use tables::index;
 
@@ -80,42 +74,4 @@ pub fn counts_fit(
         return false;
     }
     firsts_counted(version, sides, firsts)
-}
-
-// Whether all coordinates are finite.
-fn all_finite(coordinates: &[f64]) -> bool
-    ensures { λ r. ⌜ r ≡ every (length (now (coordinates .entry))) (λ k. finite (getD (now (coordinates .entry)) k nan)) ⌝ }
-{
-    let mut k = 0;
-    while k < coordinates.len() {
-        if !is_finite(coordinates[k]) {
-            return false;
-        }
-        k += 1;
-    }
-    true
-}
-
-// Whether all intervals are finite with their sign bit clear.
-fn all_fit(beside: &[f64]) -> bool
-    ensures { λ r. ⌜ r ≡ every (length (now (beside .entry))) (λ k. intervalFit (getD (now (beside .entry)) k nan)) ⌝ }
-{
-    let mut k = 0;
-    while k < beside.len() {
-        if !interval_fits(beside[k]) {
-            return false;
-        }
-        k += 1;
-    }
-    true
-}
-
-// Whether all numbers are fit.
-pub fn numbers_fit(coordinates: &[f64], beside: &[f64]) -> bool
-    ensures { λ r. ⌜ r ≡ listedFit (lists (now (coordinates .entry)) [] [] (now (beside .entry))) ⌝ }
-{
-    if all_finite(coordinates) {
-        return all_fit(beside);
-    }
-    false
 }

@@ -3,27 +3,23 @@
 --     size-read, sums-read                    the size and the side sums of a face from its sides
 --     last-first, last-more   the last of b places before one, going round
 --     fits-read               whether the first point of a side fits, as the code reads it
---     sums-one, sums-both, sums-first         whether the side sums agree, by version
 --     faces-few               the limits allow at most 4,096 faces
 --     firsts-same             the count of the first points, of lists that agree in them and in the sides
 --     size-some               a size that passes is not 0
 --     verdict-is              the verdict on a face by its five tests
 --     from-more, from-below                   where the points of a side begin, and that they begin within the face
-use mathlib.Core.Path.{_≡_, refl, sym, _∙_, ap}
-use mathlib.Core.Bool.{Bool, true, false, not, _&&_, cond}
+use mathlib.Core.Path.{_≡_, refl, ap}
+use mathlib.Core.Bool.{Bool, true, not, cond}
 use mathlib.Core.List.{List, []}
 use Prim.Native.Nat.{ℕ, zero, suc, _+_, _-_, _*_, _≤_, _<_}
 use mathlib.Core.Logic.{_≢_}
 use native.Mathlib.Nat.{add-zero}
 use native.Mathlib.Numerals.{add-one}
 use native.Mathlib.Omega.{arith}
-use native.Mathlib.Decide.{decLe}
-use lib.Ieee.{Float, nan, add, sub, ofBits, binary64}
+use lib.Ieee.{Float, nan, add, ofBits, binary64}
 use lib.Dec.{eqb}
 use lib.ListN.{getD}
-use Rattle.positions.specs.Position.{small}
 use Rattle.closed_meshes.specs.Renumbering.{sumTo}
-use Rattle.audited_meshes.specs.Folds.{every}
 use Rattle.audited_meshes.proofs.Tests.{and-is, leb-is}
 use Rattle.built_meshes.specs.Lists.{size, firstsCounted}
 use Rattle.built_meshes.specs.Faces.{sizeFit, listedInRange, noPointTwice, sideFrom, lastBefore, firstFit, firstsFit, sideSum, sumsAgree, sumsFit, faceVerdict}
@@ -52,9 +48,6 @@ sideSum-none is a = refl
 pub sideSum-more : (is : List Float) (a k : ℕ) → sideSum is a (k + 1) ≡ add binary64 (sideSum is a k) (getD is (a + k) nan)
 unfolding sideSum
 sideSum-more is a k = rw (add-one k)
-
-pub whole : (k n : ℕ) → k ≤ n → n ≤ k → k ≡ n
-whole k n h g = omega arith
 
 -- the four sides as the code reads them
 module _ (ss : List ℕ) (f : ℕ) {a b c d : ℕ} (ea : a ≡ getD ss (f * 4) 0) (eb : b ≡ getD ss (f * 4 + 1) 0)
@@ -98,17 +91,6 @@ fits ss fs ls f a k = firstFit (listsIn Two [] ss fs ls []) f a k
 pub fits-read : (ss fs ls : List ℕ) (f a n k b : ℕ) {r : Bool} → n ≡ size (lists [] ss [] []) f → b ≡ sideFrom (listsIn Two [] ss fs ls []) f 0 k →
     r ≡ eqb (getD fs (f * 4 + k) 0) (getD ls (a + lastBefore n b) 0) → r ≡ fits ss fs ls f a k
 fits-read ss fs ls f a n k b e eb er = rw (eb, e) at er
-
--- the sums by version
-pub sums-one : (v : Version) (s0 s1 s2 s3 : Float) {r : Bool} → v ≡ One → r ≡ small (sub binary64 (add binary64 (sub binary64 s0 s2) s1) s3) → r ≡ sumsAgree v s0 s1 s2 s3
-sums-one v s0 s1 s2 s3 ev er = rw ev er
-
-pub sums-both : (v : Version) (s0 s1 s2 s3 : Float) {q r : Bool} → v ≡ Two → q ≡ small (sub binary64 s0 s2) → q ≡ true → r ≡ small (sub binary64 s1 s3) →
-    r ≡ sumsAgree v s0 s1 s2 s3
-sums-both v s0 s1 s2 s3 ev eq t er = rw (ev, sym eq ∙ t) er
-
-pub sums-first : (v : Version) (s0 s1 s2 s3 : Float) {q : Bool} → v ≡ Two → q ≡ small (sub binary64 s0 s2) → q ≡ false → false ≡ sumsAgree v s0 s1 s2 s3
-sums-first v s0 s1 s2 s3 ev eq t = rw (ev, sym eq ∙ t)
 
 pub faces-few : (b : Bounds) (s : Sizes) → s ≡ limitsOf b → s .faces ≤ 4096
 faces-few General s e = let h : s .faces ≡ 4096 = ap (λ (c : Sizes). c .faces) e in omega arith

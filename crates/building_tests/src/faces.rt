@@ -1,20 +1,20 @@
 // Grounds 10 to 13 and 43: the tests of one face, whose listed points stand from the place a on.
 ghost use mathlib.Core.Path.{_≡_};
-ghost use mathlib.Core.Bool.{not};
 ghost use mathlib.Core.List.{List, []};
 ghost use Prim.Native.Nat.{_+_, _*_, _≤_, _<_};
 ghost use lib.Dec.{eqb};
 ghost use lib.Ieee.{Float};
 ghost use lib.ListN.{length, getD};
-ghost use Rattle.audited_meshes.specs.Folds.{every};
 ghost use Rattle.built_meshes.specs.Lists.{size};
-ghost use Rattle.built_meshes.specs.Faces.{sizeFit, listedInRange, noPointTwice, lastBefore, firstsFit, sideSum, sumsAgree, sumsFit, faceVerdict};
+ghost use Rattle.built_meshes.specs.Faces.{sizeFit, lastBefore, firstsFit, sideSum, sumsFit, faceVerdict};
 ghost use Rattle.built_meshes.specs.declared.Version.the-variants.{Two};
 ghost use Rattle.building_tests.specs.Lent.{lists, listsIn, FirstsGiven};
 use built_meshes::Ground;
 use built_meshes::Verdict;
 use built_meshes::Version;
-use positions::is_small;
+use listed_points::are_points;
+use listed_points::no_point_twice;
+use side_sums::sums_agree;
 use tables::LONGEST_PERIMETER;
 use tables::index;
 
@@ -35,52 +35,6 @@ fn size_fits(n: usize) -> bool
         return false;
     }
     n <= LONGEST_PERIMETER
-}
-
-// Whether n listed points are below np.
-fn are_points(listed: &[u32], np: usize, a: usize, n: usize) -> bool
-    requires { ⌜ a + n ≤ length (now listed) ⌝ }
-    ensures { λ r. ⌜ r ≡ listedInRange (lists [] [] (now (listed .entry)) []) np a n ⌝ }
-{
-    let mut i = 0;
-    while i < n {
-        if np <= index(listed[a + i]) {
-            return false;
-        }
-        i += 1;
-    }
-    true
-}
-
-// Whether the listed point i of a face is none of those before it.
-fn is_new(listed: &[u32], a: usize, i: usize) -> bool
-    requires { ⌜ a + i < length (now listed) ⌝ }
-    ensures { λ r. ⌜ r ≡ every i (λ j. not (eqb (getD (now (listed .entry)) (a + i) 0) (getD (now (listed .entry)) (a + j) 0))) ⌝ }
-{
-    let p = listed[a + i];
-    let mut j = 0;
-    while j < i {
-        if p == listed[a + j] {
-            return false;
-        }
-        j += 1;
-    }
-    true
-}
-
-// Whether no point is listed twice among n.
-fn no_point_twice(listed: &[u32], a: usize, n: usize) -> bool
-    requires { ⌜ a + n ≤ length (now listed) ⌝ }
-    ensures { λ r. ⌜ r ≡ noPointTwice (lists [] [] (now (listed .entry)) []) a n ⌝ }
-{
-    let mut i = 0;
-    while i < n {
-        if !is_new(listed, a, i) {
-            return false;
-        }
-        i += 1;
-    }
-    true
 }
 
 // Of n places going round, the last of the b places that stand before one.
@@ -165,21 +119,6 @@ fn side_sum(beside: &[f64], a: usize, n: usize) -> f64
         i += 1;
     }
     sum
-}
-
-// Whether the sums of four sides agree as the version asks.
-fn sums_agree(version: Version, s0: f64, s1: f64, s2: f64, s3: f64) -> bool
-    ensures { λ r. ⌜ r ≡ sumsAgree version s0 s1 s2 s3 ⌝ }
-{
-    match version {
-        Version::One => is_small(s0 - s2 + s1 - s3),
-        Version::Two => {
-            if is_small(s0 - s2) {
-                return is_small(s1 - s3);
-            }
-            false
-        }
-    }
 }
 
 // Whether the side sums of face f agree.

@@ -1,5 +1,6 @@
 // The limits of building, and the tests that it makes of one face before it enters an edge: grounds 10 to 13 and 43.
-// Not here: grounds 2 and 3 (`building_lists`), 4 (`counted_rows`), 14 and 15 (`edge_search`), 20 to 22 (`building_whole`).
+// Not here: the tests of the listed points (`listed_points`), whether the sums of sides agree (`side_sums`), grounds 2 and 3
+// (`building_lists`, `list_numbers`), 4 (`counted_rows`), 14 and 15 (`edge_search`), 20 to 22 (`building_whole`).
 // Definitions: `Faces` of `built_meshes`; `specs/Lent.antt`. Laws for callers: `proofs/Laws.antt`.
 ghost use mathlib.Core.Path.{_≡_};
 ghost use Rattle.building_tests.specs.Lent.{limitsOf};

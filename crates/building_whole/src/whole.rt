@@ -13,8 +13,8 @@ ghost use Rattle.built_meshes.specs.Whole.{noMissingFace, everyEdged, noMissedE
 ghost use Rattle.tables.specs.Parts.{pointTables};
 use built_meshes::Ground;
 use built_meshes::Verdict;
+use edge_ends::NONE;
 use t_nurcc_iter::point_walk;
-use t_spline::NONE;
 use tables::EDGE_WIDTH;
 use tables::MARK_WORD;
 use tables::POINT_WIDTH;

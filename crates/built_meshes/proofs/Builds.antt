@@ -13,8 +13,8 @@ use Rattle.tables.specs.declared.Sizes.{Sizes}
 use Rattle.audited_meshes.specs.Walks.{Touches}
 use Rattle.t_spline.specs.Edge.{none}
 use Rattle.t_spline.specs.Ends.{faceFromSide}
-use Rattle.t_spline.specs.declared.TnurccFaceSide.{TnurccFaceSide}
-use Rattle.t_spline.specs.declared.TnurccFaceSide.the-variants.{Left, Right}
+use Rattle.edge_ends.specs.declared.TnurccFaceSide.{TnurccFaceSide}
+use Rattle.edge_ends.specs.declared.TnurccFaceSide.the-variants.{Left, Right}
 use Rattle.tables.specs.Mesh.{Mesh, valence, mark, origin, dest, leftFace, rightFace, interval}
 use Rattle.built_meshes.specs.Lists.{Lists, pointsOf, facesOf, size}
 use Rattle.built_meshes.specs.Perimeters.{BuildState, intervalPlace}

@@ -16,18 +16,19 @@ use lib.Dec.{eqb}
 use lib.ListN.{length, length-set}
 use lib.Seq.{getD-set-same, getD-set-other}
 use borrow.Author.Tests.{eqb-true, eqb-false, eq-eqb, ne-eqb}
-use Rattle.t_spline.specs.Connection.{indexOf}
-use Rattle.t_spline.specs.Ends.{connectionAt, acwOnSide, cwOnSide, faceFromSide}
+use Rattle.edge_ends.specs.Connection.{indexOf, connectionAt}
+use Rattle.edge_ends.specs.Ends.{acwOnSide, cwOnSide}
+use Rattle.t_spline.specs.Ends.{faceFromSide}
 use Rattle.t_spline.specs.Edge.{none, connectionOf, withConnection, sameFace}
 use Rattle.edge_links.specs.Connect.{linksOf, vertexState, withLinks, served, connected}
 use Rattle.t_spline.specs.declared.TnurccEdge.{TnurccEdge}
-use Rattle.t_spline.specs.declared.TnurccConnection.{TnurccConnection}
-use Rattle.t_spline.specs.declared.TnurccFaceSide.{TnurccFaceSide}
-use Rattle.t_spline.specs.declared.TnurccFaceSide.the-variants.{Left, Right}
+use Rattle.edge_ends.specs.declared.TnurccConnection.{TnurccConnection}
+use Rattle.edge_ends.specs.declared.TnurccFaceSide.{TnurccFaceSide}
+use Rattle.edge_ends.specs.declared.TnurccFaceSide.the-variants.{Left, Right}
 use Rattle.edge_links.specs.declared.Links.{Links}
 use Rattle.edge_links.specs.declared.Links.the-variants.{Both, Mismatch}
 use Rattle.edge_links.specs.declared.Pair.{Pair}
-use Rattle.t_spline.proofs.Laws.{index-below, connection-at-index}
+use Rattle.edge_ends.proofs.Laws.{index-below, connection-at-index}
 
 abbrev pub firstOf : TnurccFaceSide → TnurccEdge → ℕ
 firstOf Left e = e .origin

@@ -19,8 +19,8 @@ use Rattle.perimeters.proofs.Laws.{next-below, next-differs}
 use Rattle.t_spline.specs.Edge.{none}
 use Rattle.t_spline.specs.Ends.{faceFromSide}
 use Rattle.t_spline.specs.declared.TnurccEdge.{TnurccEdge}
-use Rattle.t_spline.specs.declared.TnurccFaceSide.{TnurccFaceSide}
-use Rattle.t_spline.specs.declared.TnurccFaceSide.the-variants.{Left, Right}
+use Rattle.edge_ends.specs.declared.TnurccFaceSide.{TnurccFaceSide}
+use Rattle.edge_ends.specs.declared.TnurccFaceSide.the-variants.{Left, Right}
 use Rattle.tables.specs.Mesh.{Mesh, valence, start, origin, dest, rightFace}
 use Rattle.tables.specs.Records.{edgeWords}
 use Rattle.closed_meshes.specs.Renumbering.{sumTo}

@@ -17,8 +17,8 @@ use lib.ListN.{length, getD, set, take, drop, length-set, List·getD-append}
 use lib.Seq.{getD-set-same, getD-set-other, getD-take, length-take-le}
 use Rattle.t_spline.specs.Edge.{none}
 use Rattle.t_spline.specs.Ends.{faceFromSide}
-use Rattle.t_spline.specs.declared.TnurccFaceSide.{TnurccFaceSide}
-use Rattle.t_spline.specs.declared.TnurccFaceSide.the-variants.{Left, Right}
+use Rattle.edge_ends.specs.declared.TnurccFaceSide.{TnurccFaceSide}
+use Rattle.edge_ends.specs.declared.TnurccFaceSide.the-variants.{Left, Right}
 use Rattle.tables.specs.Mesh.{Mesh, z, valence, start, mark, pointRows, edgeRows, faceRows}
 use Rattle.tables.specs.Rows.{over}
 use Rattle.audited_meshes.specs.Walks.{passed, pointWalk}

@@ -16,7 +16,7 @@ use Rattle.perimeters.specs.Places.{nextPlace}
 use Rattle.perimeters.proofs.Laws.{next-below, next-injective}
 use Rattle.t_spline.specs.Edge.{none}
 use Rattle.t_spline.specs.Ends.{faceFromSide}
-use Rattle.t_spline.specs.declared.TnurccFaceSide.{TnurccFaceSide}
+use Rattle.edge_ends.specs.declared.TnurccFaceSide.{TnurccFaceSide}
 use Rattle.tables.specs.Mesh.{Mesh, valence, start, origin, dest, interval}
 use Rattle.closed_meshes.specs.Renumbering.{sumTo}
 use Rattle.audited_meshes.specs.Folds.{oneIf}

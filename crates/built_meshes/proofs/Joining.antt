@@ -11,8 +11,8 @@ use Rattle.perimeters.specs.Places.{nextPlace}
 use Rattle.perimeters.proofs.Laws.{next-below, next-differs, next-next-differs}
 use Rattle.t_spline.specs.Ends.{faceFromSide}
 use Rattle.t_spline.specs.declared.TnurccEdge.{TnurccEdge}
-use Rattle.t_spline.specs.declared.TnurccFaceSide.{TnurccFaceSide}
-use Rattle.t_spline.specs.declared.TnurccFaceSide.the-variants.{Left, Right}
+use Rattle.edge_ends.specs.declared.TnurccFaceSide.{TnurccFaceSide}
+use Rattle.edge_ends.specs.declared.TnurccFaceSide.the-variants.{Left, Right}
 use Rattle.tables.specs.Mesh.{Mesh}
 use Rattle.built_meshes.specs.Lists.{Lists, size}
 use Rattle.built_meshes.specs.Edges.{joined}

@@ -9,8 +9,8 @@ use lib.Dec.{eqb}
 use borrow.Author.Tests.{eqb-true, not-false}
 use Rattle.t_spline.specs.Edge.{none}
 use Rattle.t_spline.specs.Ends.{faceFromSide}
-use Rattle.t_spline.specs.declared.TnurccFaceSide.{TnurccFaceSide}
-use Rattle.t_spline.specs.declared.TnurccFaceSide.the-variants.{Left, Right}
+use Rattle.edge_ends.specs.declared.TnurccFaceSide.{TnurccFaceSide}
+use Rattle.edge_ends.specs.declared.TnurccFaceSide.the-variants.{Left, Right}
 use Rattle.tables.specs.Mesh.{Mesh, valence, start, origin, dest, rightFace}
 use Rattle.closed_meshes.specs.Renumbering.{sumTo}
 use Rattle.audited_meshes.specs.Folds.{oneIf}

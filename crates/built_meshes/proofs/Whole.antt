@@ -16,8 +16,8 @@ use Rattle.perimeters.specs.Places.{nextPlace, prevPlace}
 use Rattle.perimeters.proofs.Laws.{next-more, next-last, next-below, next-next-differs, prev-below, next-prev}
 use Rattle.t_spline.specs.Edge.{none}
 use Rattle.t_spline.specs.Ends.{faceFromSide}
-use Rattle.t_spline.specs.declared.TnurccFaceSide.{TnurccFaceSide}
-use Rattle.t_spline.specs.declared.TnurccFaceSide.the-variants.{Left, Right}
+use Rattle.edge_ends.specs.declared.TnurccFaceSide.{TnurccFaceSide}
+use Rattle.edge_ends.specs.declared.TnurccFaceSide.the-variants.{Left, Right}
 use Rattle.tables.specs.Mesh.{Mesh, valence, start, origin, dest, leftFace, rightFace, faceStart}
 use Rattle.audited_meshes.specs.Folds.{oneIf, occurrences}
 use Rattle.audited_meshes.specs.Walks.{Walk, back, lost, passed, touches, acwOfFace, cwOfFace, acwOfPoint, firstPoint, pointWalk, Touches}

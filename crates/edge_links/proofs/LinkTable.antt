@@ -7,12 +7,11 @@ use native.Mathlib.Omega.{arith}
 use borrow.Author.Tests.{ne-eqb}
 use lib.Dec.{eqb}
 use lib.ListN.{getD}
-use Rattle.t_spline.specs.Connection.{indexOf}
-use Rattle.t_spline.specs.Ends.{connectionAt}
+use Rattle.edge_ends.specs.Connection.{indexOf, connectionAt}
 use Rattle.edge_links.specs.Connect.{linksOf}
 use Rattle.edge_links.specs.declared.Links.{Links}
 use Rattle.edge_links.specs.declared.Links.the-variants.{Both, Mismatch}
-use Rattle.t_spline.proofs.Laws.{index-below, connection-at-index}
+use Rattle.edge_ends.proofs.Laws.{index-below, connection-at-index}
 use Rattle.edge_links.proofs.Table.{at}
 
 -- the numbers by which the table names links, 4 for a mismatch

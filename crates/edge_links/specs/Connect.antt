@@ -14,8 +14,8 @@ use Prim.Native.Nat.{ℕ}
 use lib.Dec.{eqb}
 use Rattle.t_spline.specs.Edge.{withConnection, sameFace}
 use Rattle.t_spline.specs.declared.TnurccEdge.{TnurccEdge}
-use Rattle.t_spline.specs.declared.TnurccConnection.{TnurccConnection}
-use Rattle.t_spline.specs.declared.TnurccConnection.the-variants.{LeftCw, LeftAcw, RightCw, RightAcw}
+use Rattle.edge_ends.specs.declared.TnurccConnection.{TnurccConnection}
+use Rattle.edge_ends.specs.declared.TnurccConnection.the-variants.{LeftCw, LeftAcw, RightCw, RightAcw}
 use Rattle.edge_links.specs.declared.Links.{Links}
 use Rattle.edge_links.specs.declared.Links.the-variants.{Both, Mismatch}
 use Rattle.edge_links.specs.declared.Pair.{Pair}

@@ -5,9 +5,9 @@
 ghost use mathlib.Core.Path.{_≡_};
 ghost use Rattle.edge_links.specs.Connect.{linksOf, vertexState, withLinks, served, connected};
 ghost use Rattle.edge_links.specs.Joinable.{shareFace, joinable};
-use t_spline::TnurccConnection;
+use edge_ends::TnurccConnection;
+use edge_ends::same_face;
 use t_spline::TnurccEdge;
-use t_spline::t_nurcc_edge::same_face;
 
 // The links that two states set: the first edge's and the other's.
 pub enum Links {

@@ -14,6 +14,7 @@ ghost use Rattle.position_rules.specs.Places.{facePointAt};
 ghost use Rattle.position_rules.specs.Fits.{EdgeFits, MiddleFits, EdgePointFits, NeighboursFit};
 ghost use Rattle.tables.specs.Records.{edgeAt};
 ghost use Rattle.edge_points.specs.Sides.{SidesThere};
+use edge_ends::TnurccConnection;
 use position_rules::Shares;
 use position_rules::intervals::three_terms;
 use position_rules::places::load_face_point;
@@ -23,7 +24,6 @@ use positions::is_small;
 use records::load_edge;
 use records::load_position;
 use refined_meshes::Edition;
-use t_spline::TnurccConnection;
 use t_spline::TnurccEdge;
 use tables::index;
 

@@ -1,5 +1,4 @@
--- The laws of buckets and chains, and of the first edge between two points. Assumes nothing.
---     bucket-less, bucket-more, bucketOf-below    the bucket of two points as the code finds it, and that it is one of the buckets
+-- The laws of chains, and of the first edge between two points. Assumes nothing.
 --     edgeBetween-table       the first edge between two points is found in the table of edges alone
 --     edgeBetween-gap         edges of other buckets change nothing
 --     edgeBetween-below       what is found is an edge below the bound
@@ -13,8 +12,7 @@ use mathlib.Core.Path.{_≡_, refl, sym, _∙_, ap, subst}
 use mathlib.Core.Bool.{Bool, true, false, _&&_, _||_, false≢true}
 use mathlib.Core.List.{List}
 use mathlib.Core.Logic.{_≢_}
-use Prim.Native.Nat.{ℕ, zero, suc, _+_, _-_, _*_, _%_, _≤_, _<_}
-use native.Mathlib.Nat.{mod-lt}
+use Prim.Native.Nat.{ℕ, zero, suc, _+_, _-_, _*_, _≤_, _<_}
 use native.Mathlib.Numerals.{add-one}
 use native.Mathlib.Omega.{arith}
 use native.Mathlib.Decide.{decLe}
@@ -22,52 +20,21 @@ use lib.Dec.{eqb}
 use lib.Ieee.{Float}
 use lib.ListN.{length, getD, set}
 use lib.Seq.{getD-set-other}
-use borrow.Author.Tests.{eqb-true, eq-eqb, ne-eqb, lt-ltb, le-ltb}
+use borrow.Author.Tests.{eqb-true, eq-eqb, ne-eqb}
 use Rattle.tables.specs.Mesh.{Mesh, none, origin, dest, meshOf, edgeTable}
 use Rattle.built_meshes.specs.declared.Found.{Found}
 use Rattle.built_meshes.specs.declared.Found.the-variants.{At, Nothing}
 use Rattle.built_meshes.specs.declared.Ground.the-variants.{EdgeTripleFace, SameWay}
 use Rattle.built_meshes.specs.Edges.{joins, orLast, edgeBetween, newEdge, enteredAt, enteredIf, entered, withRightFace}
 use Rattle.built_meshes.proofs.Entering.{Finds, finds, finds-none, found-is}
-use Rattle.edge_search.specs.Chains.{linkTo, EndsKept, bucketFactor, buckets, bucketOf, bucketAt, Newest, Standing}
+use Rattle.edge_buckets.specs.Buckets.{buckets, bucketOf}
+use Rattle.edge_buckets.proofs.Buckets.{bucketOf-swap}
+use Rattle.edge_search.specs.Chains.{linkTo, EndsKept, bucketAt, Newest, Standing}
 use Rattle.edge_search.specs.Places.{edgesAfter, EnteredBy, FilledBy}
 use Rattle.edge_search.specs.declared.Entry.{Entry}
 use Rattle.edge_search.specs.declared.Entry.the-variants.{Made, Refused}
 
 -- ---- buckets
-
--- the two ways to spread, by a test
-spread-less : (p q : ℕ) → p < q → (p * bucketFactor + q) % buckets ≡ bucketOf p q
-unfolding bucketOf
-spread-less p q h = rw (lt-ltb p q h)
-
-spread-more : (p q : ℕ) → q ≤ p → (q * bucketFactor + p) % buckets ≡ bucketOf p q
-unfolding bucketOf
-spread-more p q h = rw (le-ltb p q h)
-
--- the same of the two indices a and b
-pub bucket-less : (p q a b : ℕ) → a ≡ p → b ≡ q → a < b
-    → ((a * bucketFactor + b) % buckets ≡ bucketOf p q) × ((a * bucketFactor + b) % buckets < buckets)
-bucket-less p q a b s t h = (spread-less a b h ∙ rw (s, t), mod-lt (a * bucketFactor + b) (omega arith))
-
-pub bucket-more : (p q a b : ℕ) → a ≡ p → b ≡ q → b ≤ a
-    → ((b * bucketFactor + a) % buckets ≡ bucketOf p q) × ((b * bucketFactor + a) % buckets < buckets)
-bucket-more p q a b s t h = (spread-more a b h ∙ rw (s, t), mod-lt (b * bucketFactor + a) (omega arith))
-
-bucketOf-swap : (p q : ℕ) → bucketOf p q ≡ bucketOf q p
-bucketOf-swap p q = go (decLe (suc p) q) (decLe (suc q) p)
-  where
-    go : Dec (suc p ≤ q) → Dec (suc q ≤ p) → bucketOf p q ≡ bucketOf q p
-    go (yes l) d = sym (spread-less p q l) ∙ spread-more q p (omega arith)
-    go (no n) (yes l) = sym (spread-more p q (omega arith)) ∙ spread-less q p l
-    go (no n) (no m) = let s : p ≡ q = omega arith in rw s
-
-pub bucketOf-below : (p q : ℕ) → bucketOf p q < buckets
-bucketOf-below p q = go (decLe (suc p) q)
-  where
-    go : Dec (suc p ≤ q) → bucketOf p q < buckets
-    go (yes l) = subst (λ b. b < buckets) (spread-less p q l) (mod-lt (p * bucketFactor + q) (omega arith))
-    go (no n) = subst (λ b. b < buckets) (spread-more p q (omega arith)) (mod-lt (q * bucketFactor + p) (omega arith))
 
 -- an edge that joins two points is of their bucket
 joined-bucket : (o d p q : ℕ) → (eqb o p && eqb d q || eqb o q && eqb d p) ≡ true → bucketOf o d ≡ bucketOf p q

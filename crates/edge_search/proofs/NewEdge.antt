@@ -17,8 +17,10 @@ use Rattle.tables.specs.Rows.{putRow}
 use Rattle.tables.specs.Records.{edgeWords}
 use Rattle.tables.proofs.Laws.{length-putRow, getD-putRow, getD-putRow-before}
 use Rattle.built_meshes.specs.Edges.{loneEdge, touched, newEdge}
-use Rattle.edge_search.specs.Chains.{buckets, bucketOf, bucketAt, Newest, chainedEdge, Headed, Chained, Standing, EdgeRoom}
-use Rattle.edge_search.proofs.Chains.{bucketOf-below, newest-kept, newest-more, newest-top}
+use Rattle.edge_buckets.specs.Buckets.{buckets, bucketOf}
+use Rattle.edge_buckets.proofs.Buckets.{bucketOf-below}
+use Rattle.edge_search.specs.Chains.{bucketAt, Newest, chainedEdge, Headed, Chained, Standing, EdgeRoom}
+use Rattle.edge_search.proofs.Chains.{newest-kept, newest-more, newest-top}
 
 pub length-touched : (ws : List ℕ) (p e : ℕ) → length (touched ws p e) ≡ length ws
 length-touched ws p e = simp length-set

@@ -10,7 +10,8 @@ use Rattle.tables.specs.Mesh.{Mesh, edgeTable}
 use Rattle.built_meshes.specs.declared.Found.{Found}
 use Rattle.built_meshes.specs.declared.Found.the-variants.{At, Nothing}
 use Rattle.built_meshes.specs.Edges.{joins, orLast, edgeBetween}
-use Rattle.edge_search.specs.Chains.{linkTo, buckets, bucketOf, bucketAt, Newest, Chained}
+use Rattle.edge_buckets.specs.Buckets.{buckets, bucketOf}
+use Rattle.edge_search.specs.Chains.{linkTo, bucketAt, Newest, Chained}
 use Rattle.edge_search.proofs.Chains.{edgeBetween-gap}
 
 abbrev pub orElse : Found → Found → Found

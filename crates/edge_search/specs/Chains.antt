@@ -5,8 +5,6 @@
 --     at buckets + e          the link to the newest edge before e of the bucket of e
 --     EndsKept                every edge has the same ends in two tables
 --     linkTo l                the edge of a link
---     buckets, bucketFactor   how many buckets there are, and what the lesser of two points is multiplied by
---     bucketOf p q            the bucket of the edges between the points p and q
 --     bucketAt es e           the bucket of the edge e
 --     Newest es b k l         the link l goes to the newest of the edges below k of the bucket b
 --     chainedEdge ch k b      the links with a new edge k of the bucket b
@@ -14,15 +12,14 @@
 --     Standing                what holds of the tables of points and edges and of the links while k edges stand
 --     EdgeRoom                there is a row and a link for an edge k
 use mathlib.Core.Path.{_≡_}
-use mathlib.Core.Bool.{cond}
 use mathlib.Core.List.{List}
 use mathlib.Core.Logic.{_≢_}
-use Prim.Native.Nat.{ℕ, zero, suc, _+_, _*_, _%_, _≤_, _<_}
-use lib.Dec.{ltb}
+use Prim.Native.Nat.{ℕ, zero, suc, _+_, _*_, _≤_, _<_}
 use lib.ListN.{length, getD, set}
 use lib.Ieee.{Float}
 use Rattle.tables.specs.Layout.{pointWidth, edgeWidth}
 use Rattle.tables.specs.Mesh.{origin, dest, edgeTable}
+use Rattle.edge_buckets.specs.Buckets.{buckets, bucketOf}
 use Rattle.built_meshes.specs.declared.Found.{Found}
 use Rattle.built_meshes.specs.declared.Found.the-variants.{At, Nothing}
 
@@ -34,16 +31,6 @@ pub record EndsKept (es new : List ℕ) : Type 0 where
 abbrev pub linkTo : ℕ → Found
 linkTo zero = Nothing
 linkTo (suc e) = At e
-
-abbrev pub buckets : ℕ
-buckets = 16384
-
-abbrev pub bucketFactor : ℕ
-bucketFactor = 10125
-
--- the lesser point is spread, so that it is the same whichever is named first
-unfoldable pub bucketOf : ℕ → ℕ → ℕ
-bucketOf p q = cond (ltb p q) ((p * bucketFactor + q) % buckets) ((q * bucketFactor + p) % buckets)
 
 abbrev pub bucketAt : List ℕ → ℕ → ℕ
 bucketAt es e = bucketOf (origin (edgeTable es) e) (dest (edgeTable es) e)

@@ -2,7 +2,7 @@
 // perimeter entered with it: an edge is made, or the right side of one is filled.
 // Carries over what `try_new` of t_nurcc/mod.rs does for one edge. No search looks at all edges: it looks at those of the bucket,
 // however many edges the points have.
-// Not here: a whole perimeter (`building_faces`).
+// Not here: which bucket two points choose (`edge_buckets`), a whole perimeter (`building_faces`).
 // Definitions: `specs/Chains.antt`, `specs/Places.antt`, and `Perimeters` of `built_meshes`. Laws: `proofs/Chains.antt`.
 ghost use mathlib.Core.Path.{_≡_};
 ghost use mathlib.Core.Bool.{cond, _&&_};
@@ -14,12 +14,15 @@ ghost use lib.ListN.{length, getD};
 ghost use Rattle.tables.specs.Layout.{pointWidth, edgeWidth};
 ghost use Rattle.tables.specs.Mesh.{Mesh, meshOf, none, edgeTable};
 ghost use Rattle.built_meshes.specs.Edges.{joins, edgeBetween, touched, newEdge};
-ghost use Rattle.edge_search.specs.Chains.{buckets, bucketOf, linkTo, Newest, chainedEdge, Headed, Chained, Standing, EdgeRoom};
+ghost use Rattle.edge_buckets.specs.Buckets.{buckets, bucketOf};
+ghost use Rattle.edge_search.specs.Chains.{linkTo, Newest, chainedEdge, Headed, Chained, Standing, EdgeRoom};
 ghost use Rattle.edge_search.specs.Places.{edgesAfter, EnteredBy, FilledBy};
 use built_meshes::Found;
 use built_meshes::Ground;
+use edge_buckets::BUCKETS;
+use edge_buckets::bucket;
+use edge_ends::NONE;
 use records::store_edge;
-use t_spline::NONE;
 use t_spline::TnurccEdge;
 use tables::DEST_WORD;
 use tables::EDGE_WIDTH;
@@ -55,28 +58,6 @@ fn joins_points(edges: &[u32], e: usize, p: u32, q: u32) -> bool
         return true;
     }
     are(origin, dest, q, p)
-}
-
-// How many buckets there are, each with a chain.
-pub const BUCKETS: usize = 16384;
-
-// What the lesser of two points is multiplied by to find their bucket: an odd number near the buckets divided by the golden ratio,
-// so that the multiples of any number of points lie evenly among the buckets, and the greater point chooses between two of them.
-// An edge of a torus, of a bipyramid, or of two halves of points all joined to each other, in order or shuffled, has less than one
-// other in its bucket on the mean; no bucket has more than 518 pairs of 4,096 points. Nothing that is proved rests on it.
-const SPREAD: usize = 10125;
-
-// The bucket of the edges between the points p and q, whichever is named first.
-fn bucket(p: u32, q: u32) -> usize
-    ensures { λ r. ⌜ r ≡ bucketOf p q ⌝ }
-    ensures { λ r. ⌜ r < buckets ⌝ }
-{
-    let a = index(p);
-    let b = index(q);
-    if a < b {
-        return (a * SPREAD + b) % BUCKETS;
-    }
-    (b * SPREAD + a) % BUCKETS
 }
 
 // The one of two links that a test chooses.

@@ -15,10 +15,10 @@ use mesh_lines::Run;
 use mesh_lines::SideRead;
 use mesh_lines::put_number;
 use mesh_lines::put_word;
+use number_reading::bits;
+use number_reading::decimal;
+use number_reading::float;
 use text_numbers::Number;
-use text_numbers::bits;
-use text_numbers::decimal;
-use text_numbers::float;
 use text_numbers::stands;
 
 // A listed point after ` [`.

@@ -2,10 +2,12 @@
 // its listing to standard output.
 // What is written is `handoverOutput` of `handover_outputs`, specs/Output.antt. No contract can say what is read and
 // written; a read or a write that fails is said on standard error (`streams`).
-use handover_text::handover;
+use crate::handover_text::handover;
 use streams::is_input_lost;
 use streams::write_output;
 use text_answers::REFINE_BYTES;
+
+mod handover_text;
 
 // A listing of 256 points of at most 69 bytes, 512 edges of 56 and 256 faces of 55 has less.
 const LISTING_BYTES: usize = 65536;

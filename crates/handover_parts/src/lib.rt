@@ -1,6 +1,6 @@
 // The parts of the program `handover` that need neither building nor the step: what is written after a step, by its answer and the
 // tables that it left.
-// Not here: the definition of the output (`handover_outputs`), writing a listing (`listing_writing`), the whole output (`handover_text`).
+// Not here: the definition of the output (`handover_outputs`), writing a listing (`listing_writing`), the whole output (`handover`).
 // Contract: `write_handed`. Definition: `steppedBytes` of `handover_outputs`, specs/Output.antt. Laws: `proofs/Lines.antt`.
 ghost use Prim.Native.Nat.{_≤_};
 ghost use lib.ListN.{length};
@@ -8,9 +8,9 @@ ghost use Rattle.tables.specs.Mesh.{meshOf};
 ghost use Rattle.mesh_answers.specs.Writing.{Written};
 ghost use Rattle.refine_outputs.specs.Output.{outputBytes};
 ghost use Rattle.handover_outputs.specs.Output.{listed, steppedBytes};
+use answer_lines::write_refused;
 use listing_writing::write_listing;
 use listings::Writing;
-use mesh_answers::write_refused;
 use steps::Stepped;
 use tables::Counts;
 

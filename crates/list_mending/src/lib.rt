@@ -1,6 +1,6 @@
 // The mender over lists of version 2 (document 02, §8): the first of its grounds that holds, or else the faces to turn.
-// Not here: the tests of grounds 2 and 3 (`building_lists`), those of the faces and of the whole (`mending`), the choice of faces
-// (`face_choices`), the lists turned round.
+// Not here: the tests of grounds 2 and 3 (`building_lists`, `list_numbers`), those of the faces and of the whole (`mending`), the choice
+// of faces (`face_choices`), the lists turned round.
 // Contract: `find_turns`. Definitions: `Mending` of `mended_lists`; `specs/Turning.antt`. Laws: `proofs/Laws.antt`.
 ghost use mathlib.Core.Path.{_≡_};
 ghost use mathlib.Core.Bool.{true};
@@ -13,7 +13,6 @@ ghost use Rattle.mended_lists.specs.Mending.{mendingIf, mending};
 ghost use Rattle.face_choices.specs.Mates.{MatesFit, Chosen};
 ghost use Rattle.list_mending.specs.Turning.{TurningRoom, TurnsIf};
 use building_lists::counts_fit;
-use building_lists::numbers_fit;
 use building_tests::Bounds;
 use building_tests::MOST_FACES;
 use building_tests::MOST_LISTED;
@@ -22,6 +21,7 @@ use built_meshes::Verdict;
 use built_meshes::Version;
 use face_choices::choose_faces;
 use face_places::spread;
+use list_numbers::numbers_fit;
 use mended_lists::Mending;
 use mending::pair_faces;
 use tables::POSITION_WIDTH;

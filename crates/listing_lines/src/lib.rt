@@ -15,15 +15,15 @@ ghost use Rattle.listing_lines.specs.Parts.{AtTotal, Listing, positionsL
 use mesh_lines::LinePlace;
 use mesh_lines::Run;
 use mesh_lines::put_word;
+use number_reading::decimal;
 use point_lines::coordinates;
 use tables::EDGE_WIDTH;
 use tables::FACE_WIDTH;
 use tables::POINT_WIDTH;
 use tables::POSITION_WIDTH;
+use text_ends::ends;
 use text_numbers::Number;
-use text_numbers::decimal;
 use text_numbers::stands;
-use text_sizes::ends;
 
 // A space and a word.
 fn word(s: &[u8], at: usize) -> Number

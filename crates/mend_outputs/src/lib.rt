@@ -5,7 +5,7 @@ ghost use mathlib.Core.Path.{_≡_};
 ghost use Prim.Native.Nat.{_≤_};
 ghost use lib.ListN.{length, take};
 ghost use Rattle.mend_outputs.specs.Output.{mendOutput};
-use mesh_answers::write_refused;
+use answer_lines::write_refused;
 use station_mending::mend_text_told;
 
 // The most bytes of a text that are taken.

@@ -1,5 +1,5 @@
 // The step of a mesh of at most 64 faces in the first edition and in numbered order, by scratch of zeros, for the programs `refine` and `handover`.
-// Not here: the step (`refining`), the numbered order (`refine_parts`), what is written of it (`refine_text`, `handover_text`).
+// Not here: the step (`refining`), the numbered order (`refine_parts`), what is written of it (`refine`, `handover`).
 // Contract: `numbered_step`. Definitions: `numberedStep` of `refine_outputs`, specs/Output.antt; `specs/Parts.antt`. Laws:
 // `proofs/Steps.antt`.
 // Names: `newpositions`, `newpoints`, `newedges`, `newintervals` and `newfaces` are the scratch tables of positions, points, edges, intervals, faces.

@@ -1,2 +1,1 @@
 pub mod Radial
-pub mod Sides

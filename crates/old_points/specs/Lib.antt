@@ -1,2 +1,1 @@
 pub mod Fan
-pub mod Sides

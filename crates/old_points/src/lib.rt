@@ -3,9 +3,7 @@
 // Not here: face points (`face_points`), edge points (`edge_points`), the rows of the new points (`placing`).
 // Contract: `old_point`. Definitions: `position_rules`, specs/OldPoint.antt.
 ghost use mathlib.Core.Path.{_≡_};
-ghost use mathlib.Core.Bool.{false, cond};
 ghost use Prim.Native.Nat.{_+_, _*_, _≤_};
-ghost use lib.Dec.{eqb};
 ghost use lib.IntN.{pos};
 ghost use lib.ListN.{length};
 ghost use lib.Ieee.{ofInt, binary64};
@@ -17,7 +15,8 @@ ghost use Rattle.position_rules.specs.OldPoint.{radialSum, moved, oldPoint};
 ghost use Rattle.position_rules.specs.Places.{edgePointAt, facePointAt};
 ghost use Rattle.position_rules.specs.Fits.{EdgeFits, RadialFits, TurnsBack, OldPointFits};
 ghost use Rattle.old_points.specs.Fan.{fanAbout, edgeWeightIn, termsIn, BetweenFits};
-ghost use Rattle.old_points.specs.Sides.{hasFace, likelyFace};
+use common_faces::face_between;
+use old_places::moved;
 use position_rules::WeightedSum;
 use position_rules::intervals::a1;
 use position_rules::intervals::acw_about;
@@ -27,12 +26,7 @@ use position_rules::places::load_edge_point;
 use position_rules::places::load_face_point;
 use positions::Placed;
 use positions::Position;
-use positions::is_small;
-use records::load_edge;
 use records::load_point;
-use t_spline::NONE;
-use tables::EDGE_WIDTH;
-use tables::LEFT_FACE_WORD;
 use tables::index;
 
 // The intervals about edge r of a point: of the edges two steps and one step clockwise, of r, of the edge one step anticlockwise.
@@ -64,58 +58,6 @@ fn edge_weight(fan: Fan, a2: f64) -> f64
     ensures { λ w. ⌜ w ≡ edgeWeightIn fan a2 ⌝ }
 {
     0.5 * (fan.a1 + fan.c1) * (a2 + fan.c2)
-}
-
-// 0 if the test holds, else 1.
-fn number_of(test: bool) -> usize
-    ensures { λ s. ⌜ s ≡ cond test 0 1 ⌝ }
-{
-    if test { 0 } else { 1 }
-}
-
-// Whether edge e has the face f on a side. The side is a number, so that no branch depends on it.
-fn has_face(edges: &[u32], e: usize, f: u32) -> bool
-    requires { ⌜ e * edgeWidth + edgeWidth ≤ length (now edges) ⌝ }
-    ensures { λ r. ⌜ r ≡ hasFace (now (edges .entry)) e f ⌝ }
-{
-    let b = e * EDGE_WIDTH + LEFT_FACE_WORD;
-    let s = number_of(f == edges[b]);
-    f == edges[b + s]
-}
-
-// The left face of edge r if the next edge has it, else the right one.
-fn likely_face(edges: &[u32], r: usize, next: usize) -> u32
-    requires { ⌜ r * edgeWidth + edgeWidth ≤ length (now edges) ⌝ }
-    requires { ⌜ next * edgeWidth + edgeWidth ≤ length (now edges) ⌝ }
-    ensures { λ f. ⌜ f ≡ likelyFace (now (edges .entry)) r next ⌝ }
-{
-    let b = r * EDGE_WIDTH + LEFT_FACE_WORD;
-    let s = number_of(has_face(edges, next, edges[b]));
-    edges[b + s]
-}
-
-// Whether f is a face, and edge e has it.
-fn borders(edges: &[u32], e: usize, f: u32) -> bool
-    requires { ⌜ e * edgeWidth + edgeWidth ≤ length (now edges) ⌝ }
-    ensures { λ r. ⌜ r ≡ cond (eqb f none) false (hasFace (now (edges .entry)) e f) ⌝ }
-{
-    if f == NONE {
-        return false;
-    }
-    has_face(edges, e, f)
-}
-
-// The face that edge r has in common with the next edge.
-fn face_between(edges: &[u32], intervals: &[f64], r: usize, next: usize) -> usize
-    requires { ⌜ EdgeFits (now edges) (now intervals) r ⌝ }
-    requires { ⌜ EdgeFits (now edges) (now intervals) next ⌝ }
-    ensures { λ f. ⌜ f ≡ commonFace (edgeAt (now (edges .entry)) (now (intervals .entry)) r) (edgeAt (now (edges .entry)) (now (intervals .entry)) next) ⌝ }
-{
-    let f = likely_face(edges, r, next);
-    if borders(edges, next, f) {
-        return index(f);
-    }
-    index(load_edge(edges, intervals, r).common_face(load_edge(edges, intervals, next)))
 }
 
 // The sum s with the terms of edge r and of the face between it and the next edge. C1 of the next edge is the interval of r.
@@ -197,18 +139,6 @@ fn radial_sum(
         i += 1;
     }
     s
-}
-
-// The old place times (v - 3) / v, plus S times 3 over v times W; the old place if W is small.
-fn moved(place: Position, v: f64, s: WeightedSum) -> Position
-    ensures { λ r. ⌜ r ≡ moved place v s ⌝ }
-{
-    if is_small(s.weight) {
-        return place;
-    }
-    place
-        .times((v - 3.0) / v)
-        .plus(s.sum.times(3.0).over(v * s.weight))
 }
 
 // A valence as a number.

@@ -3,13 +3,16 @@
 // mesh. Bad inputs are further records.
 // Its input and what it must write are made by `tools/oracle_runs.py`: what is expected comes from the oracle's recorded files and
 // from document 01, never from this program.
-// Not here: what is told of one record (`oracle_records`).
+// Not here: what is told of one record (`records.rt`).
 ghost use mathlib.Core.Path.{_≡_};
 ghost use Prim.Native.Nat.{_≤_};
 ghost use lib.ListN.{length};
-use oracle_records::HEAD_BYTES;
-use oracle_records::record_bytes;
-use oracle_records::tell;
+use crate::records::HEAD_BYTES;
+use crate::records::record_bytes;
+use crate::records::tell;
+
+mod heads;
+mod records;
 
 // Room for one record: the longest has a text of 16,385 bytes.
 const RECORD_BYTES: usize = 16640;

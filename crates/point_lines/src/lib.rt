@@ -13,9 +13,9 @@ ghost use Rattle.mesh_lines.specs.Parts.{placeAnswer, runAnswer, Parses, placeA
 use mesh_lines::LinePlace;
 use mesh_lines::Run;
 use mesh_lines::put_number;
+use number_reading::bits;
+use number_reading::float;
 use text_numbers::Number;
-use text_numbers::bits;
-use text_numbers::float;
 use text_numbers::stands;
 
 // A space and a coordinate.

@@ -17,8 +17,8 @@ use lib.Ieee.{Float, nan, add, sub, mul, div, ofBits, binary64}
 use Rattle.positions.specs.declared.Position.{Position}
 use Rattle.positions.specs.Position.{plus, product, quotient, small}
 use Rattle.t_spline.specs.declared.TnurccEdge.{TnurccEdge}
-use Rattle.t_spline.specs.declared.TnurccConnection.{TnurccConnection}
-use Rattle.t_spline.specs.declared.TnurccConnection.the-variants.{LeftCw, LeftAcw, RightCw, RightAcw}
+use Rattle.edge_ends.specs.declared.TnurccConnection.{TnurccConnection}
+use Rattle.edge_ends.specs.declared.TnurccConnection.the-variants.{LeftCw, LeftAcw, RightCw, RightAcw}
 use Rattle.t_spline.specs.Edge.{connectionOf}
 use Rattle.tables.specs.Records.{positionAt, edgeAt}
 use Rattle.refined_meshes.specs.declared.Edition.{Edition}

@@ -5,8 +5,8 @@ ghost use lib.ListN.{length};
 ghost use Rattle.tables.specs.Layout.{edgeWidth};
 ghost use Rattle.position_rules.specs.Intervals.{acwAbout, cwAbout, A1, A2, C1, C2, threeTerms};
 ghost use Rattle.position_rules.specs.Fits.{EdgeFits};
+use edge_ends::TnurccVertexEnd;
 use records::load_edge_words;
-use t_spline::TnurccVertexEnd;
 use tables::index;
 use walks::acw_of_point;
 

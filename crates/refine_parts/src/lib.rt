@@ -1,6 +1,6 @@
 // The parts of the program `refine` that need neither building nor the step: the lines that are written after a step, by its answer,
 // and the numbered order.
-// Not here: the definition of the output (`refine_outputs`), the whole output (`refine_text`).
+// Not here: the definition of the output (`refine_outputs`), the whole output (`refine`).
 // Contracts: `write_stepped`, `number_faces`. Definitions: `Output` and `FirstPoint` of `refine_outputs`. Laws: `proofs/Lines.antt`,
 // `proofs/Filling.antt`.
 ghost use mathlib.Core.Path.{_≡_};
@@ -11,9 +11,9 @@ ghost use Rattle.runs.specs.Runs.{numbered};
 ghost use Rattle.mesh_answers.specs.Writing.{Written};
 ghost use Rattle.refine_outputs.specs.Output.{placeLine, stepLines};
 ghost use Rattle.refine_outputs.specs.FirstPoint.{PointThere, PointReady};
-use mesh_answers::write_at;
-use mesh_answers::write_refused;
-use mesh_answers::write_step;
+use answer_lines::write_at;
+use answer_lines::write_refused;
+use answer_lines::write_step;
 use steps::Stepped;
 use tables::Counts;
 

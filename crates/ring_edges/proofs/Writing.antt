@@ -9,16 +9,16 @@ use native.Mathlib.Omega.{arith}
 use lib.Dec.{eqb}
 use lib.ListN.{getD, set}
 use lib.Seq.{set-getD, getD-set-other}
-use lib.Ieee.{Float, nan, add, binary64}
+use lib.Ieee.{Float, nan}
 use Rattle.perimeters.specs.Places.{nextPlace, prevPlace}
 use Rattle.tables.specs.declared.Counts.{Counts}
 use Rattle.tables.specs.Rows.{putRow}
 use Rattle.tables.specs.Parts.{faceTables}
 use Rattle.refined_meshes.specs.State.{State, putEdge}
-use Rattle.refined_meshes.specs.Ring.{faceRow, putSide, putJoin, putFirst, putSecond}
+use Rattle.refined_meshes.specs.Ring.{faceRow, putSide, putFirst, putSecond}
 use Rattle.splitting.specs.Scratch.{tablesOf}
-use Rattle.ring_places.specs.declared.RingRows.{RingRows}
-use Rattle.ring_places.specs.Rings.{ring}
+use Rattle.ring_rows.specs.declared.RingRows.{RingRows}
+use Rattle.ring_rows.specs.Rings.{ring}
 
 -- a word that is stored where it stands changes nothing
 kept : (xs ys : List ℕ) (j : ℕ) → getD ys j 0 ≡ getD xs j 0 → set ys j (getD xs j 0) ≡ ys
@@ -73,21 +73,6 @@ module _ (ps es fs : List ℕ) (is : List Float) (k : Counts) (b : Bool) (e f a 
 
 module _ (rows : RingRows) (i : ℕ) where
   module _ (pe hs gs ms : List ℕ) (ds : List Float) (s : State) where
-    pub join-put : (next prev f g : ℕ) → next ≡ nextPlace (rows .size) i → prev ≡ prevPlace (rows .size) i
-        → f ≡ faceRow (ring rows [] [] [] [] []) next → g ≡ faceRow (ring rows [] [] [] [] []) i
-        → putEdge (rows .joins + i)
-        (record {
-          connections = (rows .joins + next) ∷ getD gs i 0 ∷ getD hs i 0 ∷ (rows .joins + prev) ∷ [];
-          «face_left» = f;
-          «face_right» = g;
-          origin = rows .centre;
-          dest = getD ms i 0;
-          «knot_interval» = add binary64 (getD ds next nan) (getD ds prev nan);
-        }) s
-        ≡ putJoin (ring rows pe hs gs ms ds) i s
-    unfolding putJoin
-    join-put next prev f g a b x y = rw (x, y, a, b)
-
     module _ (me : List ℕ) (e : ℕ) (at : e ≡ getD pe i 0) where
       pub first-put : (left : Bool) (prev f : ℕ) → left ≡ eqb (getD me (e * 8 + 2) 0) (rows .face) → prev ≡ prevPlace (rows .size) i
           → f ≡ faceRow (ring rows [] [] [] [] []) i

@@ -1,8 +1,9 @@
 // The edges that a visit writes about a face once its perimeter is split: the joining edges, and the halves' fields on the side of
 // this face.
 // Carries over the part of `global_subdivide`'s loop over the faces that connects edges (t_nurcc/mod.rs).
-// Not here: the places of the perimeter (`ring_places`), the new faces (`ring_faces`), the visit itself (`visiting`).
-// Definitions: `refined_meshes`, specs/Ring.antt; `ring_places`, specs/Rings.antt.
+// Not here: the places of the perimeter (`ring_places`), a joining edge by value (`joining_edges`), the new faces (`ring_faces`), the
+// visit itself (`visiting`).
+// Definitions: `refined_meshes`, specs/Ring.antt; `ring_rows`, specs/Rings.antt.
 ghost use mathlib.Core.Path.{_≡_};
 ghost use mathlib.Core.List.{List, []};
 ghost use Prim.Native.Nat.{ℕ, _+_, _*_, _≤_, _<_};
@@ -12,17 +13,17 @@ ghost use Rattle.tables.specs.Layout.{edgeWidth};
 ghost use Rattle.tables.specs.declared.Counts.{Counts};
 ghost use Rattle.tables.specs.Parts.{faceTables};
 ghost use Rattle.refined_meshes.specs.Turns.{turns};
-ghost use Rattle.refined_meshes.specs.State.{State, putEdge};
+ghost use Rattle.refined_meshes.specs.State.{State};
 ghost use Rattle.refined_meshes.specs.Ring.{putSide, putJoin, putFirst, putSecond};
 ghost use Rattle.splitting.specs.Scratch.{tablesOf};
-ghost use Rattle.ring_places.specs.Rings.{ring, Small, EdgesThere};
+ghost use Rattle.ring_rows.specs.Rings.{ring, Small, EdgesThere};
+use joining_edges::join_edge;
 use perimeters::next_place;
 use perimeters::prev_place;
 use records::store_edge;
-use ring_places::RingRows;
-use ring_places::face_row;
-use ring_places::on_left;
-use t_spline::TnurccEdge;
+use ring_rows::RingRows;
+use ring_rows::face_row;
+use ring_rows::on_left;
 use tables::EDGE_WIDTH;
 use tables::LEFT_ACW_WORD;
 use tables::LEFT_CW_WORD;
@@ -32,39 +33,6 @@ use tables::RIGHT_ACW_WORD;
 use tables::RIGHT_CW_WORD;
 use tables::RIGHT_FACE_WORD;
 use tables::index;
-
-// The joining edge to the midpoint of place i.
-fn join_edge(
-    firsts: &[u32; LONGEST_PERIMETER],
-    seconds: &[u32; LONGEST_PERIMETER],
-    mids: &[u32; LONGEST_PERIMETER],
-    found: &[f64; LONGEST_PERIMETER],
-    rows: RingRows,
-    i: usize,
-) -> TnurccEdge
-    requires { ⌜ Small rows ⌝ }
-    requires { ⌜ i < rows .size ⌝ }
-    ensures { λ e. ⌜
-        ((es : List ℕ) (s : State) →
-        putEdge (rows .joins + i) e s ≡
-        putJoin (ring rows es (now (firsts .entry)) (now (seconds .entry)) (now (mids .entry)) (now (found .entry))) i s) ⌝ }
-{
-    let next = next_place(rows.size, i);
-    let prev = prev_place(rows.size, i);
-    TnurccEdge {
-        connections: [
-            (rows.joins + next) as u32,
-            seconds[i],
-            firsts[i],
-            (rows.joins + prev) as u32,
-        ],
-        face_left: face_row(rows, next),
-        face_right: face_row(rows, i),
-        origin: rows.centre as u32,
-        dest: mids[i],
-        knot_interval: found[next] + found[prev],
-    }
-}
 
 // Stores the joining edges.
 pub fn put_joins(

@@ -14,8 +14,8 @@ use Rattle.audited_meshes.specs.Walks.{firstPoint}
 use Rattle.tables.specs.Parts.{faceTables}
 use Rattle.refined_meshes.specs.State.{State, putFace}
 use Rattle.refined_meshes.specs.Ring.{faceRow, putNewFace}
-use Rattle.ring_places.specs.declared.RingRows.{RingRows}
-use Rattle.ring_places.specs.Rings.{ring}
+use Rattle.ring_rows.specs.declared.RingRows.{RingRows}
+use Rattle.ring_rows.specs.Rings.{ring}
 
 module _ (rows : RingRows) (i : ℕ) where
   -- the row of a new face is a row of the table of faces

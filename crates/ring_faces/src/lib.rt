@@ -1,7 +1,7 @@
 // The faces that a visit writes in the place of a face, and the row of the face point.
 // Carries over the part of `global_subdivide`'s loop over the faces that makes faces (t_nurcc/mod.rs).
 // Not here: the places of the perimeter (`ring_places`), the edges (`ring_edges`), the visit itself (`visiting`).
-// Definitions: `refined_meshes`, specs/Ring.antt; `ring_places`, specs/Rings.antt.
+// Definitions: `refined_meshes`, specs/Ring.antt; `ring_rows`, specs/Rings.antt.
 ghost use mathlib.Core.Path.{_≡_};
 ghost use mathlib.Core.List.{List, []};
 ghost use Prim.Native.Nat.{ℕ, _+_, _-_, _*_, _≤_, _<_};
@@ -15,12 +15,12 @@ ghost use Rattle.refined_meshes.specs.Turns.{turns};
 ghost use Rattle.refined_meshes.specs.State.{State};
 ghost use Rattle.refined_meshes.specs.Ring.{faceRow, putNewFace, putFacePoint};
 ghost use Rattle.splitting.specs.Scratch.{tablesOf};
-ghost use Rattle.ring_places.specs.Rings.{ring, Small, EdgesThere};
+ghost use Rattle.ring_rows.specs.Rings.{ring, Small, EdgesThere};
 use perimeters::prev_place;
 use records::store_face;
-use ring_places::RingRows;
-use ring_places::face_row;
-use ring_places::on_left;
+use ring_rows::RingRows;
+use ring_rows::face_row;
+use ring_rows::on_left;
 use t_spline::TnurccFace;
 use tables::DEST_WORD;
 use tables::EDGE_WIDTH;

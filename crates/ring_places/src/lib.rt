@@ -1,65 +1,23 @@
-// The places of a face's perimeter once it is split: which halves and midpoints stand there, the intervals found on arriving, and
-// the rows that a visit takes for the face.
+// The places of a face's perimeter once it is split: which halves and midpoints stand there, and the intervals found on arriving.
 // Carries over the reading half of `global_subdivide`'s loop over the faces (t_nurcc/mod.rs).
-// Not here: the places stepped (`perimeters`), what is written about the face (`ring_edges`, `ring_faces`), the splitting (`splitting`).
-// Definitions: `refined_meshes`, specs/Ring.antt; `specs/Rings.antt` for the ring as the code holds it.
+// Not here: the places stepped (`perimeters`), the halves of one edge and the rows of a ring (`ring_rows`), what is written about the
+// face (`ring_edges`, `ring_faces`), the splitting (`splitting`).
+// Definitions: `refined_meshes`, specs/Ring.antt; `ring_rows`, specs/Rings.antt. Laws: `proofs/Filling.antt`.
 ghost use mathlib.Core.Path.{_≡_};
-ghost use mathlib.Core.Bool.{cond};
-ghost use mathlib.Core.List.{[]};
 ghost use Prim.Native.Nat.{ℕ, _+_, _*_, _≤_, _<_};
-ghost use lib.Dec.{eqb};
 ghost use lib.ListN.{length, getD};
 ghost use lib.Ieee.{nan};
-ghost use Rattle.tables.specs.Layout.{edgeWidth, destWord, leftFaceWord, leftAcwWord, rightCwWord, longestPerimeter};
+ghost use Rattle.tables.specs.Layout.{edgeWidth, destWord, longestPerimeter};
 ghost use Rattle.refined_meshes.specs.Turns.{filled};
-ghost use Rattle.refined_meshes.specs.Ring.{faceRow, firstHalfOf, secondHalfOf};
-ghost use Rattle.ring_places.specs.Rings.{ring, Small, EdgesThere};
+ghost use Rattle.refined_meshes.specs.Ring.{firstHalfOf, secondHalfOf};
+ghost use Rattle.ring_rows.specs.Rings.{EdgesThere};
+use ring_rows::first_half;
+use ring_rows::on_left;
+use ring_rows::second_half;
 use tables::DEST_WORD;
 use tables::EDGE_WIDTH;
-use tables::LEFT_ACW_WORD;
-use tables::LEFT_FACE_WORD;
 use tables::LONGEST_PERIMETER;
-use tables::RIGHT_CW_WORD;
 use tables::index;
-
-// The rows of a ring: the face, the number of its edges, its face point, its first joining edge, its first appended face.
-pub struct RingRows {
-    pub face: usize,
-    pub size: usize,
-    pub centre: usize,
-    pub joins: usize,
-    pub faces: usize,
-}
-
-// Whether face f is on the left of the edge e, in a mesh's table of edges.
-pub fn on_left(edges: &[u32], f: usize, e: usize) -> bool
-    requires { ⌜ e * edgeWidth + edgeWidth ≤ length (now edges) ⌝ }
-    ensures { λ r. ⌜ r ≡ eqb (getD (now (edges .entry)) (e * edgeWidth + leftFaceWord) 0) f ⌝ }
-{
-    index(edges[e * EDGE_WIDTH + LEFT_FACE_WORD]) == f
-}
-
-// The half of the edge e at its first point, where the face is on its left or its right.
-fn first_half(edges: &[u32], left: bool, e: u32) -> u32
-    requires { ⌜ e * edgeWidth + edgeWidth ≤ length (now edges) ⌝ }
-    ensures { λ r. ⌜ r ≡ cond left e (getD (now (edges .entry)) (e * edgeWidth + rightCwWord) 0) ⌝ }
-{
-    if left {
-        return e;
-    }
-    edges[e as usize * EDGE_WIDTH + RIGHT_CW_WORD]
-}
-
-// The half of the edge e at its second point.
-fn second_half(edges: &[u32], left: bool, e: u32) -> u32
-    requires { ⌜ e * edgeWidth + edgeWidth ≤ length (now edges) ⌝ }
-    ensures { λ r. ⌜ r ≡ cond left (getD (now (edges .entry)) (e * edgeWidth + leftAcwWord) 0) e ⌝ }
-{
-    if left {
-        return edges[e as usize * EDGE_WIDTH + LEFT_ACW_WORD];
-    }
-    e
-}
 
 // Stores the intervals of the first n edges of a perimeter.
 pub fn put_found(
@@ -115,16 +73,4 @@ pub fn put_places(
         mids[i] = newedges[row * EDGE_WIDTH + DEST_WORD];
         i += 1;
     }
-}
-
-// The row of the new face at place i: the first takes the old row.
-pub fn face_row(rows: RingRows, i: usize) -> u32
-    requires { ⌜ Small rows ⌝ }
-    requires { ⌜ i < rows .size ⌝ }
-    ensures { λ r. ⌜ r ≡ faceRow (ring rows [] [] [] [] []) i ⌝ }
-{
-    if i == 0 {
-        return rows.face as u32;
-    }
-    (rows.faces + (i - 1)) as u32
 }

@@ -16,7 +16,8 @@ use Rattle.audited_meshes.specs.Quick.{oneEdge}
 use Rattle.audited_meshes.proofs.Tests.{Is, and-is, every-is, self-is, same-test}
 use Rattle.audited_meshes.proofs.OneEdge.{oneEdge-is}
 use Rattle.audit_tests.specs.Parts.{walkFits}
-use Rattle.sole_edges.specs.Sole.{Ends, SoleFrom, RoundsFrom, GoodFrom}
+use Rattle.few_edges.specs.Rounds.{Ends}
+use Rattle.sole_edges.specs.Sole.{SoleFrom, RoundsFrom, GoodFrom}
 use Rattle.sole_edges.proofs.Walked.{round-of-fits, fits-of-round, walked-of-tests, sole-of-apart}
 
 -- the ends of edges stand in the table of edges

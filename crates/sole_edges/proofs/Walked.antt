@@ -25,9 +25,9 @@ use Rattle.audited_meshes.proofs.Sums.{sum-is}
 use Rattle.audited_meshes.proofs.Audited.{touches-is, pointWalk-is}
 use Rattle.audit_tests.specs.Parts.{walkFits}
 use Rattle.walks.specs.Steps.{pointAcross}
-use Rattle.sole_edges.specs.Sole.{Ends, edgeAbout, Round, EndsApart, Sole}
-use Rattle.sole_edges.proofs.Joins.{touches-of-joins, other-of-joins, joins-of-same, other-differs, joins-other}
-use Rattle.sole_edges.proofs.Rounds.{steps-of-passes, listed-of-steps, Place, place-of-passed}
+use Rattle.few_edges.specs.Rounds.{Ends, edgeAbout, Round, EndsApart, Sole}
+use Rattle.few_edges.proofs.Joins.{touches-of-joins, other-of-joins, joins-of-same, other-differs, joins-other}
+use Rattle.few_edges.proofs.Rounds.{steps-of-passes, listed-of-steps, Place, place-of-passed}
 
 -- a walk that came back after v edges
 record Back (w : Walk) (v : ℕ) : Type 0 where

@@ -1,7 +1,7 @@
 -- The walk about a point that notes each edge at its other end, over plain variables: n of k edges are passed, the next is i.
 -- Assumes nothing.
 use mathlib.Core.Path.{_≡_, refl, sym, _∙_, ap, subst}
-use mathlib.Core.Bool.{Bool, true, false, not, _&&_, cond, false≢true}
+use mathlib.Core.Bool.{Bool, true, false, not, cond, false≢true}
 use mathlib.Core.List.{List}
 use mathlib.Core.Logic.{_≢_}
 use Prim.Native.Nat.{ℕ, _+_, _-_, _*_, _/_, _≤_, _<_}
@@ -11,16 +11,15 @@ use borrow.Author.Tests.{lt-ltb, le-ltb}
 use lib.Dec.{eqb, ltb}
 use lib.ListN.{length, getD, set, length-set}
 use lib.Seq.{getD-set-same, getD-set-other}
-use Rattle.tables.specs.Mesh.{Mesh, valence, start, origin, dest, edgeTable}
-use Rattle.audited_meshes.specs.Walks.{touches, acwOfPoint, Touches}
+use Rattle.tables.specs.Mesh.{Mesh, valence, start, origin, dest}
+use Rattle.audited_meshes.specs.Walks.{acwOfPoint, Touches}
 use Rattle.audited_meshes.proofs.Tests.{Is, and-is, not-is, eqb-is, ltb-is}
-use Rattle.audited_meshes.proofs.Audited.{touches-is, on-point-is}
-use Rattle.walks.specs.Steps.{pointAcross, pointStep}
-use Rattle.walks.specs.declared.Step.the-variants.{To, Lost}
-use Rattle.walks.proofs.Steps.{to-is, lost-is}
-use Rattle.sole_edges.specs.Sole.{endsWindow, second, unseen, edgeNoted, walkAfter, edgeAbout, Round, ApartIn, EndsApart, SoleIn, RoundsFrom}
-use Rattle.sole_edges.proofs.Joins.{joins-of-touches, same-of-joins, other-touched, other-differs, joins-other}
-use Rattle.sole_edges.proofs.Rounds.{after-one}
+use Rattle.audited_meshes.proofs.Audited.{touches-is}
+use Rattle.walks.specs.Steps.{pointAcross}
+use Rattle.few_edges.specs.Rounds.{walkAfter, edgeAbout, Round, EndsApart}
+use Rattle.sole_edges.specs.Sole.{endsWindow, second, unseen, edgeNoted, ApartIn, SoleIn, RoundsFrom}
+use Rattle.few_edges.proofs.Joins.{joins-of-touches, same-of-joins, other-touched, other-differs, joins-other}
+use Rattle.few_edges.proofs.Rounds.{after-one}
 
 -- ---- one edge edgeNoted
 
@@ -230,21 +229,6 @@ module _ (m : Mesh) (ne p base : ℕ) where
     walking-late l r =
         let all-passed : n ≡ valence m p = omega (arith, h .many, h .within) in
         h .here ∙ ap (edgeAbout m p) all-passed ∙ r .home
-
--- ---- one step
-
--- a step that is made is from an edge of the point, and one that is lost is not
-pub step-made : (es : List ℕ) (ne p i q next : ℕ) → To q next ≡ pointStep es ne p i
-    → ((i < ne) × Touches (edgeTable es) p i) × (q ≡ pointAcross (edgeTable es) p i) × (next ≡ acwOfPoint (edgeTable es) p i)
-step-made es ne p i q next h =
-    let m : Mesh = edgeTable es in
-    let parts = to-is (ltb i ne && touches m p i) (pointAcross m p i) (acwOfPoint m p i) q next h in
-    (on-point-is m ne p i .0 (parts .0), sym (parts .1), sym (parts .2))
-
-pub step-lost : (es : List ℕ) (ne p i : ℕ) → Lost ≡ pointStep es ne p i → ((i < ne) × Touches (edgeTable es) p i) → ⊥
-step-lost es ne p i h on =
-    let m : Mesh = edgeTable es in
-    false≢true (sym (lost-is (ltb i ne && touches m p i) (pointAcross m p i) (acwOfPoint m p i) h) ∙ on-point-is m ne p i .1 on)
 
 -- ---- all windows together
 

@@ -1,16 +1,13 @@
 // Whether the walks about points come back after their valences, and no two edges join the same two points (document 01, "Audit"), in
 // one walk about each point: linear in the edges.
-// The other ends of a point's edges are compared with each other, if they are few. If they are many, each edge is edgeNoted in a local
-// table at the place of its other end: an edge that finds another between the same two points edgeNoted there is a second one. What
-// other walks left in the table does no harm, since the edge that is found is looked at. Past 32,768 points there is one walk for
-// each window of so many, so that no memory is lent.
-// A walk whose other ends are compared takes as many steps as the valence says and must be at its start then: if it were there before, it
-// would pass its first edge twice, and the other end of that edge would not be new. A walk that notes edges finds an edge again without
-// a word, and is asked after each step whether it is at its start.
+// The other ends of a point's edges are compared with each other, if they are few (`few_edges`). If they are many, each edge is noted in
+// a local table at the place of its other end: an edge that finds another between the same two points noted there is a second one.
+// What other walks left in the table does no harm, since the edge that is found is looked at. Past 32,768 points there is one walk for
+// each window of so many, so that no memory is lent. A walk that notes edges finds an edge again without a word, and is asked after
+// each step whether it is at its start.
 // Not here: the other tests of points (`audit_tests`) and of edges (`audit_edges`).
 // Contract: `walks_with_sole_edges`. Definitions: `walkFits` of `audit_tests`; `oneEdge` of `audited_meshes`, specs/Quick.antt;
-// `specs/Sole.antt`. Laws: `proofs/Joins.antt`, `proofs/Rounds.antt`, `proofs/Walking.antt`, `proofs/Comparing.antt`,
-// `proofs/Walked.antt`, `proofs/OneEdges.antt`.
+// `specs/Sole.antt`. Laws: `proofs/Walking.antt`, `proofs/Walked.antt`, `proofs/OneEdges.antt`.
 ghost use mathlib.Core.Path.{_≡_};
 ghost use mathlib.Core.Bool.{true, _&&_};
 ghost use mathlib.Core.List.{[]};
@@ -24,8 +21,9 @@ ghost use Rattle.tables.specs.Parts.{faceTables, pointTables};
 ghost use Rattle.audited_meshes.specs.Folds.{every};
 ghost use Rattle.audited_meshes.specs.Quick.{oneEdge};
 ghost use Rattle.audit_tests.specs.Parts.{walkFits};
-ghost use Rattle.sole_edges.specs.Sole.{few, endsWindow, second, unseen, edgeNoted, newEnd, Ends};
-ghost use Rattle.sole_edges.specs.Sole.{RoundIn, GoodIn, RoundApart, Good, RoundsFrom, GoodFrom};
+ghost use Rattle.few_edges.specs.Rounds.{Ends, RoundApart, Good};
+ghost use Rattle.sole_edges.specs.Sole.{few, endsWindow, second, unseen, edgeNoted, RoundIn, GoodIn, RoundsFrom, GoodFrom};
+use few_edges::few_sole;
 use tables::POINT_WIDTH;
 use tables::START_WORD;
 use tables::index;
@@ -56,7 +54,7 @@ fn is_second(edges: &[u32], ne: usize, p: usize, q: usize, i: usize, s: usize) -
     touches(edges, q, s)
 }
 
-// Notes edge i from p at its other end q, and says whether no second edge was edgeNoted there; a point out of the window from base
+// Notes edge i from p at its other end q, and says whether no second edge was noted there; a point out of the window from base
 // on is passed over.
 fn note(edges: &[u32], seen: &mut [u32], ne: usize, base: usize, p: usize, q: usize, i: u32) -> bool
     requires { ⌜ ne * edgeWidth ≤ length (now edges) ⌝ }
@@ -135,49 +133,6 @@ fn is_sole(points: &[u32], edges: &[u32], seen: &mut [u32], np: usize, ne: usize
         k += 1;
     }
     true
-}
-
-// Whether q stands at none of the first n places of ends.
-fn is_new_end(ends: &[u32], n: usize, q: u32) -> bool
-    requires { ⌜ n ≤ length (now ends) ⌝ }
-    ensures { λ r. ⌜ r ≡ newEnd (now (ends .entry)) n q ⌝ }
-{
-    let mut a = 0;
-    while a < n {
-        if ends[a] == q {
-            return false;
-        }
-        a += 1;
-    }
-    true
-}
-
-// Whether the walk about point p, which has no more edges than there are places in ends, is at its start again after its valence, and
-// not before, and each of its edges is the only one between its two points.
-fn few_sole(points: &[u32], edges: &[u32], ends: &mut [u32], np: usize, ne: usize, p: usize) -> bool
-    requires { ⌜ p * pointWidth + pointWidth ≤ length (now points) ⌝ }
-    requires { ⌜ ne * edgeWidth ≤ length (now edges) ⌝ }
-    requires { ⌜ valence (pointTables (now points) []) p ≤ length (now ends) ⌝ }
-    requires { ⌜ Ends (faceTables (now edges) []) np ne ⌝ }
-    ensures { λ r. ⌜ (r ≡ true → RoundApart (pointTables (now (points .entry)) (now (edges .entry))) ne p) ⌝ }
-    ensures { λ r. ⌜ (Good (pointTables (now (points .entry)) (now (edges .entry))) ne p → r ≡ true) ⌝ }
-{
-    let k = index(points[p * POINT_WIDTH]);
-    let start = points[p * POINT_WIDTH + START_WORD];
-    let mut i = start;
-    let mut n = 0;
-    while n < k {
-        let Step::To { point, next } = point_step(edges, ne, p, index(i)) else {
-            return false;
-        };
-        if !is_new_end(ends, n, point) {
-            return false;
-        }
-        ends[n] = point;
-        i = next;
-        n += 1;
-    }
-    i == start
 }
 
 // The same, be the edges few or many.

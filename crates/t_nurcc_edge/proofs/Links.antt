@@ -13,16 +13,16 @@ use native.Mathlib.Omega.{arith}
 use lib.Ieee.{Float}
 use lib.ListN.{length, getD, set, length-set}
 use lib.Seq.{set-getD}
-use Rattle.t_spline.specs.Connection.{indexOf}
+use Rattle.edge_ends.specs.Connection.{indexOf}
 use Rattle.t_spline.specs.Edge.{withConnection, sameFace}
 use Rattle.edge_links.specs.Connect.{vertexState, withLinks, linksOf, served, connected}
 use Rattle.edge_links.specs.declared.Pair.{Pair}
 use Rattle.t_spline.specs.declared.TnurccEdge.{TnurccEdge}
-use Rattle.t_spline.specs.declared.TnurccConnection.{TnurccConnection}
-use Rattle.t_spline.specs.declared.TnurccConnection.the-variants.{LeftCw, LeftAcw, RightCw, RightAcw}
+use Rattle.edge_ends.specs.declared.TnurccConnection.{TnurccConnection}
+use Rattle.edge_ends.specs.declared.TnurccConnection.the-variants.{LeftCw, LeftAcw, RightCw, RightAcw}
 use Rattle.edge_links.specs.declared.Links.{Links}
 use Rattle.edge_links.specs.declared.Links.the-variants.{Both, Mismatch}
-use Rattle.t_spline.proofs.Laws.{index-below}
+use Rattle.edge_ends.proofs.Laws.{index-below}
 use Rattle.tables.specs.Rows.{putRow}
 use Rattle.tables.specs.Records.{edgeAt, edgeWords}
 use Rattle.tables.proofs.Laws.{set-putRow, set-putRow-other}

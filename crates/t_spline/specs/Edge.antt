@@ -1,19 +1,15 @@
 -- The neighbours and the faces of an edge, as the Rust's methods give them.
---     none                     the mark for no row
+--     none, sameFace           the mark for no row, and both are faces, and the same one: which `edge_ends` has
 --     connectionOf e c         the neighbour c of e
 --     withConnection e n c     e with n as its neighbour c
---     sameFace f g             both are faces, and the same one: the none mark is no face
 --     commonFace e o           the face of e that o has too: the left one is looked at first, the none mark for none
-use mathlib.Core.Bool.{Bool, false, cond}
+use mathlib.Core.Bool.{cond}
 use Prim.Native.Nat.{ℕ}
-use lib.Dec.{eqb}
 use lib.ListN.{getD, set}
-use Rattle.t_spline.specs.Connection.{indexOf}
+pub use Rattle.edge_ends.specs.Faces.{none, sameFace}
+use Rattle.edge_ends.specs.Connection.{indexOf}
+use Rattle.edge_ends.specs.declared.TnurccConnection.{TnurccConnection}
 use Rattle.t_spline.specs.declared.TnurccEdge.{TnurccEdge}
-use Rattle.t_spline.specs.declared.TnurccConnection.{TnurccConnection}
-
-abbrev pub none : ℕ
-none = 4294967295
 
 abbrev pub connectionOf : TnurccEdge → TnurccConnection → ℕ
 connectionOf e c = getD (e .connections) (indexOf c) 0
@@ -28,9 +24,6 @@ withConnection e n c =
       dest = e .dest;
       «knot_interval» = e .«knot_interval»;
     }
-
-abbrev pub sameFace : ℕ → ℕ → Bool
-sameFace f g = cond (eqb f none) false (eqb f g)
 
 abbrev pub commonFace : TnurccEdge → TnurccEdge → ℕ
 commonFace e o =

@@ -1,9 +1,4 @@
 -- What stands at the ends and the sides of an edge, and its neighbours about them, as the Rust's methods give them.
---     connectionAt i           the connection with a number; a number past the last one is read as the last
---     acwAtEnd end             which neighbour is next anticlockwise about the point at that end; cwAtEnd: clockwise
---     otherEnd end             the other end
---     acwOnSide side           which neighbour is next anticlockwise about the face on that side; cwOnSide: clockwise
---     firstEnd side            the end at which a walk anticlockwise about the face on that side comes to the edge
 --     pointAtEnd e end         the point at that end
 --     faceFromSide e side      the face on that side
 --     endOf e p                the end at which e has the point p: the origin is looked at first
@@ -13,45 +8,18 @@
 use mathlib.Core.Bool.{cond}
 use Prim.Native.Nat.{ℕ}
 use lib.Dec.{eqb}
+use Rattle.edge_ends.specs.Ends.{acwAtEnd, cwAtEnd, acwOnSide, cwOnSide}
+use Rattle.edge_ends.specs.declared.TnurccConnection.{TnurccConnection}
+use Rattle.edge_ends.specs.declared.TnurccVertexEnd.{TnurccVertexEnd}
+use Rattle.edge_ends.specs.declared.TnurccVertexEnd.the-variants.{Origin, Dest}
+use Rattle.edge_ends.specs.declared.TnurccFaceSide.{TnurccFaceSide}
+use Rattle.edge_ends.specs.declared.TnurccFaceSide.the-variants.{Left, Right}
 use Rattle.t_spline.specs.Edge.{none, connectionOf}
 use Rattle.t_spline.specs.declared.TnurccEdge.{TnurccEdge}
-use Rattle.t_spline.specs.declared.TnurccConnection.{TnurccConnection}
-use Rattle.t_spline.specs.declared.TnurccConnection.the-variants.{LeftCw, LeftAcw, RightCw, RightAcw}
-use Rattle.t_spline.specs.declared.TnurccVertexEnd.{TnurccVertexEnd}
-use Rattle.t_spline.specs.declared.TnurccVertexEnd.the-variants.{Origin, Dest}
-use Rattle.t_spline.specs.declared.TnurccFaceSide.{TnurccFaceSide}
-use Rattle.t_spline.specs.declared.TnurccFaceSide.the-variants.{Left, Right}
 use Rattle.t_spline.specs.declared.PointEnd.{PointEnd}
 use Rattle.t_spline.specs.declared.PointEnd.the-variants as PointEnds
 use Rattle.t_spline.specs.declared.FaceSide.{FaceSide}
 use Rattle.t_spline.specs.declared.FaceSide.the-variants as FaceSides
-
-abbrev pub connectionAt : ℕ → TnurccConnection
-connectionAt i = cond (eqb i 0) LeftCw (cond (eqb i 1) LeftAcw (cond (eqb i 2) RightCw RightAcw))
-
-abbrev pub acwAtEnd : TnurccVertexEnd → TnurccConnection
-acwAtEnd Origin = LeftCw
-acwAtEnd Dest = RightCw
-
-abbrev pub cwAtEnd : TnurccVertexEnd → TnurccConnection
-cwAtEnd Origin = RightAcw
-cwAtEnd Dest = LeftAcw
-
-abbrev pub otherEnd : TnurccVertexEnd → TnurccVertexEnd
-otherEnd Origin = Dest
-otherEnd Dest = Origin
-
-abbrev pub acwOnSide : TnurccFaceSide → TnurccConnection
-acwOnSide Left = LeftAcw
-acwOnSide Right = RightAcw
-
-abbrev pub cwOnSide : TnurccFaceSide → TnurccConnection
-cwOnSide Left = LeftCw
-cwOnSide Right = RightCw
-
-abbrev pub firstEnd : TnurccFaceSide → TnurccVertexEnd
-firstEnd Left = Origin
-firstEnd Right = Dest
 
 abbrev pub pointAtEnd : TnurccEdge → TnurccVertexEnd → ℕ
 pointAtEnd e Origin = e .origin

@@ -1,3 +1,2 @@
-pub mod Connection
 pub mod Edge
 pub mod Ends

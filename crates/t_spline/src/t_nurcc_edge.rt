@@ -1,79 +1,17 @@
-// The methods of an edge, by value: its ends, its sides, the choice of a neighbour, and a neighbour set.
+// The methods of an edge, by value: what stands at its ends and sides, its neighbours about them, and a neighbour set.
 ghost use mathlib.Core.Path.{_≡_};
-ghost use Rattle.t_spline.specs.Edge.{connectionOf, withConnection, sameFace, commonFace};
-ghost use Rattle.t_spline.specs.Ends.{acwAtEnd, cwAtEnd, otherEnd, acwOnSide, cwOnSide, firstEnd, pointAtEnd, faceFromSide};
-ghost use Rattle.t_spline.specs.Ends.{endOf, sideOf, acwFromPoint, cwFromPoint, acwFromFace, cwFromFace, commonPoint};
+ghost use Rattle.edge_ends.specs.Ends.{acwAtEnd, cwAtEnd, acwOnSide, cwOnSide};
+ghost use Rattle.t_spline.specs.Edge.{connectionOf, withConnection, commonFace};
+ghost use Rattle.t_spline.specs.Ends.{pointAtEnd, faceFromSide, endOf, sideOf};
+ghost use Rattle.t_spline.specs.Ends.{acwFromPoint, cwFromPoint, acwFromFace, cwFromFace, commonPoint};
 use crate::FaceSide;
-use crate::NONE;
 use crate::PointEnd;
-use crate::TnurccConnection;
 use crate::TnurccEdge;
-use crate::TnurccFaceSide;
-use crate::TnurccVertexEnd;
-
-impl TnurccVertexEnd {
-    // Which neighbour is next anticlockwise about the point at this end.
-    pub fn acw(self) -> TnurccConnection
-        ensures { λ r. ⌜ r ≡ acwAtEnd self ⌝ }
-    {
-        match self {
-            TnurccVertexEnd::Origin => TnurccConnection::LeftCw,
-            TnurccVertexEnd::Dest => TnurccConnection::RightCw,
-        }
-    }
-
-    // Which neighbour is next clockwise about the point at this end.
-    pub fn cw(self) -> TnurccConnection
-        ensures { λ r. ⌜ r ≡ cwAtEnd self ⌝ }
-    {
-        match self {
-            TnurccVertexEnd::Origin => TnurccConnection::RightAcw,
-            TnurccVertexEnd::Dest => TnurccConnection::LeftAcw,
-        }
-    }
-
-    // The other end.
-    pub fn other(self) -> TnurccVertexEnd
-        ensures { λ r. ⌜ r ≡ otherEnd self ⌝ }
-    {
-        match self {
-            TnurccVertexEnd::Origin => TnurccVertexEnd::Dest,
-            TnurccVertexEnd::Dest => TnurccVertexEnd::Origin,
-        }
-    }
-}
-
-impl TnurccFaceSide {
-    // Which neighbour is next anticlockwise about the face on this side.
-    pub fn acw(self) -> TnurccConnection
-        ensures { λ r. ⌜ r ≡ acwOnSide self ⌝ }
-    {
-        match self {
-            TnurccFaceSide::Left => TnurccConnection::LeftAcw,
-            TnurccFaceSide::Right => TnurccConnection::RightAcw,
-        }
-    }
-
-    // Which neighbour is next clockwise about the face on this side.
-    pub fn cw(self) -> TnurccConnection
-        ensures { λ r. ⌜ r ≡ cwOnSide self ⌝ }
-    {
-        match self {
-            TnurccFaceSide::Left => TnurccConnection::LeftCw,
-            TnurccFaceSide::Right => TnurccConnection::RightCw,
-        }
-    }
-
-    // The end at which a walk anticlockwise about the face on this side comes to the edge.
-    pub fn first_end(self) -> TnurccVertexEnd
-        ensures { λ r. ⌜ r ≡ firstEnd self ⌝ }
-    {
-        match self {
-            TnurccFaceSide::Left => TnurccVertexEnd::Origin,
-            TnurccFaceSide::Right => TnurccVertexEnd::Dest,
-        }
-    }
-}
+use edge_ends::NONE;
+use edge_ends::TnurccConnection;
+use edge_ends::TnurccFaceSide;
+use edge_ends::TnurccVertexEnd;
+use edge_ends::same_face;
 
 impl TnurccEdge {
     pub fn connection(self, con: TnurccConnection) -> u32
@@ -237,14 +175,4 @@ impl TnurccEdge {
         }
         NONE
     }
-}
-
-// Whether two sides have a face and it is the same one.
-pub fn same_face(f: u32, g: u32) -> bool
-    ensures { λ r. ⌜ r ≡ sameFace f g ⌝ }
-{
-    if f == NONE {
-        return false;
-    }
-    f == g
 }

@@ -8,7 +8,7 @@
 --     interval m e                             the interval of edge e
 --     faceStart m f                            the start edge of face f
 --     corner m f k                             the corner k of face f, from 0
---     none                                     the mark for no row, which `t_spline` has
+--     none                                     the mark for no row, which `edge_ends` has
 --     edgeTable es                             a mesh of which the table of edges alone is looked at
 --     pointRows edgeRows faceRows m            the lent rows of a kind: as many as all its slices hold whole
 -- A word past the end of its table reads as 0, a number past the end as a NaN.

@@ -1,14 +1,11 @@
 // The first scan of mesh texts 1 and 2 (document 01, "Mesh text"; document 02, §4): whether a text is of the form, what it has, and
 // whether that is within the limits. Nothing is stored.
-// Not here: the grammar (`mesh_text`), the second scan, which stores (`text_reading`).
-// Contracts: `ends`, `sizes`, `within`. Definitions and laws: `mesh_text`.
+// Not here: the grammar (`mesh_text`), the head and the end line (`text_ends`), the second scan, which stores (`text_reading`).
+// Contracts: `sizes`, `within`. Definitions and laws: `mesh_text`.
 ghost use mathlib.Core.Path.{_≡_};
-ghost use Prim.Native.Nat.{_≤_};
-ghost use lib.ListN.{length};
-ghost use Rattle.mesh_text.specs.Text.{headForm, ends, text};
+ghost use Rattle.mesh_text.specs.Text.{text};
 ghost use Rattle.mesh_text.specs.Reading.{within};
-ghost use Rattle.mesh_text.specs.Parts.{headOf, totalOf};
-use built_meshes::Version;
+ghost use Rattle.mesh_text.specs.Parts.{totalOf};
 use face_lines::count_faces;
 use mesh_lines::Lines;
 use mesh_lines::Run;
@@ -16,31 +13,8 @@ use mesh_text::Head;
 use mesh_text::Total;
 use point_lines::count_points;
 use tables::Sizes;
-use text_numbers::stands;
-
-// The head of a text.
-fn read_head(s: &[u8]) -> Head
-    ensures { λ r. ⌜ r ≡ headOf (headForm (now (s .entry)) 0) ⌝ }
-{
-    if stands(s, 0, b"[mesh 1]\n") {
-        return Head::Is(Version::One);
-    }
-    if stands(s, 0, b"[mesh 2]\n") {
-        return Head::Is(Version::Two);
-    }
-    Head::None
-}
-
-// Whether the end line stands at a place and is the last of the text.
-pub fn ends(s: &[u8], at: usize) -> bool
-    requires { ⌜ at ≤ length (now s) ⌝ }
-    ensures { λ r. ⌜ r ≡ ends (now (s .entry)) at ⌝ }
-{
-    if !stands(s, at, b"[end]\n") {
-        return false;
-    }
-    at + 6 == s.len()
-}
+use text_ends::ends;
+use text_ends::read_head;
 
 // The version of a text, and how many points, faces and listed points it has. Its numbers are stored nowhere.
 pub fn sizes(s: &[u8]) -> Total

@@ -26,8 +26,8 @@ use Rattle.refined_meshes.specs.Ring.{Ring, firstHalfOf, secondHalfOf, putJoin,
 use Rattle.refined_meshes.specs.Visits.{foundOn, splitAll, ringOf, putRing, visitAlong, visit}
 use Rattle.splitting.specs.Scratch.{tablesOf, scratch}
 use Rattle.splitting.proofs.Laws.{splitAll-faces}
-use Rattle.ring_places.specs.declared.RingRows.{RingRows}
-use Rattle.ring_places.specs.Rings.{ring}
+use Rattle.ring_rows.specs.declared.RingRows.{RingRows}
+use Rattle.ring_rows.specs.Rings.{ring}
 use Rattle.refined_meshes.proofs.Laws.{visitAlong-same}
 use Rattle.visiting.specs.Visiting.{PlacesLent}
 use Rattle.visiting.proofs.Laws.{border-edges, visitAlong-bare}

@@ -15,8 +15,8 @@ use Rattle.refined_meshes.specs.State.{State, takeRows}
 use Rattle.refined_meshes.specs.Ring.{Ring, putJoin, putFirst, putSecond, putNewFace, putFacePoint}
 use Rattle.refined_meshes.specs.Visits.{putRing}
 use Rattle.refined_meshes.proofs.Turns.{turns-cong, turns-view, getD-filled}
-use Rattle.ring_places.specs.declared.RingRows.{RingRows}
-use Rattle.ring_places.specs.Rings.{ring}
+use Rattle.ring_rows.specs.declared.RingRows.{RingRows}
+use Rattle.ring_rows.specs.Rings.{ring}
 
 module _ {A : Type 0} (n : ℕ) (g : ℕ → A) where
   pub filled-places : (xs ys : List A) (d : A) → n ≤ length xs → n ≤ length ys → (i : ℕ) → i < n

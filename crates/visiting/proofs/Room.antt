@@ -26,7 +26,7 @@ use Rattle.refined_meshes.specs.Visits.{splitAll, ringOf}
 use Rattle.refined_meshes.specs.Fits.{VisitFits, splitSome}
 use Rattle.splitting.specs.Scratch.{tablesOf, scratch, SplitRoom}
 use Rattle.splitting.proofs.Laws.{splitWhole-split, splitWhole-kept, splitAll-none, splitAll-suc, faces-splitAll, points-splitAll-faces, edges-splitAll-faces}
-use Rattle.ring_places.specs.Rings.{EdgesThere}
+use Rattle.ring_rows.specs.Rings.{EdgesThere}
 use Rattle.refined_meshes.proofs.Turns.{getD-filled}
 use Rattle.refined_meshes.proofs.Laws.{splitAll-same}
 use Rattle.visiting.specs.Visiting.{Ceilings, RingFits, AlongFits}

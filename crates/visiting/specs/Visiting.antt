@@ -18,8 +18,8 @@ use Rattle.refined_meshes.specs.State.{State, takeRows}
 use Rattle.refined_meshes.specs.Visits.{splitAll, visits}
 use Rattle.refined_meshes.specs.Fits.{VisitFits}
 use Rattle.splitting.specs.Scratch.{InRows, SplitRoom}
-use Rattle.ring_places.specs.declared.RingRows.{RingRows}
-use Rattle.ring_places.specs.Rings.{Small, EdgesThere}
+use Rattle.ring_rows.specs.declared.RingRows.{RingRows}
+use Rattle.ring_rows.specs.Rings.{Small, EdgesThere}
 use Rattle.refined_meshes.specs.Ring.{firstHalfOf, secondHalfOf}
 
 abbrev pub bare : Mesh → Mesh

@@ -12,13 +12,14 @@ use borrow.Author.Tests.{lt-ltb, eq-eqb, ne-eqb}
 use lib.Dec.{eqb}
 use lib.ListN.{getD}
 use Rattle.t_spline.specs.Edge.{connectionOf}
-use Rattle.t_spline.specs.Ends.{acwAtEnd, otherEnd, acwOnSide, firstEnd, pointAtEnd, endOf, sideOf}
+use Rattle.edge_ends.specs.Ends.{acwAtEnd, otherEnd, acwOnSide, firstEnd}
+use Rattle.t_spline.specs.Ends.{pointAtEnd, endOf, sideOf}
 use Rattle.t_spline.specs.declared.TnurccEdge.{TnurccEdge}
-use Rattle.t_spline.specs.declared.TnurccConnection.{TnurccConnection}
-use Rattle.t_spline.specs.declared.TnurccVertexEnd.{TnurccVertexEnd}
-use Rattle.t_spline.specs.declared.TnurccVertexEnd.the-variants.{Origin, Dest}
-use Rattle.t_spline.specs.declared.TnurccFaceSide.{TnurccFaceSide}
-use Rattle.t_spline.specs.declared.TnurccFaceSide.the-variants.{Left, Right}
+use Rattle.edge_ends.specs.declared.TnurccConnection.{TnurccConnection}
+use Rattle.edge_ends.specs.declared.TnurccVertexEnd.{TnurccVertexEnd}
+use Rattle.edge_ends.specs.declared.TnurccVertexEnd.the-variants.{Origin, Dest}
+use Rattle.edge_ends.specs.declared.TnurccFaceSide.{TnurccFaceSide}
+use Rattle.edge_ends.specs.declared.TnurccFaceSide.the-variants.{Left, Right}
 use Rattle.t_spline.specs.declared.PointEnd.the-variants as PointEnds
 use Rattle.t_spline.specs.declared.FaceSide.the-variants as FaceSides
 use Rattle.tables.specs.Loaded.{edgeWordsAt}

@@ -105,10 +105,20 @@ same-length-3 c =
     c8 .before .before .conclude .kept .1 .1 .1 .0 ∙ enter-faces .kept .1 .1 .1 .1 .1 .1 .0
 
 same-length-4 : tie.Need-same-length-4
-same-length-4 c = search needs
+same-length-4 c =
+    let c8 = c .before .before .before .before .before .before .before .before in
+    let c16 = c8 .before .before .before .before .before .before .before .before in
+    let c24 = c16 .before .before .before .before .before .before .before .before in
+    let enter-faces = c24 .before .before .before .before .before .enter-faces in
+    c8 .before .before .conclude .kept .1 .1 .1 .1 .0 ∙ enter-faces .kept .1 .1 .1 .1 .1 .1 .1 .0
 
 same-length-5 : tie.Need-same-length-5
-same-length-5 c = search needs
+same-length-5 c =
+    let c8 = c .before .before .before .before .before .before .before .before in
+    let c16 = c8 .before .before .before .before .before .before .before .before in
+    let c24 = c16 .before .before .before .before .before .before .before .before in
+    let enter-faces = c24 .before .before .before .before .before .enter-faces in
+    c8 .before .before .conclude .kept .1 .1 .1 .1 .1 .0 ∙ enter-faces .kept .1 .1 .1 .1 .1 .1 .1 .1 .0
 
 same-length-6 : tie.Need-same-length-6
 same-length-6 c =
@@ -138,19 +148,39 @@ returns c =
     (c8 .before .before .conclude .ensures)
 
 same-length-7 : tie.Need-same-length-7
-same-length-7 c = search needs
+same-length-7 c = c .before .before .before .before .before .before .before .before .before .before .zero-rows .kept .1 .0
 
 same-length-8 : tie.Need-same-length-8
-same-length-8 c = search needs
+same-length-8 c =
+    let c8 = c .before .before .before .before .before .before .before .before in
+    let c16 = c8 .before .before .before .before .before .before .before .before in
+    let c24 = c16 .before .before .before .before .before .before .before .before in
+    let enter-faces = c24 .before .before .before .before .before .enter-faces in
+    c8 .before .before .zero-rows .kept .1 .1 .0 ∙ enter-faces .kept .1 .1 .1 .1 .1 .0
 
 same-length-9 : tie.Need-same-length-9
-same-length-9 c = search needs
+same-length-9 c =
+    let c8 = c .before .before .before .before .before .before .before .before in
+    let c16 = c8 .before .before .before .before .before .before .before .before in
+    let c24 = c16 .before .before .before .before .before .before .before .before in
+    let enter-faces = c24 .before .before .before .before .before .enter-faces in
+    c8 .before .before .zero-rows .kept .1 .1 .1 .0 ∙ enter-faces .kept .1 .1 .1 .1 .1 .1 .0
 
 same-length-10 : tie.Need-same-length-10
-same-length-10 c = search needs
+same-length-10 c =
+    let c8 = c .before .before .before .before .before .before .before .before in
+    let c16 = c8 .before .before .before .before .before .before .before .before in
+    let c24 = c16 .before .before .before .before .before .before .before .before in
+    let enter-faces = c24 .before .before .before .before .before .enter-faces in
+    c8 .before .before .zero-rows .kept .1 .1 .1 .1 .0 ∙ enter-faces .kept .1 .1 .1 .1 .1 .1 .1 .0
 
 same-length-11 : tie.Need-same-length-11
-same-length-11 c = search needs
+same-length-11 c =
+    let c8 = c .before .before .before .before .before .before .before .before in
+    let c16 = c8 .before .before .before .before .before .before .before .before in
+    let c24 = c16 .before .before .before .before .before .before .before .before in
+    let enter-faces = c24 .before .before .before .before .before .enter-faces in
+    c8 .before .before .zero-rows .kept .1 .1 .1 .1 .1 .0 ∙ enter-faces .kept .1 .1 .1 .1 .1 .1 .1 .1 .0
 
 same-length-12 : tie.Need-same-length-12
 same-length-12 c =

@@ -5,7 +5,8 @@ use native.Mathlib.Omega.{arith}
 use Prim.Native.Nat.{ℕ, _≤_, _-_, _+_, _*_}
 use mathlib.Core.Path.{_≡_, _∙_, sym, ap₂}
 use Rattle.closed_meshes.specs.Renumbering.{sumTo}
-use Rattle.building_tests.proofs.Laws.{sum-none, sum-more, whole}
+use Rattle.listed_points.proofs.Laws.{whole}
+use Rattle.building_tests.proofs.Laws.{sum-none, sum-more}
 use Rattle.building_lists.proofs.sum_of.Statement.{statement}
 use Rattle.building_lists.proofs.sum_of.Tie as tie
 

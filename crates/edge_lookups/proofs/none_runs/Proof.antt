@@ -9,7 +9,7 @@ use borrow.Author.Needs.{needs}
 use Rattle.perimeters.specs.Places.{nextPlace}
 use Rattle.audited_meshes.specs.Folds.{every}
 use Rattle.audited_meshes.proofs.Folds.{every-none, every-more, every-stop}
-use Rattle.building_tests.proofs.Laws.{whole}
+use Rattle.listed_points.proofs.Laws.{whole}
 use Rattle.edge_lookups.proofs.none_runs.Statement.{statement}
 use Rattle.edge_lookups.proofs.none_runs.Tie as tie
 

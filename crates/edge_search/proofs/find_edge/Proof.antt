@@ -1,7 +1,7 @@
 -- find_edge meets its contract: the search begins with the newest edge of the bucket of the two points.
 use mathlib.Core.Path.{_∙_}
-use Rattle.edge_search.specs.Chains.{bucketOf}
-use Rattle.edge_search.proofs.Chains.{bucketOf-below}
+use Rattle.edge_buckets.specs.Buckets.{bucketOf}
+use Rattle.edge_buckets.proofs.Buckets.{bucketOf-below}
 use borrow.Author.Needs.{needs}
 use Rattle.edge_search.proofs.find_edge.Statement.{statement}
 use Rattle.edge_search.proofs.find_edge.Tie as tie

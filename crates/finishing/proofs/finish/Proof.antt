@@ -9,7 +9,11 @@ use Rattle.finishing.proofs.finish.Statement.{statement}
 use Rattle.finishing.proofs.finish.Tie as tie
 
 make-in-rows-requires : tie.Need-make-in-rows-requires
-make-in-rows-requires c κs = search needs
+make-in-rows-requires c κs =
+    let c8 = c .before .before .before .before .before .before .before .before in
+    let c16 = c8 .before .before .before .before .before .before .before .before in
+    let pre = c16 .before .before .before .before .before .pre in
+    pre
 
 move-rows-requires : tie.Need-move-rows-requires
 move-rows-requires c κs =
@@ -177,19 +181,44 @@ same-length-15 : tie.Need-same-length-15
 same-length-15 c = refl
 
 same-length-16 : tie.Need-same-length-16
-same-length-16 c = search needs
+same-length-16 c =
+    let c8 = c .before .before .before .before .before .before .before .before in
+    let c16 = c8 .before .before .before .before .before .before .before .before in
+    let c24 = c16 .before .before .before .before .before .before .before .before in
+    let make-in-rows = c24 .before .before .before .make-in-rows in
+    c8 .before .before .zero-rows .kept .1 .0 ∙ make-in-rows .kept .1 .1 .1 .1 .1 .1 .1 .1 .0
 
 same-length-17 : tie.Need-same-length-17
-same-length-17 c = search needs
+same-length-17 c =
+    let c8 = c .before .before .before .before .before .before .before .before in
+    let c16 = c8 .before .before .before .before .before .before .before .before in
+    let c24 = c16 .before .before .before .before .before .before .before .before in
+    let make-in-rows = c24 .before .before .before .make-in-rows in
+    c8 .before .before .zero-rows .kept .1 .1 .0 ∙ make-in-rows .kept .1 .1 .1 .1 .1 .1 .1 .1 .1 .0
 
 same-length-18 : tie.Need-same-length-18
-same-length-18 c = search needs
+same-length-18 c =
+    let c8 = c .before .before .before .before .before .before .before .before in
+    let c16 = c8 .before .before .before .before .before .before .before .before in
+    let c24 = c16 .before .before .before .before .before .before .before .before in
+    let make-in-rows = c24 .before .before .before .make-in-rows in
+    c8 .before .before .zero-rows .kept .1 .1 .1 .0 ∙ make-in-rows .kept .1 .1 .1 .1 .1 .1 .1 .1 .1 .1 .0
 
 same-length-19 : tie.Need-same-length-19
-same-length-19 c = search needs
+same-length-19 c =
+    let c8 = c .before .before .before .before .before .before .before .before in
+    let c16 = c8 .before .before .before .before .before .before .before .before in
+    let c24 = c16 .before .before .before .before .before .before .before .before in
+    let make-in-rows = c24 .before .before .before .make-in-rows in
+    c8 .before .before .zero-rows .kept .1 .1 .1 .1 .0 ∙ make-in-rows .kept .1 .1 .1 .1 .1 .1 .1 .1 .1 .1 .1 .0
 
 same-length-20 : tie.Need-same-length-20
-same-length-20 c = search needs
+same-length-20 c =
+    let c8 = c .before .before .before .before .before .before .before .before in
+    let c16 = c8 .before .before .before .before .before .before .before .before in
+    let c24 = c16 .before .before .before .before .before .before .before .before in
+    let make-in-rows = c24 .before .before .before .make-in-rows in
+    c8 .before .before .zero-rows .kept .1 .1 .1 .1 .1 .0 ∙ make-in-rows .kept .1 .1 .1 .1 .1 .1 .1 .1 .1 .1 .1 .1 .0
 
 returns-2 : tie.Need-returns-2
 returns-2 c =

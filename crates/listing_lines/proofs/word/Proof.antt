@@ -10,7 +10,7 @@ use Rattle.listing_lines.proofs.word.Statement.{statement}
 use Rattle.listing_lines.proofs.word.Tie as tie
 use Rattle.listing_lines.proofs.word.Reads as reads
 use Rattle.listing_lines.proofs.word.Lts as lts
-use Rattle.text_numbers.proofs.decimal.Reads as decimal-reads
+use Rattle.number_reading.proofs.decimal.Reads as decimal-reads
 use Rattle.text_numbers.proofs.stands.Reads as stands-reads
 
 -- src/lib.rt:27:23

@@ -10,6 +10,15 @@ use borrow.Author.Needs.{needs}
 use Rattle.numbered_steps.proofs.numbered_step.Statement.{statement}
 use Rattle.numbered_steps.proofs.numbered_step.Tie as tie
 
+slice-aggregate-number-faces : tie.Need-slice-aggregate-number-faces
+slice-aggregate-number-faces c = search needs
+
+number-faces-requires : tie.Need-number-faces-requires
+number-faces-requires c κs = search needs
+
+array-share-prefix-order : tie.Need-array-share-prefix-order
+array-share-prefix-order c = search needs
+
 slice-aggregate-step-by-zeros : tie.Need-slice-aggregate-step-by-zeros
 slice-aggregate-step-by-zeros c =
     let c8 = c .before .before .before .before .before .before .before .before in
@@ -19,6 +28,30 @@ slice-aggregate-step-by-zeros c =
     sym (length-take-le (args .counts .faces) (number-faces .last .0)
     (let e : length (number-faces .last .0) ≡ 64 = ap length (number-faces .ensures) ∙ length-numbered 64 in
     omega (arith, pre)))
+
+step-by-zeros-requires : tie.Need-step-by-zeros-requires
+step-by-zeros-requires c κs = search needs
+
+same-length : tie.Need-same-length
+same-length c = c .before .before .before .before .before .before .before .before .before .before .step-by-zeros .kept .0
+
+same-length-2 : tie.Need-same-length-2
+same-length-2 c = c .before .before .before .before .before .before .before .before .before .before .step-by-zeros .kept .1 .0
+
+same-length-3 : tie.Need-same-length-3
+same-length-3 c = c .before .before .before .before .before .before .before .before .before .before .step-by-zeros .kept .1 .1 .0
+
+same-length-4 : tie.Need-same-length-4
+same-length-4 c =
+    let step-by-zeros =
+    c .before .before .before .before .before .before .before .before .before .before .step-by-zeros in
+    step-by-zeros .kept .1 .1 .1 .0
+
+same-length-5 : tie.Need-same-length-5
+same-length-5 c =
+    let step-by-zeros =
+    c .before .before .before .before .before .before .before .before .before .before .step-by-zeros in
+    step-by-zeros .kept .1 .1 .1 .1 .0
 
 returns : tie.Need-returns
 returns c =
@@ -36,14 +69,14 @@ pub numbered-step-spec : {M : Type 1} → statement M
 numbered-step-spec =
     tie.close
     (tie.spec
-    (λ c. search needs)
-    (λ c κs. search needs)
-    (λ c. search needs)
+    slice-aggregate-number-faces
+    number-faces-requires
+    array-share-prefix-order
     slice-aggregate-step-by-zeros
-    (λ c κs. search needs)
-    (λ c. search needs)
-    (λ c. search needs)
-    (λ c. search needs)
-    (λ c. search needs)
-    (λ c. search needs)
+    step-by-zeros-requires
+    same-length
+    same-length-2
+    same-length-3
+    same-length-4
+    same-length-5
     returns)

@@ -1,7 +1,7 @@
 -- put_new_faces meets its contract. The invariant: the first i turns are made; the measure is what is left of n.
 use Rattle.ring_faces.proofs.Writing.{faces-fit}
 use Rattle.refined_meshes.proofs.Turns.{turns-none, turns-turn, turns-end}
-use Rattle.ring_places.specs.Rings.{ring}
+use Rattle.ring_rows.specs.Rings.{ring}
 use Rattle.splitting.specs.Scratch.{tablesOf}
 use Rattle.refined_meshes.specs.Ring.{putNewFace}
 use Rattle.refined_meshes.specs.State.{State}

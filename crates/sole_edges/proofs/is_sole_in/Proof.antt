@@ -11,7 +11,8 @@ use lib.ListN.{length}
 use Rattle.tables.specs.Mesh.{start}
 use Rattle.tables.specs.Parts.{pointTables}
 use Rattle.walks.specs.Steps.{pointStep}
-use Rattle.sole_edges.proofs.Walking.{Walking, noted-length, walking-start, walking-lost, walking-next, walking-stop, walking-home, walking-early, walking-late, step-made, step-lost}
+use Rattle.sole_edges.proofs.Walking.{Walking, noted-length, walking-start, walking-lost, walking-next, walking-stop, walking-home, walking-early, walking-late}
+use Rattle.few_edges.proofs.Steps.{step-made, step-lost}
 use Rattle.sole_edges.proofs.is_sole_in.Statement.{statement}
 use Rattle.sole_edges.proofs.is_sole_in.Tie as tie
 

@@ -3,7 +3,9 @@ use Rattle.step_parts.proofs.FirstRows.{first-rows-back, zeroed-rows-ba
 use Rattle.making.specs.Making.{madeAs}
 use Rattle.tables.specs.Counted.{firstRows}
 use Rattle.tables.specs.Mesh.{Mesh, meshOf}
-use lib.Seq.{length-take-le}
+use Rattle.tables.specs.Layout.{pointWidth, edgeWidth, faceWidth}
+use lib.Seq.{length-front, length-take-le}
+use Prim.Native.Nat.{_*_}
 use native.Mathlib.Omega.{arith}
 use mathlib.Core.Path.{sym, _∙_, ap}
 use borrow.Author.Needs.{needs}
@@ -67,7 +69,11 @@ slice-aggregate-make-5 c =
     sym (length-take-le _ (args .faces .now) (pre .rows .faces))
 
 slice-relend-prefix-make : tie.Need-slice-relend-prefix-make
-slice-relend-prefix-make c = search needs
+slice-relend-prefix-make c =
+    let c8 = c .before .before .before .before .before .before .before .before in
+    let c16 = c8 .before .before .before .before .before .before .before .before in
+    let pre = c16 .before .before .before .before .before .before .pre in
+    pre .scratch .positions
 
 slice-aggregate-make-6 : tie.Need-slice-aggregate-make-6
 slice-aggregate-make-6 c =
@@ -78,7 +84,11 @@ slice-aggregate-make-6 c =
     sym (length-take-le _ (args .newpositions .now) (pre .scratch .positions))
 
 slice-relend-prefix-make-2 : tie.Need-slice-relend-prefix-make-2
-slice-relend-prefix-make-2 c = search needs
+slice-relend-prefix-make-2 c =
+    let c8 = c .before .before .before .before .before .before .before .before in
+    let c16 = c8 .before .before .before .before .before .before .before .before in
+    let pre = c16 .before .before .before .before .before .before .before .pre in
+    pre .scratch .points
 
 slice-aggregate-make-7 : tie.Need-slice-aggregate-make-7
 slice-aggregate-make-7 c =
@@ -89,7 +99,11 @@ slice-aggregate-make-7 c =
     sym (length-take-le _ (args .newpoints .now) (pre .scratch .points))
 
 slice-relend-prefix-make-3 : tie.Need-slice-relend-prefix-make-3
-slice-relend-prefix-make-3 c = search needs
+slice-relend-prefix-make-3 c =
+    let c8 = c .before .before .before .before .before .before .before .before in
+    let c16 = c8 .before .before .before .before .before .before .before .before in
+    let pre = c16 .before .before .before .before .before .before .before .before .pre in
+    pre .scratch .edges
 
 slice-aggregate-make-8 : tie.Need-slice-aggregate-make-8
 slice-aggregate-make-8 c =
@@ -99,7 +113,11 @@ slice-aggregate-make-8 c =
     sym (length-take-le _ (c24 .before .args .newedges .now) (c24 .before .pre .scratch .edges))
 
 slice-relend-prefix-make-4 : tie.Need-slice-relend-prefix-make-4
-slice-relend-prefix-make-4 c = search needs
+slice-relend-prefix-make-4 c =
+    let c8 = c .before .before .before .before .before .before .before .before in
+    let c16 = c8 .before .before .before .before .before .before .before .before in
+    let c24 = c16 .before .before .before .before .before .before .before .before in
+    c24 .before .pre .scratch .intervals
 
 slice-aggregate-make-9 : tie.Need-slice-aggregate-make-9
 slice-aggregate-make-9 c =
@@ -109,7 +127,11 @@ slice-aggregate-make-9 c =
     sym (length-take-le _ (c24 .before .before .args .newintervals .now) (c24 .before .before .pre .scratch .intervals))
 
 slice-relend-prefix-make-5 : tie.Need-slice-relend-prefix-make-5
-slice-relend-prefix-make-5 c = search needs
+slice-relend-prefix-make-5 c =
+    let c8 = c .before .before .before .before .before .before .before .before in
+    let c16 = c8 .before .before .before .before .before .before .before .before in
+    let c24 = c16 .before .before .before .before .before .before .before .before in
+    c24 .before .before .pre .scratch .faces
 
 slice-aggregate-make-10 : tie.Need-slice-aggregate-make-10
 slice-aggregate-make-10 c =
@@ -130,19 +152,59 @@ make-requires c κs =
     pre .ready
 
 same-length : tie.Need-same-length
-same-length c = search needs
+same-length c =
+    let c8 = c .before .before .before .before .before .before .before .before in
+    let c16 = c8 .before .before .before .before .before .before .before .before in
+    let c24 = c16 .before .before .before .before .before .before .before .before in
+    let c32 = c24 .before .before .before .before .before .before .before .before in
+    let args = c32 .before .before .before .before .before .before .args in
+    let make = c8 .before .before .make in
+    length-front (args .newpositions .now) (make .last .1 .1 .1 .1 .1 .1 .1 .0) (args .c .points * pointWidth)
+    (make .kept .1 .1 .1 .1 .1 .1 .1 .0)
 
 same-length-2 : tie.Need-same-length-2
-same-length-2 c = search needs
+same-length-2 c =
+    let c8 = c .before .before .before .before .before .before .before .before in
+    let c16 = c8 .before .before .before .before .before .before .before .before in
+    let c24 = c16 .before .before .before .before .before .before .before .before in
+    let c32 = c24 .before .before .before .before .before .before .before .before in
+    let args = c32 .before .before .before .before .before .before .args in
+    let make = c8 .before .before .make in
+    length-front (args .newpoints .now) (make .last .1 .1 .1 .1 .1 .1 .1 .1 .0) (args .c .points * pointWidth)
+    (make .kept .1 .1 .1 .1 .1 .1 .1 .1 .0)
 
 same-length-3 : tie.Need-same-length-3
-same-length-3 c = search needs
+same-length-3 c =
+    let c8 = c .before .before .before .before .before .before .before .before in
+    let c16 = c8 .before .before .before .before .before .before .before .before in
+    let c24 = c16 .before .before .before .before .before .before .before .before in
+    let c32 = c24 .before .before .before .before .before .before .before .before in
+    let args = c32 .before .before .before .before .before .before .args in
+    let make = c8 .before .before .make in
+    length-front (args .newedges .now) (make .last .1 .1 .1 .1 .1 .1 .1 .1 .1 .0) (args .c .edges * edgeWidth)
+    (make .kept .1 .1 .1 .1 .1 .1 .1 .1 .1 .0)
 
 same-length-4 : tie.Need-same-length-4
-same-length-4 c = search needs
+same-length-4 c =
+    let c8 = c .before .before .before .before .before .before .before .before in
+    let c16 = c8 .before .before .before .before .before .before .before .before in
+    let c24 = c16 .before .before .before .before .before .before .before .before in
+    let c32 = c24 .before .before .before .before .before .before .before .before in
+    let args = c32 .before .before .before .before .before .before .args in
+    let make = c8 .before .before .make in
+    length-front (args .newintervals .now) (make .last .1 .1 .1 .1 .1 .1 .1 .1 .1 .1 .0) (args .c .edges)
+    (make .kept .1 .1 .1 .1 .1 .1 .1 .1 .1 .1 .0)
 
 same-length-5 : tie.Need-same-length-5
-same-length-5 c = search needs
+same-length-5 c =
+    let c8 = c .before .before .before .before .before .before .before .before in
+    let c16 = c8 .before .before .before .before .before .before .before .before in
+    let c24 = c16 .before .before .before .before .before .before .before .before in
+    let c32 = c24 .before .before .before .before .before .before .before .before in
+    let args = c32 .before .before .before .before .before .before .args in
+    let make = c8 .before .before .make in
+    length-front (args .newfaces .now) (make .last .1 .1 .1 .1 .1 .1 .1 .1 .1 .1 .1 .0) (args .c .faces * faceWidth)
+    (make .kept .1 .1 .1 .1 .1 .1 .1 .1 .1 .1 .1 .0)
 
 returns : tie.Need-returns
 unfolding firstRows

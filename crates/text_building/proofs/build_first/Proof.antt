@@ -7,6 +7,12 @@ use borrow.Author.Needs.{needs}
 use Rattle.text_building.proofs.build_first.Statement.{statement}
 use Rattle.text_building.proofs.build_first.Tie as tie
 
+mul-a : tie.Need-mul-a
+mul-a c = search needs
+
+mul-b : tie.Need-mul-b
+mul-b c = search needs
+
 slice-aggregate-build : tie.Need-slice-aggregate-build
 slice-aggregate-build c =
     let c8 = c .before .before .before .before .before .before .before .before in
@@ -42,6 +48,37 @@ slice-aggregate-build-5 c =
     let pre = c8 .before .before .before .before .before .before .before .pre in
     sym (length-take-le (args .n) (args .beside .now) (pre .1 .1 .1 .0))
 
+build-requires : tie.Need-build-requires
+build-requires c κs = tt
+
+told-requires : tie.Need-told-requires
+told-requires c κs = tt
+
+same-length : tie.Need-same-length
+same-length c =
+    let build = c .before .before .before .before .before .before .before .before .before .before .before .build in
+    build .kept .1 .1 .1 .1 .1 .1 .0
+
+same-length-2 : tie.Need-same-length-2
+same-length-2 c =
+    let build = c .before .before .before .before .before .before .before .before .before .before .before .build in
+    build .kept .1 .1 .1 .1 .1 .1 .1 .0
+
+same-length-3 : tie.Need-same-length-3
+same-length-3 c =
+    let build = c .before .before .before .before .before .before .before .before .before .before .before .build in
+    build .kept .1 .1 .1 .1 .1 .1 .1 .1 .0
+
+same-length-4 : tie.Need-same-length-4
+same-length-4 c =
+    let build = c .before .before .before .before .before .before .before .before .before .before .before .build in
+    build .kept .1 .1 .1 .1 .1 .1 .1 .1 .1 .0
+
+same-length-5 : tie.Need-same-length-5
+same-length-5 c =
+    let build = c .before .before .before .before .before .before .before .before .before .before .before .build in
+    build .kept .1 .1 .1 .1 .1 .1 .1 .1 .1 .1 .0
+
 returns : tie.Need-returns
 returns c =
     let build = c .before .before .before .before .before .before .before .before .before .before .before .build in
@@ -51,18 +88,18 @@ pub build-first-spec : {M : Type 1} → statement M
 build-first-spec =
     tie.close
     (tie.spec
-    (λ c. search needs)
-    (λ c. search needs)
+    mul-a
+    mul-b
     slice-aggregate-build
     slice-aggregate-build-2
     slice-aggregate-build-3
     slice-aggregate-build-4
     slice-aggregate-build-5
-    (λ c κs. search needs)
-    (λ c κs. search needs)
-    (λ c. search needs)
-    (λ c. search needs)
-    (λ c. search needs)
-    (λ c. search needs)
-    (λ c. search needs)
+    build-requires
+    told-requires
+    same-length
+    same-length-2
+    same-length-3
+    same-length-4
+    same-length-5
     returns)

@@ -1,18 +1,17 @@
 -- read_and_build meets its contract: of a text that is read, the first entries of the lists are those of the text.
 use Rattle.tables.specs.Mesh.{meshOf}
 use Rattle.text_building.proofs.Laws.{not-text, over-limits, fits, first-entries}
-use borrow.Author.Needs.{needs}
 use Rattle.text_building.proofs.read_and_build.Statement.{statement}
 use Rattle.text_building.proofs.read_and_build.Tie as tie
 
 most-requires : tie.Need-most-requires
-most-requires c κs = search needs
+most-requires c κs = tt
 
 read-text-requires : tie.Need-read-text-requires
-read-text-requires c κs = search needs
+read-text-requires c κs = tt
 
 enum-known-version : tie.Need-enum-known-version
-enum-known-version c = search needs
+enum-known-version c = c .match .keys1
 
 build-first-requires : tie.Need-build-first-requires
 build-first-requires c κs =
@@ -37,10 +36,10 @@ build-first-requires c κs =
     (h .coordinates, (h .lengths, (h .listed, (h .intervals, h .firsts))))
 
 enum-told : tie.Need-enum-told
-enum-told c = search needs
+enum-told c = c .match .keys2
 
 enum-told-2 : tie.Need-enum-told-2
-enum-told-2 c = search needs
+enum-told-2 c = c .match .keys3
 
 same-length : tie.Need-same-length
 same-length c =

@@ -9,7 +9,7 @@ use Rattle.text_places.proofs.spot_in.Tie as tie
 use Rattle.text_places.proofs.spot_in.Reads as reads
 use Rattle.text_places.proofs.spot_in.Lts as lts
 use Rattle.building_lists.proofs.counts_fit.Reads as counts-fit-reads
-use Rattle.building_lists.proofs.numbers_fit.Reads as numbers-fit-reads
+use Rattle.list_numbers.proofs.numbers_fit.Reads as numbers-fit-reads
 use Rattle.text_places.proofs.first_spot.Reads as first-spot-reads
 
 -- src/lib.rt:85:9

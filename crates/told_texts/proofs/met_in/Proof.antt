@@ -13,7 +13,7 @@ use Rattle.told_texts.proofs.met_in.Tie as tie
 use Rattle.told_texts.proofs.met_in.Reads as reads
 use Rattle.told_texts.proofs.met_in.Lts as lts
 use Rattle.building_lists.proofs.counts_fit.Reads as counts-fit-reads
-use Rattle.building_lists.proofs.numbers_fit.Reads as numbers-fit-reads
+use Rattle.list_numbers.proofs.numbers_fit.Reads as numbers-fit-reads
 use Rattle.told_texts.proofs.faces_and_whole.Reads as faces-and-whole-reads
 
 -- src/lib.rt:125:9

@@ -1,5 +1,5 @@
 -- put_ring_edges meets its contract: three loops, one after the other.
-use Rattle.ring_places.specs.Rings.{ring}
+use Rattle.ring_rows.specs.Rings.{ring}
 use Rattle.refined_meshes.specs.Ring.{putFirst, putSecond}
 use Rattle.refined_meshes.specs.Turns.{turns}
 use Rattle.tables.specs.Parts.{faceTables}

@@ -1,6 +1,6 @@
 -- acw_of_point meets its contract: its test is the definition's.
 use borrow.Author.Needs.{needs}
-use Rattle.t_spline.specs.Ends.{acwAtEnd}
+use Rattle.edge_ends.specs.Ends.{acwAtEnd}
 use Rattle.walks.proofs.FromEdge.{at-origin, at-dest}
 use Rattle.walks.proofs.acw_of_point.Statement.{statement}
 use Rattle.walks.proofs.acw_of_point.Tie as tie

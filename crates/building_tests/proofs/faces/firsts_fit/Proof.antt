@@ -12,7 +12,8 @@ use Rattle.built_meshes.specs.Faces.{sideFrom, firstsFit}
 use Rattle.built_meshes.specs.declared.Version.the-variants.{Two}
 use Rattle.building_tests.specs.Lent.{listsIn}
 use Rattle.audited_meshes.proofs.Folds.{every-none, every-more, every-stop}
-use Rattle.building_tests.proofs.Laws.{whole, from-more, from-below, fits, fits-read}
+use Rattle.listed_points.proofs.Laws.{whole}
+use Rattle.building_tests.proofs.Laws.{from-more, from-below, fits, fits-read}
 use Rattle.building_tests.proofs.faces.firsts_fit.Statement.{statement}
 use Rattle.building_tests.proofs.faces.firsts_fit.Tie as tie
 use Rattle.building_tests.proofs.faces.firsts_fit.Reads as reads

@@ -6,7 +6,8 @@ use native.Mathlib.Omega.{arith}
 use Prim.Native.Nat.{_≤_, _-_, _+_}
 use mathlib.Core.Path.{_≡_, _∙_, sym, ap}
 use Rattle.built_meshes.specs.Faces.{sideSum}
-use Rattle.building_tests.proofs.Laws.{sideSum-none, sideSum-more, whole}
+use Rattle.listed_points.proofs.Laws.{whole}
+use Rattle.building_tests.proofs.Laws.{sideSum-none, sideSum-more}
 use Rattle.building_tests.proofs.faces.side_sum.Statement.{statement}
 use Rattle.building_tests.proofs.faces.side_sum.Tie as tie
 

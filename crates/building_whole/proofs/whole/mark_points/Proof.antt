@@ -5,7 +5,7 @@ use native.Mathlib.Omega.{arith}
 use Prim.Native.Nat.{_≤_, _-_}
 use mathlib.Core.Path.{_≡_, refl, sym}
 use Rattle.built_meshes.specs.Whole.{marked}
-use Rattle.building_tests.proofs.Laws.{whole}
+use Rattle.listed_points.proofs.Laws.{whole}
 use Rattle.building_whole.proofs.Laws.{marked-none, marked-more}
 use Rattle.building_whole.proofs.whole.mark_points.Statement.{statement}
 use Rattle.building_whole.proofs.whole.mark_points.Tie as tie

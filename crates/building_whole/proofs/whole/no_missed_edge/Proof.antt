@@ -13,7 +13,7 @@ use mathlib.Core.Bool.{Bool, true, not}
 use mathlib.Core.Path.{_≡_, _∙_, sym}
 use Rattle.audited_meshes.specs.Folds.{every}
 use Rattle.audited_meshes.proofs.Folds.{every-none, every-more, every-stop}
-use Rattle.building_tests.proofs.Laws.{whole}
+use Rattle.listed_points.proofs.Laws.{whole}
 use Rattle.building_whole.proofs.whole.no_missed_edge.Statement.{statement}
 use Rattle.building_whole.proofs.whole.no_missed_edge.Tie as tie
 

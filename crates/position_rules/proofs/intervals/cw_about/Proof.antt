@@ -1,7 +1,7 @@
 -- cw_about meets its contract: the two answers are the two cases of the definition.
 use mathlib.Core.Path.{_∙_}
 use borrow.Author.Needs.{needs}
-use Rattle.t_spline.specs.Ends.{cwAtEnd}
+use Rattle.edge_ends.specs.Ends.{cwAtEnd}
 use Rattle.walks.proofs.FromEdge.{at-origin, at-dest}
 use Rattle.position_rules.specs.Intervals.{cwAbout}
 use Rattle.position_rules.proofs.intervals.cw_about.Statement.{statement}

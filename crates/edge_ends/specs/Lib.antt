@@ -1,0 +1,3 @@
+pub mod Connection
+pub mod Ends
+pub mod Faces
