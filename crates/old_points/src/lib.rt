@@ -1,6 +1,7 @@
 // The old point (document 01, "One refinement"): equations 16 to 19.
 // Carries over the third loop of `global_subdivide` in t_nurcc/mod.rs, one point at a time, each operation rounded in the Rust's order.
-// Not here: face points (`face_points`), edge points (`edge_points`), the rows of the new points (`placing`).
+// Not here: the face between two edges (`common_faces`), where the point goes by the sum (`old_places`), face points (`face_points`), edge
+// points (`edge_points`), the rows of the new points (`placing`).
 // Contract: `old_point`. Definitions: `position_rules`, specs/OldPoint.antt.
 ghost use mathlib.Core.Path.{_≡_};
 ghost use Prim.Native.Nat.{_+_, _*_, _≤_};
