@@ -4,6 +4,7 @@
 // Not here: what is asked (`audited_meshes`: `audit`, and its quick form, which this code follows), the tests of its rows and
 // walks (`audit_tests`, `audit_edges`, `face_rows`, `audit_faces`, `sole_edges`).
 // Contract: `audit`. Definitions: `specs/Parts.antt`. Laws: `proofs/Whole.antt`.
+#![tactic(auto)]
 ghost use Rattle.std.specs.Prelude.{◌≡◌, [], ℕ, ◌*◌, ◌≤◌, ◌<◌, length};
 ghost use Rattle.tables.specs.Layout.{position_width, point_width, edge_width, face_width};
 ghost use Rattle.tables.specs.Mesh.{valence, mesh_of};

@@ -6,6 +6,7 @@
 // Not here: the steps by the side and by the end (`walks`), the walks (`audit_faces`, `few_edges`).
 // Contracts: `linked_face_step`, `linked_point_step`, `is_new`. Definitions: `specs/Linked.antt`, `specs/Noted.antt`. Laws for callers:
 // `proofs/Linked.antt`, `proofs/Noted.antt`.
+#![tactic(auto)]
 ghost use Rattle.std.specs.Prelude.{◌≡◌, cond, ◌+◌, ◌*◌, ◌≤◌, eqb, length, set};
 ghost use Rattle.tables.specs.Layout.{edge_width};
 ghost use Rattle.audit_steps.specs.Linked.{linked_face_step, linked_point_step};

@@ -2,4 +2,5 @@
 // Not here: the walks about points (`sole_edges`), the tests about edges (`audit_edges`) and faces (`audit_faces`), the audit made of
 // them (`audit`), what is asked (`audited_meshes`).
 // Definitions, of all of them: `specs/Parts.antt`. Laws for all of them: `proofs/Laws.antt`.
+#![tactic(auto)]
 pub mod points;

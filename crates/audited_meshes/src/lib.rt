@@ -8,3 +8,4 @@
 // Proofs: `audit-is-audited` in `proofs/Audited.antt`, `quick-is-audit` in `proofs/Quick.antt`, `audit-is-closed` in
 // `proofs/Holds.antt`. Laws for callers: `proofs/Tests.antt`, `proofs/Walks.antt`, `proofs/Audited.antt`, and of closed meshes
 // `closed-rows` in `proofs/Closed.antt`. Computed meshes: `mesh_cases`.
+#![tactic(auto)]

@@ -1,6 +1,7 @@
 // How building ends when all faces stand: by the verdict on the whole the tables are finished, or their counted rows made zero.
 // Not here: the verdict itself (`building_whole`), what comes before (`building`).
 // Contract: `conclude`. Definition: `specs/Concluding.antt`.
+#![tactic(auto)]
 ghost use Rattle.std.specs.Prelude.{◌≡◌, ◌*◌, ◌/◌, ◌≤◌, length};
 ghost use Rattle.tables.specs.Layout.{position_width, point_width, edge_width, face_width};
 ghost use Rattle.tables.specs.Mesh.{mesh_of};

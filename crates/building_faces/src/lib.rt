@@ -4,6 +4,7 @@
 // Not here: the places stepped (`perimeters`), where the interval of an edge is written (`interval_places`), the grounds of the lists
 // and of the whole (`building_lists`, `list_numbers`, `building_whole`).
 // Definitions: `Perimeters` and `Building` of `built_meshes`; `specs/Rings.antt`. Laws: `proofs/Turns.antt`.
+#![tactic(auto)]
 ghost use Rattle.std.specs.Prelude.{◌≡◌, List, [], ℕ, ◌+◌, ◌*◌, ◌/◌, ◌≤◌, ◌<◌, Float, length};
 ghost use Rattle.built_meshes.specs.Lists.{offset, general_limits};
 ghost use Rattle.built_meshes.specs.Perimeters.{FaceState, BuildState, Progress, on, turn, places, closed_up};
@@ -26,7 +27,7 @@ use t_spline::TnurccFace;
 use tables::index;
 
 // A perimeter under way: how many edges there are, the perimeter's first edge and the one of the place before.
-#[derive(Drop)]
+#[derive(Clone, Copy)]
 pub struct RingEdges {
     pub edges: u32,
     pub first: u32,
@@ -34,14 +35,14 @@ pub struct RingEdges {
 }
 
 // What a turn answers.
-#[derive(Drop)]
+#[derive(Clone, Copy)]
 pub enum Turned {
     On(RingEdges),
     Stopped(Ground),
 }
 
 // What a face answers: how many edges there are then, or the ground.
-#[derive(Drop)]
+#[derive(Clone, Copy)]
 pub enum Faced {
     On(u32),
     Stopped(Ground),

@@ -2,6 +2,7 @@
 // Not here: the tests of the listed points (`listed_points`), whether the sums of sides agree (`side_sums`), grounds 2 and 3
 // (`building_lists`, `list_numbers`), 4 (`counted_rows`), 14 and 15 (`edge_search`), 20 to 22 (`building_whole`).
 // Definitions: `Faces` of `built_meshes`; `specs/Lent.antt`. Laws for callers: `proofs/Laws.antt`.
+#![tactic(auto)]
 ghost use Rattle.std.specs.Prelude.{◌≡◌};
 ghost use Rattle.building_tests.specs.Lent.{limits_of};
 
@@ -24,7 +25,7 @@ pub const REFINE_FACES: usize = 64;
 pub const REFINE_LISTED: usize = 256;
 
 // Which limits hold: those of building, or those of the program `refine`.
-#[derive(Drop)]
+#[derive(Clone, Copy)]
 pub enum Bounds {
     General,
     Refine,

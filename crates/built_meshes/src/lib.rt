@@ -8,18 +8,19 @@
 // Claims: `specs/Claims.antt`, over `specs/Grounds.antt` (when each ground is met, of the places of `specs/Places.antt`, and their
 // order) and `specs/Beyond.antt` (the rows that are never touched), and `specs/Builds.antt` (what an accepted build leaves), proved
 // in `proofs/Theorem.antt`. What else is claimed of building, and pieces that are computed, stand in `building_claims`.
+#![tactic(auto)]
 use tables::Counts;
 
 // The version of lists, which is that of the mesh text they stand for (document 02, §4). The versions differ at three places: which
 // interval an edge takes, whether the first points of the sides are looked at, and how the side sums are compared.
-#[derive(Drop)]
+#[derive(Clone, Copy)]
 pub enum Version {
     One,
     Two,
 }
 
 // Why building refuses. Document 01's number stands beside each.
-#[derive(Drop)]
+#[derive(Clone, Copy)]
 pub enum Ground {
     // 2: over the limits, or list lengths disagree
     OverCounts,
@@ -50,21 +51,21 @@ pub enum Ground {
 }
 
 // What a test of grounds says.
-#[derive(Drop)]
+#[derive(Clone, Copy)]
 pub enum Verdict {
     Fit,
     Unfit(Ground),
 }
 
 // The answer of building: how many points, edges and faces the mesh has, or the ground.
-#[derive(Drop)]
+#[derive(Clone, Copy)]
 pub enum Built {
     Accepted(Counts),
     Refused(Ground),
 }
 
 // The edge that joins two points, if there is one.
-#[derive(Drop)]
+#[derive(Clone, Copy)]
 pub enum Found {
     At(u32),
     Nothing,

@@ -25,3 +25,4 @@
 // start darts are settled by the mesh (proofs/Unique.antt); injective numbers in range are a numbering (proofs/Counting.antt); counts
 // of rows (proofs/Counts.antt); any numbering makes a step (proofs/Runs.antt). An instance: two triangles back to back
 // (proofs/Cases.antt).
+#![tactic(auto)]

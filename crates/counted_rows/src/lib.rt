@@ -1,6 +1,7 @@
 // The rows that a mesh with given counts takes in five tables: whether they are there, and made zero.
 // Not here: the rows moved over those of other tables (`row_moves`).
 // Contracts: `rows_for`, `zero_rows`. Definitions: `tables`, specs/Counted.antt.
+#![tactic(auto)]
 ghost use Rattle.std.specs.Prelude.{◌≡◌, ◌*◌, ◌≤◌, length};
 ghost use Rattle.tables.specs.Layout.{position_width, point_width, edge_width, face_width};
 ghost use Rattle.tables.specs.Mesh.{Mesh, mesh_of};

@@ -2,9 +2,10 @@
 // Not here: the code that finds (`depth_finder`).
 // Definitions: `specs/Crossings.antt`. Claims: `specs/Claims.antt`, proved in `proofs/Theorem.antt` over `proofs/First.antt` (the first
 // number that passes a test) and `proofs/Joined.antt` (chains of edges); computed meshes: `mesh_cases`.
+#![tactic(auto)]
 
 // The answer of the depth finder: the first edge that crosses the depth, or the ground. Its number stands beside each ground.
-#[derive(Drop)]
+#[derive(Clone, Copy)]
 pub enum Crossing {
     At(usize),
     // 42: the depth is not finite

@@ -1,6 +1,7 @@
 // The bucket that two points choose, in whose chain the edge between them is found.
 // Not here: the chains, and the search along them (`edge_search`).
 // Contract: `bucket`. Definitions: `specs/Buckets.antt`. Laws: `proofs/Buckets.antt`.
+#![tactic(auto)]
 ghost use Rattle.std.specs.Prelude.{◌≡◌, ◌<◌};
 ghost use Rattle.edge_buckets.specs.Buckets.{buckets, bucket_of};
 

@@ -3,6 +3,7 @@
 // Carries over these enums of t_spline/mod.rs, and their methods of t_nurcc_edge/mod.rs.
 // Not here: edges (`t_spline`).
 // Contracts cite `specs/Connection.antt`, `specs/Ends.antt` and `specs/Faces.antt`. Laws for callers: `proofs/Laws.antt`.
+#![tactic(auto)]
 ghost use Rattle.std.specs.Prelude.{◌≡◌};
 ghost use Rattle.edge_ends.specs.Connection.{index_of, connection_at};
 ghost use Rattle.edge_ends.specs.Ends.{acw_at_end, cw_at_end, other_end, acw_on_side, cw_on_side, first_end};
@@ -12,7 +13,7 @@ ghost use Rattle.edge_ends.specs.Faces.{same_face};
 pub const NONE: u32 = 4294967295;
 
 // Which of an edge's four neighbours is meant.
-#[derive(Drop)]
+#[derive(Clone, Copy)]
 pub enum TnurccConnection {
     LeftCw,
     LeftAcw,
@@ -21,14 +22,14 @@ pub enum TnurccConnection {
 }
 
 // An end of an edge.
-#[derive(Drop)]
+#[derive(Clone, Copy)]
 pub enum TnurccVertexEnd {
     Origin,
     Dest,
 }
 
 // A side of an edge, seen from its origin towards its destination.
-#[derive(Drop)]
+#[derive(Clone, Copy)]
 pub enum TnurccFaceSide {
     Left,
     Right,

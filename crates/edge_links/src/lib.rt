@@ -2,6 +2,7 @@
 // Carries over the part of `connect` of t_nurcc_edge/mod.rs that looks at no table.
 // Not here: connecting two rows of a table (`t_nurcc_edge`).
 // Contracts cite `specs/Connect.antt` and `specs/Joinable.antt`. Laws of the table: `proofs/LinkTable.antt`.
+#![tactic(auto)]
 ghost use Rattle.std.specs.Prelude.{◌≡◌};
 ghost use Rattle.edge_links.specs.Connect.{links_of, vertex_state, with_links, served, connected};
 ghost use Rattle.edge_links.specs.Joinable.{share_face, joinable};
@@ -10,14 +11,14 @@ use edge_ends::{TnurccConnection, same_face};
 use t_spline::TnurccEdge;
 
 // The links that two states set: the first edge's and the other's.
-#[derive(Drop)]
+#[derive(Clone, Copy)]
 pub enum Links {
     Both(TnurccConnection, TnurccConnection),
     Mismatch,
 }
 
 // Two edges that are connected to each other.
-#[derive(Drop)]
+#[derive(Clone, Copy)]
 pub struct Pair {
     pub first: TnurccEdge,
     pub other: TnurccEdge,

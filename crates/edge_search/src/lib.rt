@@ -4,6 +4,7 @@
 // however many edges the points have.
 // Not here: which bucket two points choose (`edge_buckets`), a whole perimeter (`building_faces`).
 // Definitions: `specs/Chains.antt`, `specs/Places.antt`, and `Perimeters` of `built_meshes`. Laws: `proofs/Chains.antt`.
+#![tactic(auto)]
 ghost use Rattle.std.specs.Prelude.{◌≡◌, cond, ◌&&◌, List, ℕ, ◌+◌, ◌*◌, ◌≤◌, ◌<◌, eqb, Float, length, get_or};
 ghost use Rattle.tables.specs.Layout.{point_width, edge_width};
 ghost use Rattle.tables.specs.Mesh.{Mesh, mesh_of, none, edge_table};
@@ -20,7 +21,7 @@ use t_spline::TnurccEdge;
 use tables::{DEST_WORD, EDGE_WIDTH, POINT_WIDTH, RIGHT_FACE_WORD, START_WORD, index};
 
 // What entering a place of a perimeter answers: how many edges there are then and the place's edge, or the ground.
-#[derive(Drop)]
+#[derive(Clone, Copy)]
 pub enum Entry {
     Made { edges: u32, edge: u32 },
     Refused(Ground),

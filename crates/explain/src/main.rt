@@ -3,6 +3,7 @@
 // The answer is that of `text_answer` or `listing_answer` (`explain_answers`), the place that of `text_place` (`text_places`), the points of an edge
 // and the face that runs it before those of `text_edge` (`text_edges`), the words are those of `explain_words`. No contract can say what is read and
 // written. A read or a write that fails is said on standard error (`streams`).
+#![tactic(auto)]
 use answer_numbers::ground_number;
 use building_tests::Bounds;
 use explain_answers::{listing_answer, text_answer};

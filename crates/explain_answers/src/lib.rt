@@ -1,6 +1,7 @@
 // What building a mesh text and reading a handover listing answer in the tables of the program `explain`, which are local arrays as those of `refine`.
 // Not here: where a text is refused (`text_places`), the words (`explain`).
 // Contracts: `text_answer`, `listing_answer`. Definitions: `TextBuilding` of `text_meshes`, `Handing` of `listings`, the tables: `Output` of `refine_outputs`.
+#![tactic(auto)]
 ghost use Rattle.std.specs.Prelude.{◌≡◌};
 ghost use Rattle.building_tests.specs.declared.Bounds.TheVariants.{Refine};
 ghost use Rattle.text_meshes.specs.TextBuilding.{build_text};

@@ -3,6 +3,7 @@
 // Not here: edge points (`edge_points`), old points (`old_points`), the rows of the new points (`placing`).
 // Contract: `face_point`. Definitions: `position_rules`, specs/FacePoint.antt; `specs/Terms.antt`
 // for the terms that the code keeps from one window to the next.
+#![tactic(auto)]
 ghost use Rattle.std.specs.Prelude.{◌≡◌, ◌+◌, ◌<◌, length, get_or};
 ghost use Rattle.perimeters.specs.Places.{around};
 ghost use Rattle.tables.specs.Layout.{longest_perimeter, longest_border};
@@ -23,7 +24,7 @@ use tables::{LONGEST_BORDER, LONGEST_PERIMETER, index};
 use walks::Passed;
 
 // The interval of an edge, and those after two steps anticlockwise and two steps clockwise about one of its points.
-#[derive(Drop)]
+#[derive(Clone, Copy)]
 struct Terms {
     d: f64,
     a2: f64,

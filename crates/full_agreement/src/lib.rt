@@ -9,3 +9,4 @@
 //     proofs/Answers.antt        the two steps have the same answer
 //     proofs/Theorem.antt        the induction over both lists: `theorem`
 // Two triangles in two orders, computed: `mesh_cases`.
+#![tactic(auto)]

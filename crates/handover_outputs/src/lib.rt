@@ -2,3 +2,4 @@
 // mesh after one step in numbered order, or the line of one ground alone.
 // Not here: the code that writes it (`handover_parts`, `handover`).
 // Definitions: `specs/Output.antt`. Claims: `specs/Claims.antt`, proved in `proofs/Theorem.antt`. Computed outputs: `proofs/Cases.antt`.
+#![tactic(auto)]

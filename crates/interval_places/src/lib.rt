@@ -1,6 +1,7 @@
 // Beside which point of a perimeter the interval of an edge is written, in either version of the lists (document 02, §4).
 // Not here: the places stepped (`perimeters`), the edges entered (`building_faces`).
 // Contract: `interval_place`. Definition: `Perimeters` of `built_meshes`.
+#![tactic(auto)]
 ghost use Rattle.std.specs.Prelude.{◌≡◌, ℕ, ◌<◌};
 ghost use Rattle.perimeters.specs.Places.{next_place};
 ghost use Rattle.built_meshes.specs.Perimeters.{interval_place};

@@ -2,6 +2,7 @@
 // Not here: the tests of grounds 2 and 3 (`building_lists`, `list_numbers`), those of the faces and of the whole (`mending`), the choice
 // of faces (`face_choices`), the lists turned round.
 // Contract: `find_turns`. Definitions: `Mending` of `mended_lists`; `specs/Turning.antt`. Laws: `proofs/Laws.antt`.
+#![tactic(auto)]
 ghost use Rattle.std.specs.Prelude.{◌≡◌, true, ◌/◌, ◌≤◌, length};
 ghost use Rattle.built_meshes.specs.Lists.{general_limits, counts_fit};
 ghost use Rattle.built_meshes.specs.declared.Version.TheVariants.{Two};

@@ -1,6 +1,7 @@
 // The tests of the listed points of one face, which stand from the place a on: each is a point, and none comes twice (grounds 11 and 12).
 // Not here: the other tests of a face, and which ground they give it (`building_tests`).
 // Definitions: `Faces` of `built_meshes`; `specs/Lent.antt`. Laws for callers: `proofs/Laws.antt`.
+#![tactic(auto)]
 ghost use Rattle.std.specs.Prelude.{◌≡◌, not, [], ◌+◌, ◌≤◌, ◌<◌, eqb, length, get_or};
 ghost use Rattle.audited_meshes.specs.Folds.{every};
 ghost use Rattle.built_meshes.specs.Faces.{listed_in_range, no_point_twice};

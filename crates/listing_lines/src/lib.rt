@@ -2,6 +2,7 @@
 // Not here: the grounds of a listing (`listing_reading`), the printing of lines (`listing_printing`).
 // Contracts: `listing_sizes`, `store_rows`. Definitions: `listings`, specs/Grammar.antt (the lines); `specs/Parts.antt` (the answers).
 // Laws: `proofs/Laws.antt` (how far a line goes), `proofs/Progress.antt` (one turn of a loop over lines), `proofs/Scanned.antt` (the whole).
+#![tactic(auto)]
 ghost use Rattle.std.specs.Prelude.{◌≡◌, ◌≤◌, length};
 ghost use Rattle.text_numbers.specs.Form.{bytes, times, many};
 ghost use Rattle.text_numbers.specs.Answers.{number};
@@ -167,7 +168,7 @@ fn faces(s: &[u8], at: usize, ws: &mut [u32]) -> Run
 }
 
 // How many points, edges and faces a whole listing has.
-#[derive(Drop)]
+#[derive(Clone, Copy)]
 pub enum ListingTotal {
     Of(usize, usize, usize),
     None,

@@ -4,10 +4,11 @@
 // Definitions: `specs/Printing.antt` (rows and their printing), `specs/Grammar.antt` (the form), `specs/Handing.antt` (writing and
 // reading). Claims: `specs/Claims.antt`, proved in `proofs/Theorem.antt`. Laws for callers: `proofs/Exact.antt` (a form finds
 // exactly what is printed).
+#![tactic(auto)]
 use tables::Counts;
 
 // What writing a listing answers: how many bytes it has, or the ground. The number of document 02 stands beside each.
-#[derive(Drop)]
+#[derive(Clone, Copy)]
 pub enum Writing {
     Written(usize),
     // 30: the audit fails
@@ -19,7 +20,7 @@ pub enum Writing {
 }
 
 // What reading a listing answers: how many points, edges and faces it lists, or the ground.
-#[derive(Drop)]
+#[derive(Clone, Copy)]
 pub enum ListingReading {
     Read(Counts),
     // 40: not of the form

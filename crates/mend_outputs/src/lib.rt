@@ -1,6 +1,7 @@
 // What the program `mend` writes for the bytes that it reads (document 02, §8): the text mended, or the line of one ground alone.
 // Not here: reading and writing (`mend`), the mender (`text_mending`).
 // Contract: `mend`. Definition: `specs/Output.antt`. Claim: `specs/Claims.antt`, proved in `proofs/Laws.antt`.
+#![tactic(auto)]
 ghost use Rattle.std.specs.Prelude.{◌≡◌, ◌≤◌, length, take};
 ghost use Rattle.mend_outputs.specs.Output.{mend_output};
 

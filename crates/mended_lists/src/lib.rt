@@ -5,17 +5,18 @@
 // of faces), `specs/Mending.antt` (the mender's answer), `specs/Grounds.antt` (when each ground is met). Claims: `specs/Claims.antt`, proved in
 // `proofs/Theorem.antt`, `proofs/Passed.antt`, `proofs/Again.antt`; those of the order: `specs/Grounds.antt`, proved in `proofs/Grounds.antt`;
 // a computed face and meshes: `proofs/Cases.antt`.
+#![tactic(auto)]
 use built_meshes::Ground;
 
 // The part of a face: the lowest-numbered face of the part, and whether the face is turned if that one stays.
-#[derive(Drop)]
+#[derive(Clone, Copy)]
 pub struct Part {
     pub root: u32,
     pub odd: bool,
 }
 
 // The mender's answer. The number stands beside each ground that building does not have.
-#[derive(Drop)]
+#[derive(Clone, Copy)]
 pub enum Mending {
     Mended,
     Refused(Ground),

@@ -3,10 +3,11 @@
 // mends (`text_mending`).
 // Definitions, in the order of reading: `specs/Turning.antt` (a face of a text turned round), `specs/Mending.antt` (the mender's answer
 // and what it leaves of the text). Claims: `specs/Claims.antt`, proved in `proofs/Theorem.antt`; computed texts: `text_cases`.
+#![tactic(auto)]
 use built_meshes::Ground;
 
 // The mender's answer to a text. The number stands beside each ground that building from lists does not have.
-#[derive(Drop)]
+#[derive(Clone, Copy)]
 pub enum TextMending {
     Mended,
     // 1: not of the form, or of version 1

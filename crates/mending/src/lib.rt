@@ -1,6 +1,7 @@
 // The mender's grounds of the faces and of the whole but for 44 (document 02, §8), in local lists.
 // Not here: the choice of faces (`face_choices`).
 // Contract: `pair_faces`. Definitions: `Mending` of `mended_lists`; `specs/Shared.antt`. Laws: `proofs/Laws.antt`.
+#![tactic(auto)]
 ghost use Rattle.std.specs.Prelude.{◌≡◌, List, [], ℕ, ◌/◌, ◌≤◌, Float, length};
 ghost use Rattle.tables.specs.Layout.{position_width};
 ghost use Rattle.built_meshes.specs.Lists.{offset};

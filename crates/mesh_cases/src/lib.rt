@@ -4,3 +4,4 @@
 // Meshes: `proofs/Meshes.antt` (closed and spoilt), `proofs/Records.antt` (as the Rust leaves them). Computed on them: `proofs/Audited.antt`
 // (the audit), `proofs/Crossings.antt` (depths), `proofs/Refined.antt` (the visits), `proofs/Rules.antt` (new positions),
 // `proofs/Steps.antt` (the step and its grounds), `proofs/Agreement.antt` (two orders of one mesh).
+#![tactic(auto)]

@@ -4,38 +4,39 @@
 // Contracts: `put_number`, `put_word`.
 // Definitions: `specs/Grammar.antt` (the lines), `specs/Parts.antt` (the answers and the lists).
 // Laws for callers: `proofs/Laws.antt`, `proofs/Answers.antt`.
+#![tactic(auto)]
 ghost use Rattle.std.specs.Prelude.{◌≡◌, set};
 
 // The place after a part of the text.
-#[derive(Drop)]
+#[derive(Clone, Copy)]
 pub enum LinePlace {
     At(usize),
     None,
 }
 
 // How many points are listed there, or how many lines stand there, and the place after them.
-#[derive(Drop)]
+#[derive(Clone, Copy)]
 pub enum Run {
     Of(usize, usize),
     None,
 }
 
 // A listed point, the bits of its interval, and the place after it.
-#[derive(Drop)]
+#[derive(Clone, Copy)]
 pub enum ListedPoint {
     Is(u32, u64, usize),
     None,
 }
 
 // The first point of a side, how many points it lists, and the place after it.
-#[derive(Drop)]
+#[derive(Clone, Copy)]
 pub enum SideRead {
     Of(u32, usize, usize),
     None,
 }
 
 // How many faces and how many listed points stand there, and the place after them.
-#[derive(Drop)]
+#[derive(Clone, Copy)]
 pub enum Lines {
     Are(usize, usize, usize),
     None,

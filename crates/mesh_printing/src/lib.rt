@@ -6,3 +6,4 @@
 // Definitions: `specs/Printing.antt`, `specs/Faces.antt`. Claims: `specs/Claims.antt`, proved in `proofs/Theorem.antt` over
 // `proofs/Parts.antt` (the lines are found exactly where they are printed). The faces of a text's lists: `proofs/Again.antt`. Printed
 // texts: `proofs/Cases.antt`.
+#![tactic(auto)]

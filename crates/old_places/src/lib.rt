@@ -1,6 +1,7 @@
 // Where an old point goes, by the weighted sum over its edges (document 01, "One refinement", equations 16 to 19).
 // Not here: the sum (`old_points`).
 // Contract: `moved`. Definition: `position_rules`, specs/OldPoint.antt.
+#![tactic(auto)]
 ghost use Rattle.std.specs.Prelude.{◌≡◌};
 ghost use Rattle.position_rules.specs.OldPoint.{moved};
 

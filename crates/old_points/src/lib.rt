@@ -3,6 +3,7 @@
 // Not here: the face between two edges (`common_faces`), where the point goes by the sum (`old_places`), face points (`face_points`), edge
 // points (`edge_points`), the rows of the new points (`placing`).
 // Contract: `old_point`. Definitions: `position_rules`, specs/OldPoint.antt.
+#![tactic(auto)]
 ghost use Rattle.std.specs.Prelude.{◌≡◌, ◌+◌, ◌*◌, ◌≤◌, pos, length};
 ghost use Rattle.std.specs.Float.Ieee.{of_int};
 ghost use Rattle.std.specs.Float.{binary64};
@@ -25,7 +26,7 @@ use records::load_point;
 use tables::index;
 
 // The intervals about edge r of a point: of the edges two steps and one step clockwise, of r, of the edge one step anticlockwise.
-#[derive(Drop)]
+#[derive(Clone, Copy)]
 struct Fan {
     c2: f64,
     c1: f64,

@@ -3,6 +3,7 @@
 // Not here: the tables and their listing (`oracle_tables`), many texts from one (`oracle_trials`), the steps (`oracle_steps`), the records of
 // the input (`oracle_runs`).
 // Contracts: what callers need to be safe; the run compares what is built with the recorded answers.
+#![tactic(auto)]
 ghost use Rattle.std.specs.Prelude.{◌≡◌, ◌≤◌, length};
 
 use answer_numbers::ground_number;
@@ -17,21 +18,21 @@ use text_meshes::TextBuilt;
 use text_reading::read_text;
 
 // How many points, edges and faces a mesh has, or document 01's number of the ground on which it is refused.
-#[derive(Drop)]
+#[derive(Clone, Copy)]
 pub enum Answer {
     Accepted(Counts),
     Refused(u32),
 }
 
 // What building answered, and the tables after it.
-#[derive(Drop)]
+#[derive(Clone, Copy)]
 pub struct Start {
     pub answer: Answer,
     pub tables: Tables,
 }
 
 // How many numbers of the four lists are handed over.
-#[derive(Drop)]
+#[derive(Clone, Copy)]
 pub struct Lengths {
     pub coordinates: usize,
     pub sides: usize,
@@ -40,7 +41,7 @@ pub struct Lengths {
 }
 
 // How the lists of a text are changed before they are built: their lengths, and a word of the side lengths.
-#[derive(Drop)]
+#[derive(Clone, Copy)]
 pub struct Change {
     pub lengths: Lengths,
     pub place: usize,

@@ -4,6 +4,7 @@
 // Its input and what it must write are made by `tools/oracle_runs.py`: what is expected comes from the oracle's recorded files and
 // from document 01, never from this program.
 // Not here: what is told of one record (`records.rt`).
+#![tactic(auto)]
 ghost use Rattle.std.specs.Prelude.{◌≡◌, ◌≤◌, length};
 
 use crate::records::{HEAD_BYTES, record_bytes, tell};

@@ -1,6 +1,7 @@
 // Steps of refining, one after the other, in the tables of the program `oracle_runs`.
 // Not here: the tables and their listing (`oracle_tables`), building (`oracle_builds`).
 // Contracts: what callers need to be safe; the run compares what the steps leave with the recorded answers.
+#![tactic(auto)]
 ghost use Rattle.std.specs.Prelude.{◌≡◌, ◌+◌, ◌≤◌, length};
 
 use answer_numbers::step_number;
@@ -14,7 +15,7 @@ use steps::Stepped;
 use tables::Counts;
 
 // What a step answered, and the tables and the scratch tables after it.
-#[derive(Drop)]
+#[derive(Clone, Copy)]
 pub struct MadeStep {
     pub answer: Stepped,
     pub tables: Tables,
@@ -22,7 +23,7 @@ pub struct MadeStep {
 }
 
 // A mesh in tables.
-#[derive(Drop)]
+#[derive(Clone, Copy)]
 pub struct StepStage {
     pub counts: Counts,
     pub tables: Tables,

@@ -5,7 +5,7 @@ use crate::fields::cut;
 use filled_rows::{NUMBER, WORD};
 
 // Tables of 400 points, 800 edges and 400 faces: room for each sample and its steps.
-#[derive(Drop)]
+#[derive(Clone, Copy)]
 pub struct Tables {
     pub positions: [f64; 1200],
     pub points: [u32; 1200],
@@ -15,7 +15,7 @@ pub struct Tables {
 }
 
 // How many words or numbers of the tables are lent.
-#[derive(Drop)]
+#[derive(Clone, Copy)]
 pub struct LentTables {
     pub positions: usize,
     pub points: usize,

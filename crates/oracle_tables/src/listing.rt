@@ -12,7 +12,7 @@ use tables::{Counts, EDGE_WIDTH, FACE_WIDTH, POINT_WIDTH, POSITION_WIDTH, Y_NUMB
 const PRIME: u64 = 36028797018963913;
 
 // Where bytes go: whether they are written, and else the remainder of all bytes so far.
-#[derive(Drop)]
+#[derive(Clone, Copy)]
 pub struct Sink {
     pub told: bool,
     pub remainder: u64,

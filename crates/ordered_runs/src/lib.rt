@@ -2,3 +2,4 @@
 // scratch that the step before it left. What it leaves is what a run of these steps leaves, so that `Demand3` of `runs` speaks of it.
 // Not here: the code that makes it (`step_runs`), what is claimed of runs (`runs`).
 // Definitions: `specs/Runs.antt`. Claims: `specs/Claims.antt`, proved in `proofs/Theorem.antt`. Laws: `proofs/Runs.antt`.
+#![tactic(auto)]

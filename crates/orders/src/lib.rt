@@ -2,6 +2,7 @@
 // The entries are marked in a local table of 65,536 places, one pass for each 65,536 faces, so that no memory is lent and
 // a mesh within the ceilings takes one pass.
 // Contract: `each_face_once`. Definitions: `each_face_once` of `steps`, specs/Step.antt; `specs/Orders.antt` for the passes.
+#![tactic(auto)]
 ghost use Rattle.std.specs.Prelude.{◌≡◌, true, ◌↔◌, ℕ, ◌+◌, ◌≤◌, ◌<◌, ltb, length, get_or};
 ghost use Rattle.audited_meshes.specs.Folds.{every, distinct};
 ghost use Rattle.steps.specs.Step.{each_face_once};

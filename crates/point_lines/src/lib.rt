@@ -1,6 +1,7 @@
 // The point lines of mesh texts 1 and 2, read into a list (document 01, "Mesh text"; document 02, §4).
 // Not here: face lines (`face_lines`), the whole text and its limits (`mesh_text`).
 // Contracts: `coordinates`, `count_points`, `store_points`. Definitions and laws: `mesh_lines`.
+#![tactic(auto)]
 ghost use Rattle.std.specs.Prelude.{◌≡◌, ◌≤◌, map, length};
 ghost use Rattle.text_numbers.specs.Form.{bytes, times, many};
 ghost use Rattle.text_numbers.specs.Numbers.{float};

@@ -4,6 +4,7 @@
 // Definitions: `specs/FacePoint.antt`, `specs/EdgePoint.antt`, `specs/OldPoint.antt`, and `specs/Rules.antt` for all three over a
 // mesh. What is proved of them: `specs/Claims.antt`. What the contracts require (`specs/Fits.antt`) holds on an audited mesh:
 // `proofs/Audited.antt`.
+#![tactic(auto)]
 ghost use Rattle.std.specs.Prelude.{◌≡◌};
 ghost use Rattle.position_rules.specs.Sums.{with_term};
 
@@ -13,14 +14,14 @@ pub mod intervals;
 pub mod places;
 
 // A sum of weighted positions, and the sum of their weights.
-#[derive(Drop)]
+#[derive(Clone, Copy)]
 pub struct WeightedSum {
     pub sum: Position,
     pub weight: f64,
 }
 
 // The shares of the left and the right face point in an edge point.
-#[derive(Drop)]
+#[derive(Clone, Copy)]
 pub struct Shares {
     pub left: f64,
     pub right: f64,

@@ -1,10 +1,12 @@
 // Positions: three binary64 coordinates by value (document 01, "A position is three binary64 coordinates x, y, z").
+#![tactic(auto)]
+
 ghost use Rattle.std.specs.Prelude.{◌≡◌};
 ghost use Rattle.std.specs.Float.Ieee.Scale.{finite};
 ghost use Rattle.positions.specs.Position.{plus, product, quotient, zeros, small, finite_position, placed_at};
 
 // A position: its coordinates x, y and z.
-#[derive(Drop)]
+#[derive(Clone, Copy)]
 pub struct Position {
     pub x: f64,
     pub y: f64,
@@ -12,7 +14,7 @@ pub struct Position {
 }
 
 // What a position rule answers: three finite coordinates, or the word that one is not finite.
-#[derive(Drop)]
+#[derive(Clone, Copy)]
 pub enum Placed {
     At(f64, f64, f64),
     NotFinite,

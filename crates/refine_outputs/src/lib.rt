@@ -3,3 +3,4 @@
 // Not here: the code that writes it (`refine_parts`, `refine`).
 // Definitions: `specs/Output.antt`; `specs/FirstPoint.antt` (point 0 after a step). Claims: `specs/Claims.antt`, `specs/Bytes.antt`, proved in
 // `proofs/Theorem.antt`. Laws for the code: `proofs/Orders.antt`, `proofs/FirstPoint.antt`. Computed outputs: `text_cases`.
+#![tactic(auto)]

@@ -3,6 +3,7 @@
 // Not here: the definition of the output (`refine_outputs`), the whole output (`refine`).
 // Contracts: `write_stepped`, `number_faces`. Definitions: `Output` and `FirstPoint` of `refine_outputs`. Laws: `proofs/Lines.antt`,
 // `proofs/Filling.antt`.
+#![tactic(auto)]
 ghost use Rattle.std.specs.Prelude.{◌≡◌, ◌+◌, ◌≤◌, length};
 ghost use Rattle.tables.specs.Layout.{face_ceiling};
 ghost use Rattle.runs.specs.Runs.{numbered};

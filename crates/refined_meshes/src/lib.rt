@@ -7,9 +7,10 @@
 // the numbering that they make, in either edition; proved in `proofs/Refines.antt` and `proofs/Settled.antt`); `VisitsFit` and `AllTaken` of `specs/Fits.antt` (every row that is
 // stored fits, and all are taken in the end; `proofs/Fits.antt`).
 // The definitions computed on the oracle's records: `mesh_cases`. Laws for callers: `proofs/Turns.antt`, `proofs/Laws.antt`.
+#![tactic(auto)]
 
 // The editions of a step, of which the caller chooses one (document 02, §5).
-#[derive(Drop)]
+#[derive(Clone, Copy)]
 pub enum Edition {
     // the Rust's: edge points weigh at old points, and a joining interval is the sum of two intervals as found on arriving
     First,

@@ -12,3 +12,4 @@
 //     proofs/OldPoints.antt      the face between two edges about a point, old points
 //     proofs/Rules.antt          all of it: `rules-follow`
 //     proofs/Isomorphisms.antt   an isomorphism of closed meshes that keeps start edges and numbers renumbers: `isomorphism-renumbers`
+#![tactic(auto)]

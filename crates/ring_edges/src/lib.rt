@@ -4,6 +4,7 @@
 // Not here: the places of the perimeter (`ring_places`), a joining edge by value (`joining_edges`), the new faces (`ring_faces`), the
 // visit itself (`visiting`).
 // Definitions: `refined_meshes`, specs/Ring.antt; `ring_rows`, specs/Rings.antt.
+#![tactic(auto)]
 ghost use Rattle.std.specs.Prelude.{◌≡◌, List, [], ℕ, ◌+◌, ◌*◌, ◌≤◌, ◌<◌, length, get_or, Float};
 ghost use Rattle.tables.specs.Layout.{edge_width};
 ghost use Rattle.tables.specs.declared.Counts.{Counts};

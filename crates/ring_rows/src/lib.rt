@@ -3,6 +3,7 @@
 // Carries over what `global_subdivide`'s loop over the faces (t_nurcc/mod.rs) reads of one place.
 // Not here: all places of a perimeter (`ring_places`), what is written about the face (`ring_edges`, `ring_faces`).
 // Definitions: `refined_meshes`, specs/Ring.antt; `specs/Rings.antt` for the ring as the code holds it.
+#![tactic(auto)]
 ghost use Rattle.std.specs.Prelude.{◌≡◌, cond, [], ◌+◌, ◌*◌, ◌≤◌, ◌<◌, eqb, length, get_or};
 ghost use Rattle.tables.specs.Layout.{edge_width, left_face_word, left_acw_word, right_cw_word};
 ghost use Rattle.refined_meshes.specs.Ring.{face_row};
@@ -11,7 +12,7 @@ ghost use Rattle.ring_rows.specs.Rings.{ring, Small};
 use tables::{EDGE_WIDTH, LEFT_ACW_WORD, LEFT_FACE_WORD, RIGHT_CW_WORD, index};
 
 // The rows of a ring: the face, the number of its edges, its face point, its first joining edge, its first appended face.
-#[derive(Drop)]
+#[derive(Clone, Copy)]
 pub struct RingRows {
     pub face: usize,
     pub size: usize,

@@ -1,6 +1,7 @@
 // The rows that a mesh with given counts takes in five tables, moved over those of other tables: where they stood they are made zero.
 // Not here: whether there is room for them, and rows made zero alone (`counted_rows`).
 // Contract: `move_rows`. Definitions: `tables`, specs/Counted.antt.
+#![tactic(auto)]
 ghost use Rattle.std.specs.Prelude.{◌≡◌, ◌*◌, ◌≤◌, ◌<◌, length};
 ghost use Rattle.std.specs.Float.Ieee.{of_bits};
 ghost use Rattle.std.specs.Float.{binary64};

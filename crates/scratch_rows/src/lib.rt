@@ -1,6 +1,7 @@
 // The counts of a refined mesh, and whether counts are within the ceilings.
 // Not here: whether tables have the rows (`counted_rows`), the rows copied (`row_copies`).
 // Contracts: `refined_counts`, `within_ceilings`. Definitions: `steps`, specs/Step.antt.
+#![tactic(auto)]
 ghost use Rattle.std.specs.Prelude.{◌≡◌, ◌+◌, ◌*◌, ◌<◌};
 ghost use Rattle.steps.specs.Step.{refined_counts, within_ceilings};
 

@@ -4,6 +4,7 @@
 // Names: `newpoints`, `newedges` and `newfaces` are the tables of points, edges and faces of the refined mesh.
 // Not here: the visits (`visiting`), the intervals of joining edges (`settling`).
 // Contract: `settle_starts`. Definitions: `refined_meshes`, specs/Starts.antt; what the functions ask: specs/Fits.antt.
+#![tactic(auto)]
 ghost use Rattle.std.specs.Prelude.{◌≡◌, []};
 ghost use Rattle.tables.specs.Mesh.{mesh_of, edge_table, dest, corner};
 ghost use Rattle.refined_meshes.specs.declared.Edition.TheVariants.{Second};

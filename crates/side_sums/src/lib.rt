@@ -1,6 +1,7 @@
 // Whether the sums of the intervals of a face's four sides agree, as the version asks (ground 13).
 // Not here: the sums taken, and the other tests of a face (`building_tests`).
 // Contract: `sums_agree`. Definition: `Faces` of `built_meshes`. Laws: `proofs/Laws.antt`.
+#![tactic(auto)]
 ghost use Rattle.std.specs.Prelude.{◌≡◌};
 ghost use Rattle.built_meshes.specs.Faces.{sums_agree};
 

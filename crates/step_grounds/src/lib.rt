@@ -2,6 +2,7 @@
 // Not here: the step itself (`refining`), ground 33 (`making`).
 // Names: `newpositions`, `newpoints`, `newedges`, `newintervals` and `newfaces` are the scratch tables of positions, points, edges, intervals, faces.
 // Contract: `first_ground`. Definition: `tested` of `steps`, specs/Step.antt.
+#![tactic(auto)]
 ghost use Rattle.std.specs.Prelude.{◌≡◌};
 ghost use Rattle.tables.specs.Mesh.{mesh_of};
 ghost use Rattle.steps.specs.Step.{tested};

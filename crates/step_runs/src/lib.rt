@@ -4,6 +4,7 @@
 // Not here: one step (`refining`), what is claimed of runs (`runs`), such a list as a definition (`ordered_runs`).
 // Contract: `run_steps`. Definitions: `Runs` of `ordered_runs`, with its laws.
 // Names: `newpositions`, `newpoints`, `newedges`, `newintervals` and `newfaces` are the scratch tables of positions, points, edges, intervals, faces.
+#![tactic(auto)]
 ghost use Rattle.std.specs.Prelude.{◌≡◌, ◌<◌, min};
 ghost use Rattle.tables.specs.Mesh.{mesh_of};
 ghost use Rattle.steps.specs.OneStep.{Binary64};
@@ -16,7 +17,7 @@ use steps::Stepped;
 use tables::{Counts, index, least};
 
 // What a list of steps answers: the counts of the mesh that it leaves, and how many of the steps were accepted.
-#[derive(Drop)]
+#[derive(Clone, Copy)]
 pub struct Ran {
     pub counts: Counts,
     pub accepted: usize,

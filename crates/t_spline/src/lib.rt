@@ -3,13 +3,14 @@
 // Not here: the connections, ends and sides themselves (`edge_ends`), rows in tables (`tables`, `records`), connecting (`edge_links`, in
 // tables `t_nurcc_edge`).
 // Contracts cite `specs/Edge.antt` and `specs/Ends.antt`.
+#![tactic(auto)]
 use edge_ends::{TnurccFaceSide, TnurccVertexEnd};
 use positions::Position;
 
 pub mod t_nurcc_edge;
 
 // A control point: its place, its number of edges, its start edge, and 1 if it was extraordinary at building.
-#[derive(Drop)]
+#[derive(Clone, Copy)]
 pub struct TnurccControlPoint {
     pub point: Position,
     pub valence: u32,
@@ -18,28 +19,28 @@ pub struct TnurccControlPoint {
 }
 
 // A face: its start edge and its four corners, each a point or `NONE`.
-#[derive(Drop)]
+#[derive(Clone, Copy)]
 pub struct TnurccFace {
     pub edge: u32,
     pub corners: [u32; 4],
 }
 
 // The end at which an edge has a point, if it has it.
-#[derive(Drop)]
+#[derive(Clone, Copy)]
 pub enum PointEnd {
     At(TnurccVertexEnd),
     Nowhere,
 }
 
 // The side on which an edge has a face, if it has it.
-#[derive(Drop)]
+#[derive(Clone, Copy)]
 pub enum FaceSide {
     At(TnurccFaceSide),
     Nowhere,
 }
 
 // An edge: its four neighbours, its faces, its ends and its interval.
-#[derive(Drop)]
+#[derive(Clone, Copy)]
 pub struct TnurccEdge {
     pub connections: [u32; 4],
     pub face_left: u32,

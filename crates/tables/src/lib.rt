@@ -6,6 +6,7 @@
 // The widths of the rows and the places of their words stand here as constants; the first word of a row stands where the row begins.
 // Definitions: `specs/Layout.antt`, `specs/Mesh.antt`, `specs/Rows.antt`, `specs/Records.antt`, `specs/Loaded.antt`,
 // `specs/Counted.antt`, `specs/Parts.antt`. Laws for callers: `proofs/Laws.antt`.
+#![tactic(auto)]
 ghost use Rattle.std.specs.Prelude.{◌≡◌, [], ◌≤◌, min, length};
 ghost use Rattle.std.specs.Float.{binary64};
 ghost use Rattle.std.specs.Float.Ieee.{of_bits};
@@ -67,7 +68,7 @@ pub const EDGE_CEILING: usize = 131072;
 pub const FACE_CEILING: usize = 65536;
 
 // How many points, edges and faces a mesh has.
-#[derive(Drop)]
+#[derive(Clone, Copy)]
 pub struct Counts {
     pub points: usize,
     pub edges: usize,
@@ -75,7 +76,7 @@ pub struct Counts {
 }
 
 // How many points, faces and listed points the lists of a mesh or a text have, or may have.
-#[derive(Drop)]
+#[derive(Clone, Copy)]
 pub struct Sizes {
     pub points: usize,
     pub faces: usize,

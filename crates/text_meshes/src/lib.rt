@@ -3,11 +3,12 @@
 // Not here: the grammar (`mesh_text`), what building makes of lists (`built_meshes`), the code that builds (`text_building`).
 // Definitions: `specs/TextBuilding.antt`. Claims: `specs/Claims.antt`, `specs/Within.antt`, proved in `proofs/Theorem.antt`. Computed pieces:
 // `text_cases`.
+#![tactic(auto)]
 use built_meshes::Ground;
 use tables::Counts;
 
 // What building from a text answers: how many points, edges and faces the mesh has, or why there is none.
-#[derive(Drop)]
+#[derive(Clone, Copy)]
 pub enum TextBuilt {
     Accepted(Counts),
     // 1: not of the form

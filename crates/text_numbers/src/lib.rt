@@ -3,12 +3,13 @@
 // Not here: the reading of numbers (`number_reading`), their writing (`mesh_answers`), the lines of a mesh text (`mesh_lines`).
 // Contracts: `byte`, `stands`, `digit_value`. Definitions: `specs/Form.antt` (forms of text), `specs/Numbers.antt` (numbers).
 // Laws for callers: `proofs/Laws.antt` (how far a form goes), `proofs/Turns.antt` (one turn of a repeated form).
+#![tactic(auto)]
 ghost use Rattle.std.specs.Prelude.{◌≡◌, ◌≤◌, length, get_or};
 ghost use Rattle.text_numbers.specs.Form.{stands};
 ghost use Rattle.text_numbers.specs.Numbers.{digit_value};
 
 // A number of the text, and the place after it.
-#[derive(Drop)]
+#[derive(Clone, Copy)]
 pub enum Number {
     Is(u64, usize),
     None,

@@ -2,6 +2,7 @@
 // Not here: which ground it is (`text_building`), what is met in the faces (`face_grounds`), the definition and its claims (`refusal_places`).
 // Contract: `text_place`. Definitions: `specs/TextPlaces.antt`. Claim: that of `explained_texts`. Laws: `proofs/Laws.antt`.
 // The lists of a text and those of its places are local arrays of the sizes that the general limits allow, below 760 KiB of stack.
+#![tactic(auto)]
 ghost use Rattle.std.specs.Prelude.{◌≡◌, false, List, [], ℕ, ◌*◌, ◌/◌, ◌≤◌, Float, length, take};
 ghost use Rattle.tables.specs.Layout.{position_width};
 ghost use Rattle.building_tests.specs.Lent.{lists_in, limits_of};
@@ -22,7 +23,7 @@ use text_answers::is_too_long;
 use text_reading::read_text;
 
 // Where a ground is met in a text: the line from 1, the face and its edge from 0. What there is none of is `NOWHERE`.
-#[derive(Drop)]
+#[derive(Clone, Copy)]
 pub struct TextPlace {
     pub line: usize,
     pub face: usize,

@@ -6,6 +6,7 @@
 // Definitions: `specs/Steps.antt`, `specs/Border.antt`, `specs/Neighbour.antt`, `specs/Places.antt`. Claims: `specs/Claims.antt`, proved in
 // `proofs/Claims.antt`. Laws for callers: `proofs/Laws.antt`; `proofs/Border.antt` for borders laid into arrays; `proofs/Places.antt` for
 // words that are found by a number.
+#![tactic(auto)]
 ghost use Rattle.std.specs.Prelude.{◌≡◌, [], ◌+◌, ◌*◌, ◌≤◌, length};
 ghost use Rattle.tables.specs.Layout.{edge_width};
 ghost use Rattle.tables.specs.Parts.{face_tables};
@@ -23,21 +24,21 @@ pub const SIDE_WIDTH: usize = 2;
 
 // One step of a walk: the next edge, and a point of the edge that it leaves (about a face, the point at which the walk came to
 // that edge; about a point, its other end); or the walk is lost.
-#[derive(Drop)]
+#[derive(Clone, Copy)]
 pub enum Step {
     To { point: u32, next: u32 },
     Lost,
 }
 
 // The number of edges that a walk passed before it met its start; or the walk is lost.
-#[derive(Drop)]
+#[derive(Clone, Copy)]
 pub enum Passed {
     Back(usize),
     Lost,
 }
 
 // An edge that is looked for.
-#[derive(Drop)]
+#[derive(Clone, Copy)]
 pub enum FoundEdge {
     At(u32),
     Nowhere,
@@ -45,7 +46,7 @@ pub enum FoundEdge {
 
 // The border of a face: the number of edges that the walk passed, or that it is lost; the edges, and the points at which the walk
 // comes to each of them, followed by the first four again. The rest of the arrays is 0.
-#[derive(Drop)]
+#[derive(Clone, Copy)]
 pub struct FaceBorder {
     pub passed: Passed,
     pub edges: [u32; LONGEST_PERIMETER],
