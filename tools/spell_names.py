@@ -24,6 +24,15 @@ CHOSEN = {
     "oneMore": "one_more_if",
     "tooLong": "is_too_long",
     "goes_Back": "goes_back",
+    "Few-rows": "HasFewRows",
+    "Missed-edge": "HasMissedEdge",
+    "Missing-face": "HasMissingFace",
+    "No-edge": "HasNoEdge",
+    "No-room": "HasNoRoom",
+    "Over-counts": "IsOverCounts",
+    "Unfit-number": "HasUnfitNumber",
+    "Mended-text": "TextMended",
+    "Runs-share": "OrderedRunsShare",
 }
 
 
@@ -53,7 +62,7 @@ def main():
             words[m.group(1)] = CHOSEN.get(m.group(1), snake(m.group(1)))
         for m in DECLARED.finditer(text):
             head, *rest = m.group(1).split("-")
-            types[m.group(1)] = head + "".join(p[:1].upper() + p[1:] for p in rest)
+            types[m.group(1)] = CHOSEN.get(m.group(1), head + "".join(p[:1].upper() + p[1:] for p in rest))
 
     def spelled(text):
         text = TYPE.sub(lambda m: types.get(m.group(1), m.group(1)), text)

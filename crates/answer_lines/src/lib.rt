@@ -2,6 +2,7 @@
 // Not here: what the lines are, and the writing of numbers (`mesh_answers`).
 // Contracts: `write_mesh`, `write_step`, `write_at`, `write_refused`. Definitions: `Lines` and `Writing` of `mesh_answers`.
 #![tactic(auto)]
+
 ghost use Rattle.std.specs.Prelude.{◌≡◌, ◌+◌, ◌≤◌, length};
 ghost use Rattle.mesh_answers.specs.Lines.{number_field, three_fields, mesh_line, step_line, at_line, refused_line};
 ghost use Rattle.mesh_answers.specs.Writing.{Written};

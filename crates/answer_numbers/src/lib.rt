@@ -1,6 +1,7 @@
 // The answers of building and of the step in the documents' numbers, as values.
 // Contracts: `ground_number`, `step_number`. Definitions: `ground_number` of `built_meshes`, specs/Answers.antt; `specs/Numbers.antt`.
 #![tactic(auto)]
+
 ghost use Rattle.std.specs.Prelude.{◌≡◌};
 ghost use Rattle.built_meshes.specs.Answers.{ground_number};
 ghost use Rattle.answer_numbers.specs.Numbers.{step_number};

@@ -5,6 +5,7 @@
 // walks (`audit_tests`, `audit_edges`, `face_rows`, `audit_faces`, `sole_edges`).
 // Contract: `audit`. Definitions: `specs/Parts.antt`. Laws: `proofs/Whole.antt`.
 #![tactic(auto)]
+
 ghost use Rattle.std.specs.Prelude.{◌≡◌, [], ℕ, ◌*◌, ◌≤◌, ◌<◌, length};
 ghost use Rattle.tables.specs.Layout.{position_width, point_width, edge_width, face_width};
 ghost use Rattle.tables.specs.Mesh.{valence, mesh_of};

@@ -3,6 +3,7 @@
 // Definitions: `specs/HalfLinks.antt` (the test with half of the links), `Quick` of `audited_meshes` (the whole test).
 // Theorem: half of the links are enough (`every-half` in `proofs/Links.antt`).
 #![tactic(auto)]
+
 ghost use Rattle.std.specs.Prelude.{◌≡◌, ◌&&◌, [], ◌+◌, ◌*◌, ◌≤◌, ◌<◌, ltb, length};
 ghost use Rattle.tables.specs.Layout.{edge_width};
 ghost use Rattle.audited_meshes.specs.Folds.{every};

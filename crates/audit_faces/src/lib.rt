@@ -5,6 +5,7 @@
 // Definitions: `Parts` of `audit_tests`, `Quick` of `audited_meshes`. Laws: `proofs/Sizes.antt`, and
 // `proofs/Borders.antt` and `proofs/Walks.antt` for the two walks.
 #![tactic(auto)]
+
 ghost use Rattle.std.specs.Prelude.{◌≡◌, ◌+◌, ◌*◌, ◌≤◌, length};
 ghost use Rattle.tables.specs.Layout.{edge_width, face_width, longest_perimeter, longest_border};
 ghost use Rattle.audited_meshes.specs.Folds.{every};

@@ -2,6 +2,7 @@
 // The meshes stand in the input as `tools/audit_runs.py` writes them: a label of 32 bytes, eight numbers of 8 bytes (points, edges,
 // faces, the lengths of the five tables), then the tables, all little-endian.
 #![tactic(auto)]
+
 ghost use Rattle.std.specs.Prelude.{◌≡◌, ◌≤◌, ◌+◌, ◌*◌, ◌<◌, length};
 
 use libc::STDOUT_FILENO;

@@ -7,6 +7,7 @@
 // Contracts: `linked_face_step`, `linked_point_step`, `is_new`. Definitions: `specs/Linked.antt`, `specs/Noted.antt`. Laws for callers:
 // `proofs/Linked.antt`, `proofs/Noted.antt`.
 #![tactic(auto)]
+
 ghost use Rattle.std.specs.Prelude.{◌≡◌, cond, ◌+◌, ◌*◌, ◌≤◌, eqb, length, set};
 ghost use Rattle.tables.specs.Layout.{edge_width};
 ghost use Rattle.audit_steps.specs.Linked.{linked_face_step, linked_point_step};

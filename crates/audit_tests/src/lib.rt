@@ -3,4 +3,5 @@
 // them (`audit`), what is asked (`audited_meshes`).
 // Definitions, of all of them: `specs/Parts.antt`. Laws for all of them: `proofs/Laws.antt`.
 #![tactic(auto)]
+
 pub mod points;

@@ -4,6 +4,7 @@
 // Not here: the end, once all faces stand (`building_ends`).
 // Contract: `build`. Definitions: `Building` of `built_meshes`; `specs/Beginning.antt`.
 #![tactic(auto)]
+
 ghost use Rattle.std.specs.Prelude.{◌≡◌, ℕ, ◌+◌, ◌/◌, ◌≤◌, ◌<◌, length, get_or};
 ghost use Rattle.tables.specs.Mesh.{Mesh, mesh_of};
 ghost use Rattle.built_meshes.specs.Lists.{general_limits, rows_of};

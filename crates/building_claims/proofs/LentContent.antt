@@ -28,7 +28,7 @@ use Rattle.built_meshes.specs.Places.{point_of, next_of, beside_of, Runs, Betwee
 use Rattle.built_meshes.specs.Building.{build}
 use Rattle.built_meshes.specs.Builds.{EdgeOf, Builds}
 use Rattle.built_meshes.specs.Answers.{ground_number}
-use Rattle.built_meshes.specs.Grounds.{FewRows, few-points, few-faces, few-edges, Where, Met, over-counts}
+use Rattle.built_meshes.specs.Grounds.{HasFewRows, few-points, few-faces, few-edges, Where, Met, over-counts}
 use Rattle.built_meshes.specs.Grounds.{unfit-number, few-rows, face-size, out_of_range, point-twice, first-point, non-rectangular}
 use Rattle.built_meshes.specs.Grounds.{triple-face, same_way, missing-face, no_edge, missed-edge, edge}
 use Rattle.building_claims.specs.LentContent.{SameNumbers, SameCounted, ShowsNothing, LentContent}
@@ -320,7 +320,7 @@ module _ (l : Lists) (t t' : Mesh) (ne : ℕ) (b : Builds l t ne) (b' : Builds l
 
 -- ---- the ground that is met first
 
-few-same : (l : Lists) (m m' : Mesh) → SameNumbers m m' → FewRows l m → FewRows l m'
+few-same : (l : Lists) (m m' : Mesh) → SameNumbers m m' → HasFewRows l m → HasFewRows l m'
 few-same l m m' s (few-points h) = few-points (omega (arith, s.points))
 few-same l m m' s (few-faces h) = few-faces (omega (arith, s.faces))
 few-same l m m' s (few-edges h) = few-edges (omega (arith, s.edges))

@@ -2,6 +2,7 @@
 // Not here: the verdict itself (`building_whole`), what comes before (`building`).
 // Contract: `conclude`. Definition: `specs/Concluding.antt`.
 #![tactic(auto)]
+
 ghost use Rattle.std.specs.Prelude.{◌≡◌, ◌*◌, ◌/◌, ◌≤◌, length};
 ghost use Rattle.tables.specs.Layout.{position_width, point_width, edge_width, face_width};
 ghost use Rattle.tables.specs.Mesh.{mesh_of};

@@ -2,6 +2,7 @@
 // Not here: the numbers of the lists (`list_numbers`), the limits and the tests of one face (`building_tests`).
 // Contract: `counts_fit`. Definitions: `Lists` of `built_meshes`.
 #![tactic(auto)]
+
 ghost use Rattle.std.specs.Prelude.{◌≡◌, [], ◌≤◌, length, get_or};
 ghost use Rattle.closed_meshes.specs.Renumbering.{sum_to};
 ghost use Rattle.built_meshes.specs.Lists.{firsts_counted, counts_fit};

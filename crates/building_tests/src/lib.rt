@@ -3,6 +3,7 @@
 // (`building_lists`, `list_numbers`), 4 (`counted_rows`), 14 and 15 (`edge_search`), 20 to 22 (`building_whole`).
 // Definitions: `Faces` of `built_meshes`; `specs/Lent.antt`. Laws for callers: `proofs/Laws.antt`.
 #![tactic(auto)]
+
 ghost use Rattle.std.specs.Prelude.{◌≡◌};
 ghost use Rattle.building_tests.specs.Lent.{limits_of};
 

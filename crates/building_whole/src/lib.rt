@@ -2,4 +2,5 @@
 // Not here: ground 4 (`counted_rows`), single faces (`building_tests`), the faces entered (`building_faces`), the whole (`building`).
 // Definitions: `Whole` of `built_meshes`. Laws: `proofs/Laws.antt`.
 #![tactic(auto)]
+
 pub mod whole;

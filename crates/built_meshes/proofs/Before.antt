@@ -19,7 +19,7 @@ use Rattle.tables.specs.Mesh.{Mesh}
 use Rattle.built_meshes.specs.Lists.{Lists, points_of, faces_of, size, offset}
 use Rattle.built_meshes.specs.Faces.{firsts_fit, sums_fit}
 use Rattle.built_meshes.specs.Places.{point_of, IsPlace, Runs, Between, Differ, Earlier}
-use Rattle.built_meshes.specs.Grounds.{OverCounts, UnfitNumber, FewRows, MissingFace, NoEdge, MissedEdge}
+use Rattle.built_meshes.specs.Grounds.{IsOverCounts, HasUnfitNumber, HasFewRows, HasMissingFace, HasNoEdge, HasMissedEdge}
 use Rattle.built_meshes.specs.Grounds.{Where, lists, face, edge, whole, Met, over-counts, unfit-number, few-rows}
 use Rattle.built_meshes.specs.Grounds.{face-size, out_of_range, point-twice, first-point, non-rectangular, triple-face}
 use Rattle.built_meshes.specs.Grounds.{same_way, missing-face, no_edge, missed-edge, Less, rank, turn_of, FirstMet}
@@ -99,20 +99,20 @@ module _ (l : Lists) (D : ℕ → ℕ → Type 0) (down : (g j f i : ℕ) → Is
 
 module _ (c : Sizes) (l : Lists) (m : Mesh) where
   pub record ClearLists : Type 0 where
-    pub counts : ¬ OverCounts c l
-    pub numbers : ¬ UnfitNumber l
-    pub rows : ¬ FewRows l m
+    pub counts : ¬ IsOverCounts c l
+    pub numbers : ¬ HasUnfitNumber l
+    pub rows : ¬ HasFewRows l m
 
   record Clear (K : List ℕ) : Type 0 where
-    counts : Less (0 ∷ 2 ∷ []) K → ¬ OverCounts c l
-    numbers : Less (0 ∷ 3 ∷ []) K → ¬ UnfitNumber l
-    rows : Less (0 ∷ 4 ∷ []) K → ¬ FewRows l m
+    counts : Less (0 ∷ 2 ∷ []) K → ¬ IsOverCounts c l
+    numbers : Less (0 ∷ 3 ∷ []) K → ¬ HasUnfitNumber l
+    rows : Less (0 ∷ 4 ∷ []) K → ¬ HasFewRows l m
     of-face : (f k : ℕ) → f < faces_of l → Less (1 ∷ f ∷ 0 ∷ k ∷ []) K → Tests l f (suc k)
     triples : (f i : ℕ) → IsPlace l f i → Less (1 ∷ f ∷ suc i ∷ 14 ∷ []) K → ¬ Triple l f i
     sames : (f i : ℕ) → IsPlace l f i → Less (1 ∷ f ∷ suc i ∷ 15 ∷ []) K → ¬ Same l f i
-    missing : Less (2 ∷ 20 ∷ []) K → ¬ MissingFace l
-    bare : Less (2 ∷ 21 ∷ []) K → ¬ NoEdge l
-    missed : Less (2 ∷ 22 ∷ []) K → ¬ MissedEdge l
+    missing : Less (2 ∷ 20 ∷ []) K → ¬ HasMissingFace l
+    bare : Less (2 ∷ 21 ∷ []) K → ¬ HasNoEdge l
+    missed : Less (2 ∷ 22 ∷ []) K → ¬ HasMissedEdge l
 
   none_before : (K : List ℕ) → Clear K → (w : Where) (g : Ground) → Less (turn_of w g) K → ¬ Met c l m w g
   none_before K v w g b (over-counts h) = v.counts b h
@@ -236,7 +236,7 @@ module _ (c : Sizes) (l : Lists) (m : Mesh) where
     -- ---- before a ground of the whole
 
     module _ (tested : (f : ℕ) → f < faces_of l → (k : ℕ) → Tests l f k) (entered : (f i : ℕ) → IsPlace l f i → (¬ Triple l f i) × (¬ Same l f i)) where
-      module _ (n : ℕ) (missing : 20 < n → ¬ MissingFace l) (bare : 21 < n → ¬ NoEdge l) (missed : 22 < n → ¬ MissedEdge l) where
+      module _ (n : ℕ) (missing : 20 < n → ¬ HasMissingFace l) (bare : 21 < n → ¬ HasNoEdge l) (missed : 22 < n → ¬ HasMissedEdge l) where
         sooner : (k : ℕ) → Less (2 ∷ k ∷ []) (2 ∷ n ∷ []) → k < n
         sooner k (inl h) = absurd (omega arith)
         sooner k (inr (e, inl h)) = h
@@ -264,7 +264,7 @@ module _ (c : Sizes) (l : Lists) (m : Mesh) where
             }
 
       -- where the whole passes too, nothing is met
-      pub nothing-met : ¬ MissingFace l → ¬ NoEdge l → ¬ MissedEdge l → (w : Where) (g : Ground) → ¬ Met c l m w g
+      pub nothing-met : ¬ HasMissingFace l → ¬ HasNoEdge l → ¬ HasMissedEdge l → (w : Where) (g : Ground) → ¬ Met c l m w g
       nothing-met a b d w g met = none_before (3 ∷ []) all w g (below w g) met
         where
           all : Clear (3 ∷ [])
@@ -289,7 +289,7 @@ module _ (c : Sizes) (l : Lists) (m : Mesh) where
 
   -- ---- before a ground of the lists
 
-  module _ (n : ℕ) (counts : 2 < n → ¬ OverCounts c l) (numbers : 3 < n → ¬ UnfitNumber l) (last : n ≤ 4) where
+  module _ (n : ℕ) (counts : 2 < n → ¬ IsOverCounts c l) (numbers : 3 < n → ¬ HasUnfitNumber l) (last : n ≤ 4) where
     list-sooner : (k : ℕ) → Less (0 ∷ k ∷ []) (0 ∷ n ∷ []) → k < n
     list-sooner k (inl h) = absurd (omega arith)
     list-sooner k (inr (e, inl h)) = h

@@ -28,9 +28,9 @@ use Rattle.tables.specs.declared.Sizes.{Sizes}
 use Rattle.tables.specs.Counted.{rows_for, zeroed_rows}
 use Rattle.built_meshes.specs.Beyond.{Within}
 use Rattle.built_meshes.specs.Claims.{zero_edge}
-use Rattle.built_meshes.specs.Grounds.{OverCounts, many-points, many-faces, many-listed, point-cut}
-use Rattle.built_meshes.specs.Grounds.{face-cut, unlike, sum-unlike, firsts-unlike, UnfitNumber, coordinate-unfit}
-use Rattle.built_meshes.specs.Grounds.{interval-unfit, FewRows, few-points, few-faces, few-edges}
+use Rattle.built_meshes.specs.Grounds.{IsOverCounts, many-points, many-faces, many-listed, point-cut}
+use Rattle.built_meshes.specs.Grounds.{face-cut, unlike, sum-unlike, firsts-unlike, HasUnfitNumber, coordinate-unfit}
+use Rattle.built_meshes.specs.Grounds.{interval-unfit, HasFewRows, few-points, few-faces, few-edges}
 use Rattle.built_meshes.proofs.Rows.{row, edge_at-words, of_words-cong}
 use Rattle.built_meshes.proofs.Beyond.{behind-zeroed}
 use Rattle.built_meshes.proofs.Entering.{counted}
@@ -75,48 +75,48 @@ counts-is c l h =
       firsts-alike = z.1;
     }
 
-pub counts-fail : (c : Sizes) (l : Lists) → counts_fit c l ≡ false → OverCounts c l
+pub counts-fail : (c : Sizes) (l : Lists) → counts_fit c l ≡ false → IsOverCounts c l
 unfolding counts_fit
 counts-fail c l h = go8 (and-false _ _ h)
   where
-    go2 : (leb (points_of l) c.points ≡ false) ⊎ (leb (faces_of l) c.faces ≡ false) → OverCounts c l
+    go2 : (leb (points_of l) c.points ≡ false) ⊎ (leb (faces_of l) c.faces ≡ false) → IsOverCounts c l
     go2 (inl z) = many-points (leb-false _ _ z)
     go2 (inr z) = many-faces (leb-false _ _ z)
 
-    go3 : (leb (points_of l) c.points && leb (faces_of l) c.faces ≡ false) ⊎ (leb (length l.listed) c.listed ≡ false) → OverCounts c l
+    go3 : (leb (points_of l) c.points && leb (faces_of l) c.faces ≡ false) ⊎ (leb (length l.listed) c.listed ≡ false) → IsOverCounts c l
     go3 (inl z) = go2 (and-false _ _ z)
     go3 (inr z) = many-listed (leb-false _ _ z)
 
-    go4 : (leb (points_of l) c.points && leb (faces_of l) c.faces && leb (length l.listed) c.listed ≡ false) ⊎ (eqb (length l.coordinates % 3) 0 ≡ false) → OverCounts c l
+    go4 : (leb (points_of l) c.points && leb (faces_of l) c.faces && leb (length l.listed) c.listed ≡ false) ⊎ (eqb (length l.coordinates % 3) 0 ≡ false) → IsOverCounts c l
     go4 (inl z) = go3 (and-false _ _ z)
     go4 (inr z) = point-cut (eqb-false _ _ z)
 
     go5 : (leb (points_of l) c.points && leb (faces_of l) c.faces && leb (length l.listed) c.listed && eqb (length l.coordinates % 3) 0 ≡ false)
-        ⊎ (eqb (length l.sides % 4) 0 ≡ false) → OverCounts c l
+        ⊎ (eqb (length l.sides % 4) 0 ≡ false) → IsOverCounts c l
     go5 (inl z) = go4 (and-false _ _ z)
     go5 (inr z) = face-cut (eqb-false _ _ z)
 
     go6 : (leb (points_of l) c.points && leb (faces_of l) c.faces && leb (length l.listed) c.listed && eqb (length l.coordinates % 3) 0 && eqb (length l.sides % 4) 0 ≡ false)
-        ⊎ (eqb (length l.listed) (length l.intervals) ≡ false) → OverCounts c l
+        ⊎ (eqb (length l.listed) (length l.intervals) ≡ false) → IsOverCounts c l
     go6 (inl z) = go5 (and-false _ _ z)
     go6 (inr z) = unlike (eqb-false _ _ z)
 
     go7 : (leb (points_of l) c.points && leb (faces_of l) c.faces && leb (length l.listed) c.listed && eqb (length l.coordinates % 3) 0 && eqb (length l.sides % 4) 0
-        && eqb (length l.listed) (length l.intervals) ≡ false) ⊎ (eqb (sum_to (length l.sides) (λ k. get_or l.sides k 0)) (length l.listed) ≡ false) → OverCounts c l
+        && eqb (length l.listed) (length l.intervals) ≡ false) ⊎ (eqb (sum_to (length l.sides) (λ k. get_or l.sides k 0)) (length l.listed) ≡ false) → IsOverCounts c l
     go7 (inl z) = go6 (and-false _ _ z)
     go7 (inr z) = sum-unlike (eqb-false _ _ z)
 
-    firsts : (v : Version) → l.version ≡ v → firsts_counted v l ≡ false → OverCounts c l
+    firsts : (v : Version) → l.version ≡ v → firsts_counted v l ≡ false → IsOverCounts c l
     firsts One e z = absurd (true≢false z)
     firsts Two e z = firsts-unlike e (eqb-false _ _ z)
 
     go8 : (leb (points_of l) c.points && leb (faces_of l) c.faces && leb (length l.listed) c.listed && eqb (length l.coordinates % 3) 0 && eqb (length l.sides % 4) 0
         && eqb (length l.listed) (length l.intervals) && eqb (sum_to (length l.sides) (λ k. get_or l.sides k 0)) (length l.listed) ≡ false)
-        ⊎ (firsts_counted l.version l ≡ false) → OverCounts c l
+        ⊎ (firsts_counted l.version l ≡ false) → IsOverCounts c l
     go8 (inl z) = go7 (and-false _ _ z)
     go8 (inr z) = firsts l.version refl z
 
-pub counted-fits : (c : Sizes) (l : Lists) → Counted c l → ¬ OverCounts c l
+pub counted-fits : (c : Sizes) (l : Lists) → Counted c l → ¬ IsOverCounts c l
 counted-fits c l h (many-points z) = omega (arith, h.points-few)
 counted-fits c l h (many-faces z) = omega (arith, h.faces-few)
 counted-fits c l h (many-listed z) = omega (arith, h.listed-few)
@@ -140,16 +140,16 @@ numbers-is l h =
     (every-is (length l.intervals) (λ k. self-is (interval_fit (get_or l.intervals k nan))))).0 h in
     record { coordinates-finite = z.0; intervals-fit = z.1 }
 
-pub numbers-fail : (l : Lists) → listed_fit l ≡ false → UnfitNumber l
+pub numbers-fail : (l : Lists) → listed_fit l ≡ false → HasUnfitNumber l
 unfolding listed_fit
 numbers-fail l h = go (and-false _ _ h)
   where
     go : (every (length l.coordinates) (λ k. finite (get_or l.coordinates k nan)) ≡ false)
-        ⊎ (every (length l.intervals) (λ k. interval_fit (get_or l.intervals k nan)) ≡ false) → UnfitNumber l
+        ⊎ (every (length l.intervals) (λ k. interval_fit (get_or l.intervals k nan)) ≡ false) → HasUnfitNumber l
     go (inl z) = let w = every-false _ (λ k. finite (get_or l.coordinates k nan)) z in coordinate-unfit w.0 w.1 w.2
     go (inr z) = let w = every-false _ (λ k. interval_fit (get_or l.intervals k nan)) z in interval-unfit w.0 w.1 w.2
 
-pub numbered-fits : (l : Lists) → Numbered l → ¬ UnfitNumber l
+pub numbered-fits : (l : Lists) → Numbered l → ¬ HasUnfitNumber l
 numbered-fits l h (coordinate-unfit k b z) = let y : true ≡ false = sym (h.coordinates-finite k b) ∙ z in let n : ◌≡◌ {A = ℕ} 0 1 = cc in omega arith
 numbered-fits l h (interval-unfit k b z) = let y : true ≡ false = sym (h.intervals-fit k b) ∙ z in let n : ◌≡◌ {A = ℕ} 0 1 = cc in omega arith
 
@@ -166,19 +166,19 @@ rows_is l m h =
     let z = (and_is (and_is (leb-is (points_of l) (point_rows m)) (leb-is (length l.listed) (edge_rows m))) (leb-is (faces_of l) (face_rows m))).0 h in
     record { points-enough = z.0.0; faces-enough = z.1; edges-enough = z.0.1 }
 
-pub rows-fail : (l : Lists) (m : Mesh) → rows_for (rows_of l) m ≡ false → FewRows l m
+pub rows-fail : (l : Lists) (m : Mesh) → rows_for (rows_of l) m ≡ false → HasFewRows l m
 unfolding rows_for
 rows-fail l m h = go (and-false _ _ h)
   where
-    go2 : (leb (points_of l) (point_rows m) ≡ false) ⊎ (leb (length l.listed) (edge_rows m) ≡ false) → FewRows l m
+    go2 : (leb (points_of l) (point_rows m) ≡ false) ⊎ (leb (length l.listed) (edge_rows m) ≡ false) → HasFewRows l m
     go2 (inl z) = few-points (leb-false _ _ z)
     go2 (inr z) = few-edges (leb-false _ _ z)
 
-    go : (leb (points_of l) (point_rows m) && leb (length l.listed) (edge_rows m) ≡ false) ⊎ (leb (faces_of l) (face_rows m) ≡ false) → FewRows l m
+    go : (leb (points_of l) (point_rows m) && leb (length l.listed) (edge_rows m) ≡ false) ⊎ (leb (faces_of l) (face_rows m) ≡ false) → HasFewRows l m
     go (inl z) = go2 (and-false _ _ z)
     go (inr z) = few-faces (leb-false _ _ z)
 
-pub roomy-fits : (l : Lists) (m : Mesh) → Roomy l m → ¬ FewRows l m
+pub roomy-fits : (l : Lists) (m : Mesh) → Roomy l m → ¬ HasFewRows l m
 roomy-fits l m h (few-points z) = omega (arith, h.points-enough)
 roomy-fits l m h (few-faces z) = omega (arith, h.faces-enough)
 roomy-fits l m h (few-edges z) = omega (arith, h.edges-enough)

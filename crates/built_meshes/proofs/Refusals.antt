@@ -24,7 +24,7 @@ use Rattle.built_meshes.specs.Perimeters.{BuildState}
 use Rattle.built_meshes.specs.Places.{IsPlace, Runs}
 use Rattle.built_meshes.specs.Answers.{ground_number}
 use Rattle.built_meshes.specs.Whole.{no_missing_face, every_edged, no_missed_edge, whole_verdict}
-use Rattle.built_meshes.specs.Grounds.{MissingFace, NoEdge, MissedEdge, Where, whole, Met, missing-face, no_edge, missed-edge, rank, FirstMet}
+use Rattle.built_meshes.specs.Grounds.{HasMissingFace, HasNoEdge, HasMissedEdge, Where, whole, Met, missing-face, no_edge, missed-edge, rank, FirstMet}
 use Rattle.built_meshes.specs.declared.Ground.{Ground}
 use Rattle.built_meshes.specs.declared.Ground.TheVariants.{MissingFace, NoEdge, MissedEdge}
 use Rattle.built_meshes.specs.declared.Verdict.{Verdict}
@@ -71,7 +71,7 @@ module _ (c : Sizes) (l : Lists) (m₀ : Mesh) (s : BuildState) (all : Faces l (
 
   -- ---- 20
 
-  missing-holds : no_missing_face m ne ≡ false → MissingFace l
+  missing-holds : no_missing_face m ne ≡ false → HasMissingFace l
   unfolding no_missing_face
   missing-holds h =
       let w = every-false ne (λ e. not (eqb (right_face m e) none)) h in
@@ -96,7 +96,7 @@ module _ (c : Sizes) (l : Lists) (m₀ : Mesh) (s : BuildState) (all : Faces l (
 
   -- ---- 21
 
-  no-edge-holds : every_edged m (points_of l) ≡ false → NoEdge l
+  no-edge-holds : every_edged m (points_of l) ≡ false → HasNoEdge l
   unfolding every_edged
   no-edge-holds h =
       let w = every-false (points_of l) (λ p. not (eqb (valence m p) 0)) h in
@@ -140,7 +140,7 @@ module _ (c : Sizes) (l : Lists) (m₀ : Mesh) (s : BuildState) (all : Faces l (
     pub edged : (p : ℕ) → p < points_of l → valence m p ≢ 0
     pub walked : (p : ℕ) → p < points_of l → valence m p ≤ passed (point_walk m ne (valence m p) p)
 
-  missing-none : ((e : ℕ) → e < ne → (row m e).face_right ≢ none) → ¬ MissingFace l
+  missing-none : ((e : ℕ) → e < ne → (row m e).face_right ≢ none) → ¬ HasMissingFace l
   missing-none right h =
       let t = v.entered h.f h.i (place-done _ _ h.runs.is-place) in
       go t.0 t.1.on-side t.1.below (t.1.first-is ∙ h.runs.begins) (t.1.second_is ∙ h.runs.ends)
@@ -154,7 +154,7 @@ module _ (c : Sizes) (l : Lists) (m₀ : Mesh) (s : BuildState) (all : Faces l (
       go e Left b first second = runs-back Right e b second first
       go e Right b first second = runs-back Left e b second first
 
-  no-edge-none : ((e : ℕ) → e < ne → (row m e).face_right ≢ none) → ((p : ℕ) → p < points_of l → valence m p ≢ 0) → ¬ NoEdge l
+  no-edge-none : ((e : ℕ) → e < ne → (row m e).face_right ≢ none) → ((p : ℕ) → p < points_of l → valence m p ≢ 0) → ¬ HasNoEdge l
   no-edge-none right edged h =
       let some = edged h.point h.is-point in
       let t = v.start_is h.point h.is-point (omega arith) in
@@ -180,7 +180,7 @@ module _ (c : Sizes) (l : Lists) (m₀ : Mesh) (s : BuildState) (all : Faces l (
       no_same l (Done l (faces_of l) 0) (done-down c l m₀ (faces_of l) 0) v.one_way f i (inl is),
     )
 
-    first : (n : ℕ) → (20 < n → ¬ MissingFace l) → (21 < n → ¬ NoEdge l) → (22 < n → ¬ MissedEdge l) →
+    first : (n : ℕ) → (20 < n → ¬ HasMissingFace l) → (21 < n → ¬ HasNoEdge l) → (22 < n → ¬ HasMissedEdge l) →
         (g : Ground) → rank g ≡ n → Met c l m₀ whole g → FirstMet c l m₀ whole g
     first = first-whole c l m₀ clear (fit-tests c l m₀ (faces_of l) fit) entered-fit
 

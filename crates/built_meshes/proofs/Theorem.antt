@@ -25,7 +25,7 @@ use Rattle.built_meshes.specs.Whole.{whole_verdict, finished}
 use Rattle.built_meshes.specs.Building.{BuildOutcome, build_refusal, whole_if, answered, all_faces, build_if, build}
 use Rattle.built_meshes.specs.Beyond.{Within}
 use Rattle.built_meshes.specs.Builds.{Builds, AcceptedBuilds}
-use Rattle.built_meshes.specs.Grounds.{OverCounts, Where, lists, whole, Met, over-counts, unfit-number, few-rows}
+use Rattle.built_meshes.specs.Grounds.{IsOverCounts, Where, lists, whole, Met, over-counts, unfit-number, few-rows}
 use Rattle.built_meshes.specs.Grounds.{face-size, out_of_range, point-twice, first-point, non-rectangular, triple-face}
 use Rattle.built_meshes.specs.Grounds.{same_way, missing-face, no_edge, missed-edge, FirstMet, Holds}
 use Rattle.built_meshes.specs.Claims.{FirstGround, RefusedBy, RefusalsHold, AcceptsExactly, AuditedCounts, AcceptedAudited, UntouchedBeyond}
@@ -179,13 +179,13 @@ accepts-exactly c l m few = (λ a g h. to (build c l m) (build-came c l m few) a
     from o (accepts {k = k} h b w n) none' = (k, refl)
 
 -- the condition of ground 2
-pub over-of : (c : Sizes) (l : Lists) (m : Mesh) → Holds c l m OverCounts → OverCounts c l
+pub over-of : (c : Sizes) (l : Lists) (m : Mesh) → Holds c l m OverCounts → IsOverCounts c l
 over-of c l m (w, h) = go w OverCounts h refl
   where
     differs : {A : Type 0} (g : Ground) → ground_number g ≡ 2 → 3 ≤ ground_number g → A
     differs g h k = absurd (omega arith)
 
-    go : (w : Where) (g : Ground) → Met c l m w g → ground_number g ≡ 2 → OverCounts c l
+    go : (w : Where) (g : Ground) → Met c l m w g → ground_number g ≡ 2 → IsOverCounts c l
     go w g (over-counts h) e = h
     go w g (unfit-number h) e = differs UnfitNumber e (omega arith)
     go w g (few-rows h) e = differs FewRows e (omega arith)

@@ -32,7 +32,7 @@ use Rattle.audited_meshes.proofs.Audited.{touches-is, point_walk-is}
 use Rattle.built_meshes.specs.Lists.{Lists, points_of, faces_of, size}
 use Rattle.built_meshes.specs.Places.{point_of, next_of, IsPlace}
 use Rattle.built_meshes.specs.Whole.{no_missed_edge}
-use Rattle.built_meshes.specs.Grounds.{Turns, Chain, here, further, MissedEdge}
+use Rattle.built_meshes.specs.Grounds.{Turns, Chain, here, further, HasMissedEdge}
 use Rattle.built_meshes.proofs.Connecting.{first_of, second_of, acw_of, cw_of}
 use Rattle.built_meshes.proofs.Rows.{row}
 use Rattle.built_meshes.proofs.Invariant.{Sits, Invariant, sits-unique}
@@ -367,10 +367,10 @@ module _ (l : Lists) (m : Mesh) (ne : ℕ) (v : Invariant l (Done l (faces_of l)
           none' : (x : ℕ) → 0 < occurrences x [] → ⊥
           none' x h = omega arith
 
-      fewer : passed (point_walk m ne (valence m p) p) < valence m p → MissedEdge l
+      fewer : passed (point_walk m ne (valence m p) p) < valence m p → HasMissedEdge l
       fewer less = go (point_walk m ne (valence m p) p) refl less
         where
-          go : (w : Walk) → point_walk m ne (valence m p) p ≡ w → passed w < valence m p → MissedEdge l
+          go : (w : Walk) → point_walk m ne (valence m p) p ≡ w → passed w < valence m p → HasMissedEdge l
           go lost h z = absurd (comes_back h)
           go (back es) h z =
               let walk' = ((point_walk-is m ne p (valence m p) es).0 h).0 in
@@ -402,14 +402,14 @@ module _ (l : Lists) (m : Mesh) (ne : ℕ) (v : Invariant l (Done l (faces_of l)
 
   -- ---- both ways
 
-  pub missed-met : ((p : ℕ) → p < points_of l → valence m p ≢ 0) → no_missed_edge m (points_of l) ne ≡ false → MissedEdge l
+  pub missed-met : ((p : ℕ) → p < points_of l → valence m p ≢ 0) → no_missed_edge m (points_of l) ne ≡ false → HasMissedEdge l
   unfolding no_missed_edge
   missed-met edged h =
       let w = every-false (points_of l) (λ p. not (ltb (passed (point_walk m ne (valence m p) p)) (valence m p))) h in
       fewer w.0 w.1 (edged w.0 w.1) (ltb-true _ _ (not-false (ltb (passed (point_walk m ne (valence m w.0) w.0)) (valence m w.0)) w.2))
 
   pub no-missed :
-      ((p : ℕ) → p < points_of l → valence m p ≢ 0) → ((p : ℕ) → p < points_of l → valence m p ≤ passed (point_walk m ne (valence m p) p)) → ¬ MissedEdge l
+      ((p : ℕ) → p < points_of l → valence m p ≢ 0) → ((p : ℕ) → p < points_of l → valence m p ≤ passed (point_walk m ne (valence m p) p)) → ¬ HasMissedEdge l
   no-missed edged walked h =
       let p = point_of l h.f h.i in
       let b = (v.good h.f h.i (inl h.first-place)).sound.in-range h.i h.first-place.1 in

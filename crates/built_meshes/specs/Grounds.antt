@@ -1,6 +1,6 @@
 -- When each ground is met, of the lists l within the limits c and of the lent tables m: document 01's table "Refused if" and document 02, §4, by the place
 -- of the check. A place is an edge of a face as the lists give it, so 14, 15, 20, 21 and 22 speak of the lists alone.
---     OverCounts .. MissedEdge     the conditions of the grounds of the lists and of the whole
+--     IsOverCounts .. HasMissedEdge     the conditions of the grounds of the lists and of the whole
 --     LastBefore, SumsApart        those of 43 and 13
 --     Turns, Chain                   about a point: the place that runs back the one before; a chain of such places
 --     Where                          where a check stands: the lists, a face, an edge of a face, the whole
@@ -30,26 +30,26 @@ use Rattle.built_meshes.specs.declared.Ground.TheVariants.{OverCounts, UnfitNumb
 use Rattle.built_meshes.specs.declared.Ground.TheVariants.{FirstPoint, NonRectangularFace, EdgeTripleFace, SameWay, MissingFace, NoEdge, MissedEdge}
 
 -- 2: over the limits, or list lengths disagree
-pub data OverCounts (c : Sizes) (l : Lists) : Type 0 where
-  many-points : c.points < points_of l → OverCounts c l
-  many-faces : c.faces < faces_of l → OverCounts c l
-  many-listed : c.listed < length l.listed → OverCounts c l
-  point-cut : length l.coordinates % position_width ≢ 0 → OverCounts c l
-  face-cut : length l.sides % 4 ≢ 0 → OverCounts c l
-  unlike : length l.listed ≢ length l.intervals → OverCounts c l
-  sum-unlike : sum_to (length l.sides) (λ k. get_or l.sides k 0) ≢ length l.listed → OverCounts c l
-  firsts-unlike : l.version ≡ Two → length l.firsts ≢ length l.sides → OverCounts c l
+pub data IsOverCounts (c : Sizes) (l : Lists) : Type 0 where
+  many-points : c.points < points_of l → IsOverCounts c l
+  many-faces : c.faces < faces_of l → IsOverCounts c l
+  many-listed : c.listed < length l.listed → IsOverCounts c l
+  point-cut : length l.coordinates % position_width ≢ 0 → IsOverCounts c l
+  face-cut : length l.sides % 4 ≢ 0 → IsOverCounts c l
+  unlike : length l.listed ≢ length l.intervals → IsOverCounts c l
+  sum-unlike : sum_to (length l.sides) (λ k. get_or l.sides k 0) ≢ length l.listed → IsOverCounts c l
+  firsts-unlike : l.version ≡ Two → length l.firsts ≢ length l.sides → IsOverCounts c l
 
 -- 3: not finite, or an interval's sign bit set
-pub data UnfitNumber (l : Lists) : Type 0 where
-  coordinate-unfit : (k : ℕ) → k < length l.coordinates → finite (get_or l.coordinates k nan) ≡ false → UnfitNumber l
-  interval-unfit : (k : ℕ) → k < length l.intervals → interval_fit (get_or l.intervals k nan) ≡ false → UnfitNumber l
+pub data HasUnfitNumber (l : Lists) : Type 0 where
+  coordinate-unfit : (k : ℕ) → k < length l.coordinates → finite (get_or l.coordinates k nan) ≡ false → HasUnfitNumber l
+  interval-unfit : (k : ℕ) → k < length l.intervals → interval_fit (get_or l.intervals k nan) ≡ false → HasUnfitNumber l
 
 -- 4: fewer rows than points, faces, or listed points for edges
-pub data FewRows (l : Lists) (m : Mesh) : Type 0 where
-  few-points : point_rows m < points_of l → FewRows l m
-  few-faces : face_rows m < faces_of l → FewRows l m
-  few-edges : edge_rows m < length l.listed → FewRows l m
+pub data HasFewRows (l : Lists) (m : Mesh) : Type 0 where
+  few-points : point_rows m < points_of l → HasFewRows l m
+  few-faces : face_rows m < faces_of l → HasFewRows l m
+  few-edges : edge_rows m < length l.listed → HasFewRows l m
 
 -- place j of face f is the one listed last before its side k, going round: over empty sides the nearest one back
 abbrev pub LastBefore : Lists → ℕ → ℕ → ℕ → Type 0
@@ -62,7 +62,7 @@ pub data SumsApart (s0 s1 s2 s3 : Float) : Version → Type 0 where
   second-pair : small (sub binary64 s1 s3) ≡ false → SumsApart s0 s1 s2 s3 Two
 
 -- 20: an edge with one face: no place runs back
-pub record MissingFace (l : Lists) : Type 0 where
+pub record HasMissingFace (l : Lists) : Type 0 where
   pub p : ℕ
   pub q : ℕ
   pub f : ℕ
@@ -71,7 +71,7 @@ pub record MissingFace (l : Lists) : Type 0 where
   pub none-back : (g j : ℕ) → ¬ Runs l g j q p
 
 -- 21: a point with no edge: no place begins there
-pub record NoEdge (l : Lists) : Type 0 where
+pub record HasNoEdge (l : Lists) : Type 0 where
   pub point : ℕ
   pub is-point : point < points_of l
   pub none-begins : (f i : ℕ) → IsPlace l f i → point_of l f i ≢ point
@@ -85,7 +85,7 @@ pub data Chain (l : Lists) (f i : ℕ) : ℕ → ℕ → Type 0 where
   further : {g j h k : ℕ} → Chain l f i g j → Turns l g j h k → Chain l f i h k
 
 -- 22: a point walk misses an edge: two places begin at the point, and no chain joins them
-pub record MissedEdge (l : Lists) : Type 0 where
+pub record HasMissedEdge (l : Lists) : Type 0 where
   pub f : ℕ
   pub i : ℕ
   pub g : ℕ
@@ -102,9 +102,9 @@ pub data Where : Type 0 where
   whole : Where
 
 pub data Met (c : Sizes) (l : Lists) (m : Mesh) : Where → Ground → Type 0 where
-  over-counts : OverCounts c l → Met c l m lists OverCounts
-  unfit-number : UnfitNumber l → Met c l m lists UnfitNumber
-  few-rows : FewRows l m → Met c l m lists FewRows
+  over-counts : IsOverCounts c l → Met c l m lists OverCounts
+  unfit-number : HasUnfitNumber l → Met c l m lists UnfitNumber
+  few-rows : HasFewRows l m → Met c l m lists FewRows
   -- 10: n below 3 or over 64
   face-size : (f : ℕ) → f < faces_of l → (size l f < 3) ⊎ (longest_perimeter < size l f) → Met c l m (face f) FaceSize
   -- 11: point number out of range
@@ -124,9 +124,9 @@ pub data Met (c : Sizes) (l : Lists) (m : Mesh) : Where → Ground → Type 0 wh
       Met c l m (edge f i) EdgeTripleFace
   -- 15: second face runs the same way: so does an earlier place
   same_way : (f i g j p q : ℕ) → Runs l f i p q → Runs l g j p q → Earlier g j f i → Met c l m (edge f i) SameWay
-  missing-face : MissingFace l → Met c l m whole MissingFace
-  no_edge : NoEdge l → Met c l m whole NoEdge
-  missed-edge : MissedEdge l → Met c l m whole MissedEdge
+  missing-face : HasMissingFace l → Met c l m whole MissingFace
+  no_edge : HasNoEdge l → Met c l m whole NoEdge
+  missed-edge : HasMissedEdge l → Met c l m whole MissedEdge
 
 -- lists of numbers, the first ones first
 abbrev pub Less : List ℕ → List ℕ → Type 0

@@ -9,6 +9,7 @@
 // order) and `specs/Beyond.antt` (the rows that are never touched), and `specs/Builds.antt` (what an accepted build leaves), proved
 // in `proofs/Theorem.antt`. What else is claimed of building, and pieces that are computed, stand in `building_claims`.
 #![tactic(auto)]
+
 use tables::Counts;
 
 // The version of lists, which is that of the mesh text they stand for (document 02, §4). The versions differ at three places: which

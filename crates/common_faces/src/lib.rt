@@ -2,6 +2,7 @@
 // Not here: the same by records (`common_face` of `t_spline`), the sum over the edges about a point (`old_points`).
 // Contract: `face_between`. Definitions: `common_face` of `t_spline`, specs/Edge.antt; specs/Sides.antt.
 #![tactic(auto)]
+
 ghost use Rattle.std.specs.Prelude.{◌≡◌, false, cond, ◌+◌, ◌*◌, ◌≤◌, eqb, length};
 ghost use Rattle.t_spline.specs.Edge.{none, common_face};
 ghost use Rattle.tables.specs.Layout.{edge_width};

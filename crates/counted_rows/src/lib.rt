@@ -2,6 +2,7 @@
 // Not here: the rows moved over those of other tables (`row_moves`).
 // Contracts: `rows_for`, `zero_rows`. Definitions: `tables`, specs/Counted.antt.
 #![tactic(auto)]
+
 ghost use Rattle.std.specs.Prelude.{◌≡◌, ◌*◌, ◌≤◌, length};
 ghost use Rattle.tables.specs.Layout.{position_width, point_width, edge_width, face_width};
 ghost use Rattle.tables.specs.Mesh.{Mesh, mesh_of};

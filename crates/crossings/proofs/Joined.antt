@@ -59,8 +59,8 @@ module _ (m : Mesh) (np ne nf : ℕ) (a : Audited m np ne nf) (d : Float) (f : f
   far-in-range e p q l (inl (o, t)) = subst (λ (k : ℕ). k < np) t (a.edge-in-range e l).dest-in-range
   far-in-range e p q l (inr (o, t)) = subst (λ (k : ℕ). k < np) o (a.edge-in-range e l).origin-in-range
 
-  pub chain-crosses : {p q : ℕ} → EdgeChain m ne q p → p < np → le (z m p) d ≡ true → le d (z m q) ≡ true → CrossingEdge
-  chain-crosses {p} there l low high = at-depth p l low high
-  chain-crosses {p} {q} (along r e el j rest) l low high =
+  pub chain-crosses : {q p : ℕ} → EdgeChain m ne q p → p < np → le (z m p) d ≡ true → le d (z m q) ≡ true → CrossingEdge
+  chain-crosses {p = p} there l low high = at-depth p l low high
+  chain-crosses {q = q} {p = p} (along r e el j rest) l low high =
       let k = far-in-range e p r el j in
       ⊎_elim (λ below. chain-crosses rest k below high) (λ above. (e, el, joins-crosses m d e p r j low above)) (either r k)

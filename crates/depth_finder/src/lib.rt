@@ -3,6 +3,7 @@
 // Not here: what crosses and what is answered (`crossings`), the audit (`audit`).
 // Contract: `find_depth`. Definitions: `specs/Ends.antt`, and `Crossings` of `crossings`. Laws: `proofs/Laws.antt`.
 #![tactic(auto)]
+
 ghost use Rattle.std.specs.Prelude.{◌≡◌, ℕ, ◌+◌, ◌*◌, ◌≤◌, ◌<◌, length};
 ghost use Rattle.tables.specs.Layout.{edge_width};
 ghost use Rattle.tables.specs.Mesh.{mesh_of};

@@ -2,6 +2,7 @@
 // Not here: the chains, and the search along them (`edge_search`).
 // Contract: `bucket`. Definitions: `specs/Buckets.antt`. Laws: `proofs/Buckets.antt`.
 #![tactic(auto)]
+
 ghost use Rattle.std.specs.Prelude.{◌≡◌, ◌<◌};
 ghost use Rattle.edge_buckets.specs.Buckets.{buckets, bucket_of};
 

@@ -4,6 +4,7 @@
 // Not here: edges (`t_spline`).
 // Contracts cite `specs/Connection.antt`, `specs/Ends.antt` and `specs/Faces.antt`. Laws for callers: `proofs/Laws.antt`.
 #![tactic(auto)]
+
 ghost use Rattle.std.specs.Prelude.{◌≡◌};
 ghost use Rattle.edge_ends.specs.Connection.{index_of, connection_at};
 ghost use Rattle.edge_ends.specs.Ends.{acw_at_end, cw_at_end, other_end, acw_on_side, cw_on_side, first_end};

@@ -3,6 +3,7 @@
 // Not here: connecting two rows of a table (`t_nurcc_edge`).
 // Contracts cite `specs/Connect.antt` and `specs/Joinable.antt`. Laws of the table: `proofs/LinkTable.antt`.
 #![tactic(auto)]
+
 ghost use Rattle.std.specs.Prelude.{◌≡◌};
 ghost use Rattle.edge_links.specs.Connect.{links_of, vertex_state, with_links, served, connected};
 ghost use Rattle.edge_links.specs.Joinable.{share_face, joinable};

@@ -3,6 +3,7 @@
 // (`text_edges`).
 // Contract: `told_edge`. Definitions: `specs/Told.antt` of `told_edges`. Laws: `proofs/Laws.antt`.
 #![tactic(auto)]
+
 ghost use Rattle.std.specs.Prelude.{◌≡◌, not, ◌&&◌, [], ◌+◌, ◌/◌, ◌≤◌, ◌<◌, eqb, length, get_or};
 ghost use Rattle.perimeters.specs.Places.{next_place};
 ghost use Rattle.audited_meshes.specs.Folds.{every};

@@ -4,6 +4,7 @@
 // Not here: face points (`face_points`), old points (`old_points`), the rows of the new points (`placing`).
 // Contracts: `weighted_point`, `edge_point`. Definitions: `position_rules`, specs/EdgePoint.antt; what the code asks: specs/Sides.antt.
 #![tactic(auto)]
+
 ghost use Rattle.std.specs.Prelude.{◌≡◌, ◌+◌, ◌*◌, ◌≤◌, ◌<◌, length};
 ghost use Rattle.positions.specs.Position.{placed_at};
 ghost use Rattle.t_spline.specs.Edge.{connection_of};

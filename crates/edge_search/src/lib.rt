@@ -5,6 +5,7 @@
 // Not here: which bucket two points choose (`edge_buckets`), a whole perimeter (`building_faces`).
 // Definitions: `specs/Chains.antt`, `specs/Places.antt`, and `Perimeters` of `built_meshes`. Laws: `proofs/Chains.antt`.
 #![tactic(auto)]
+
 ghost use Rattle.std.specs.Prelude.{◌≡◌, cond, ◌&&◌, List, ℕ, ◌+◌, ◌*◌, ◌≤◌, ◌<◌, eqb, Float, length, get_or};
 ghost use Rattle.tables.specs.Layout.{point_width, edge_width};
 ghost use Rattle.tables.specs.Mesh.{Mesh, mesh_of, none, edge_table};

@@ -5,6 +5,7 @@
 // Not here: the loops over face points, edges and old points (`placing`), the rows (`visiting`).
 // Contracts: `place_first`, `place_second`. Definitions: `steps`, specs/Positions.antt, `placed_all`; what is asked: specs/Over.antt.
 #![tactic(auto)]
+
 ghost use Rattle.std.specs.Prelude.{◌≡◌, List, ◌+◌, ◌*◌, get_or, Float};
 ghost use Rattle.tables.specs.Layout.{edge_width, dest_word};
 ghost use Rattle.tables.specs.Mesh.{mesh_of};

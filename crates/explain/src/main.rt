@@ -4,6 +4,7 @@
 // and the face that runs it before those of `text_edge` (`text_edges`), the words are those of `explain_words`. No contract can say what is read and
 // written. A read or a write that fails is said on standard error (`streams`).
 #![tactic(auto)]
+
 use answer_numbers::ground_number;
 use building_tests::Bounds;
 use explain_answers::{listing_answer, text_answer};

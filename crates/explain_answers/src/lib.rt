@@ -2,6 +2,7 @@
 // Not here: where a text is refused (`text_places`), the words (`explain`).
 // Contracts: `text_answer`, `listing_answer`. Definitions: `TextBuilding` of `text_meshes`, `Handing` of `listings`, the tables: `Output` of `refine_outputs`.
 #![tactic(auto)]
+
 ghost use Rattle.std.specs.Prelude.{◌≡◌};
 ghost use Rattle.building_tests.specs.declared.Bounds.TheVariants.{Refine};
 ghost use Rattle.text_meshes.specs.TextBuilding.{build_text};

@@ -2,6 +2,7 @@
 // Not here: the answer (`explain_answers`), the place (`text_places`), the points of an edge (`text_edges`).
 // No contract can say what is written: each function answers whether it could be written.
 #![tactic(auto)]
+
 use io::{print_decimal, write_all};
 use libc::STDOUT_FILENO;
 use listings::ListingReading;

@@ -17,7 +17,7 @@ use Rattle.building_tests.specs.declared.Bounds.TheVariants.{General, Refine}
 use Rattle.text_meshes.specs.TextBuilding.{is_too_long, lists_of, told, TextOutcome, of_form, build_text_if, build_text}
 use Rattle.text_numbers.specs.Form.{Parsed, parsed, unparsed}
 use Rattle.built_meshes.specs.Lists.{Lists}
-use Rattle.built_meshes.specs.Grounds.{Where, lists, face, edge, whole, FewRows}
+use Rattle.built_meshes.specs.Grounds.{Where, lists, face, edge, whole, HasFewRows}
 use Rattle.built_meshes.specs.declared.Verdict.{Verdict}
 use Rattle.whole_grounds.specs.Turning.{lists_met}
 use Rattle.whole_grounds.proofs.Theorem.{Answered, refuses, accepts, lists-came}
@@ -36,7 +36,7 @@ unfolding told_number told_if form_number build_text build_text_if of_form
 number-is-answer b s m rows = go (is_too_long b (length s)) refl (text s) refl
   where
     told-number :
-        (l : Lists) (free : ¬ FewRows l m) (v : Verdict) → Answered (limits_of b) l m (few b) free v →
+        (l : Lists) (free : ¬ HasFewRows l m) (v : Verdict) → Answered (limits_of b) l m (few b) free v →
         verdict_number v ≡ answer_number (told (build (limits_of b) l m).answer)
     told-number l free v (refuses {g = g} a) = rw a
     told-number l free v (accepts {k = k} a) = rw a

@@ -6,7 +6,7 @@ use Rattle.std.specs.Prelude.{◌≡◌, List, ℕ}
 use Rattle.tables.specs.Mesh.{Mesh}
 use Rattle.mesh_text.specs.Text.{TextMesh}
 use Rattle.built_meshes.specs.Answers.{ground_number}
-use Rattle.built_meshes.specs.Grounds.{FewRows}
+use Rattle.built_meshes.specs.Grounds.{HasFewRows}
 use Rattle.building_tests.specs.declared.Bounds.{Bounds}
 use Rattle.text_meshes.specs.TextBuilding.{lists_of, build_text}
 use Rattle.text_meshes.specs.Claims.{StandsFor}
@@ -20,7 +20,7 @@ answer_number NotText = 1
 answer_number (Refused g) = ground_number g
 
 abbrev pub RowsToSpare : Bounds → List ℕ → Mesh → Type 0
-RowsToSpare b s m = (t : TextMesh) → StandsFor b s t → ¬ FewRows (lists_of t) m
+RowsToSpare b s m = (t : TextMesh) → StandsFor b s t → ¬ HasFewRows (lists_of t) m
 
 abbrev pub NumberIsAnswer : Type 0
 NumberIsAnswer = (b : Bounds) (s : List ℕ) (m : Mesh) → RowsToSpare b s m → told_number b s ≡ answer_number (build_text b s m).answer

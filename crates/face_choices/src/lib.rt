@@ -3,6 +3,7 @@
 // Not here: how parts are kept (`face_parts`), which places share an edge (`shared_edges`).
 // Contract: `choose_faces`. Definitions: `Parts` of `mended_lists`; `specs/Mates.antt`. Laws: `proofs/Laws.antt`.
 #![tactic(auto)]
+
 ghost use Rattle.std.specs.Prelude.{◌≡◌, ◌||◌, List, ℕ, ◌≤◌, ◌<◌, length, get_or};
 ghost use Rattle.mended_lists.specs.Parts.{parts_to};
 ghost use Rattle.mended_lists.specs.Edges.{FacePlace};

@@ -3,6 +3,7 @@
 // Not here: the grounds of the lists and of the whole (`building`), the search of an edge (`shared_edges`), local lists (`first_grounds`).
 // Contract: `faces_spot`. Definitions: `Spots` of `refusal_places`; `specs/Found.antt`. Laws: `proofs/Laws.antt`.
 #![tactic(auto)]
+
 ghost use Rattle.std.specs.Prelude.{◌≡◌, List, [], ℕ, ◌+◌, ◌*◌, ◌/◌, ◌≤◌, ◌<◌, Float, length};
 ghost use Rattle.tables.specs.Layout.{position_width};
 ghost use Rattle.built_meshes.specs.Faces.{face_verdict};

@@ -2,6 +2,7 @@
 // Not here: the sides of a face (`face_sides`), point lines (`point_lines`), the whole text and its limits (`mesh_text`).
 // Contracts: `count_faces`, `store_faces`. Definitions and laws: `mesh_lines`.
 #![tactic(auto)]
+
 ghost use Rattle.std.specs.Prelude.{◌≡◌, ◌≤◌, map, length};
 ghost use Rattle.text_numbers.specs.Form.{bytes, many};
 ghost use Rattle.mesh_lines.specs.Grammar.{face_form, flat, side_first, side_points, side_intervals};

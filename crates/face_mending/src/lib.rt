@@ -2,6 +2,7 @@
 // Not here: ground 20 (`mending`), grounds 2, 3 and 44 (`list_mending`), the search of an edge (`shared_edges`).
 // Contract: `mend_faces`. Definitions: `Mending` of `mended_lists`; `specs/Shown.antt`. Laws: `proofs/Laws.antt`.
 #![tactic(auto)]
+
 ghost use Rattle.std.specs.Prelude.{◌≡◌, not, List, [], ℕ, ◌+◌, ◌*◌, ◌/◌, ◌≤◌, ◌<◌, Float, length};
 ghost use Rattle.tables.specs.Layout.{position_width};
 ghost use Rattle.audited_meshes.specs.Folds.{every};

@@ -3,6 +3,7 @@
 // Not here: which faces share an edge (`shared_edges`), the choice of faces (`face_choices`).
 // Contracts: `find_part`, `join`. Definitions: `Parts` of `mended_lists`; `specs/Kept.antt`. Laws: `proofs/Laws.antt`.
 #![tactic(auto)]
+
 ghost use Rattle.std.specs.Prelude.{◌≡◌, Bool, false, ◌||◌, List, ℕ, ◌≤◌, ◌<◌, eqb, length, get_or, set};
 ghost use Rattle.mended_lists.specs.Edges.{FacePlace};
 ghost use Rattle.mended_lists.specs.Parts.{Parts, differ, parts_joined, parts_to};

@@ -1,6 +1,7 @@
 // The places of all faces as two lists: the point that each runs to, and its face. The point that it runs from is the listed one.
 // Contract: `spread`. Definitions: `Edges` of `mended_lists`; `specs/Spread.antt`. Laws: `proofs/Laws.antt`.
 #![tactic(auto)]
+
 ghost use Rattle.std.specs.Prelude.{◌≡◌, [], ◌+◌, ◌/◌, ◌≤◌, ◌<◌, length};
 ghost use Rattle.built_meshes.specs.Lists.{offset};
 ghost use Rattle.building_tests.specs.Lent.{lists};

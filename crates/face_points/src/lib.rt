@@ -4,6 +4,7 @@
 // Contract: `face_point`. Definitions: `position_rules`, specs/FacePoint.antt; `specs/Terms.antt`
 // for the terms that the code keeps from one window to the next.
 #![tactic(auto)]
+
 ghost use Rattle.std.specs.Prelude.{◌≡◌, ◌+◌, ◌<◌, length, get_or};
 ghost use Rattle.perimeters.specs.Places.{around};
 ghost use Rattle.tables.specs.Layout.{longest_perimeter, longest_border};

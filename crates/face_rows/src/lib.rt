@@ -2,6 +2,7 @@
 // Not here: the walks about faces (`audit_faces`), the audit made of them (`audit`).
 // Contract: `faces_fit`. Definition: `Quick` of `audited_meshes`. Laws: `proofs/RowTests.antt`.
 #![tactic(auto)]
+
 ghost use Rattle.std.specs.Prelude.{◌≡◌, ◌||◌, [], ◌+◌, ◌*◌, ◌≤◌, eqb, ltb, length};
 ghost use Rattle.tables.specs.Layout.{face_width};
 ghost use Rattle.tables.specs.Mesh.{none};

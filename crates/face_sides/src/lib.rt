@@ -2,6 +2,7 @@
 // Not here: the face lines that they stand in (`face_lines`), point lines (`point_lines`).
 // Contract: `sides`. Definitions and laws: `mesh_lines`.
 #![tactic(auto)]
+
 ghost use Rattle.std.specs.Prelude.{◌≡◌, ◌≤◌, map, length};
 ghost use Rattle.text_numbers.specs.Form.{bytes, times, many};
 ghost use Rattle.mesh_lines.specs.Grammar.{listed_form, side_form, flat};

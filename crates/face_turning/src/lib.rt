@@ -3,6 +3,7 @@
 // Not here: which faces are turned (`face_choices`), what a turned face is (`mended_lists`).
 // Contract: `turn_faces`. Definitions: `Reversal` of `mended_lists`; `specs/Moved.antt`. Laws: `proofs/Moves.antt`, `proofs/Faces.antt`.
 #![tactic(auto)]
+
 ghost use Rattle.std.specs.Prelude.{◌≡◌, false, [], ◌+◌, ◌-◌, ◌*◌, ◌/◌, ◌≤◌, length, get_or};
 ghost use Rattle.std.specs.Float.{nan};
 ghost use Rattle.built_meshes.specs.declared.Version.TheVariants.{Two};

@@ -6,6 +6,7 @@
 // Contract: `few_sole`. Definitions: `specs/Rounds.antt`. Laws: `proofs/Steps.antt`, `proofs/Joins.antt`, `proofs/Rounds.antt`,
 // `proofs/Comparing.antt`.
 #![tactic(auto)]
+
 ghost use Rattle.std.specs.Prelude.{◌≡◌, true, [], ◌+◌, ◌*◌, ◌≤◌, length};
 ghost use Rattle.tables.specs.Layout.{point_width, edge_width};
 ghost use Rattle.tables.specs.Mesh.{valence};

@@ -3,6 +3,7 @@
 // Not here: the tables, and what stands in their rows (`oracle_tables`).
 // Contracts: `kept_words`, `kept_numbers`. Definitions: `specs/Filled.antt`. Laws: `proofs/Laws.antt`.
 #![tactic(auto)]
+
 ghost use Rattle.std.specs.Prelude.{◌≡◌, drop};
 ghost use Rattle.filled_rows.specs.Filled.{kept_words, kept_numbers};
 

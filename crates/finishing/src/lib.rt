@@ -2,6 +2,7 @@
 // Not here: the parts (`step_parts`, `row_moves`), the tests (`step_grounds`), the whole step (`refining`).
 // Contract: `finish`. Definition: `steps`, specs/Step.antt, `step`. Laws: `proofs/Laws.antt`.
 #![tactic(auto)]
+
 ghost use Rattle.std.specs.Prelude.{◌≡◌};
 ghost use Rattle.tables.specs.Mesh.{mesh_of};
 ghost use Rattle.steps.specs.Step.{step, StepOutcome};

@@ -3,6 +3,7 @@
 // Not here: the definition of the output (`handover_outputs`), writing a listing (`listing_writing`), the whole output (`handover`).
 // Contract: `write_handed`. Definition: `stepped_bytes` of `handover_outputs`, specs/Output.antt. Laws: `proofs/Lines.antt`.
 #![tactic(auto)]
+
 ghost use Rattle.std.specs.Prelude.{◌≤◌, length};
 ghost use Rattle.tables.specs.Mesh.{mesh_of};
 ghost use Rattle.mesh_answers.specs.Writing.{Written};

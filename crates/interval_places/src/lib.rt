@@ -2,6 +2,7 @@
 // Not here: the places stepped (`perimeters`), the edges entered (`building_faces`).
 // Contract: `interval_place`. Definition: `Perimeters` of `built_meshes`.
 #![tactic(auto)]
+
 ghost use Rattle.std.specs.Prelude.{◌≡◌, ℕ, ◌<◌};
 ghost use Rattle.perimeters.specs.Places.{next_place};
 ghost use Rattle.built_meshes.specs.Perimeters.{interval_place};

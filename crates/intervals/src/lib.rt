@@ -1,6 +1,7 @@
 // Whether a number can be an interval: finite, with its sign bit clear.
 // The definition is `interval_fit` of `audited_meshes`.
 #![tactic(auto)]
+
 ghost use Rattle.std.specs.Prelude.{◌≡◌};
 ghost use Rattle.audited_meshes.specs.Audit.{interval_fit};
 

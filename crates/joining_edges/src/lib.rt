@@ -3,6 +3,7 @@
 // Not here: the places of the perimeter (`ring_places`), the joining edges in the tables (`ring_edges`).
 // Contract: `join_edge`. Definitions: `refined_meshes`, specs/Ring.antt; `ring_rows`, specs/Rings.antt. Laws: `proofs/Laws.antt`.
 #![tactic(auto)]
+
 ghost use Rattle.std.specs.Prelude.{◌≡◌, List, ℕ, ◌+◌, ◌<◌};
 ghost use Rattle.refined_meshes.specs.State.{State, put_edge};
 ghost use Rattle.refined_meshes.specs.Ring.{put_join};

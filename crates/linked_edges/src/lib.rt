@@ -2,6 +2,7 @@
 // Not here: the other tests of an edge, and that these links are enough (`audit_edges`).
 // Contract: `is_linked`. Definitions: `specs/Links.antt`; `Audit` of `audited_meshes`. Laws: `proofs/LinkTests.antt`.
 #![tactic(auto)]
+
 ghost use Rattle.std.specs.Prelude.{◌≡◌, [], ◌+◌, ◌*◌, ◌≤◌, ◌<◌, length};
 ghost use Rattle.tables.specs.Layout.{edge_width};
 ghost use Rattle.tables.specs.Mesh.{left_acw, right_acw};

@@ -3,6 +3,7 @@
 // of faces (`face_choices`), the lists turned round.
 // Contract: `find_turns`. Definitions: `Mending` of `mended_lists`; `specs/Turning.antt`. Laws: `proofs/Laws.antt`.
 #![tactic(auto)]
+
 ghost use Rattle.std.specs.Prelude.{◌≡◌, true, ◌/◌, ◌≤◌, length};
 ghost use Rattle.built_meshes.specs.Lists.{general_limits, counts_fit};
 ghost use Rattle.built_meshes.specs.declared.Version.TheVariants.{Two};

@@ -2,6 +2,7 @@
 // Not here: the lengths of the lists (`building_lists`), the limits and the tests of one face (`building_tests`).
 // Contract: `numbers_fit`. Definitions: `Lists` of `built_meshes`.
 #![tactic(auto)]
+
 ghost use Rattle.std.specs.Prelude.{◌≡◌, [], length, get_or};
 ghost use Rattle.std.specs.Float.{nan};
 ghost use Rattle.std.specs.Float.Ieee.Scale.{finite};

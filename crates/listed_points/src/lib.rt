@@ -2,6 +2,7 @@
 // Not here: the other tests of a face, and which ground they give it (`building_tests`).
 // Definitions: `Faces` of `built_meshes`; `specs/Lent.antt`. Laws for callers: `proofs/Laws.antt`.
 #![tactic(auto)]
+
 ghost use Rattle.std.specs.Prelude.{◌≡◌, not, [], ◌+◌, ◌≤◌, ◌<◌, eqb, length, get_or};
 ghost use Rattle.audited_meshes.specs.Folds.{every};
 ghost use Rattle.built_meshes.specs.Faces.{listed_in_range, no_point_twice};

@@ -3,6 +3,7 @@
 // Not here: writing and reading (`listing_writing`, `listing_reading`), the two with their answers told (`station_listings`).
 // Contracts: `writing_number`, `store_length`, `reading_number`, `store_read`. Definitions: `specs/Answers.antt`. Laws: `proofs/Laws.antt`.
 #![tactic(auto)]
+
 ghost use Rattle.std.specs.Prelude.{◌≡◌};
 ghost use Rattle.listings.specs.Handing.{writing_number, reading_number};
 ghost use Rattle.listing_answers.specs.Answers.{length_after, counts_read};

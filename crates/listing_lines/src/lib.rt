@@ -3,6 +3,7 @@
 // Contracts: `listing_sizes`, `store_rows`. Definitions: `listings`, specs/Grammar.antt (the lines); `specs/Parts.antt` (the answers).
 // Laws: `proofs/Laws.antt` (how far a line goes), `proofs/Progress.antt` (one turn of a loop over lines), `proofs/Scanned.antt` (the whole).
 #![tactic(auto)]
+
 ghost use Rattle.std.specs.Prelude.{◌≡◌, ◌≤◌, length};
 ghost use Rattle.text_numbers.specs.Form.{bytes, times, many};
 ghost use Rattle.text_numbers.specs.Answers.{number};

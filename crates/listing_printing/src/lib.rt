@@ -3,6 +3,7 @@
 // Contracts: `wide`, `write_points`, `write_edges`, `write_faces`, `listing_length`. Definitions: `listings`, specs/Handing.antt; `specs/Fields.antt`.
 // Laws: `proofs/Laws.antt` (fields and lines one after another), `proofs/Lengths.antt` (how long they are).
 #![tactic(auto)]
+
 ghost use Rattle.std.specs.Prelude.{◌≡◌, true, [], ℕ, ◌+◌, ◌*◌, ◌≤◌, ◌<◌, length, get_or};
 ghost use Rattle.std.specs.Float.{nan};
 ghost use Rattle.std.specs.Float.Ieee.Scale.{finite};

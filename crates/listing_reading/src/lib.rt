@@ -3,6 +3,7 @@
 // Not here: the two scans (`listing_lines`), writing (`listing_writing`).
 // Contract: `read_listing`. Definition: `read_listing` of `listings`, specs/Handing.antt. Laws: `proofs/Outcomes.antt`.
 #![tactic(auto)]
+
 ghost use Rattle.std.specs.Prelude.{◌≡◌};
 ghost use Rattle.tables.specs.Mesh.{mesh_of};
 ghost use Rattle.listings.specs.Handing.{ReadingOutcome, read_listing};

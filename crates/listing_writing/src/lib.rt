@@ -4,6 +4,7 @@
 // Not here: the lines (`listing_printing`), reading (`listing_reading`).
 // Contract: `write_listing`. Definition: `write_listing` of `listings`, specs/Handing.antt. Laws: `proofs/Parts.antt`.
 #![tactic(auto)]
+
 ghost use Rattle.std.specs.Prelude.{◌≡◌, true, ℕ, ◌*◌, ◌≤◌, ◌<◌, length, get_or};
 ghost use Rattle.std.proofs.lemmas.List.Edits.{sets};
 ghost use Rattle.std.specs.Float.{nan};

@@ -5,6 +5,7 @@
 // reading). Claims: `specs/Claims.antt`, proved in `proofs/Theorem.antt`. Laws for callers: `proofs/Exact.antt` (a form finds
 // exactly what is printed).
 #![tactic(auto)]
+
 use tables::Counts;
 
 // What writing a listing answers: how many bytes it has, or the ground. The number of document 02 stands beside each.

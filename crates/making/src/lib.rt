@@ -5,6 +5,7 @@
 // Not here: the rows of which it is made and in which (`step_parts`), whether a step may be made (`step_grounds`).
 // Definitions: `steps`, specs/Step.antt, `made`; what must hold: specs/Making.antt.
 #![tactic(auto)]
+
 ghost use Rattle.std.specs.Prelude.{◌≡◌};
 ghost use Rattle.refined_meshes.specs.declared.Edition.TheVariants.{First, Second};
 ghost use Rattle.steps.specs.Step.{made};

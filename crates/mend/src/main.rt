@@ -3,6 +3,7 @@
 // What is written is `mend_output` of `mend_outputs`, specs/Output.antt. No contract can say what is read and written;
 // a read or a write that fails is said on standard error (`streams`).
 #![tactic(auto)]
+
 ghost use Rattle.std.specs.Prelude.{◌≤◌, length};
 
 use mend_outputs::{MEND_BYTES, mend};

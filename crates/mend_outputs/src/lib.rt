@@ -2,6 +2,7 @@
 // Not here: reading and writing (`mend`), the mender (`text_mending`).
 // Contract: `mend`. Definition: `specs/Output.antt`. Claim: `specs/Claims.antt`, proved in `proofs/Laws.antt`.
 #![tactic(auto)]
+
 ghost use Rattle.std.specs.Prelude.{◌≡◌, ◌≤◌, length, take};
 ghost use Rattle.mend_outputs.specs.Output.{mend_output};
 

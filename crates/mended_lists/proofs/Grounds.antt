@@ -18,7 +18,7 @@ use Rattle.audited_meshes.proofs.Tests.{self-is, every-is}
 use Rattle.built_meshes.specs.Lists.{Lists, points_of, faces_of, size, offset, counts_fit, listed_fit}
 use Rattle.built_meshes.specs.Faces.{face_verdict}
 use Rattle.built_meshes.specs.Places.{point_of, IsPlace, Runs, Between, Differ, Earlier}
-use Rattle.built_meshes.specs.Grounds.{OverCounts, UnfitNumber, Where, lists, face, edge, whole, Met, over-counts, unfit-number, few-rows}
+use Rattle.built_meshes.specs.Grounds.{IsOverCounts, HasUnfitNumber, Where, lists, face, edge, whole, Met, over-counts, unfit-number, few-rows}
 use Rattle.built_meshes.specs.Grounds.{face-size, out_of_range, point-twice, first-point, non-rectangular, triple-face}
 use Rattle.built_meshes.specs.Grounds.{same_way, missing-face, no_edge, missed-edge, Less, rank, turn_of}
 use Rattle.built_meshes.specs.declared.Verdict.{Verdict}
@@ -155,8 +155,8 @@ module _ (c : Sizes) (l : Lists) where
   -- ---- nothing is met before a turn
 
   record Clear (K : List ℕ) : Type 0 where
-    counts : Less (0 ∷ 2 ∷ []) K → ¬ OverCounts c l
-    numbers : Less (0 ∷ 3 ∷ []) K → ¬ UnfitNumber l
+    counts : Less (0 ∷ 2 ∷ []) K → ¬ IsOverCounts c l
+    numbers : Less (0 ∷ 3 ∷ []) K → ¬ HasUnfitNumber l
     of-face : (f k : ℕ) → f < faces_of l → k ≤ 12 → Less (1 ∷ f ∷ 0 ∷ k ∷ []) K → Tests l f (suc k)
     triples : (f i : ℕ) → IsPlace l f i → Less (1 ∷ f ∷ suc i ∷ 14 ∷ []) K → ¬ Triple l f i
     lone : Less (2 ∷ 20 ∷ []) K → ¬ LoneEdge l
@@ -194,7 +194,7 @@ module _ (c : Sizes) (l : Lists) where
 
   -- ---- before a ground of the lists
 
-  module _ (n : ℕ) (small : n ≤ 3) (counts : 2 < n → ¬ OverCounts c l) where
+  module _ (n : ℕ) (small : n ≤ 3) (counts : 2 < n → ¬ IsOverCounts c l) where
     sooner : (k : ℕ) → Less (0 ∷ k ∷ []) (0 ∷ n ∷ []) → k < n
     sooner k (inl h) = absurd (omega arith)
     sooner k (inr (e, inl h)) = h
@@ -214,7 +214,7 @@ module _ (c : Sizes) (l : Lists) where
           lone = λ h. not-sooner 1 (20 ∷ []) h;
         }
 
-  module _ (no-counts : ¬ OverCounts c l) (no-numbers : ¬ UnfitNumber l) where
+  module _ (no-counts : ¬ IsOverCounts c l) (no-numbers : ¬ HasUnfitNumber l) where
     -- ---- before a ground of a face
 
     module _ (F n : ℕ) (below : (f : ℕ) → f < F → Passes f (size l f)) (tests : Tests l F n) where
@@ -321,7 +321,7 @@ module _ (c : Sizes) (l : Lists) where
     passes-all : MeetsNone c l → Came (cond (twisted l) Twisted Mended)
 
   face-first :
-      ¬ OverCounts c l → ¬ UnfitNumber l → (F : ℕ) → F < faces_of l → ((f : ℕ) → f < F → Passes f (size l f)) → (v : Verdict) →
+      ¬ IsOverCounts c l → ¬ HasUnfitNumber l → (F : ℕ) → F < faces_of l → ((f : ℕ) → f < F → Passes f (size l f)) → (v : Verdict) →
       FaceCame F v → (g : Ground) → v ≡ Unfit g → (w : Where) × MeetsFirst c l w g
   face-first nc nn F b below v (passes p) g e = absurd (unfit g (sym e))
   face-first nc nn F b below v (by-test {g = h} s m t r) g e =
@@ -343,7 +343,7 @@ module _ (c : Sizes) (l : Lists) where
   came = counts (counts_fit c l) refl
     where
       faces :
-          ¬ OverCounts c l → ¬ UnfitNumber l → (v : Verdict) → FacesCame (faces_of l) v → (s : Bool) → edges_shared (places_of l) ≡ s →
+          ¬ IsOverCounts c l → ¬ HasUnfitNumber l → (v : Verdict) → FacesCame (faces_of l) v → (s : Bool) → edges_shared (places_of l) ≡ s →
           Came (whole_mends v s (twisted l))
       faces nc nn v (stopped {g = g} f b below at) s e =
           let z = face-first nc nn f b below (Unfit g) at g refl in refuses z.0 z.1
@@ -359,7 +359,7 @@ module _ (c : Sizes) (l : Lists) where
           answer true t = subst Came (ap (λ (x : Bool). cond x Twisted Mended) t) (passes-all (none-met nc nn pass (lone-not l e)))
           answer false t = subst Came (ap (λ (x : Bool). cond x Twisted Mended) t) (passes-all (none-met nc nn pass (lone-not l e)))
 
-      numbers : ¬ OverCounts c l → (b : Bool) → listed_fit l ≡ b → Came (mending_if true b l)
+      numbers : ¬ IsOverCounts c l → (b : Bool) → listed_fit l ≡ b → Came (mending_if true b l)
       numbers nc true e =
           faces nc (numbered-fits l (numbers-is l e)) (faces_mend l (places_of l) (faces_of l)) (faces-came (faces_of l) (omega arith))
           (edges_shared (places_of l)) refl

@@ -6,6 +6,7 @@
 // `proofs/Theorem.antt`, `proofs/Passed.antt`, `proofs/Again.antt`; those of the order: `specs/Grounds.antt`, proved in `proofs/Grounds.antt`;
 // a computed face and meshes: `proofs/Cases.antt`.
 #![tactic(auto)]
+
 use built_meshes::Ground;
 
 // The part of a face: the lowest-numbered face of the part, and whether the face is turned if that one stays.

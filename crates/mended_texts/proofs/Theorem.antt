@@ -47,7 +47,7 @@ use Rattle.mended_texts.specs.Mending.{MendOutcome, mending_of, mend_form, mend_
 use Rattle.mended_texts.specs.declared.TextMending.{TextMending}
 use Rattle.mended_texts.specs.declared.TextMending.TheVariants.{Mended, NotText, Refused, Twisted}
 use Rattle.mended_texts.specs.Claims.{Says, SaysTwo, TurnedRight, MendedText, SameBytes, RefusalsLeave, NotTextExactly}
-use Rattle.mended_texts.specs.Claims.{GroundsInOrder, TwistedText, MendedText, ReversalRead, Unchanged, Twice, ThenBuilt}
+use Rattle.mended_texts.specs.Claims.{GroundsInOrder, TwistedText, TextMended, ReversalRead, Unchanged, Twice, ThenBuilt}
 use Rattle.mended_texts.proofs.Turned.{faces-count}
 use Rattle.mended_texts.proofs.Printed.{length-turned, fit-turned, four-of-fit}
 use Rattle.mended_texts.proofs.Past.{Past, text-fitting, text-turned, same-turned}
@@ -231,7 +231,7 @@ twisted-text s = (to, from)
         ∙ ap (λ (r : Mending). (mending_of r s t).answer)
         ((twisted-last general_limits (lists_of t)).1 (none, λ c works. not c (works-right s t says none c works)))
 
-pub mended-text : MendedText
+pub mended-text : TextMended
 mended-text s = (to, from)
   where
     to :

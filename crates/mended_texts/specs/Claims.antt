@@ -8,7 +8,7 @@
 --     NotTextExactly        1 exactly if the text is not of the form or of version 1
 --     GroundsInOrder        2, 3, 10, 11, 12, 43, 14 and 20 exactly if a text of version 2 meets the ground first
 --     TwistedText            44 exactly if it meets none of these and no choice works
---     MendedText             it is mended exactly if it meets none of these and a choice works
+--     TextMended             it is mended exactly if it meets none of these and a choice works
 --     ReversalRead           what is left of it then
 --     Unchanged               a text that needs nothing comes back unchanged
 --     Twice                   mending twice is mending once
@@ -69,8 +69,8 @@ TwistedText =
     ((mend_text s).answer ≡ Twisted)
     ↔ ((t : TextMesh) × SaysTwo s t × MeetsNone general_limits (lists_of t) × ((c : Choice) → ¬ TurnedRight t c))
 
-abbrev pub MendedText : Type 0
-MendedText =
+abbrev pub TextMended : Type 0
+TextMended =
     (s : List ℕ) →
     ((mend_text s).answer ≡ Mended)
     ↔ ((t : TextMesh) × SaysTwo s t × MeetsNone general_limits (lists_of t) × ((c : Choice) × TurnedRight t c))

@@ -4,6 +4,7 @@
 // Definitions, in the order of reading: `specs/Turning.antt` (a face of a text turned round), `specs/Mending.antt` (the mender's answer
 // and what it leaves of the text). Claims: `specs/Claims.antt`, proved in `proofs/Theorem.antt`; computed texts: `text_cases`.
 #![tactic(auto)]
+
 use built_meshes::Ground;
 
 // The mender's answer to a text. The number stands beside each ground that building from lists does not have.

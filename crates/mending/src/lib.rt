@@ -2,6 +2,7 @@
 // Not here: the choice of faces (`face_choices`).
 // Contract: `pair_faces`. Definitions: `Mending` of `mended_lists`; `specs/Shared.antt`. Laws: `proofs/Laws.antt`.
 #![tactic(auto)]
+
 ghost use Rattle.std.specs.Prelude.{◌≡◌, List, [], ℕ, ◌/◌, ◌≤◌, Float, length};
 ghost use Rattle.tables.specs.Layout.{position_width};
 ghost use Rattle.built_meshes.specs.Lists.{offset};

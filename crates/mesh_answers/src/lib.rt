@@ -3,6 +3,7 @@
 // Not here: the lines written (`answer_lines`), the reading of texts (`text_reading`).
 // Contracts: `write`, `write_decimal`, `write_number`, `write_bits`. Definitions: `specs/Lines.antt`. Laws for callers: `proofs/Laws.antt`.
 #![tactic(auto)]
+
 ghost use Rattle.std.specs.Prelude.{◌≡◌, ◌+◌, ◌≤◌, ◌<◌, length};
 ghost use Rattle.mesh_answers.specs.Lines.{decimal_digits, hex_byte, hex_bytes, number_field, bits_field};
 ghost use Rattle.mesh_answers.specs.Writing.{Written};

@@ -5,6 +5,7 @@
 // and the lent lists), `specs/Parts.antt` (the answers of the first scan).
 // Laws for callers: `proofs/Read.antt`; for the reader: `proofs/Heads.antt`, `proofs/Stored.antt`.
 #![tactic(auto)]
+
 use built_meshes::Version;
 use tables::Sizes;
 

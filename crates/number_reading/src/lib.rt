@@ -3,6 +3,7 @@
 // Not here: what a number of a text is (`text_numbers`), the writing of numbers (`mesh_answers`), the lines of a mesh text (`mesh_lines`).
 // Contracts: `bits`, `decimal`, `float`. Definitions: `Numbers` of `text_numbers`.
 #![tactic(auto)]
+
 ghost use Rattle.std.specs.Prelude.{◌≡◌, ◌≤◌, ◌<◌, length};
 ghost use Rattle.text_numbers.specs.Numbers.{bits, decimal_from, decimal, float};
 ghost use Rattle.text_numbers.specs.Answers.{number};

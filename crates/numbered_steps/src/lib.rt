@@ -4,6 +4,7 @@
 // `proofs/Steps.antt`.
 // Names: `newpositions`, `newpoints`, `newedges`, `newintervals` and `newfaces` are the scratch tables of positions, points, edges, intervals, faces.
 #![tactic(auto)]
+
 ghost use Rattle.std.specs.Prelude.{◌≤◌};
 ghost use Rattle.tables.specs.Mesh.{mesh_of};
 ghost use Rattle.built_meshes.specs.Lists.{refine_limits};

@@ -2,6 +2,7 @@
 // Not here: the sum (`old_points`).
 // Contract: `moved`. Definition: `position_rules`, specs/OldPoint.antt.
 #![tactic(auto)]
+
 ghost use Rattle.std.specs.Prelude.{◌≡◌};
 ghost use Rattle.position_rules.specs.OldPoint.{moved};
 

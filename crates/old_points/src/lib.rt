@@ -4,6 +4,7 @@
 // points (`edge_points`), the rows of the new points (`placing`).
 // Contract: `old_point`. Definitions: `position_rules`, specs/OldPoint.antt.
 #![tactic(auto)]
+
 ghost use Rattle.std.specs.Prelude.{◌≡◌, ◌+◌, ◌*◌, ◌≤◌, pos, length};
 ghost use Rattle.std.specs.Float.Ieee.{of_int};
 ghost use Rattle.std.specs.Float.{binary64};

@@ -4,6 +4,7 @@
 // the input (`oracle_runs`).
 // Contracts: what callers need to be safe; the run compares what is built with the recorded answers.
 #![tactic(auto)]
+
 ghost use Rattle.std.specs.Prelude.{◌≡◌, ◌≤◌, length};
 
 use answer_numbers::ground_number;

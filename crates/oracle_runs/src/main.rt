@@ -5,6 +5,7 @@
 // from document 01, never from this program.
 // Not here: what is told of one record (`records.rt`).
 #![tactic(auto)]
+
 ghost use Rattle.std.specs.Prelude.{◌≡◌, ◌≤◌, length};
 
 use crate::records::{HEAD_BYTES, record_bytes, tell};

@@ -2,6 +2,7 @@
 // Not here: the tables and their listing (`oracle_tables`), building (`oracle_builds`).
 // Contracts: what callers need to be safe; the run compares what the steps leave with the recorded answers.
 #![tactic(auto)]
+
 ghost use Rattle.std.specs.Prelude.{◌≡◌, ◌+◌, ◌≤◌, length};
 
 use answer_numbers::step_number;

@@ -3,6 +3,7 @@
 // Contracts: what callers need to be safe, and of `is_kept` whether tables are as they were filled (`specs/Kept.antt`). No contract can
 // say what is written: the run compares that with the recorded answers.
 #![tactic(auto)]
+
 pub mod fields;
 pub mod held;
 pub mod listing;

@@ -3,6 +3,7 @@
 // Not here: building one text or one mesh (`oracle_builds`).
 // Contracts: what callers need to be safe; the run compares what is built with the recorded answers.
 #![tactic(auto)]
+
 ghost use Rattle.std.specs.Prelude.{◌≡◌, ◌≤◌, ◌<◌, length};
 
 use building_tests::Bounds;

@@ -6,14 +6,14 @@ use Prim.Native.Nat.{ℕ}
 use Rattle.runs.specs.Runs.{after, outcome, lent}
 use Rattle.runs.proofs.Runs.{theorem}
 use Rattle.ordered_runs.specs.Runs.{handing, handed, ran}
-use Rattle.ordered_runs.specs.Claims.{InOrders, RunsShare}
+use Rattle.ordered_runs.specs.Claims.{InOrders, OrderedRunsShare}
 
 pub in-orders : InOrders
 unfolding handed
 in-orders ed l t [] = refl
 in-orders ed l t (o ∷ os) = ap (λ (r : List (List ℕ)). o ∷ r) (in-orders ed (after l (handing ed o t)) (outcome l (handing ed o t)).scratch os)
 
-pub runs-share : RunsShare
+pub runs-share : OrderedRunsShare
 unfolding ran
 runs-share ed_a ed_b c a b ta tb orders_a orders_b closed numbers same numbered =
     record {

@@ -1,6 +1,6 @@
 -- What is claimed of the steps that `run_steps` makes.
 --     InOrders               the steps are handed the orders, one each
---     RunsShare              two calls, each of an edition, from one accepted mesh of binary64 numbers in the tables a and b, that of A with the numbered order in
+--     OrderedRunsShare              two calls, each of an edition, from one accepted mesh of binary64 numbers in the tables a and b, that of A with the numbered order in
 --                             every accepted step: what `Demand3` claims of two runs holds of what they leave
 use Rattle.std.specs.Prelude.{◌≡◌, true, List, map, ℕ}
 use Rattle.tables.specs.Mesh.{Mesh}
@@ -22,7 +22,7 @@ pub record SharedRuns (ed_a ed_b : Edition) (c : Counts) (a b ta tb : Mesh) (ord
   pub accepted-B : (ran ed_b (lent b c) tb orders_b).accepted ≡ accepted (lent b c) (handed ed_b (lent b c) tb orders_b)
   pub two_runs : TwoRuns c a b (handed ed_a (lent a c) ta orders_a) (handed ed_b (lent b c) tb orders_b)
 
-abbrev pub RunsShare : Type 0
-RunsShare =
+abbrev pub OrderedRunsShare : Type 0
+OrderedRunsShare =
     (ed_a ed_b : Edition) (c : Counts) (a b ta tb : Mesh) (orders_a orders_b : List (List ℕ)) → audit a c.points c.edges c.faces ≡ true → Binary64 c a →
     first_rows c a ≡ first_rows c b → NumberedOrder (lent a c) (handed ed_a (lent a c) ta orders_a) → SharedRuns ed_a ed_b c a b ta tb orders_a orders_b

@@ -3,6 +3,7 @@
 // a mesh within the ceilings takes one pass.
 // Contract: `each_face_once`. Definitions: `each_face_once` of `steps`, specs/Step.antt; `specs/Orders.antt` for the passes.
 #![tactic(auto)]
+
 ghost use Rattle.std.specs.Prelude.{◌≡◌, true, ◌↔◌, ℕ, ◌+◌, ◌≤◌, ◌<◌, ltb, length, get_or};
 ghost use Rattle.audited_meshes.specs.Folds.{every, distinct};
 ghost use Rattle.steps.specs.Step.{each_face_once};

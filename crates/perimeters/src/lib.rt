@@ -3,6 +3,7 @@
 // Not here: what stands at the places (`ring_places`, `building_faces`, `face_points`).
 // Contracts: `next_place`, `prev_place`. Definitions: `specs/Places.antt`. Laws for callers: `proofs/Laws.antt`.
 #![tactic(auto)]
+
 ghost use Rattle.std.specs.Prelude.{◌≡◌, ◌<◌};
 ghost use Rattle.perimeters.specs.Places.{next_place, prev_place};
 

@@ -5,6 +5,7 @@
 // Contracts: `place_face_points`, `place_weighted_points`, `place_old_points`. Definitions: `steps`, specs/Positions.antt; what the loops
 // ask: specs/Placing.antt. Laws for callers: `proofs/Laws.antt`.
 #![tactic(auto)]
+
 ghost use Rattle.std.specs.Prelude.{◌≡◌, ◌+◌, ◌*◌, get_or};
 ghost use Rattle.tables.specs.Layout.{edge_width, dest_word, face_width, first_corner_word};
 ghost use Rattle.tables.specs.Parts.{without_points};

@@ -2,6 +2,7 @@
 // Not here: face lines (`face_lines`), the whole text and its limits (`mesh_text`).
 // Contracts: `coordinates`, `count_points`, `store_points`. Definitions and laws: `mesh_lines`.
 #![tactic(auto)]
+
 ghost use Rattle.std.specs.Prelude.{◌≡◌, ◌≤◌, map, length};
 ghost use Rattle.text_numbers.specs.Form.{bytes, times, many};
 ghost use Rattle.text_numbers.specs.Numbers.{float};

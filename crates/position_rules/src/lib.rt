@@ -5,6 +5,7 @@
 // mesh. What is proved of them: `specs/Claims.antt`. What the contracts require (`specs/Fits.antt`) holds on an audited mesh:
 // `proofs/Audited.antt`.
 #![tactic(auto)]
+
 ghost use Rattle.std.specs.Prelude.{◌≡◌};
 ghost use Rattle.position_rules.specs.Sums.{with_term};
 

@@ -2,6 +2,7 @@
 // Not here: rows zeroed, copied and counted (`tables`).
 // Definitions: `specs/Rows.antt` and `specs/Records.antt` of `tables`, with their laws in its `proofs/Laws.antt`.
 #![tactic(auto)]
+
 ghost use Rattle.std.specs.Prelude.{◌≡◌, ◌+◌, ◌*◌, ◌≤◌, ◌<◌, length, set};
 ghost use Rattle.tables.specs.Layout.{position_width, point_width, edge_width, face_width};
 ghost use Rattle.tables.specs.Rows.{put_row};

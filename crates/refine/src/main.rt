@@ -3,6 +3,7 @@
 // What is written is `output` of `refine_outputs`, specs/Output.antt. No contract can say what is read and written;
 // a read or a write that fails is said on standard error (`streams`).
 #![tactic(auto)]
+
 use crate::refine_text::{OUTPUT_BYTES, refine};
 use streams::{is_input_lost, write_output};
 use text_answers::REFINE_BYTES;

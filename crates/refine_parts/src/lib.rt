@@ -4,6 +4,7 @@
 // Contracts: `write_stepped`, `number_faces`. Definitions: `Output` and `FirstPoint` of `refine_outputs`. Laws: `proofs/Lines.antt`,
 // `proofs/Filling.antt`.
 #![tactic(auto)]
+
 ghost use Rattle.std.specs.Prelude.{◌≡◌, ◌+◌, ◌≤◌, length};
 ghost use Rattle.tables.specs.Layout.{face_ceiling};
 ghost use Rattle.runs.specs.Runs.{numbered};

@@ -98,6 +98,10 @@ module _ (m : Mesh) {np ne nf : ℕ} {t : MeshOver (Row np) (Row ne) (Row nf)} (
           })
 
   -- Taking rows changes no word.
+  taken-point : (p e f : ℕ) (s : State) (i : ℕ) → point_of (take_rows p e f s) i ≡ point_of s i
+  unfolding point_of
+  taken-point p e f s i = refl
+
   pub content-taken : {S : Row ne → Type 0} {k : ℕ} {s : State} (p e f : ℕ) → Content S k s → Content S k (take_rows p e f s)
   content-taken {S} {k} {s} p e f h =
       record {
@@ -143,7 +147,7 @@ module _ (m : Mesh) {np ne nf : ℕ} {t : MeshOver (Row np) (Row ne) (Row nf)} (
       side-taken (rgt i) = unfold side in refl
 
       point-taken : (i : ℕ) → point_of (take_rows p e f s) i ≡ point_of s i
-      point-taken i = unfold point_of in refl
+      point-taken = taken-point p e f s
 
       link-taken : (d : Dart (Row ne)) → link (take_rows p e f s) d ≡ link s d
       link-taken (lft i) = unfold link side in refl

@@ -4,6 +4,7 @@
 // Not here: the tests (`step_grounds`), what comes after them (`finishing`).
 // Contract: `step`. Definition: `steps`, specs/Step.antt, `step`.
 #![tactic(auto)]
+
 ghost use Rattle.std.specs.Prelude.{◌≡◌};
 ghost use Rattle.tables.specs.Mesh.{mesh_of};
 ghost use Rattle.steps.specs.Step.{step, step_numbers, StepOutcome};

@@ -16,7 +16,7 @@ use Rattle.built_meshes.specs.Faces.{face_verdict}
 use Rattle.built_meshes.specs.Answers.{ground_number}
 use Rattle.built_meshes.specs.Building.{build}
 use Rattle.built_meshes.specs.Places.{IsPlace, Earlier}
-use Rattle.built_meshes.specs.Grounds.{OverCounts, UnfitNumber, FewRows, Where, lists, face, edge, whole, Met, over-counts, unfit-number, few-rows}
+use Rattle.built_meshes.specs.Grounds.{IsOverCounts, HasUnfitNumber, HasFewRows, Where, lists, face, edge, whole, Met, over-counts, unfit-number, few-rows}
 use Rattle.built_meshes.specs.Grounds.{face-size, out_of_range, point-twice, first-point, non-rectangular, triple-face}
 use Rattle.built_meshes.specs.Grounds.{same_way, missing-face, no_edge, missed-edge, FirstMet, rank}
 use Rattle.built_meshes.specs.declared.Ground.{Ground}

@@ -8,7 +8,7 @@ use Rattle.tables.specs.Mesh.{Mesh, none}
 use Rattle.built_meshes.specs.Lists.{Lists, faces_of}
 use Rattle.built_meshes.specs.Answers.{ground_number}
 use Rattle.built_meshes.specs.Building.{build}
-use Rattle.built_meshes.specs.Grounds.{FewRows, FirstMet}
+use Rattle.built_meshes.specs.Grounds.{HasFewRows, FirstMet}
 use Rattle.built_meshes.specs.declared.Ground.{Ground}
 use Rattle.built_meshes.specs.declared.Built.TheVariants.{Refused}
 use Rattle.refusal_places.specs.declared.Spot.TheVariants.{Face, Edge}
@@ -21,7 +21,7 @@ SpotIsFirst =
 
 abbrev pub SpotRefuses : Type 0
 SpotRefuses =
-    (c : Sizes) (l : Lists) (m : Mesh) → c.faces ≤ none → ¬ FewRows l m → (g : Ground) (f i : ℕ) →
+    (c : Sizes) (l : Lists) (m : Mesh) → c.faces ≤ none → ¬ HasFewRows l m → (g : Ground) (f i : ℕ) →
     (spotted c l ≡ Face f g) ⊎ (spotted c l ≡ Edge f i g) → (build c l m).answer ≡ Refused g
 
 abbrev pub SpotInFaces : Type 0

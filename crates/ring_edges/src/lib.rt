@@ -5,6 +5,7 @@
 // visit itself (`visiting`).
 // Definitions: `refined_meshes`, specs/Ring.antt; `ring_rows`, specs/Rings.antt.
 #![tactic(auto)]
+
 ghost use Rattle.std.specs.Prelude.{◌≡◌, List, [], ℕ, ◌+◌, ◌*◌, ◌≤◌, ◌<◌, length, get_or, Float};
 ghost use Rattle.tables.specs.Layout.{edge_width};
 ghost use Rattle.tables.specs.declared.Counts.{Counts};

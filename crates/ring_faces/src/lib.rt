@@ -3,6 +3,7 @@
 // Not here: the places of the perimeter (`ring_places`), the edges (`ring_edges`), the visit itself (`visiting`).
 // Definitions: `refined_meshes`, specs/Ring.antt; `ring_rows`, specs/Rings.antt.
 #![tactic(auto)]
+
 ghost use Rattle.std.specs.Prelude.{◌≡◌, List, [], ℕ, ◌+◌, ◌-◌, ◌*◌, ◌≤◌, ◌<◌, length, get_or, Float};
 ghost use Rattle.tables.specs.Layout.{point_width, edge_width, face_width};
 ghost use Rattle.tables.specs.declared.Counts.{Counts};

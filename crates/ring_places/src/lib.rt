@@ -4,6 +4,7 @@
 // face (`ring_edges`, `ring_faces`), the splitting (`splitting`).
 // Definitions: `refined_meshes`, specs/Ring.antt; `ring_rows`, specs/Rings.antt. Laws: `proofs/Filling.antt`.
 #![tactic(auto)]
+
 ghost use Rattle.std.specs.Prelude.{◌≡◌, ℕ, ◌+◌, ◌*◌, ◌≤◌, ◌<◌, length, get_or};
 ghost use Rattle.std.specs.Float.{nan};
 ghost use Rattle.tables.specs.Layout.{edge_width, dest_word, longest_perimeter};

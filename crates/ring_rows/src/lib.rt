@@ -4,6 +4,7 @@
 // Not here: all places of a perimeter (`ring_places`), what is written about the face (`ring_edges`, `ring_faces`).
 // Definitions: `refined_meshes`, specs/Ring.antt; `specs/Rings.antt` for the ring as the code holds it.
 #![tactic(auto)]
+
 ghost use Rattle.std.specs.Prelude.{◌≡◌, cond, [], ◌+◌, ◌*◌, ◌≤◌, ◌<◌, eqb, length, get_or};
 ghost use Rattle.tables.specs.Layout.{edge_width, left_face_word, left_acw_word, right_cw_word};
 ghost use Rattle.refined_meshes.specs.Ring.{face_row};

@@ -2,6 +2,7 @@
 // Not here: whether there is room for them, and rows made zero alone (`counted_rows`).
 // Contract: `move_rows`. Definitions: `tables`, specs/Counted.antt.
 #![tactic(auto)]
+
 ghost use Rattle.std.specs.Prelude.{◌≡◌, ◌*◌, ◌≤◌, ◌<◌, length};
 ghost use Rattle.std.specs.Float.Ieee.{of_bits};
 ghost use Rattle.std.specs.Float.{binary64};

@@ -2,6 +2,7 @@
 // Not here: whether tables have the rows (`counted_rows`), the rows copied (`row_copies`).
 // Contracts: `refined_counts`, `within_ceilings`. Definitions: `steps`, specs/Step.antt.
 #![tactic(auto)]
+
 ghost use Rattle.std.specs.Prelude.{◌≡◌, ◌+◌, ◌*◌, ◌<◌};
 ghost use Rattle.steps.specs.Step.{refined_counts, within_ceilings};
 

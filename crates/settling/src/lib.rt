@@ -4,6 +4,7 @@
 // Not here: the visits (`visiting`), the positions (`placing`).
 // Contract: `settle_joins`. Definitions: `refined_meshes`, specs/Settled.antt; what the loops ask: specs/Settling.antt.
 #![tactic(auto)]
+
 ghost use Rattle.std.specs.Prelude.{◌≡◌};
 ghost use Rattle.refined_meshes.specs.declared.Edition.TheVariants.{Second};
 ghost use Rattle.refined_meshes.specs.Settled.{settled_side, intervals_of_edition};

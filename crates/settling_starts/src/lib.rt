@@ -5,6 +5,7 @@
 // Not here: the visits (`visiting`), the intervals of joining edges (`settling`).
 // Contract: `settle_starts`. Definitions: `refined_meshes`, specs/Starts.antt; what the functions ask: specs/Fits.antt.
 #![tactic(auto)]
+
 ghost use Rattle.std.specs.Prelude.{◌≡◌, []};
 ghost use Rattle.tables.specs.Mesh.{mesh_of, edge_table, dest, corner};
 ghost use Rattle.refined_meshes.specs.declared.Edition.TheVariants.{Second};

@@ -3,6 +3,7 @@
 // Not here: the tests of a face, the parts of the mesh (`face_parts`).
 // Contracts: `enter_places`, `are_shared`. Definitions: `Edges` of `mended_lists`; `specs/Chains.antt`. Laws: `proofs/Laws.antt`.
 #![tactic(auto)]
+
 ghost use Rattle.std.specs.Prelude.{◌≡◌, not, ◌&&◌, ℕ, ◌+◌, ◌≤◌, ◌<◌, min, eqb, length, get_or};
 ghost use Rattle.audited_meshes.specs.Folds.{every};
 ghost use Rattle.mended_lists.specs.Edges.{latest};

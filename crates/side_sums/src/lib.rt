@@ -2,6 +2,7 @@
 // Not here: the sums taken, and the other tests of a face (`building_tests`).
 // Contract: `sums_agree`. Definition: `Faces` of `built_meshes`. Laws: `proofs/Laws.antt`.
 #![tactic(auto)]
+
 ghost use Rattle.std.specs.Prelude.{◌≡◌};
 ghost use Rattle.built_meshes.specs.Faces.{sums_agree};
 

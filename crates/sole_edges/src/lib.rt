@@ -9,6 +9,7 @@
 // Contract: `walks_with_sole_edges`. Definitions: `walk_fits` of `audit_tests`; `one_edge` of `audited_meshes`, specs/Quick.antt;
 // `specs/Sole.antt`. Laws: `proofs/Walking.antt`, `proofs/Walked.antt`, `proofs/OneEdges.antt`.
 #![tactic(auto)]
+
 ghost use Rattle.std.specs.Prelude.{◌≡◌, true, ◌&&◌, [], ℕ, ◌+◌, ◌*◌, ◌≤◌, ◌<◌, eqb, length};
 ghost use Rattle.closed_meshes.specs.Renumbering.{sum_to};
 ghost use Rattle.tables.specs.Layout.{point_width, edge_width};

@@ -3,6 +3,7 @@
 // which writes every link of its ring.
 // Definitions: `refined_meshes`, specs/Split.antt and specs/Visits.antt. Laws for callers: `proofs/Laws.antt`.
 #![tactic(auto)]
+
 ghost use Rattle.std.specs.Prelude.{◌≡◌, ℕ, ◌+◌, ◌*◌, ◌≤◌, ◌<◌, length, get_or, set, [], ◌∷◌};
 ghost use Rattle.tables.specs.Layout.{point_width, start_word, edge_width, dest_word, longest_perimeter};
 ghost use Rattle.tables.specs.Rows.{put_row};

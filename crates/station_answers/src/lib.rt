@@ -3,6 +3,7 @@
 // Not here: the C functions (`station`), the numbers of the grounds (`answer_numbers`).
 // Contracts: `tell_built`, `tell_text_built`, `tell_stepped`, `tell_crossing`. Definitions: `specs/Answers.antt`. Laws: `proofs/Laws.antt`.
 #![tactic(auto)]
+
 ghost use Rattle.std.specs.Prelude.{◌≡◌, [], ◌∷◌};
 ghost use Rattle.tables.specs.Rows.{put_row};
 ghost use Rattle.built_meshes.specs.Answers.{built_numbers};

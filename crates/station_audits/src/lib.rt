@@ -2,6 +2,7 @@
 // Not here: the audit (`audit`), the depth finder (`depth_finder`), the numbers of an answer (`station_answers`), the C functions (`station`).
 // Contracts: `audit_told`, `find_depth_told`. Definitions: `specs/Told.antt`. Laws: `proofs/Laws.antt`.
 #![tactic(auto)]
+
 ghost use Rattle.std.specs.Prelude.{◌≡◌};
 ghost use Rattle.tables.specs.Mesh.{mesh_of};
 ghost use Rattle.crossings.specs.Crossings.{find};

@@ -2,6 +2,7 @@
 // Not here: building (`building`, `text_building`), the numbers of an answer (`station_answers`), the C functions (`station`).
 // Contracts: `build_told`, `build_text_told`. Definitions: `specs/Told.antt`. Laws: `proofs/Laws.antt`.
 #![tactic(auto)]
+
 ghost use Rattle.std.specs.Prelude.{◌≡◌};
 ghost use Rattle.tables.specs.Mesh.{mesh_of};
 ghost use Rattle.built_meshes.specs.Building.{build};

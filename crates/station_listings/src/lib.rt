@@ -3,6 +3,7 @@
 // Not here: what the functions do (`listing_writing`, `listing_reading`), how an answer is told (`listing_answers`), the C functions (`station`).
 // Contracts: `write_listing_told`, `read_listing_told`. Definitions: `specs/Told.antt`. Laws: `proofs/Laws.antt`.
 #![tactic(auto)]
+
 ghost use Rattle.std.specs.Prelude.{◌≡◌};
 ghost use Rattle.tables.specs.Mesh.{mesh_of};
 ghost use Rattle.station_answers.specs.Answers.{counts_in};

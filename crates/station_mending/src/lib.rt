@@ -2,6 +2,7 @@
 // Not here: the mender (`text_mending`), the numbers of building's grounds (`answer_numbers`), the C function (`station`).
 // Contract: `mend_text_told`. Definitions: `specs/Told.antt`; `Mending` of `mended_texts`.
 #![tactic(auto)]
+
 ghost use Rattle.std.specs.Prelude.{◌≡◌};
 ghost use Rattle.mended_texts.specs.Mending.{text_mending_number, mend_text};
 ghost use Rattle.station_mending.specs.Told.{MendingTold, mended};

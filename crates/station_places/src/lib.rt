@@ -3,6 +3,7 @@
 // Not here: the answer (`told_texts`), the place (`text_places`), the C function (`station`).
 // Contract: `explain_text_told`. Definitions: `specs/Told.antt`. Laws: `proofs/Laws.antt`.
 #![tactic(auto)]
+
 ghost use Rattle.std.specs.Prelude.{◌≡◌, [], ◌∷◌};
 ghost use Rattle.tables.specs.Rows.{put_row};
 ghost use Rattle.station_places.specs.Told.{Explained, explained};

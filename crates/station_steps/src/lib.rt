@@ -2,6 +2,7 @@
 // Not here: the step (`refining`), the numbers of an answer (`station_answers`), the C functions (`station`).
 // Contract: `step_told`. Definitions: `specs/Told.antt`. Laws: `proofs/Laws.antt`.
 #![tactic(auto)]
+
 ghost use Rattle.std.specs.Prelude.{◌≡◌};
 ghost use Rattle.tables.specs.Mesh.{mesh_of};
 ghost use Rattle.steps.specs.Step.{step};

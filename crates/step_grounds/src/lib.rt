@@ -3,6 +3,7 @@
 // Names: `newpositions`, `newpoints`, `newedges`, `newintervals` and `newfaces` are the scratch tables of positions, points, edges, intervals, faces.
 // Contract: `first_ground`. Definition: `tested` of `steps`, specs/Step.antt.
 #![tactic(auto)]
+
 ghost use Rattle.std.specs.Prelude.{◌≡◌};
 ghost use Rattle.tables.specs.Mesh.{mesh_of};
 ghost use Rattle.steps.specs.Step.{tested};

@@ -2,6 +2,7 @@
 // Not here: how it is made (`making`), the step put together (`finishing`), the tests (`step_grounds`).
 // Contract: `make_in_rows`. Definitions: `steps`, specs/Step.antt; `specs/Passed.antt`.
 #![tactic(auto)]
+
 ghost use Rattle.std.specs.Prelude.{◌≡◌};
 ghost use Rattle.tables.specs.Mesh.{mesh_of};
 ghost use Rattle.tables.specs.Counted.{first_rows, zeroed_rows};

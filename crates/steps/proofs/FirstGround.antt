@@ -23,7 +23,7 @@ use Rattle.steps.specs.declared.Stepped.{Stepped}
 use Rattle.steps.specs.declared.Stepped.TheVariants.{Refined, NotClosed, NotEachFaceOnce, NoRoom, NotFinite}
 use Rattle.steps.specs.Step.{refined_counts, each_face_once, within_ceilings, room_for, Made, whole, not_finite_made, ended, step_by, step}
 use Rattle.tables.specs.Counted.{rows_for, first_rows}
-use Rattle.steps.specs.FirstGround.{Short, NoRoom, Due, FirstGround}
+use Rattle.steps.specs.FirstGround.{Short, HasNoRoom, Due, FirstGround}
 use Rattle.steps.proofs.Rows.{exact-first_rows, holds-first_rows}
 use Rattle.steps.proofs.Grounds.{each_face_once-is, rooms-of-test, begun, step_is, step-made}
 use Rattle.steps.proofs.NotFinite.{finite-made, not-finite-exactly}
@@ -55,18 +55,18 @@ three-above a b c a' b' c' h = go (three-false (leb a a') (leb b b') (leb c c') 
     go (inr (inl z)) = inr (inl (leb-false b b' z))
     go (inr (inr z)) = inr (inr (leb-false c c' z))
 
-no_room : (c : Counts) (m t : Mesh) → room_for c m t ≡ false → NoRoom c m t
+no_room : (c : Counts) (m t : Mesh) → room_for c m t ≡ false → HasNoRoom c m t
 unfolding room_for rows_for within_ceilings
 no_room c m t h = go (and-false _ _ h)
   where
     rows : (t : Mesh) → rows_for c t ≡ false → Short c t
     rows t h = three-above c.points c.edges c.faces (point_rows t) (edge_rows t) (face_rows t) h
 
-    go : (rows_for c m && rows_for c t ≡ false) ⊎ (within_ceilings c ≡ false) → NoRoom c m t
+    go : (rows_for c m && rows_for c t ≡ false) ⊎ (within_ceilings c ≡ false) → HasNoRoom c m t
     go (inl h) = inl (⊎_elim (λ z. inl (rows m z)) (λ z. inr (rows t z)) (and-false (rows_for c m) (rows_for c t) h))
     go (inr h) = inr (three-above c.points c.edges c.faces 65536 131072 65536 h)
 
-room-enough : (c : Counts) (m t : Mesh) → room_for c m t ≡ true → ¬ NoRoom c m t
+room-enough : (c : Counts) (m t : Mesh) → room_for c m t ≡ true → ¬ HasNoRoom c m t
 unfolding room_for rows_for within_ceilings
 room-enough c m t h = go
   where
@@ -86,7 +86,7 @@ room-enough c m t h = go
     above p e f h (inr (inl z)) = omega (arith, h.0.1)
     above p e f h (inr (inr z)) = omega (arith, h.1)
 
-    go : NoRoom c m t → ⊥
+    go : HasNoRoom c m t → ⊥
     go (inl (inl z)) = above (point_rows m) (edge_rows m) (face_rows m) all.0.0 z
     go (inl (inr z)) = above (point_rows t) (edge_rows t) (face_rows t) all.0.1 z
     go (inr z) = above 65536 131072 65536 all.1 z

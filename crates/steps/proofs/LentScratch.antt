@@ -34,7 +34,7 @@ use Rattle.steps.specs.declared.Stepped.TheVariants.{Refined, NotClosed, NotEach
 use Rattle.steps.specs.Positions.{so_far, face_point_row, edge_point_row, placed_all}
 use Rattle.steps.specs.Step.{refined_counts, step}
 use Rattle.tables.specs.Counted.{first_rows, over_rows}
-use Rattle.steps.specs.FirstGround.{Short, NoRoom, Due}
+use Rattle.steps.specs.FirstGround.{Short, HasNoRoom, Due}
 use Rattle.steps.specs.LentScratch.{SameNumbers, SameMesh, LentScratch}
 use Rattle.steps.proofs.Rows.{SameRows, same-over_rows, room-of-holds, points-fit, edges_fit, faces-fit, Exact, exact-first_rows, room-of-exact, holds-first_rows, position-same}
 use Rattle.steps.proofs.Grounds.{taken, made-is}
@@ -230,7 +230,7 @@ short-same c t t' s (inl h) = inl (omega (arith, s.points))
 short-same c t t' s (inr (inl h)) = inr (inl (omega (arith, s.edges)))
 short-same c t t' s (inr (inr h)) = inr (inr (omega (arith, s.faces)))
 
-room-same : (c : Counts) (m t t' : Mesh) → SameNumbers t t' → NoRoom c m t → NoRoom c m t'
+room-same : (c : Counts) (m t t' : Mesh) → SameNumbers t t' → HasNoRoom c m t → HasNoRoom c m t'
 room-same c m t t' s (inl (inl h)) = inl (inl h)
 room-same c m t t' s (inl (inr h)) = inl (inr (short-same c t t' s h))
 room-same c m t t' s (inr h) = inr h

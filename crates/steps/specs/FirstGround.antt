@@ -1,6 +1,6 @@
 -- When a step of an edition ed gives each of its answers, in document 01's words and order.
 --     Short c t                the tables t have fewer rows of a kind than a mesh with the counts c
---     NoRoom c m t            so have the tables m or scratch t, or the counts c are over the ceilings
+--     HasNoRoom c m t            so have the tables m or scratch t, or the counts c are over the ceilings
 --     Due ed m c order t a     the answer a is due: its condition holds, and that of no ground before it
 --     FirstGround             the claim: the answer is the one that is due, both ways
 use Rattle.std.specs.Prelude.{◌≡◌, List, ◌⊎◌, ◌↔◌, ℕ, ◌<◌}
@@ -19,8 +19,8 @@ use Rattle.steps.specs.OneStep.{AllFinite}
 abbrev pub Short : Counts → Mesh → Type 0
 Short c t = (point_rows t < c.points) ⊎ ((edge_rows t < c.edges) ⊎ (face_rows t < c.faces))
 
-abbrev pub NoRoom : Counts → Mesh → Mesh → Type 0
-NoRoom c m t =
+abbrev pub HasNoRoom : Counts → Mesh → Mesh → Type 0
+HasNoRoom c m t =
     (Short c m ⊎ Short c t) ⊎ ((point_ceiling < c.points) ⊎ ((edge_ceiling < c.edges) ⊎ (face_ceiling < c.faces)))
 
 module _ (ed : Edition) (m : Mesh) (c : Counts) (order : List ℕ) (t : Mesh) where
@@ -29,12 +29,12 @@ module _ (ed : Edition) (m : Mesh) (c : Counts) (order : List ℕ) (t : Mesh) wh
   ClosedMesh = Audited m c.points c.edges c.faces
 
   abbrev pub RoomEnough : Type 0
-  RoomEnough = ¬ NoRoom (refined_counts c) m t
+  RoomEnough = ¬ HasNoRoom (refined_counts c) m t
 
   abbrev pub Due : Stepped → Type 0
   Due NotClosed = ¬ ClosedMesh
   Due NotEachFaceOnce = ClosedMesh × (¬ EachOnce c.faces order)
-  Due NoRoom = ClosedMesh × EachOnce c.faces order × NoRoom (refined_counts c) m t
+  Due NoRoom = ClosedMesh × EachOnce c.faces order × HasNoRoom (refined_counts c) m t
   Due NotFinite = ClosedMesh × EachOnce c.faces order × RoomEnough × (¬ AllFinite ed (first_rows c m) c)
   Due (Refined k) = ClosedMesh × EachOnce c.faces order × RoomEnough × AllFinite ed (first_rows c m) c × (k ≡ refined_counts c)
 

@@ -5,6 +5,7 @@
 // leave) and `proofs/NotFinite.antt` (ground 33); `specs/FirstGround.antt` (when each answer is given) and
 // `specs/LentScratch.antt` (what scratch held shows nowhere), proved in the files of `proofs/` with their names.
 #![tactic(auto)]
+
 use tables::Counts;
 
 // The answer of a step: how many points, edges and faces the mesh has after it, or the ground. Document 01's number stands

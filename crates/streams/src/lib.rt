@@ -1,6 +1,7 @@
 // Standard input and standard output of the programs: a read or a write that fails is said on standard error, and never told as a ground.
 // No contract can say what is read and written.
 #![tactic(auto)]
+
 use libc::{STDERR_FILENO, STDOUT_FILENO};
 
 // Says on standard error what the program could not do.

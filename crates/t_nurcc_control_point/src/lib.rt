@@ -2,6 +2,7 @@
 // Carries over t_nurcc_control_point.rs. Not here: one step about a point, and whether an edge touches it (`walks`).
 // Definitions: `walks`, specs/Steps.antt, specs/Neighbour.antt.
 #![tactic(auto)]
+
 ghost use Rattle.std.specs.Prelude.{◌≡◌, ◌+◌, ◌*◌, ◌≤◌, length};
 ghost use Rattle.tables.specs.Layout.{point_width, edge_width};
 ghost use Rattle.tables.specs.Parts.{point_tables};

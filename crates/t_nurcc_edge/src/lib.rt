@@ -2,6 +2,7 @@
 // Carries over `connect` of t_nurcc_edge/mod.rs; what looks at no table stands in `edge_links`.
 // Contract: `connect`. Definitions: `specs/Connected.antt`, `specs/Joinable.antt`. Laws: `proofs/Laws.antt`, `proofs/Links.antt`.
 #![tactic(auto)]
+
 ghost use Rattle.std.specs.Prelude.{◌≡◌, List, ◌≢◌, ℕ, ◌+◌, ◌*◌, ◌≤◌, ◌<◌, length};
 ghost use Rattle.edge_links.specs.Connect.{served};
 ghost use Rattle.edge_links.specs.declared.Pair.{Pair};

@@ -2,6 +2,7 @@
 // Carries over t_nurcc_face.rs. Not here: the steps about a face, and what a border is (`walks`).
 // Definitions: `walks`, specs/Border.antt.
 #![tactic(auto)]
+
 ghost use Rattle.std.specs.Prelude.{◌≡◌, List, ℕ, ◌+◌, ◌*◌, ◌≤◌, ◌<◌, length, replicate};
 ghost use Rattle.tables.specs.Layout.{edge_width, face_width, longest_perimeter, longest_border};
 ghost use Rattle.tables.specs.Parts.{face_tables};

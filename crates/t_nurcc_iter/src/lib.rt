@@ -2,6 +2,7 @@
 // Carries over t_nurcc_iter.rs. Not here: the steps of a walk, and what a walk is (`walks`).
 // Definitions: `walks`, specs/Steps.antt; `audited_meshes`, specs/Walks.antt.
 #![tactic(auto)]
+
 ghost use Rattle.std.specs.Prelude.{◌≡◌, ◌+◌, ◌*◌, ◌≤◌, length};
 ghost use Rattle.tables.specs.Layout.{point_width, edge_width, face_width};
 ghost use Rattle.tables.specs.Parts.{face_tables, point_tables};

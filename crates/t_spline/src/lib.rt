@@ -4,6 +4,7 @@
 // tables `t_nurcc_edge`).
 // Contracts cite `specs/Edge.antt` and `specs/Ends.antt`.
 #![tactic(auto)]
+
 use edge_ends::{TnurccFaceSide, TnurccVertexEnd};
 use positions::Position;
 

@@ -3,6 +3,7 @@
 // Not here: what building makes of a text (`text_meshes`), the code that builds (`text_building`).
 // Contracts: `is_too_long`, `told`. Definitions: `TextBuilding` of `text_meshes`.
 #![tactic(auto)]
+
 ghost use Rattle.std.specs.Prelude.{◌≡◌};
 ghost use Rattle.text_meshes.specs.TextBuilding.{is_too_long, told};
 

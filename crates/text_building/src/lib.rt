@@ -5,6 +5,7 @@
 // Contract: `build_text`. Definitions: `TextBuilding` of `text_meshes`. Laws: `proofs/Laws.antt`.
 // The five lists of a text are local arrays of the sizes that the general limits allow, below 450 KiB of stack.
 #![tactic(auto)]
+
 ghost use Rattle.std.specs.Prelude.{◌≡◌, false, ◌*◌, ◌≤◌, length, take};
 ghost use Rattle.tables.specs.Layout.{position_width};
 ghost use Rattle.tables.specs.Mesh.{mesh_of};

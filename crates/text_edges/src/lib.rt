@@ -4,6 +4,7 @@
 // Contract: `text_edge`. Definition: `specs/TextEdges.antt` of `explained_edges`. Laws: `proofs/Laws.antt`.
 // The lists of a text are local arrays of the sizes that the general limits allow, below 430 KiB of stack.
 #![tactic(auto)]
+
 ghost use Rattle.std.specs.Prelude.{◌≡◌, false, [], ◌*◌, ◌≤◌, length, take};
 ghost use Rattle.tables.specs.Layout.{position_width};
 ghost use Rattle.building_tests.specs.Lent.{lists};

@@ -3,6 +3,7 @@
 // Not here: the grammar (`mesh_text`), the lines between the two (`point_lines`, `face_lines`), the whole text (`text_sizes`).
 // Contracts: `read_head`, `ends`. Definitions and laws: `mesh_text`.
 #![tactic(auto)]
+
 ghost use Rattle.std.specs.Prelude.{◌≡◌, ◌≤◌, length};
 ghost use Rattle.mesh_text.specs.Text.{head_form, ends};
 ghost use Rattle.mesh_text.specs.Parts.{head_of};

@@ -3,6 +3,7 @@
 // Contract: `mend_text`. Definitions: `Mending` of `mended_texts`; between the stages `Said` of `text_rewriting`. Laws: `proofs/Laws.antt`.
 // The lists of a text are local arrays of the sizes that the general limits allow, with those of the choice below 1 MiB of stack.
 #![tactic(auto)]
+
 ghost use Rattle.std.specs.Prelude.{◌≡◌, true, ◌*◌, ◌≤◌, length, take};
 ghost use Rattle.tables.specs.Layout.{position_width};
 ghost use Rattle.text_numbers.specs.Form.{bytes, stands};

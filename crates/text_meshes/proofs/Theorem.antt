@@ -19,7 +19,7 @@ use Rattle.mesh_text.proofs.Read.{length-coordinates, length-lengths, length-fir
 use Rattle.built_meshes.specs.Lists.{counts_fit}
 use Rattle.tables.specs.declared.Sizes.{Sizes}
 use Rattle.built_meshes.specs.Building.{build}
-use Rattle.built_meshes.specs.Grounds.{Holds, lists, over-counts, OverCounts, many-points, many-faces, many-listed, point-cut, face-cut, unlike, sum-unlike, firsts-unlike}
+use Rattle.built_meshes.specs.Grounds.{Holds, lists, over-counts, IsOverCounts, many-points, many-faces, many-listed, point-cut, face-cut, unlike, sum-unlike, firsts-unlike}
 use Rattle.built_meshes.specs.declared.Ground.{Ground}
 use Rattle.built_meshes.specs.declared.Ground.TheVariants.{OverCounts}
 use Rattle.built_meshes.specs.declared.Built.{Built}
@@ -52,7 +52,7 @@ sum_to-total [] = refl
 sum_to-total (x ∷ l) = sum_to-first (length l) (λ k. get_or (x ∷ l) k 0) ∙ ap (λ v. x + v) (sum_to-total l)
 
 module _ (c : Sizes) (s : List ℕ) (t : TextMesh) (n : ℕ) (e : text s ≡ parsed t n) where
-  over-means : OverCounts c (lists_of t)
+  over-means : IsOverCounts c (lists_of t)
       → (c.points < length t.points) ⊎ ((c.faces < length t.faces) ⊎ (c.listed < length (listed_points t)))
   over-means (many-points h) = let lc = length-coordinates s t n e in inl (omega arith)
   over-means (many-faces h) = let ll = length-lengths s t n e in inr (inl (omega arith))
@@ -64,7 +64,7 @@ module _ (c : Sizes) (s : List ℕ) (t : TextMesh) (n : ℕ) (e : text s ≡ par
   over-means (firsts-unlike two h) = absurd (h (length-firsts s t n e ∙ sym (length-lengths s t n e)))
 
   means-over : (c.points < length t.points) ⊎ ((c.faces < length t.faces) ⊎ (c.listed < length (listed_points t)))
-      → OverCounts c (lists_of t)
+      → IsOverCounts c (lists_of t)
   means-over (inl h) = let lc = length-coordinates s t n e in many-points (omega arith)
   means-over (inr (inl h)) = let ll = length-lengths s t n e in many-faces (omega arith)
   means-over (inr (inr h)) = many-listed h
@@ -153,7 +153,7 @@ over-exactly b s m = (to (build_text b s m) (came b s m), from)
         (refusals-hold (limits_of b) (lists_of t) m (few-faces b) OverCounts
         (told-refused (build (limits_of b) (lists_of t) m).answer a)).holds))
 
-    refuses : (t : TextMesh) → StandsFor b s t → OverCounts (limits_of b) (lists_of t) → (build_text b s m).answer ≡ Refused OverCounts
+    refuses : (t : TextMesh) → StandsFor b s t → IsOverCounts (limits_of b) (lists_of t) → (build_text b s m).answer ≡ Refused OverCounts
     refuses t h k = ap (λ (o : TextOutcome). o.answer) (of-lists b s m h) ∙ ap told (go (counts_fit (limits_of b) (lists_of t)) refl)
       where
         go : (f : Bool) → counts_fit (limits_of b) (lists_of t) ≡ f → (build (limits_of b) (lists_of t) m).answer ≡ Built.Refused OverCounts

@@ -4,6 +4,7 @@
 // Definitions: `specs/TextBuilding.antt`. Claims: `specs/Claims.antt`, `specs/Within.antt`, proved in `proofs/Theorem.antt`. Computed pieces:
 // `text_cases`.
 #![tactic(auto)]
+
 use built_meshes::Ground;
 use tables::Counts;
 

@@ -4,6 +4,7 @@
 // Contracts: `byte`, `stands`, `digit_value`. Definitions: `specs/Form.antt` (forms of text), `specs/Numbers.antt` (numbers).
 // Laws for callers: `proofs/Laws.antt` (how far a form goes), `proofs/Turns.antt` (one turn of a repeated form).
 #![tactic(auto)]
+
 ghost use Rattle.std.specs.Prelude.{◌≡◌, ◌≤◌, length, get_or};
 ghost use Rattle.text_numbers.specs.Form.{stands};
 ghost use Rattle.text_numbers.specs.Numbers.{digit_value};

@@ -2,6 +2,7 @@
 // Not here: the printing of a whole text and the faces of lists as definitions (`mesh_printing`), the reading of texts (`text_reading`).
 // Contract: `write_face_lines`. Definitions: `Printing` and `Faces` of `mesh_printing`. Laws: `proofs/Laws.antt` (lines from their parts).
 #![tactic(auto)]
+
 ghost use Rattle.std.specs.Prelude.{◌≡◌, true, [], ◌+◌, ◌≤◌, ◌<◌, length, get_or};
 ghost use Rattle.std.specs.Float.{nan};
 ghost use Rattle.std.specs.Float.Ieee.Scale.{finite};

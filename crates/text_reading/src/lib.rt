@@ -3,6 +3,7 @@
 // Not here: the grammar (`mesh_text`), the first scan, which tests the form and counts (`text_sizes`), grounds 3 and later (building).
 // Contract: `read_text`. Definitions and laws: `mesh_text`.
 #![tactic(auto)]
+
 ghost use Rattle.std.specs.Prelude.{◌≡◌};
 ghost use Rattle.mesh_lines.specs.Parts.{Parses, stored};
 ghost use Rattle.mesh_text.specs.Text.{text};

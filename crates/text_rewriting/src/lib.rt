@@ -4,6 +4,7 @@
 // (`text_printing`), the definition and its claims (`mended_texts`).
 // Contract: `mend_by_lists`. Definitions: `Mending` of `mended_texts`; between the stages `specs/Said.antt`. Laws: `proofs/Laws.antt`.
 #![tactic(auto)]
+
 ghost use Rattle.std.specs.Prelude.{◌≡◌};
 ghost use Rattle.mended_texts.specs.Mending.{MendOutcome, mend_text};
 ghost use Rattle.mended_texts.specs.declared.TextMending.TheVariants.{Mended};

@@ -3,6 +3,7 @@
 // Not here: the grammar (`mesh_text`), the head and the end line (`text_ends`), the second scan, which stores (`text_reading`).
 // Contracts: `sizes`, `within`. Definitions and laws: `mesh_text`.
 #![tactic(auto)]
+
 ghost use Rattle.std.specs.Prelude.{◌≡◌};
 ghost use Rattle.mesh_text.specs.Text.{text};
 ghost use Rattle.mesh_text.specs.Reading.{within};

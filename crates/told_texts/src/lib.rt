@@ -4,6 +4,7 @@
 // Contract: `text_number`. Definitions: `specs/Told.antt`. Claim: that of `explained_texts`. Laws: `proofs/Laws.antt`.
 // The lists of a text and those of its places are local arrays of the sizes that the general limits allow, below 760 KiB of stack.
 #![tactic(auto)]
+
 ghost use Rattle.std.specs.Prelude.{◌≡◌, true, false, List, [], ℕ, ◌*◌, ◌/◌, ◌≤◌, Float, length, take};
 ghost use Rattle.tables.specs.Layout.{position_width};
 ghost use Rattle.building_tests.specs.Lent.{lists_in, limits_of};

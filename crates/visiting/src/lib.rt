@@ -4,6 +4,7 @@
 // Not here: positions (`placing`), whether the mesh may be refined (`step_grounds`).
 // Definitions: `refined_meshes`, specs/Visits.antt; `specs/Visiting.antt` for what must hold. Laws for callers: `proofs/Laws.antt`.
 #![tactic(auto)]
+
 ghost use Rattle.std.specs.Prelude.{◌≡◌, List, [], ℕ, ◌+◌, ◌-◌, ◌*◌, ◌≤◌, ◌<◌, length, Float};
 ghost use Rattle.tables.specs.Layout.{edge_width, face_width, longest_perimeter};
 ghost use Rattle.tables.specs.declared.Counts.{Counts};

@@ -12,7 +12,7 @@ use Rattle.tables.specs.Mesh.{Mesh, none}
 use Rattle.built_meshes.specs.Lists.{Lists, faces_of, counts_fit, listed_fit}
 use Rattle.built_meshes.specs.Building.{build}
 use Rattle.built_meshes.specs.Places.{IsPlace}
-use Rattle.built_meshes.specs.Grounds.{FewRows, MissingFace, NoEdge, MissedEdge, Where, lists, face, edge, whole, FirstMet}
+use Rattle.built_meshes.specs.Grounds.{HasFewRows, HasMissingFace, HasNoEdge, HasMissedEdge, Where, lists, face, edge, whole, FirstMet}
 use Rattle.built_meshes.specs.Grounds.{over-counts, unfit-number, missing-face, no_edge, missed-edge}
 use Rattle.built_meshes.specs.declared.Ground.{Ground}
 use Rattle.built_meshes.specs.declared.Ground.TheVariants.{OverCounts, UnfitNumber, MissingFace, NoEdge, MissedEdge}
@@ -33,7 +33,7 @@ use Rattle.whole_grounds.specs.Turning.{points_begun, turns_come, whole_verdict_
 use Rattle.whole_grounds.specs.Claims.{RefusesBy, AcceptsNone}
 use Rattle.whole_grounds.proofs.Turning.{missing-of, none-missing, bare_of, none_bare, missed-of, none-missed}
 
-module _ (c : Sizes) (l : Lists) (m : Mesh) (few : c.faces ≤ none) (rows : ¬ FewRows l m) where
+module _ (c : Sizes) (l : Lists) (m : Mesh) (few : c.faces ≤ none) (rows : ¬ HasFewRows l m) where
   pub data Answered : Verdict → Type 0 where
     refuses : {g : Ground} → (build c l m).answer ≡ Refused g → Answered (Unfit g)
     accepts : {k : Counts} → (build c l m).answer ≡ Accepted k → Answered Fit

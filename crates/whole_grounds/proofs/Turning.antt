@@ -20,7 +20,7 @@ use Rattle.audited_meshes.specs.Folds.{every}
 use Rattle.audited_meshes.proofs.Tests.{self-is, and_is, eqb_is, every-is}
 use Rattle.built_meshes.specs.Lists.{Lists, points_of, faces_of, size, offset}
 use Rattle.built_meshes.specs.Places.{point_of, next_of, IsPlace, Runs, Between, Differ, Earlier}
-use Rattle.built_meshes.specs.Grounds.{MissingFace, NoEdge, MissedEdge, Turns, Chain, here, further}
+use Rattle.built_meshes.specs.Grounds.{HasMissingFace, HasNoEdge, HasMissedEdge, Turns, Chain, here, further}
 use Rattle.built_meshes.proofs.Before.{ClearLists}
 use Rattle.built_meshes.proofs.Versions.{every-false}
 use Rattle.mended_lists.specs.Edges.{FacePlace, listed_place, places_of, place_at, same_edge, latest, mate, third, follower, lone}
@@ -156,7 +156,7 @@ module _ (c : Sizes) (l : Lists) (m : Mesh) (clear : ClearLists c l m) (far : So
                   (on-mate l (from_of j) (to_of j) n j (on-it j a) e) (on-it j a)))
       go (no h) (no d) = let q : j ≡ k = omega arith in absurd (no_loop k b (sym (ap from_of q) ∙ x))
 
-  pub missing-of : edges_shared ps ≡ false → MissingFace l
+  pub missing-of : edges_shared ps ≡ false → HasMissingFace l
   unfolding edges_shared lone follower
   missing-of h = go (every-false N (λ k. not (lone ps k)) h)
     where
@@ -164,7 +164,7 @@ module _ (c : Sizes) (l : Lists) (m : Mesh) (clear : ClearLists c l m) (far : So
       lone_is true e = refl
       lone_is false e = absurd (false≢true (sym e))
 
-      go : (k : ℕ) × (k < N) × (not (lone ps k) ≡ false) → MissingFace l
+      go : (k : ℕ) × (k < N) × (not (lone ps k) ≡ false) → HasMissingFace l
       go (k, b, e) =
           let u = numbered l k b in
           let both = (and_is (eqb_is (mate ps k) 0) (eqb_is (follower ps N k) 0)).0 (lone_is (lone ps k) e) in
@@ -193,7 +193,7 @@ module _ (c : Sizes) (l : Lists) (m : Mesh) (clear : ClearLists c l m) (far : So
                   (sym (latest-none (λ i. eqb (mate ps i) (suc k)) N y (offset l g + j) (number-below l g j r.is-place))
                   ∙ eq-eqb (mate ps (offset l g + j)) (suc k) e)
 
-  pub none-missing : edges_shared ps ≡ true → ¬ MissingFace l
+  pub none-missing : edges_shared ps ≡ true → ¬ HasMissingFace l
   none-missing h w = go (passed-paired l h w.f w.i w.p w.q w.runs)
     where
       this : Runs l w.f w.i w.p w.q
@@ -218,7 +218,7 @@ module _ (c : Sizes) (l : Lists) (m : Mesh) (clear : ClearLists c l m) (far : So
   start_is p k e =
       let w = latest-last (λ k. eqb (from_of k) p) N k e in (w.in-range, eqb-true (from_of k) p w.passes)
 
-  pub bare_of : points_begun l ≡ false → NoEdge l
+  pub bare_of : points_begun l ≡ false → HasNoEdge l
   unfolding points_begun start_at
   bare_of h = go (every-false (points_of l) (λ p. not (eqb (start_at ps p) 0)) h)
     where
@@ -226,7 +226,7 @@ module _ (c : Sizes) (l : Lists) (m : Mesh) (clear : ClearLists c l m) (far : So
       zero_is zero e = refl
       zero_is (suc n) e = absurd (false≢true (sym e ∙ ap not (eqb-false (suc n) 0 (λ z. omega arith))))
 
-      go : (p : ℕ) × (p < points_of l) × (not (eqb (start_at ps p) 0) ≡ false) → NoEdge l
+      go : (p : ℕ) × (p < points_of l) × (not (eqb (start_at ps p) 0) ≡ false) → HasNoEdge l
       go (p, b, e) =
           record {
             point = p;
@@ -242,7 +242,7 @@ module _ (c : Sizes) (l : Lists) (m : Mesh) (clear : ClearLists c l m) (far : So
   some zero h = absurd (false≢true h)
   some (suc k) h = (k, refl)
 
-  pub none_bare : points_begun l ≡ true → ¬ NoEdge l
+  pub none_bare : points_begun l ≡ true → ¬ HasNoEdge l
   unfolding points_begun
   none_bare h w = go (some (start_at ps w.point) ((every-is (points_of l) (λ p. self-is (not (eqb (start_at ps p) 0)))).0 h w.point w.is-point))
     where
@@ -437,11 +437,11 @@ module _ (c : Sizes) (l : Lists) (m : Mesh) (clear : ClearLists c l m) (far : So
             (false≢true (sym (latest-none (λ j. eqb (from_of j) (from_of k)) N e k b) ∙ eq-eqb (from_of k) (from_of k) refl))
         go (suc s) e = let w = start_is (from_of k) s e in (s, e, w.0, w.1)
 
-    pub missed-of : turns_come l ≡ false → MissedEdge l
+    pub missed-of : turns_come l ≡ false → HasMissedEdge l
     unfolding turns_come
     missed-of h = go (every-false N (λ k. comes_back l k) h)
       where
-        go : (k : ℕ) × (k < N) × (comes_back l k ≡ false) → MissedEdge l
+        go : (k : ℕ) × (k < N) × (comes_back l k ≡ false) → HasMissedEdge l
         go (k, b, e) =
             let st = started k b in
             let s = st.0 in
@@ -467,7 +467,7 @@ module _ (c : Sizes) (l : Lists) (m : Mesh) (clear : ClearLists c l m) (far : So
                 let z : start_at ps (from_of k) - 1 ≡ s = ap (λ (x : ℕ). x - 1) q ∙ omega arith in
                 false≢true (sym e ∙ to-comes (turn_from l) N k (start_at ps (from_of k) - 1) short.0 short.1 (short.2 ∙ sym z))
 
-    pub none-missed : turns_come l ≡ true → ¬ MissedEdge l
+    pub none-missed : turns_come l ≡ true → ¬ HasMissedEdge l
     unfolding turns_come Chain-to
     none-missed h w = w.apart (iter-chain way.0 y x by way.1 w.f w.i w.g w.j w.first-place w.second-place refl refl)
       where

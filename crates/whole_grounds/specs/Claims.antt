@@ -7,7 +7,7 @@ use Rattle.tables.specs.declared.Counts.{Counts}
 use Rattle.tables.specs.Mesh.{Mesh, none}
 use Rattle.built_meshes.specs.Lists.{Lists}
 use Rattle.built_meshes.specs.Building.{build}
-use Rattle.built_meshes.specs.Grounds.{FewRows}
+use Rattle.built_meshes.specs.Grounds.{HasFewRows}
 use Rattle.built_meshes.specs.declared.Ground.{Ground}
 use Rattle.built_meshes.specs.declared.Verdict.TheVariants.{Fit, Unfit}
 use Rattle.built_meshes.specs.declared.Built.TheVariants.{Accepted, Refused}
@@ -15,10 +15,10 @@ use Rattle.whole_grounds.specs.Turning.{lists_met}
 
 abbrev pub RefusesBy : Type 0
 RefusesBy =
-    (c : Sizes) (l : Lists) (m : Mesh) → c.faces ≤ none → ¬ FewRows l m → (g : Ground) →
+    (c : Sizes) (l : Lists) (m : Mesh) → c.faces ≤ none → ¬ HasFewRows l m → (g : Ground) →
     ((build c l m).answer ≡ Refused g) ↔ (lists_met c l ≡ Unfit g)
 
 abbrev pub AcceptsNone : Type 0
 AcceptsNone =
-    (c : Sizes) (l : Lists) (m : Mesh) → c.faces ≤ none → ¬ FewRows l m →
+    (c : Sizes) (l : Lists) (m : Mesh) → c.faces ≤ none → ¬ HasFewRows l m →
     ((k : Counts) × ((build c l m).answer ≡ Accepted k)) ↔ (lists_met c l ≡ Fit)

@@ -2,6 +2,7 @@
 // Not here: the pairing of places (`shared_edges`), the grounds in the faces (`face_grounds`), the definition and its claims (`whole_grounds`).
 // Contract: `whole_told`. Definitions: `Turning` of `whole_grounds`; `specs/Whole.antt`. Laws: `proofs/Laws.antt`.
 #![tactic(auto)]
+
 ghost use Rattle.std.specs.Prelude.{◌≡◌, not, List, [], ℕ, ◌-◌, ◌/◌, ◌≤◌, ◌<◌, eqb, Float, length, get_or};
 ghost use Rattle.tables.specs.Layout.{position_width};
 ghost use Rattle.audited_meshes.specs.Folds.{every};

@@ -1,0 +1,35 @@
+-- are_distinct meets its contract. The invariant: the points of the first i places are new; the measure is what is left of n.
+use Prim.Native.Nat.{ℕ, ◌-◌}
+use mathlib.Core.Path.{sym, ◌∙◌, ap}
+use mathlib.Core.Bool.{true}
+use native.Mathlib.Omega.{arith}
+use Rattle.audited_meshes.specs.Folds.{every}
+use Rattle.audited_meshes.proofs.Folds.{every-none, every_more, every-stop}
+use Rattle.audit_tests.proofs.Laws.{every-all}
+use Rattle.audit_tests.specs.Parts.{differ_at}
+use Rattle.audit_faces.proofs.are_distinct.Goals as goal
+
+-- of four
+pub returns-then-n-eq4 : goal.returns-then-n-eq4
+returns-then-n-eq4 c =
+    c.four_are_distinct.ensures ∙ ap (λ (n : ℕ). every n (λ k. every k (λ j. differ_at c.args.points.now k j))) (sym c.if-n-eq4.true)
+
+pub loop-i-init : goal.loop-i-init
+loop-i-init c =
+    (omega arith, every-none _)
+
+pub returns-then-not-stands_first : goal.returns-then-not-stands_first
+returns-then-not-stands_first c =
+    sym (every-stop _ _ _ c.loop-i-test.true
+    (sym c.stands_first.ensures ∙ c.if-not-stands_first.true))
+
+pub loop-i-preserved : goal.loop-i-preserved
+loop-i-preserved c = (
+  omega arith,
+  every_more _ _ c.loop-i.invariant.1
+      (sym c.stands_first.ensures ∙ c.if-not-stands_first.false),
+)
+
+pub returns : goal.returns
+returns c =
+    sym (every-all _ _ _ c.loop-i.invariant.1 (omega arith))

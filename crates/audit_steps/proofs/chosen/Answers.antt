@@ -1,0 +1,11 @@
+-- chosen meets its contract: its test is the definition's.
+use borrow.Author.Tests.{eq-eqb, ne_eqb}
+use Rattle.audit_steps.proofs.chosen.Goals as goal
+
+pub returns-then-s-eq0 : goal.returns-then-s-eq0
+returns-then-s-eq0 c =
+    rw (eq-eqb _ _ c.if-s-eq0.true)
+
+pub returns : goal.returns
+returns c =
+    rw (ne_eqb _ _ c.if-s-eq0.false)

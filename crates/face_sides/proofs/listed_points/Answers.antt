@@ -1,0 +1,64 @@
+-- `listed_points` meets its contract. The invariant is `ListedSoFar`; the measure is what is left of the text.
+pub mod Turn
+use native.Mathlib.Omega.{arith}
+use mathlib.Core.Path.{sym, ◌∙◌}
+use Prim.Native.Nat.{◌-◌}
+use Rattle.mesh_lines.proofs.Answers.{listing-is, listing_none}
+use Rattle.face_sides.proofs.listed_points.Answers.Turn.{start, turn, stop, end, head-inside, listed-longer}
+use Rattle.face_sides.proofs.listed_points.Goals as goal
+
+pub loop-i-init : goal.loop-i-init
+loop-i-init c =
+    start _ _ _ _ _ c.requires.0 c.requires.1
+
+pub stands-requires : goal.stands-requires
+stands-requires c =
+    c.loop-i.invariant.inside
+
+pub listed-requires : goal.listed-requires
+listed-requires c =
+    head-inside _ _ _ _ _ _ _ _ _ c.loop-i.invariant
+    (sym c.stands.ensures ∙ c.loop-i-test.true)
+
+pub shape_of-ps-in_default : goal.shape_of-ps-in_default
+shape_of-ps-in_default c =
+    c.loop-i.invariant.same_points
+
+pub shape_of-ds-in_default : goal.shape_of-ds-in_default
+shape_of-ds-in_default c =
+    c.loop-i.invariant.same-intervals
+
+pub returns-in_default : goal.returns-in_default
+returns-in_default c =
+    record {
+      run = stop _ _ _ _ _ _ _ _ _ c.loop-i.invariant
+          (sym c.stands.ensures ∙ c.loop-i-test.true)
+          (listing_none _ (sym c.listed.ensures ∙ c.in_default.is));
+      points = tt;
+      intervals = tt;
+    }
+
+pub loop-i-smaller : goal.loop-i-smaller
+loop-i-smaller c =
+    let h = listed-longer _ _ _ _ _ _ _ _ _ c.loop-i.invariant (sym c.stands.ensures ∙ c.loop-i-test.true)
+    (listing-is _ (sym c.listed.ensures ∙ c.in-Is.is)) in
+    omega arith
+
+pub loop-i-preserved : goal.loop-i-preserved
+loop-i-preserved c =
+    turn _ _ _ _ _ _ _ _ _ c.loop-i.invariant (sym c.stands.ensures ∙ c.loop-i-test.true)
+    (listing-is _ (sym c.listed.ensures ∙ c.in-Is.is))
+    c.put_word.ensures
+    c.float.ensures c.put_number.ensures
+
+pub shape_of-ps : goal.shape_of-ps
+shape_of-ps c =
+    c.loop-i.invariant.same_points
+
+pub shape_of-ds : goal.shape_of-ds
+shape_of-ds c =
+    c.loop-i.invariant.same-intervals
+
+pub returns : goal.returns
+returns c =
+    let whole = end _ _ _ _ _ _ _ _ _ c.loop-i.invariant (sym c.stands.ensures ∙ c.loop-i-test.false) in record { run = whole.0; points = whole.1.0; intervals = whole.1.1 }

@@ -1,0 +1,12 @@
+-- kept_words meets its contract: what is left of the list is kept exactly if all of it from the place on is.
+use Prim.Native.Nat.{◌-◌}
+use mathlib.Core.Path.{◌≡◌}
+use lib.ListN.{length, drop}
+use Rattle.filled_rows.specs.Filled.{kept_words}
+use Rattle.filled_rows.proofs.kept_words.Given as goal
+
+abbrev pub invariant-loop-i : goal.invariant-loop-i
+invariant-loop-i l = kept_words (drop l.i l.words) ≡ kept_words (drop l.from l.words)
+
+abbrev pub decreases-loop-i : goal.decreases-loop-i
+decreases-loop-i l = length l.words - l.i

@@ -1,0 +1,9 @@
+-- `write_bits` meets its contract.
+use Rattle.mesh_answers.proofs.Laws.{written-append}
+use Rattle.mesh_answers.proofs.write_bits.Goals as goal
+
+-- src/lib.rt:81:1
+pub returns : goal.returns
+returns c =
+    written-append c.write-i.ensures
+    c.write_hex.ensures

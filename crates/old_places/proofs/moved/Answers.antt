@@ -1,0 +1,18 @@
+-- moved meets its contract: the two answers are the two cases of the definition.
+use mathlib.Core.Path.{sym, ◌∙◌}
+use Rattle.old_places.proofs.moved.Goals as goal
+
+pub returns-then-is_small : goal.returns-then-is_small
+returns-then-is_small c =
+    rw (sym c.is_small.ensures ∙ c.if-is_small.true)
+
+pub returns : goal.returns
+returns c =
+    rw (
+      c.plus.ensures,
+      c.times.ensures,
+      c.over.ensures,
+      c.times-2.ensures,
+      sym c.is_small.ensures
+          ∙ c.if-is_small.false,
+    )

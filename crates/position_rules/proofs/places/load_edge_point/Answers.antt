@@ -1,0 +1,6 @@
+-- load_edge_point meets its contract.
+use Rattle.position_rules.proofs.places.load_edge_point.Goals as goal
+
+pub returns : goal.returns
+returns c =
+    rw (c.load_position.ensures, c.index.ensures)

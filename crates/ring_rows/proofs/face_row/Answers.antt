@@ -1,0 +1,11 @@
+-- face_row meets its contract: its test is the definition's.
+use borrow.Author.Tests.{eq-eqb, ne_eqb}
+use Rattle.ring_rows.proofs.face_row.Goals as goal
+
+pub returns-then-i-eq0 : goal.returns-then-i-eq0
+returns-then-i-eq0 c =
+    simp (eq-eqb _ _ c.if-i-eq0.true)
+
+pub returns : goal.returns
+returns c =
+    simp (ne_eqb _ _ c.if-i-eq0.false)

@@ -1,0 +1,38 @@
+-- point_walk meets its contract. The invariant: the walk has passed n edges; the measure is what is left of the bound.
+use Prim.Native.Nat.{◌-◌}
+use mathlib.Core.Path.{refl, sym, ◌∙◌, ap}
+use borrow.Author.Rules.{rules}
+use Rattle.audited_meshes.specs.Walks.{point_walk}
+use Rattle.walks.specs.Steps.{point_step}
+use Rattle.walks.proofs.Counting.{counted_start, counted-more, counted-last, counted-lost, counted-out}
+use Rattle.t_nurcc_iter.proofs.point_walk.Goals as goal
+
+pub loop-v-init : goal.loop-v-init
+unfolding point_walk
+loop-v-init c =
+    counted_start _ _ _ c.args.k _ refl
+
+pub returns-in_default : goal.returns-in_default
+returns-in_default c =
+    let lost = sym c.in_default.is ∙ c.point_step.ensures
+    ∙ ap (point_step c.args.edges.now c.args.ne c.args.p) c.index.ensures in
+    counted-lost _ _ _ _ _ _ _ c.loop-v.invariant _ lost
+    c.loop-v-test.true
+
+pub returns-then-next-start : goal.returns-then-next-start
+returns-then-next-start c =
+    let to = sym c.in-To.is ∙ c.point_step.ensures
+    ∙ ap (point_step c.args.edges.now c.args.ne c.args.p) c.index.ensures in
+    counted-last _ _ _ _ _ _ _ c.loop-v.invariant _ _ _ to
+    c.loop-v-test.true c.if-next-start.true
+
+pub loop-v-preserved : goal.loop-v-preserved
+loop-v-preserved c =
+    let to = sym c.in-To.is ∙ c.point_step.ensures
+    ∙ ap (point_step c.args.edges.now c.args.ne c.args.p) c.index.ensures in
+    counted-more _ _ _ _ _ _ _ c.loop-v.invariant _ _ _ to
+    c.loop-v-test.true c.if-next-start.false
+
+pub returns : goal.returns
+returns c =
+    counted-out _ _ _ _ _ _ _ c.loop-v.invariant (search rules)
