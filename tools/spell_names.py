@@ -10,7 +10,7 @@ import os
 import re
 
 WORD = re.compile(r"(?<![A-Za-z0-9_])([a-z][a-z0-9_]*[A-Z][A-Za-z0-9_]*)(?![A-Za-z0-9_])")
-TYPE = re.compile(r"(?<![A-Za-z0-9_'.·-])([A-Z][A-Za-z0-9_']*(?:-[A-Za-z0-9_']+)+)(?![A-Za-z0-9_'-])")
+TYPE = re.compile(r"(?<![A-Za-z0-9_'·-])([A-Z][A-Za-z0-9_']*(?:-[A-Za-z0-9_']+)+)(?![A-Za-z0-9_'-])")
 DECLARED = re.compile(r"(?m)^\s*(?:pub )?(?:abbrev |unfoldable |record |data )(?:pub )?([A-Z][A-Za-z0-9_']*(?:-[A-Za-z0-9_']+)+)")
 STRING = re.compile(r'b?"(?:[^"\\]|\\.)*"')
 

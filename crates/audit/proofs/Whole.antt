@@ -206,10 +206,4 @@ module _ (xs : List Float) (ps es : List ℕ) (is : List Float) (fs : List ℕ) 
     origin-below = λ e l. (edge-passed np ne nf h e l).0.origin-in-range;
     dest-below = λ e l. (edge-passed np ne nf h e l).0.dest-in-range;
     differ = λ e l. (edge-passed np ne nf h e l).1;
-    links-below = record {
-      left-cw-below = λ e l. (edge-passed np ne nf h e l).0.left_cw-in-range;
-      left-acw-below = λ e l. (edge-passed np ne nf h e l).0.left_acw-in-range;
-      right-cw-below = λ e l. (edge-passed np ne nf h e l).0.right_cw-in-range;
-      right-acw-below = λ e l. (edge-passed np ne nf h e l).0.right_acw-in-range;
-    };
   }

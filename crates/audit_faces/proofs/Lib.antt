@@ -1,3 +1,1 @@
-pub mod Sizes
-pub mod Borders
-pub mod Walks
+pub mod FaceTests

@@ -13,8 +13,7 @@ use Rattle.tables.specs.Mesh.{Mesh, valence, start, origin, dest}
 use Rattle.audited_meshes.specs.Walks.{acw_of_point, Touches}
 use Rattle.audited_meshes.proofs.Tests.{every-is, not_is, eqb_is}
 use Rattle.walks.specs.Steps.{point_across}
-use Rattle.audit_steps.specs.Noted.{new_among}
-use Rattle.few_edges.specs.Rounds.{walk_after, edge_about, Round, EndsApart, Sole}
+use Rattle.few_edges.specs.Rounds.{new_end, walk_after, edge_about, Round, EndsApart, Sole}
 use Rattle.few_edges.proofs.Joins.{same-of-others}
 use Rattle.few_edges.proofs.Rounds.{after_one, round-once}
 
@@ -48,7 +47,7 @@ module _ (m : Mesh) (ne p : ℕ) where
   }
 
   -- an other end that is new stands at no place before
-  new-at : (ends : List ℕ) (n q : ℕ) → new_among ends n q ≡ true → (a : ℕ) → a < n → get_or ends a 0 ≢ q
+  new-at : (ends : List ℕ) (n q : ℕ) → new_end ends n q ≡ true → (a : ℕ) → a < n → get_or ends a 0 ≢ q
   new-at ends n q h = (every-is n (λ (a : ℕ). not_is (eqb_is (get_or ends a 0) q))).0 h
 
   module _ (k : ℕ) (ends : List ℕ) (n i : ℕ) (h : Comparing k ends n i) where
@@ -56,7 +55,7 @@ module _ (m : Mesh) (ne p : ℕ) where
     pub comparing-lost : n < k → (OnPoint i → ⊥) → Round m ne p → ⊥
     comparing-lost l off r = off (subst OnPoint (sym h.here) (r.on n (omega (arith, h.many))))
 
-    pub comparing-next : n < k → OnPoint i → (q next : ℕ) → q ≡ point_across m p i → next ≡ acw_of_point m p i → new_among ends n q ≡ true
+    pub comparing-next : n < k → OnPoint i → (q next : ℕ) → q ≡ point_across m p i → next ≡ acw_of_point m p i → new_end ends n q ≡ true
         → Comparing k (set ends n q) (n + 1) next
     comparing-next l oi q next other along fresh = record {
       many = h.many;
@@ -93,7 +92,7 @@ module _ (m : Mesh) (ne p : ℕ) where
         apart_more a b l k (no d) same = h.apart a b l (below b k d) same
 
     -- where each edge is the only one between its two points, every other end is new
-    pub comparing-stop : ((e : ℕ) → e < ne → origin m e ≢ dest m e) → n < k → (q : ℕ) → q ≡ point_across m p i → new_among ends n q ≡ false
+    pub comparing-stop : ((e : ℕ) → e < ne → origin m e ≢ dest m e) → n < k → (q : ℕ) → q ≡ point_across m p i → new_end ends n q ≡ false
         → Round m ne p → Sole m ne p → ⊥
     comparing-stop differ l q other found r sole =
         false≢true (sym found ∙ (every-is n (λ (a : ℕ). not_is (eqb_is (get_or ends a 0) q))).1 new)
@@ -134,15 +133,6 @@ module _ (m : Mesh) (ne p : ℕ) where
         one a b la lb same (no c) (no d) =
             let ab : a ≡ b = omega arith in
             ap (edge_about m p) ab
-
-    -- a point whose start edge is none has no edges, where its walk comes back
-    pub comparing-none : ne ≤ start m p → Round m ne p → k ≡ 0
-    unfolding walk_after
-    comparing-none out r = go (ℕ_discrete k 0)
-      where
-        go : Dec (k ≡ 0) → k ≡ 0
-        go (yes z) = z
-        go (no d) = absurd (omega (arith, (r.on 0 (omega (arith, h.many, d))).0))
 
     pub comparing-open : k ≤ n → Round m ne p → i ≡ start m p
     comparing-open l r =

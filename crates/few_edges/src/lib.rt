@@ -1,5 +1,5 @@
-// Whether the walk about a point with few edges comes back after its valence, and no two of its edges join the same two points: each
-// edge's other end must be new among those before (`is_new` of `audit_steps`).
+// Whether the walk about a point with few edges comes back after its valence, and no two of its edges join the same two points: the other
+// ends of the edges are compared with each other.
 // The walk takes as many steps as the valence says and must be at its start then: if it were there before, it would pass its first edge
 // twice, and the other end of that edge would not be new.
 // Not here: points with many edges, and all points (`sole_edges`).
@@ -11,12 +11,25 @@ ghost use Rattle.std.specs.Prelude.{◌≡◌, true, [], ◌+◌, ◌*◌, ◌�
 ghost use Rattle.tables.specs.Layout.{point_width, edge_width};
 ghost use Rattle.tables.specs.Mesh.{valence};
 ghost use Rattle.tables.specs.Parts.{face_tables, point_tables};
-ghost use Rattle.audit_steps.specs.Noted.{stamp_places};
-ghost use Rattle.few_edges.specs.Rounds.{Ends, RoundApart, Good};
+ghost use Rattle.few_edges.specs.Rounds.{new_end, Ends, RoundApart, Good};
 
-use audit_steps::{is_new, linked_point_step};
 use tables::{POINT_WIDTH, START_WORD, index};
-use walks::Step;
+use walks::{Step, point_step};
+
+// Whether q stands at none of the first n places of ends.
+fn is_new_end(ends: &[u32], n: usize, q: u32) -> bool
+    requires { n ≤ length ends.now }
+    ensures { result ≡ new_end ends.now n q }
+{
+    let mut a = 0;
+    while a < n {
+        if ends[a] == q {
+            return false;
+        }
+        a += 1;
+    }
+    true
+}
 
 // Whether the walk about point p, which has no more edges than there are places in ends, is at its start again after its valence, and
 // not before, and each of its edges is the only one between its two points.
@@ -24,7 +37,6 @@ pub fn few_sole(
     points: &[u32],
     edges: &[u32],
     ends: &mut [u32],
-    stamps: &mut [usize],
     np: usize,
     ne: usize,
     p: usize,
@@ -32,24 +44,19 @@ pub fn few_sole(
     requires point_width_in_bounds { p * point_width + point_width ≤ length points.now }
     requires edge_width_in_bounds { ne * edge_width ≤ length edges.now }
     requires p_in_bounds { valence (point_tables points.now []) p ≤ length ends.old }
-    requires stamp_places_in_bounds { stamp_places ≤ length stamps.old }
     requires ends { Ends (face_tables edges.now []) np ne }
     ensures round_apart { result ≡ true → RoundApart (point_tables points.now edges.now) ne p }
     ensures value { Good (point_tables points.now edges.now) ne p → result ≡ true }
 {
     let k = index(points[p * POINT_WIDTH]);
     let start = points[p * POINT_WIDTH + START_WORD];
-    // a point without edges needs no start edge
-    if ne <= index(start) {
-        return k == 0;
-    }
     let mut i = start;
     let mut n = 0;
     while n < k {
-        let Step::To { point, next } = linked_point_step(edges, ne, p, index(i)) else {
+        let Step::To { point, next } = point_step(edges, ne, p, index(i)) else {
             return false;
         };
-        if !is_new(ends, n, point, stamps, p) {
+        if !is_new_end(ends, n, point) {
             return false;
         }
         ends[n] = point;

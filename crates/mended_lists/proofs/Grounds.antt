@@ -113,7 +113,7 @@ module _ (c : Sizes) (l : Lists) where
   face-came f b = go (face_verdict l (points_of l) f (offset l f)) (built.verdict-is c l no_tables f b)
     where
       go :
-          (v : Verdict) → built.Face-verdict c l no_tables f v →
+          (v : Verdict) → built.FaceVerdict c l no_tables f v →
           FaceCame f (then_edges (forgiven v) (edges_mend (places_of l) (offset l f) (size l f)))
       go v (built.fit sound agrees) = edges-came f b (tests-of l f 13 sound agrees)
       go v (built.unfit met tests n) = test-came f b met tests

@@ -22,7 +22,7 @@ use Rattle.sole_edges.proofs.Walked.{round-of-fits, fits-of-round, walked-of-tes
 
 -- the ends of edges stand in the table of edges
 pub ends-with-points : (ps es : List ℕ) (np ne : ℕ) → Ends (face_tables es []) np ne → Ends (point_tables ps es) np ne
-ends-with-points ps es np ne h = record { origin-below = h.origin-below; dest-below = h.dest-below; differ = h.differ; links-below = h.links-below }
+ends-with-points ps es np ne h = record { origin-below = h.origin-below; dest-below = h.dest-below; differ = h.differ }
 
 -- each edge of each point is the only one between its two points exactly if no two edges join the same two points
 one-edges-is : (m : Mesh) (np ne : ℕ) → Ends m np ne → ((p : ℕ) → p < np → PointWalked m ne p)

@@ -1,6 +1,6 @@
 // Whether the walks about points come back after their valences, and no two edges join the same two points (document 01, "Audit"), in
 // one walk about each point: linear in the edges.
-// If a point has few edges, the other end of each must be new among those before (`few_edges`). If they are many, each edge is noted in
+// The other ends of a point's edges are compared with each other, if they are few (`few_edges`). If they are many, each edge is noted in
 // a local table at the place of its other end: an edge that finds another between the same two points noted there is a second one.
 // What other walks left in the table does no harm, since the edge that is found is looked at. Past 32,768 points there is one walk for
 // each window of so many, so that no memory is lent. A walk that notes edges finds an edge again without a word, and is asked after
@@ -18,11 +18,9 @@ ghost use Rattle.tables.specs.Parts.{face_tables, point_tables};
 ghost use Rattle.audited_meshes.specs.Folds.{every};
 ghost use Rattle.audited_meshes.specs.Quick.{one_edge};
 ghost use Rattle.audit_tests.specs.Parts.{walk_fits};
-ghost use Rattle.audit_steps.specs.Noted.{stamp_places};
 ghost use Rattle.few_edges.specs.Rounds.{Ends, RoundApart, Good};
 ghost use Rattle.sole_edges.specs.Sole.{few, ends_window, second, unseen, edge_noted, RoundIn, GoodIn, RoundsFrom, GoodFrom};
 
-use audit_steps::STAMPS;
 use few_edges::few_sole;
 use tables::{POINT_WIDTH, START_WORD, index};
 use walks::{Step, point_step, touches};
@@ -136,7 +134,6 @@ fn point_sole(
     points: &[u32],
     edges: &[u32],
     seen: &mut [u32],
-    stamps: &mut [usize],
     np: usize,
     ne: usize,
     p: usize,
@@ -146,12 +143,11 @@ fn point_sole(
     requires edge_width_in_bounds { ne * edge_width ≤ length edges.now }
     requires ends_window_in_bounds { ends_window ≤ length seen.old }
     requires ends { Ends (face_tables edges.now []) np ne }
-    requires stamp_places_in_bounds { stamp_places ≤ length stamps.old }
     ensures round_apart { result ≡ true → RoundApart (point_tables points.now edges.now) ne p }
     ensures value { Good (point_tables points.now edges.now) ne p → result ≡ true }
 {
     if index(points[p * POINT_WIDTH]) <= FEW {
-        return few_sole(points, edges, seen, stamps, np, ne, p);
+        return few_sole(points, edges, seen, np, ne, p);
     }
     is_sole(points, edges, seen, np, ne, p)
 }
@@ -161,7 +157,6 @@ fn sole_by_table(
     points: &[u32],
     edges: &[u32],
     seen: &mut [u32],
-    stamps: &mut [usize],
     np: usize,
     ne: usize,
     from: usize,
@@ -171,13 +166,12 @@ fn sole_by_table(
     requires ends_window_in_bounds { ends_window ≤ length seen.old }
     requires from_le_np { from ≤ np }
     requires ends { Ends (face_tables edges.now []) np ne }
-    requires stamp_places_in_bounds { stamp_places ≤ length stamps.old }
     ensures rounds_from { result ≡ true → RoundsFrom (point_tables points.now edges.now) np ne from }
     ensures value { GoodFrom (point_tables points.now edges.now) np ne from → result ≡ true }
 {
     let mut p = from;
     while p < np {
-        if !point_sole(points, edges, seen, stamps, np, ne, p) {
+        if !point_sole(points, edges, seen, np, ne, p) {
             return false;
         }
         p += 1;
@@ -186,49 +180,33 @@ fn sole_by_table(
 }
 
 // The same by a table of its own.
-fn sole_from(
-    points: &[u32],
-    edges: &[u32],
-    stamps: &mut [usize],
-    np: usize,
-    ne: usize,
-    from: usize,
-) -> bool
+fn sole_from(points: &[u32], edges: &[u32], np: usize, ne: usize, from: usize) -> bool
     requires point_width_in_bounds { np * point_width ≤ length points.now }
     requires edge_width_in_bounds { ne * edge_width ≤ length edges.now }
     requires from_le_np { from ≤ np }
     requires ends { Ends (face_tables edges.now []) np ne }
-    requires stamp_places_in_bounds { stamp_places ≤ length stamps.old }
     ensures rounds_from { result ≡ true → RoundsFrom (point_tables points.now edges.now) np ne from }
     ensures value { GoodFrom (point_tables points.now edges.now) np ne from → result ≡ true }
 {
     let mut seen = [0u32; WINDOW];
-    sole_by_table(points, edges, &mut seen, stamps, np, ne, from)
+    sole_by_table(points, edges, &mut seen, np, ne, from)
 }
 
 // The same of all points. Up to the first point with many edges there is no table but the lent places for their other ends.
-fn all_sole(
-    points: &[u32],
-    edges: &[u32],
-    ends: &mut [u32],
-    stamps: &mut [usize],
-    np: usize,
-    ne: usize,
-) -> bool
+fn all_sole(points: &[u32], edges: &[u32], ends: &mut [u32], np: usize, ne: usize) -> bool
     requires point_width_in_bounds { np * point_width ≤ length points.now }
     requires edge_width_in_bounds { ne * edge_width ≤ length edges.now }
     requires few_in_bounds { few ≤ length ends.old }
     requires ends { Ends (face_tables edges.now []) np ne }
-    requires stamp_places_in_bounds { stamp_places ≤ length stamps.old }
     ensures rounds_from { result ≡ true → RoundsFrom (point_tables points.now edges.now) np ne 0 }
     ensures value { GoodFrom (point_tables points.now edges.now) np ne 0 → result ≡ true }
 {
     let mut p = 0;
     while p < np {
         if FEW < index(points[p * POINT_WIDTH]) {
-            return sole_from(points, edges, stamps, np, ne, p);
+            return sole_from(points, edges, np, ne, p);
         }
-        if !few_sole(points, edges, ends, stamps, np, ne, p) {
+        if !few_sole(points, edges, ends, np, ne, p) {
             return false;
         }
         p += 1;
@@ -248,6 +226,5 @@ pub fn walks_with_sole_edges(points: &[u32], edges: &[u32], np: usize, ne: usize
         && every ne (λ e. one_edge (point_tables points.now edges.now) ne e)) }
 {
     let mut ends = [0u32; FEW];
-    let mut stamps = [0usize; STAMPS];
-    all_sole(points, edges, &mut ends, &mut stamps, np, ne)
+    all_sole(points, edges, &mut ends, np, ne)
 }

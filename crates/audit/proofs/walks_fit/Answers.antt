@@ -1,7 +1,6 @@
 -- walks_fit meets its contract: its tests in turn.
 use mathlib.Core.List.{[]}
 use mathlib.Core.Path.{sym, ◌∙◌}
-use borrow.Author.Rules.{rules}
 use Rattle.audit.proofs.Whole.{walks-valences, walks-faces, walks-points}
 use Rattle.audit.proofs.walks_fit.Goals as goal
 
@@ -9,10 +8,6 @@ pub returns-then-not-valences_fit : goal.returns-then-not-valences_fit
 returns-then-not-valences_fit c =
     walks-valences [] c.args.points.now c.args.edges.now [] c.args.faces.now c.args.counts.points c.args.counts.edges
     c.args.counts.faces (sym c.valences_fit.ensures ∙ c.if-not-valences_fit.true)
-
-pub face_walks_fit-requires : goal.face_walks_fit-requires
-face_walks_fit-requires c =
-    record { edge_width_in_bounds = c.requires.edge_width_in_bounds; face_width_in_bounds = c.requires.face_width_in_bounds; links_below = c.requires.ends.links-below; total_bound = search rules }
 
 pub returns-then-not-face_walks_fit : goal.returns-then-not-face_walks_fit
 returns-then-not-face_walks_fit c =

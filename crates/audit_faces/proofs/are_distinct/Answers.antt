@@ -18,16 +18,16 @@ pub loop-i-init : goal.loop-i-init
 loop-i-init c =
     (omega arith, every-none _)
 
-pub returns-then-not-stands_first : goal.returns-then-not-stands_first
-returns-then-not-stands_first c =
+pub returns-then-not-is_new : goal.returns-then-not-is_new
+returns-then-not-is_new c =
     sym (every-stop _ _ _ c.loop-i-test.true
-    (sym c.stands_first.ensures ∙ c.if-not-stands_first.true))
+    (sym c.is_new.ensures ∙ c.if-not-is_new.true))
 
 pub loop-i-preserved : goal.loop-i-preserved
 loop-i-preserved c = (
   omega arith,
   every_more _ _ c.loop-i.invariant.1
-      (sym c.stands_first.ensures ∙ c.if-not-stands_first.false),
+      (sym c.is_new.ensures ∙ c.if-not-is_new.false),
 )
 
 pub returns : goal.returns

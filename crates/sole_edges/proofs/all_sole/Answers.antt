@@ -10,23 +10,19 @@ use Rattle.sole_edges.proofs.all_sole.Goals as goal
 
 pub loop-p-init : goal.loop-p-init
 loop-p-init c =
-    (omega arith, refl, λ q a b. absurd (omega arith), refl)
+    (omega arith, refl, λ q a b. absurd (omega arith))
 
 pub sole_from-requires : goal.sole_from-requires
 sole_from-requires c =
-    record { point_width_in_bounds = c.requires.point_width_in_bounds; edge_width_in_bounds = c.requires.edge_width_in_bounds; from_le_np = c.loop-p.invariant.0; ends = c.requires.ends; stamp_places_in_bounds = omega (arith, c.requires.stamp_places_in_bounds, c.loop-p.invariant.3) }
+    record { point_width_in_bounds = c.requires.point_width_in_bounds; edge_width_in_bounds = c.requires.edge_width_in_bounds; from_le_np = c.loop-p.invariant.0; ends = c.requires.ends }
 
 pub returns-then-index-gt-FEW : goal.returns-then-index-gt-FEW
 returns-then-index-gt-FEW c =
-    record {
-      rounds_from = λ e. rounds-joined (point_tables c.args.points.now c.args.edges.now) c.args.np c.args.ne c.loop-p.p c.loop-p.invariant.2
-          (c.sole_from.ensures.rounds_from e);
-      value = λ s. c.sole_from.ensures.value (λ q l b. s q (omega arith) b);
-    }
+    record { rounds_from = λ e. rounds-joined (point_tables c.args.points.now c.args.edges.now) c.args.np c.args.ne c.loop-p.p c.loop-p.invariant.2 (c.sole_from.ensures.rounds_from e); value = λ s. c.sole_from.ensures.value (λ q l b. s q (omega arith) b) }
 
 pub few_sole-requires : goal.few_sole-requires
 few_sole-requires c =
-    record { point_width_in_bounds = omega (arith, c.requires.point_width_in_bounds, c.loop-p-test.true); edge_width_in_bounds = c.requires.edge_width_in_bounds; p_in_bounds = omega (arith, c.index.ensures, c.if-index-gt-FEW.false, c.requires.few_in_bounds, c.loop-p.invariant.1); stamp_places_in_bounds = omega (arith, c.requires.stamp_places_in_bounds, c.loop-p.invariant.3); ends = c.requires.ends }
+    record { point_width_in_bounds = omega (arith, c.requires.point_width_in_bounds, c.loop-p-test.true); edge_width_in_bounds = c.requires.edge_width_in_bounds; p_in_bounds = omega (arith, c.index.ensures, c.if-index-gt-FEW.false, c.requires.few_in_bounds, c.loop-p.invariant.1); ends = c.requires.ends }
 
 pub returns-then-not-few_sole : goal.returns-then-not-few_sole
 returns-then-not-few_sole c =
@@ -42,7 +38,6 @@ loop-p-preserved c = (
   search rules,
   rounds-more (point_tables c.args.points.now c.args.edges.now) c.args.ne 0 c.loop-p.p c.loop-p.invariant.2
       (c.few_sole.ensures.round_apart (c.if-not-few_sole.false)),
-  search rules,
 )
 
 pub returns : goal.returns

@@ -8,7 +8,6 @@ use Rattle.sole_edges.proofs.all_sole.Given as goal
 
 abbrev pub invariant-loop-p : goal.invariant-loop-p
 invariant-loop-p l = (l.p ≤ l.np) × (length l.ends ≡ length l.initial.ends) × RoundsFrom (point_tables l.points l.edges) l.p l.ne 0
-    × (length l.stamps ≡ length l.initial.stamps)
 
 abbrev pub decreases-loop-p : goal.decreases-loop-p
 decreases-loop-p l = l.np - l.p

@@ -4,7 +4,7 @@ use Rattle.sole_edges.proofs.point_sole.Goals as goal
 
 pub few_sole-requires : goal.few_sole-requires
 few_sole-requires c =
-    record { point_width_in_bounds = omega (arith, c.requires.point_width_in_bounds, c.requires.p_lt_np); edge_width_in_bounds = c.requires.edge_width_in_bounds; p_in_bounds = omega (arith, c.index.ensures, c.if-index-le-FEW.true, c.requires.ends_window_in_bounds); stamp_places_in_bounds = c.requires.stamp_places_in_bounds; ends = c.requires.ends }
+    record { point_width_in_bounds = omega (arith, c.requires.point_width_in_bounds, c.requires.p_lt_np); edge_width_in_bounds = c.requires.edge_width_in_bounds; p_in_bounds = omega (arith, c.index.ensures, c.if-index-le-FEW.true, c.requires.ends_window_in_bounds); ends = c.requires.ends }
 
 pub is_sole-requires : goal.is_sole-requires
 is_sole-requires c =

@@ -10,11 +10,11 @@ use Rattle.sole_edges.proofs.sole_by_table.Goals as goal
 
 pub loop-p-init : goal.loop-p-init
 loop-p-init c =
-    (c.requires.from_le_np, omega arith, refl, λ q a b. absurd (omega arith), refl)
+    (c.requires.from_le_np, omega arith, refl, λ q a b. absurd (omega arith))
 
 pub point_sole-requires : goal.point_sole-requires
 point_sole-requires c =
-    record { point_width_in_bounds = c.requires.point_width_in_bounds; p_lt_np = c.loop-p-test.true; edge_width_in_bounds = c.requires.edge_width_in_bounds; ends_window_in_bounds = omega (arith, c.requires.ends_window_in_bounds, c.loop-p.invariant.2); ends = c.requires.ends; stamp_places_in_bounds = omega (arith, c.requires.stamp_places_in_bounds, c.loop-p.invariant.4) }
+    record { point_width_in_bounds = c.requires.point_width_in_bounds; p_lt_np = c.loop-p-test.true; edge_width_in_bounds = c.requires.edge_width_in_bounds; ends_window_in_bounds = omega (arith, c.requires.ends_window_in_bounds, c.loop-p.invariant.2); ends = c.requires.ends }
 
 pub returns-then-not-point_sole : goal.returns-then-not-point_sole
 returns-then-not-point_sole c =
@@ -32,7 +32,6 @@ loop-p-preserved c = (
   search rules,
   rounds-more (point_tables c.args.points.now c.args.edges.now) c.args.ne c.args.from c.loop-p.p c.loop-p.invariant.3
       (c.point_sole.ensures.round_apart (c.if-not-point_sole.false)),
-  search rules,
 )
 
 pub returns : goal.returns

@@ -9,7 +9,6 @@ use Rattle.sole_edges.proofs.sole_by_table.Given as goal
 abbrev pub invariant-loop-p : goal.invariant-loop-p
 invariant-loop-p l =
     (l.p ≤ l.np) × (l.from ≤ l.p) × (length l.seen ≡ length l.initial.seen) × RoundsFrom (point_tables l.points l.edges) l.p l.ne l.from
-    × (length l.stamps ≡ length l.initial.stamps)
 
 abbrev pub decreases-loop-p : goal.decreases-loop-p
 decreases-loop-p l = l.np - l.p

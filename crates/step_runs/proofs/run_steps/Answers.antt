@@ -99,7 +99,10 @@ shape_of-newfaces c =
 
 pub returns : goal.returns
 returns c =
-    record { outcome = going_end c.args.edition (mesh_of c.args.positions.now c.args.points.now c.args.edges.now c.args.intervals.now c.args.faces.now)
+    record {
+      outcome = going_end c.args.edition (mesh_of c.args.positions.now c.args.points.now c.args.edges.now c.args.intervals.now c.args.faces.now)
           c.args.counts
           (mesh_of c.args.newpositions.now c.args.newpoints.now c.args.newedges.now c.args.newintervals.now c.args.newfaces.now)
-          c.args.orders.now c.args.lengths.now c.loop-i.invariant c.loop-i-test.false; numbers = λ e l. c.slice_known-4-1.given e }
+          c.args.orders.now c.args.lengths.now c.loop-i.invariant c.loop-i-test.false;
+      numbers = λ e l. c.slice_known-4-1.given e;
+    }

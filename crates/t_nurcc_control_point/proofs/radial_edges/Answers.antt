@@ -40,5 +40,8 @@ loop-i-preserved c =
 
 pub returns : goal.returns
 returns c =
-    record { value = sym c.in-Back.is
-      ∙ c.point_walk.ensures; radial_after = radial-end _ _ _ _ _ _ _ _ c.loop-i.invariant (search rules) }
+    record {
+      value = sym c.in-Back.is
+          ∙ c.point_walk.ensures;
+      radial_after = radial-end _ _ _ _ _ _ _ _ c.loop-i.invariant (search rules);
+    }

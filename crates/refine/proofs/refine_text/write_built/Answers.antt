@@ -6,9 +6,12 @@ use Rattle.refine.proofs.refine_text.write_built.Goals as goal
 
 pub write_stepped-requires : goal.write_stepped-requires
 write_stepped-requires c =
-    record { at_in_bounds = step_room c.args.counts c.write_mesh-i.ensures c.requires.output_bytes_in_bounds c.write_mesh-i.auto.out; point_ready = ready c.args.counts
+    record {
+      at_in_bounds = step_room c.args.counts c.write_mesh-i.ensures c.requires.output_bytes_in_bounds c.write_mesh-i.auto.out;
+      point_ready = ready c.args.counts
           (mesh_of c.args.positions.now c.args.points.now c.args.edges.now c.args.intervals.now c.args.faces.now)
-          c.numbered_step-answer.ensures }
+          c.numbered_step-answer.ensures;
+    }
 
 pub shape_of-out : goal.shape_of-out
 shape_of-out c =

@@ -6,9 +6,12 @@ use Rattle.refine.proofs.refine_text.write_output.Goals as goal
 
 pub write_built-requires : goal.write_built-requires
 write_built-requires c =
-    record { faces_le_faces = few c.args.text.now
+    record {
+      faces_le_faces = few c.args.text.now
           (mesh_of c.args.positions.now c.args.points.now c.args.edges.now c.args.intervals.now c.args.faces.now)
-          c.build_text.ensures.outcome c.in-Accepted.is; output_bytes_in_bounds = c.requires }
+          c.build_text.ensures.outcome c.in-Accepted.is;
+      output_bytes_in_bounds = c.requires;
+    }
 
 pub shape_of-out-in-Accepted : goal.shape_of-out-in-Accepted
 shape_of-out-in-Accepted c =

@@ -1,4 +1,4 @@
--- stands_first meets its contract. The invariant: the first j places have other points; the measure is what is left of i.
+-- is_new meets its contract. The invariant: the first j places have other points; the measure is what is left of i.
 use Prim.Native.Nat.{◌-◌}
 use mathlib.Core.Path.{sym, ap}
 use mathlib.Core.Bool.{true, not}
@@ -6,7 +6,7 @@ use native.Mathlib.Omega.{arith}
 use borrow.Author.Tests.{eq-eqb, ne_eqb}
 use Rattle.audited_meshes.proofs.Folds.{every-none, every_more, every-stop}
 use Rattle.audit_tests.proofs.Laws.{every-all}
-use Rattle.audit_faces.proofs.stands_first.Goals as goal
+use Rattle.audit_faces.proofs.is_new.Goals as goal
 
 pub loop-j-init : goal.loop-j-init
 loop-j-init c =

@@ -1,10 +1,10 @@
--- stands_first meets its contract. The invariant: the first j places have other points; the measure is what is left of i.
+-- is_new meets its contract. The invariant: the first j places have other points; the measure is what is left of i.
 use Prim.Native.Nat.{◌≤◌, ◌-◌}
 use mathlib.Core.Path.{◌≡◌}
 use mathlib.Core.Bool.{true}
 use Rattle.audited_meshes.specs.Folds.{every}
 use Rattle.audit_tests.specs.Parts.{differ_at}
-use Rattle.audit_faces.proofs.stands_first.Given as goal
+use Rattle.audit_faces.proofs.is_new.Given as goal
 
 abbrev pub invariant-loop-j : goal.invariant-loop-j
 invariant-loop-j l = (l.j ≤ l.i) × (every l.j (λ k. differ_at l.points l.i k) ≡ true)
