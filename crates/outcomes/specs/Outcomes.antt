@@ -124,11 +124,11 @@ pub data StepComes (ed : Edition) (m : Mesh) (c : Counts) (order : List ℕ) (t 
 -- Limits are those of document 01 or others below the none mark. The premise of `steps` is met by all numbers that lent tables hold.
 pub record Demand1 : Type 0 where
   pub lists : (c : Sizes) (l : Lists) (m : Mesh) → c.faces ≤ none → ListsCome c l m (build c l m)
-  pub lists-first : built.First-ground
+  pub lists-first : built.FirstGround
   pub texts : (b : Bounds) (s : List ℕ) (m : Mesh) → TextComes b s m (build_text b s m)
   pub texts-first : TextFirstGround
   -- Tables of any content are a closed mesh exactly if they pass the audit.
   pub tables : AuditIsClosed
   pub steps :
       (ed : Edition) (m : Mesh) (c : Counts) (order : List ℕ) (t : Mesh) → Binary64 c m → StepComes ed m c order t (step ed m c order t)
-  pub steps_first : stepping.First-ground
+  pub steps_first : stepping.FirstGround
