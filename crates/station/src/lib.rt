@@ -1,6 +1,7 @@
-// The library for stations: building, the mender of texts, the audit, the step, the depth finder and the handover listing as C
-// functions on pointers and lengths (station/lavyngo.h declares them). Every answer is document 01's number or document 02's: 0 for
-// what is accepted, else that of the ground. Counts stand in an array of three that the caller lends: points, edges, faces.
+// The library for stations: building, the mender of texts, the audit, the step, the depth finder and the handover listing as
+// functions of slices and numbers that C can call (`station_c` exports them, station/lavyngo.h declares them). Every answer is document
+// 01's number or document 02's: 0 for what is accepted, else that of the ground. Counts stand in an array of three that the caller
+// lends: points, edges, faces.
 // Not here: what the functions do (`building`, `text_building`, `text_mending`, `audit`, `refining`, `depth_finder`,
 // `listing_writing`, `listing_reading`), how an answer is told (`station_building`, `station_mending`, `station_places`,
 // `station_audits`, `station_steps`, `station_listings`). Each function here is one call of a function there.
@@ -46,8 +47,7 @@ use station_steps::step_told;
 pub const LIBRARY_VERSION: u32 = 10;
 
 // Builds a mesh from lists of version 1 in the lent tables. The counts are written if it is accepted.
-#[unsafe(no_mangle)]
-pub extern "C" fn lavyngo_build(
+pub fn lavyngo_build(
     coordinates: &[f64],
     sides: &[u32],
     listed: &[u32],
@@ -83,8 +83,7 @@ pub extern "C" fn lavyngo_build(
 }
 
 // Builds a mesh from lists of version 2 in the lent tables. The counts are written if it is accepted.
-#[unsafe(no_mangle)]
-pub extern "C" fn lavyngo_build_2(
+pub fn lavyngo_build_2(
     coordinates: &[f64],
     sides: &[u32],
     firsts: &[u32],
@@ -121,8 +120,7 @@ pub extern "C" fn lavyngo_build_2(
 }
 
 // Builds a mesh from a text in the lent tables. The counts are written if it is accepted.
-#[unsafe(no_mangle)]
-pub extern "C" fn lavyngo_build_text(
+pub fn lavyngo_build_text(
     text: &[u8],
     positions: &mut [f64],
     points: &mut [u32],
@@ -141,8 +139,7 @@ pub extern "C" fn lavyngo_build_text(
 }
 
 // Mends a text of version 2 in place: whole faces are turned round so that all neighbours run opposite ways.
-#[unsafe(no_mangle)]
-pub extern "C" fn lavyngo_mend_text(text: &mut [u8]) -> u32
+pub fn lavyngo_mend_text(text: &mut [u8]) -> u32
     ensures { ◌≡◌ {A = MendingTold} (record { answer = result; text = text.new }) (mended (mend_text text.old)) }
 {
     mend_text_told(text)
@@ -150,16 +147,14 @@ pub extern "C" fn lavyngo_mend_text(text: &mut [u8]) -> u32
 
 // Tells what becomes of a text of any bytes, and where it is refused: the number of building it in tables with rows to spare, the line, the
 // face and the edge.
-#[unsafe(no_mangle)]
-pub extern "C" fn lavyngo_explain_text(text: &[u8], place: &mut [usize; 3]) -> u32
+pub fn lavyngo_explain_text(text: &[u8], place: &mut [usize; 3]) -> u32
     ensures { ◌≡◌ {A = Explained} (record { answer = result; place = place.new }) (explained text.now place.old) }
 {
     explain_text_told(text, place)
 }
 
 // Whether the tables are a closed mesh with these counts: 0, or 30 if they are not.
-#[unsafe(no_mangle)]
-pub extern "C" fn lavyngo_audit(
+pub fn lavyngo_audit(
     positions: &[f64],
     points: &[u32],
     edges: &[u32],
@@ -178,8 +173,7 @@ pub extern "C" fn lavyngo_audit(
 // Refines the mesh in the tables once, visiting the faces in the order handed in. `newpositions`, `newpoints`, `newedges`, `newintervals` and
 // `newfaces` are the scratch tables of positions, points, edges, intervals and faces. The counts are those before the step, and
 // become those after it if it is accepted. `numbers` is the premise `Binary64` of `Demand3` (`runs`).
-#[unsafe(no_mangle)]
-pub extern "C" fn lavyngo_step(
+pub fn lavyngo_step(
     positions: &mut [f64],
     points: &mut [u32],
     edges: &mut [u32],
@@ -225,8 +219,7 @@ pub extern "C" fn lavyngo_step(
 }
 
 // The same in the second edition, by the published position rule (document 02, §5).
-#[unsafe(no_mangle)]
-pub extern "C" fn lavyngo_step_published(
+pub fn lavyngo_step_published(
     positions: &mut [f64],
     points: &mut [u32],
     edges: &mut [u32],
@@ -272,8 +265,7 @@ pub extern "C" fn lavyngo_step_published(
 }
 
 // Finds the lowest-numbered edge of the mesh that crosses a depth, which is a z coordinate. The edge is written if there is one.
-#[unsafe(no_mangle)]
-pub extern "C" fn lavyngo_find_depth(
+pub fn lavyngo_find_depth(
     positions: &[f64],
     points: &[u32],
     edges: &[u32],
@@ -294,8 +286,7 @@ pub extern "C" fn lavyngo_find_depth(
 }
 
 // Writes the listing of a mesh at the front of the output. How many bytes it has is written if it is accepted.
-#[unsafe(no_mangle)]
-pub extern "C" fn lavyngo_write_listing(
+pub fn lavyngo_write_listing(
     positions: &[f64],
     points: &[u32],
     edges: &[u32],
@@ -319,8 +310,7 @@ pub extern "C" fn lavyngo_write_listing(
 }
 
 // Reads a listing into the lent tables. The counts are written if it is accepted.
-#[unsafe(no_mangle)]
-pub extern "C" fn lavyngo_read_listing(
+pub fn lavyngo_read_listing(
     text: &[u8],
     positions: &mut [f64],
     points: &mut [u32],
@@ -339,8 +329,7 @@ pub extern "C" fn lavyngo_read_listing(
 }
 
 // The version of the library, which is that of its header.
-#[unsafe(no_mangle)]
-pub extern "C" fn lavyngo_version() -> u32
+pub fn lavyngo_version() -> u32
     ensures { result ≡ library_version }
 {
     LIBRARY_VERSION
