@@ -1,8 +1,9 @@
 #!/bin/sh
 # Builds the oracle as oracle/target/oracle, over the library oracle/target/liboracle.rlib, unless both are younger than
-# what they are made of. The six Rust files are compiled where they stand, through links, after their sums are compared
-# with SOURCES.sha256; they are looked for in $TNURCC_SRC, or in shared/docs/src beside the repository. A second time they
-# are compiled with some places altered (alter.py): those that alterations/ON names, or $ORACLE_ALTERATIONS.
+# what they are made of. The six Rust files are compiled from copies in target/, as `rt ci` takes no link below the repository's
+# folder, after their sums are compared with SOURCES.sha256; they are looked for in $TNURCC_SRC, or in shared/docs/src beside the
+# repository. A second time they are compiled with some places altered (alter.py): those that alterations/ON names, or
+# $ORACLE_ALTERATIONS.
 # Needed: rustc, cc, python3, the six Rust files.
 set -eu
 here=$(cd "$(dirname "$0")" && pwd)
@@ -28,8 +29,9 @@ mkdir -p "$here/target"
 cp -r "$here/src" "$tree"
 cp -r "$here/src/t_spline" "$tree/altered"
 t_spline=$sources/kernel/monstertruck-geometry/src/t_spline
-ln -s "$t_spline"/mod.rs "$t_spline"/t_nurcc "$t_spline"/t_nurcc_edge "$t_spline"/t_nurcc_iter.rs \
+cp -R "$t_spline"/mod.rs "$t_spline"/t_nurcc "$t_spline"/t_nurcc_edge "$t_spline"/t_nurcc_iter.rs \
     "$t_spline"/t_nurcc_control_point.rs "$t_spline"/t_nurcc_face.rs "$tree/t_spline"
+chmod -R u+w "$tree"
 python3 "$here/alter.py" "$t_spline" "$tree/altered" $on
 rustc --edition 2024 -O --crate-type rlib --crate-name oracle -o "$here/target/liboracle.rlib" "$tree/lib.rs"
 rustc --edition 2024 -O --crate-name oracle_main --extern oracle="$here/target/liboracle.rlib" \

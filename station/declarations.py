@@ -1,7 +1,8 @@
 #!/usr/bin/env python3
-"""Holds the prototypes of lavyngo.h against the functions that crates/station exports: names, order and types.
+"""Holds the prototypes of lavyngo.h against the functions that crates/station_c exports: names, order and types; and these against the
+functions of crates/station that they call: the same names, parameters and clauses, and a body that is the call of that name alone.
 
-    declarations.py LIB.RT LAVYNGO.H
+    declarations.py STATION_C.RT STATION.RT LAVYNGO.H
 """
 
 import re
@@ -30,9 +31,31 @@ def in_c(name, kind):
     return ["%s%s *%s" % (const, SLICES[element[1]], name), "size_t %s_length" % name]
 
 
+def functions(source, before):
+    """The functions whose heads begin with `before`: the words of their parameters, results and clauses, and those of their bodies."""
+    form = before + r"fn (\w+)\(((?:(?!\n\{\n|\n\}\n).)*)\n\{\n((?:(?!\n\}\n).)*)\n\}"
+    return {name: (head.split(), body.split()) for name, head, body in re.findall(form, source, re.S)}
+
+
+def called(source, library):
+    """Says which export is not the function of its name in the library, with its clauses said again."""
+    exports, given = functions(source, r'#\[unsafe\(no_mangle\)\]\npub extern "C" '), functions(library, r"\npub ")
+    if not exports or exports.keys() != given.keys() or len(exports) != source.count("no_mangle"):
+        sys.exit("the exports are %s\n  and the library's functions %s" % (sorted(exports), sorted(given)))
+    for name, (head, body) in exports.items():
+        if head != given[name][0]:
+            sys.exit("%s has other parameters or clauses than the library's" % name)
+        arguments = re.findall(r"(\w+): ", " ".join(head).split(") ->")[0])
+        words = re.findall(r"\w+|\S", " ".join(body))
+        call = re.findall(r"\w+|\S", "station::%s(%s)" % (name, ", ".join(arguments)))
+        if [w for w in words if w != ","] != [w for w in call if w != ","]:
+            sys.exit("%s is not the call of station::%s with its own parameters in their order" % (name, name))
+    return len(exports)
+
+
 def exported(source):
     """The prototypes that the exported functions ask for."""
-    form = r'#\[no_mangle\]\s*pub extern "C" fn (\w+)\((.*?)\)\s*->\s*(\w+)'
+    form = r'#\[unsafe\(no_mangle\)\]\s*pub extern "C" fn (\w+)\((.*?)\)\s*->\s*(\w+)'
     found = {}
     for name, parameters, result in re.findall(form, source, re.S):
         pairs = re.findall(r"(\w+):\s*([^,]+?)\s*(?:,|$)", parameters.strip())
@@ -49,12 +72,14 @@ def declared(header):
     return found
 
 
-def main(source, header):
-    asked, given = exported(open(source).read()), declared(open(header).read())
+def main(exporting, library, header):
+    source = open(exporting).read()
+    called(source, open(library).read())
+    asked, given = exported(source), declared(open(header).read())
     for name in sorted(asked.keys() | given.keys()):
         if asked.get(name) != given.get(name):
             sys.exit("%s\n  the library: %s\n  the header:  %s" % (name, asked.get(name), given.get(name)))
-    print("%d functions, %d parameters: the header declares what the library exports"
+    print("%d functions, %d parameters: the header declares what the library exports, with the clauses of what it calls"
           % (len(asked), sum(len(parameters) for _, parameters in asked.values())))
 
 

@@ -35,7 +35,7 @@ expected() {
 
 "$here/library.sh"
 mkdir -p "$out/records"
-python3 "$here/declarations.py" "$root/crates/station/src/lib.rt" "$here/lavyngo.h"
+python3 "$here/declarations.py" "$root/crates/station_c/src/lib.rt" "$root/crates/station/src/lib.rt" "$here/lavyngo.h"
 "$here/divisions.sh"
 
 cc -std=c11 -O2 -Wall -Wextra -Werror -o "$out/example_c" "$here/example.c" "$library"
