@@ -3,8 +3,9 @@
 
     tools/documents.py            print README.md's table of the files to read: the files of specs/ that state the claims and the
                                   contracts of the library's own functions, and all that these files use
+    tools/documents.py --write    put that table into README.md in the place of the one there
     tools/documents.py --check    say whether README.md has that table, and whether every path below crates/ that a document names,
-                                  and every edit that docs/HOLLOW.md names, is there
+                                  every edit that docs/HOLLOW.md names and every name of code that README.md has is there
 """
 import re
 import sys
@@ -81,7 +82,7 @@ ABOUT = {
     "station": "the version of the library",
     "filed_pieces": "document 01's starred pieces, and pieces of mesh text 2",
 }
-USE = re.compile(r"^(?:pub )?use Rattle·(\w+?)(?:·specs\.specs|\.specs)\.(\w+)", re.M)
+USE = re.compile(r"^(?:pub )?use Rattle\.(?!std\.)(\w+)\.specs\.(\w+)", re.M)
 
 
 def read_files():
@@ -120,16 +121,32 @@ def missing():
                     yield f"HOLLOW.md names the edit {edit} of {crate}"
 
 
+    said = set()
+    for file in (ROOT / "crates").glob("*/*/**/*"):
+        if file.suffix in (".rt", ".antt") and file.relative_to(ROOT).parts[2] in ("src", "specs", "proofs"):
+            said |= set(re.findall(r"[^\s(){}\[\],;.:`\"']+", file.read_text()))
+    for name in sorted(set(re.findall(r"`([A-Za-z][\w-]*)`", (ROOT / "README.md").read_text())) - said):
+        yield f"README.md names {name}, which no file of the crates has"
+
+
 def main():
     found = read_files()
     if set(found) != set(ABOUT):
         sys.exit(f"documents: of these crates it is not known what to read: {sorted(set(found) ^ set(ABOUT))}")
+    readme = ROOT / "README.md"
+    if sys.argv[1:] == ["--write"]:
+        before, head, rest = readme.read_text().partition("| Files | Lines | About |\n")
+        _, last, after = rest.partition("contracts of the functions named above.\n")
+        if not head or not last:
+            sys.exit("documents: README.md has no table of the files to read")
+        readme.write_text(before + table(found) + after)
+        return
     if sys.argv[1:] != ["--check"]:
         print(table(found), end="")
         return
     wrong = list(missing())
-    if table(found) not in (ROOT / "README.md").read_text():
-        wrong.append("README.md has another table of the files to read")
+    if table(found) not in readme.read_text():
+        wrong.append("README.md has another table of the files to read: tools/documents.py --write puts this one there")
     if wrong:
         sys.exit("\n".join(f"documents: {line}" for line in wrong))
     print("documents: the files and the edits that they name are there")

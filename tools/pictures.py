@@ -113,8 +113,8 @@ def layers():
             found.append((re.sub(r" \(.*", "", row[5:]), []))
         elif re.match(r"# \w+: ", row):
             found[-1][1].append(row[2:].split(":")[0])
-        elif re.match(r"\w+:", row):
-            listed.append(row.split(":")[0])
+        elif found_here := re.match(r"(\w+)( staticlib)?:", row):
+            listed.append(found_here[1])
     named = [crate for _, crates in found for crate in crates]
     if sorted(named) != sorted(listed):
         sys.exit("pictures: the map of crates.txt and its crates differ: %s" % sorted(set(named) ^ set(listed)))

@@ -1,19 +1,23 @@
+#!/usr/bin/env python3
 """The layout of proof files: long paths bound to names, long lines broken.
 
-An answer of a proof file reaches a fact by a path from where it stands back to the thing in the code that brought the fact:
-`c .before .before .loop .inv`. This module rewrites answers in which such paths are long. It is used by tools/proof_loop.py
-(docs/PROOFS.md says how), and has no state: text goes in, text comes out.
+    tools/proof_layout.py                  say which files of the crates have a line of more than 200 bytes, and which proof files an
+                                           answer in which a path of more than eight steps stands twice; exit status 1 if any has
+    tools/proof_layout.py --write NAME..   bind the long paths of these crates' proof files to names and break their long lines
+
+A proof that walks the code by hand (proofs/F/Proof.antt) reaches a fact by a path from where an answer stands back to the thing in the
+code that brought the fact: `c.before.before.loop.inv`. Such paths, where they are long, get names of their own; in Answers.antt, where
+the check gives each fact its name, there are none, and only long lines are broken. docs/PROOFS.md says more. The layout has no state:
 
     bound(text)         the proof file with its long paths bound to names and its long lines broken
-    recounted(..)       one declaration with its paths counted anew
     long_lines(text)    what of a proof file is not in the layout
     wide_lines(text)    what of any other file is not
 
-Run by itself it says which files of the crates have a line of more than 200 bytes, and which proof files an answer in which a
-path of more than eight steps stands twice.
+A line that --write leaves too long, as that of a type, is broken by hand; `rt fmt` in the crate's folder goes last.
 """
 
 import re
+import sys
 from pathlib import Path
 
 WIDTH = 120  # what a broken line is filled to
@@ -48,8 +52,11 @@ def tokens(text):
             raise Unfit
         if m.group(0) in CLOSING.values() and out and out[-1][0] in (",", ";"):
             out.pop()
-        out.append((m.group(0), space))
-        space, i = False, m.end()
+        # a projection is written tight, and is a word of its own here
+        for word in [m.group(0)] if m.group(0)[0] == '"' else re.split(r"(?<=[^.])(?=\.[^.])", m.group(0)):
+            out.append((word, space))
+            space = False
+        i = m.end()
     return out
 
 
@@ -74,15 +81,15 @@ def read_path(toks, i, known):
     if w not in known or (i and toks[i - 1][0] in (".", "@")):
         return None
     n, j = known[w], i + 1
-    while j < len(toks) and toks[j] == (".before", True):
+    while j < len(toks) and toks[j] == (".before", False):
         n, j = n + 1, j + 1
-    if j < len(toks) and toks[j][1] and is_step(toks[j][0]):
+    if j < len(toks) and not toks[j][1] and is_step(toks[j][0]):
         return n, toks[j][0][1:], j + 1
     return n, "", j
 
 
 def written(base, n, thing):
-    return [(base, True)] + [(".before", True)] * n + ([("." + thing, True)] if thing else [])
+    return [(base, True)] + [(".before", False)] * n + ([("." + thing, False)] if thing else [])
 
 
 def end_of_let(toks, i):
@@ -213,7 +220,7 @@ def with_bindings(toks, names):
 
 
 # What an answer names several times is bound too: the mesh and the lists that a function is handed.
-SHARED = {"meshOf": ["m", "t", "m2"], "lists": ["l", "l2"]}
+SHARED = {"mesh_of": ["m", "t", "m2"], "lists": ["l", "l2"]}
 
 
 def with_shared(toks, taken):
@@ -487,7 +494,8 @@ def answer_spans(unit):
 
 
 def wide(text, n):
-    return any(len(l) > n for l in text.split("\n"))
+    """Whether a line is wider than n, in bytes where n is HARD."""
+    return any((len(l.encode()) if n == HARD else len(l)) > n for l in text.split("\n"))
 
 
 def uses(line):
@@ -544,61 +552,8 @@ def bound_unit(unit):
     return unit
 
 
-def bound(text, force=()):
+def bound(text):
     return "\n".join(bound_unit(u) for u in units(text))
-
-
-def place_in_spec(unit, at):
-    """Which argument of `tie.spec` the bracket at `at` is."""
-    call = unit.rfind("tie.spec ", 0, at), unit.rfind("tie.spec\n", 0, at)
-    if max(call) < 0:
-        return None
-    try:
-        return len(chunks(tokens(unit[max(call) + len("tie.spec") : at])))
-    except Unfit:
-        return None
-
-
-def recounted(unit, far, again, lost):
-    """A declaration with `c@loop` and `c^12` written out, and with `again` every path counted anew.
-
-    far(k) says how many steps back each thing is: of the declaration's own answer (None), or of the k-th argument of `tie.spec`.
-    What cannot be found is added to `lost`."""
-    for a, b, clause in reversed(answer_spans(unit)):
-        try:
-            toks, names = without_bindings(tokens(unit[a:b]))
-        except Unfit:
-            lost.add("(an answer with a comment or a block inside: count it by hand)")
-            continue
-        if not again and not any(re.match(r"c[@^]", w) for w, _ in toks):
-            continue
-        d = far(None if clause else place_in_spec(unit, unit.rfind("(λ", 0, a)))
-        out, i = [], 0
-        while i < len(toks):
-            w, space = toks[i]
-            path = read_path(toks, i, {"c": 0})
-            if re.fullmatch(r"c\^\d+", w):
-                out += [("c", space)] + [(".before", True)] * int(w[2:])
-                i += 1
-            elif w.startswith("c@") and w[2:] in d:
-                out += [("c", space)] + written("c", d[w[2:]], w[2:])[1:]
-                i += 1
-            elif again and path and path[1] in d:
-                out += [("c", space)] + written("c", d[path[1]], path[1])[1:]
-                i = path[2]
-            else:
-                if w.startswith("c@"):
-                    lost.add(w)
-                if again and path and path[0]:
-                    lost.add(path[1] or f"the bare path of {path[0]} steps")
-                out.append((w, space))
-                i += 1
-        if again:
-            lost |= {x for _, _, x in names if x not in d}
-            names = [(k, d.get(x, n), x) for k, n, x in names]
-        head = [t for k, n, x in names for t in [("let", True), (k, True), ("=", True), *written("c", n, x), ("in", True)]]
-        unit = unit[:a] + " " + flat([*head, *out]) + unit[b:]
-    return bound_unit(unit)
 
 
 def long_lines(text):
@@ -621,10 +576,28 @@ def wide_lines(text):
     return [f"{k + 1}: {len(l.encode())} bytes" for k, l in enumerate(text.split("\n")) if len(l.encode()) > HARD]
 
 
-def main():
+def laid_out(root, name):
+    """Bring the crate's proof files into the layout."""
+    if not (root / "crates" / name / "src").is_dir():
+        sys.exit(f"proof_layout: no crates/{name}/src")
+    for p in sorted((root / "crates" / name / "proofs").rglob("*.antt")):
+        old = p.read_text()
+        new = bound(old)
+        if new != old:
+            p.write_text(new)
+            print(f"{p.relative_to(root)}: {old.count(chr(10))} lines, now {new.count(chr(10))}")
+
+
+def main(words):
     """Say which files of the crates are not in the layout; exit status 1 if any is not."""
     root = Path(__file__).resolve().parent.parent
-    files = [p for end in ("rt", "antt", "edit") for p in root.glob(f"crates/*/**/*.{end}")]
+    if words[:1] == ["--write"]:
+        for name in words[1:]:
+            laid_out(root, name)
+        return 0
+    if words:
+        sys.exit(__doc__)
+    files = [p for end in ("rt", "antt", "edit") for p in root.glob(f"crates/*/*/**/*.{end}") if "out" not in p.relative_to(root).parts]
     bad = 0
     for p in sorted(files):
         proof = p.suffix == ".antt" and "proofs" in p.parts
@@ -635,4 +608,4 @@ def main():
 
 
 if __name__ == "__main__":
-    raise SystemExit(main())
+    raise SystemExit(main(sys.argv[1:]))
