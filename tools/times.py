@@ -1,12 +1,15 @@
 #!/usr/bin/env python3
 """The times of the gate, read from the log that .ci/run keeps.
 
-    tools/times.py [LOG]            print one line: checks, proofs, edits, programs, runs, whole; what of it came with requests; and the
-                                    crates of over 60 seconds
+    tools/times.py [LOG]            print one line: checks, proofs, edits, programs, runs, whole; how many crates and edits came with
+                                    requests; and the crates of over 60 seconds
     tools/times.py [LOG] --write    put that line and the seconds of each crate into the section "The gate" of docs/TIMES.md
 
 LOG is .ci/target/log where none is named. A line of it is the seconds since the start and what was said then; the parts of the gate
-begin with `==`. The seconds of a crate and of an edit are those that `rt ci` prints, the parts are told apart by the lines' own.
+begin with `==`. `rt ci` proves crates side by side and tries edits beside them, and prints no seconds of its own. So the seconds of a
+crate are those from when the last of the crates that it uses was told until it was told itself, the wait for a processor included; and
+those of the edits are what they took after the last proof. A crate that an earlier run on the machine has proved is told as kept, at
+once, and has no seconds.
 """
 import re
 import sys
@@ -19,11 +22,11 @@ LONG = 60
 
 
 class Log:
-    """What the log says: when each part ended, and the seconds of each crate and of its edits."""
+    """What the log says: when each part ended, when each crate was told, which were kept, and how many edits each has."""
 
     def __init__(self, path):
         self.title, self.began, self.ended = "", {}, {}
-        self.crates, self.edits, self.tally = {}, {}, ""
+        self.told, self.kept, self.edits, self.tally = {}, set(), {}, ""
         for line in path.read_text(errors="replace").splitlines():
             second, _, text = line.partition(" ")
             self.read(int(second), text)
@@ -34,13 +37,16 @@ class Log:
             self.title = text.removeprefix("== the gate ")
         elif text.startswith("== "):
             self.began[text.removeprefix("== ")] = second
-        elif found := re.match(r"rt: must-fail (\w+)/\w+: .*?(\d+) s\)$", text):
-            self.edits.setdefault(found[1], []).append(int(found[2]))
+        elif found := re.match(r"rt: must-fail (\w+)/", text):
+            self.edits[found[1]] = self.edits.get(found[1], 0) + 1
             self.ended["edits"] = second
-        elif found := re.match(r"rt: (\w+) proved \((\d+) s\)$", text):
-            self.crates[found[1]] = int(found[2])
+        elif found := re.match(r"rt: (\w+) (proved$|is kept: )", text):
+            self.told[found[1]] = second
+            self.kept |= {found[1]} if found[2] != "proved" else set()
             self.ended["proofs"] = second
-        elif re.match(r"rt: \w+ ran", text):
+        elif re.match(r"rt: \w+(: its tests are proved$)", text):
+            self.ended["proofs"] = second
+        elif re.match(r"rt: \w+( ran\b|: its tests passed$)", text):
             self.ended["programs"] = second
         elif re.fullmatch(r"\d+ passed, \d+ failed", text):
             self.tally = text
@@ -51,7 +57,7 @@ class Log:
         proofs = self.ended["proofs"]
         edits = self.ended.get("edits", proofs)
         programs = self.ended.get("programs", edits)
-        running = self.began.get("station/short.sh", self.ended["whole"])
+        running = min((s for part, s in self.began.items() if part.startswith("station/")), default=self.ended["whole"])
         return {
             "checks": proving,
             "proofs": proofs - proving,
@@ -61,9 +67,17 @@ class Log:
             "whole": self.ended["whole"],
         }
 
+    def seconds(self):
+        """The seconds of each crate that this run proved."""
+        return {
+            crate: self.told[crate] - max([self.told[below] for below in uses if below in self.told], default=self.began["rt ci"])
+            for crate, uses in listed().items()
+            if crate in self.told and crate not in self.kept
+        }
+
     def line(self):
         told = [f"{name} {spoken(seconds)}" for name, seconds in self.parts().items()]
-        told[2] = f"{sum(map(len, self.edits.values()))} {told[2]}"
+        told[2] = f"{sum(self.edits.values())} {told[2]}"
         return ", ".join(told)
 
 
@@ -72,8 +86,9 @@ def spoken(seconds):
 
 
 def listed():
-    """The crates of crates.txt."""
-    return re.findall(r"^(\w+):", (ROOT / "crates.txt").read_text(), re.M)
+    """The crates of crates.txt, each with those that it uses."""
+    rows = re.findall(r"^(\w+)(?: staticlib)?:(.*)$", (ROOT / "crates.txt").read_text(), re.M)
+    return {crate: uses.split() for crate, uses in rows}
 
 
 def requested():
@@ -82,34 +97,33 @@ def requested():
 
 
 def shares(log):
-    """How much of the proofs and of the edits is of crates that came with requests, by the seconds of the crates and edits."""
+    """How many of the crates and of the edits came with requests."""
     came = requested()
-    told = []
-    for name, seconds in (("proofs", log.crates), ("edits", {c: sum(e) for c, e in log.edits.items()})):
-        part = sum(s for c, s in seconds.items() if c in came) / max(1, sum(seconds.values()))
-        told.append(f"{name} {spoken(round(part * log.parts()[name]))}")
-    return ", ".join(told)
+    edits = sum(number for crate, number in log.edits.items() if crate in came)
+    return f"{len(came)} of {len(listed())} crates and {edits} of {sum(log.edits.values())} edits"
 
 
 def section(log):
-    rows = ["| Crate | Seconds | Edits | Seconds of its edits |", "|---|---|---|---|"]
+    rows = ["| Crate | Told after | Seconds | Edits |", "|---|---|---|---|"]
+    seconds = log.seconds()
     for crate in listed():
-        edits = log.edits.get(crate, [])
-        rows.append(f"| {crate} | {log.crates[crate]} | {len(edits)} | {sum(edits) if edits else ''} |")
-    return f"{HEAD}`.ci/run` {log.title}: {log.line()}. Its last line: '{log.tally}'. Of this {shares(log)} are of crates \
-that came with requests of document 02 (crates.txt names it beside them), by their seconds.\n\n" + "\n".join(rows) + "\n"
+        rows.append(f"| {crate} | {spoken(log.told[crate] - log.began['rt ci'])} | {seconds.get(crate, 'kept')} | {log.edits.get(crate, 0)} |")
+    return f"{HEAD}`.ci/run` {log.title}: {log.line()}. Its last line: '{log.tally}'. Of this {shares(log)} came with requests of \
+document 02 (crates.txt names it beside them).\n\n" + "\n".join(rows) + "\n"
 
 
 def main():
     write = "--write" in sys.argv[1:]
     named = [word for word in sys.argv[1:] if word != "--write"]
     log = Log(Path(named[0]) if named else ROOT / ".ci" / "target" / "log")
-    lacking = [crate for crate in listed() if crate not in log.crates]
+    lacking = [crate for crate in listed() if crate not in log.told]
     if lacking or "rt ci" not in log.began:
         sys.exit(f"times: this is no log of a gate that proved these crates: {' '.join(lacking)}")
     print(log.line())
-    print("of crates that came with requests:", shares(log))
-    for crate, seconds in log.crates.items():
+    print("came with requests:", shares(log))
+    if log.kept:
+        print(f"kept from earlier runs on the machine: {len(log.kept)} crates")
+    for crate, seconds in log.seconds().items():
         if seconds > LONG:
             print(f"over {LONG} s: {crate}, {seconds} s")
     if write:
