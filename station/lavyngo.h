@@ -1,6 +1,6 @@
 /* Lavyngo for stations: closed meshes of points, edges and faces in tables that the caller lends, built from lists or from
    a text, audited, refined, asked for an edge at a depth, and handed over as a listing; texts with faces turned round are
-   mended, and refused texts explained. The functions are those of libstation.a (`rt staticlib station`), for x86-64 Linux.
+   mended, and refused texts explained. The functions are those of libstation.a (`station/library.sh` makes it), for x86-64 Linux.
 
    Link with: cc program.c target/staticlib/libstation.a
 

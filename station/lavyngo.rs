@@ -1,5 +1,5 @@
 //! The library for stations in Rust: safe functions over slices, and tables to lend. lavyngo.h says what each function does, what
-//! the words of a row are and what an answer means; link with target/staticlib/libstation.a (`rt staticlib station`).
+//! the words of a row are and what an answer means; link with target/staticlib/libstation.a (`station/library.sh`).
 
 #![allow(dead_code)]
 

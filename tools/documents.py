@@ -112,7 +112,8 @@ def missing():
     """What documents name and is not there."""
     for document in [ROOT / "README.md", ROOT / "NOTICE", *sorted((ROOT / "docs").glob("**/*.md"))]:
         for path in re.findall(r"crates/[a-z_]+(?:/[A-Za-z0-9_]+)*(?:\.[a-z]+)?", document.read_text()):
-            if not (ROOT / path).exists():
+            # what a check makes is not there before it
+            if not (ROOT / re.sub(r"^(crates/\w+)/out(/.*)?$", r"\1", path)).exists():
                 yield f"{document.name} names {path}"
     for row in (ROOT / "docs" / "HOLLOW.md").read_text().split("\n"):
         for crate, edits in re.findall(r"(\w+): ((?:`\w+`(?:, )?)+)", row):
