@@ -138,7 +138,8 @@ def try_answers(root, name, fn, tried, words):
                 place = re.escape(p.relative_to(root / "crates" / name).as_posix())
                 errors = re.findall(rf"(?m)^(?:\./)?{place}:\d+:\d+: error(?:\[[^]]*\])?: (?:`([^`]+)`: )?", text)
                 # an error that names no declaration says nothing of any of them
-                good[p] = [] if "" in errors or "logic=" not in text and "only=" not in text else [h for h in left[p] if h not in errors]
+                judged = "" not in errors and re.search(r"(?m)^(logic|only|holes)=", text)
+                good[p] = [h for h in left[p] if h not in errors] if judged else []
         finally:
             for p in left:
                 p.write_text(filled(before[p], good[p], answer) if good[p] else before[p])
