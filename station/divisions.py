@@ -13,7 +13,7 @@ import sys
 
 HEAD = re.compile(r"^[0-9a-f]+ <(.+)>:$")
 INSTRUCTION = re.compile(r"^ *[0-9a-f]+:\t(\S+)(.*)$")
-REFERENCE = re.compile(r"^\s+[0-9a-f]+: R_X86_64_\S+\s+(?:\.text\.)?(\S+?)(?:[-+]0x[0-9a-f]+)?$")
+REFERENCE = re.compile(r"^\s+[0-9a-f]+: R_X86_64_\S+\s+(?:\.text\.)?(.+?)(?:[-+]0x[0-9a-f]+)?$")
 CALL = re.compile(r"^(?:call|j)")
 
 
@@ -30,7 +30,8 @@ def read(archive):
                 calls[function].add(reference[1])
         elif instruction := INSTRUCTION.match(line):
             calling = bool(CALL.match(instruction[1]))
-            if calling and (here := re.search(r"<([^+>]+)>$", instruction[2])):
+            # the name of a generic function may have spaces and brackets in it
+            if calling and (here := re.search(r"<(.+)>$", instruction[2])) and not re.search(r"\+0x[0-9a-f]+$", here[1]):
                 calls[function].add(here[1])
             if calling and "*" in instruction[2] and instruction[1].startswith("call"):
                 sys.exit("%s calls through a pointer: what it reaches is not known" % function)

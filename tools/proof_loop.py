@@ -111,7 +111,8 @@ def answers(text):
 def imported(text, answer):
     """The file with an import of what the answer names of the common words."""
     lacking = [w for w in re.findall(r"[^\s(),]+", answer) if w in COMMON and not re.search(rf"(?m)^use .*[{{ ]{w}[,}}]", text)]
-    return (f"use Rattle.std.proofs.Common.{{{', '.join(lacking)}}}\n" if lacking else "") + text
+    line = f"use Rattle.std.proofs.Common.{{{', '.join(lacking)}}}\n"
+    return re.sub(r"\A((?:--.*\n)*)", lambda m: m.group(1) + line, text) if lacking else text
 
 
 def filled(text, holes, answer):
