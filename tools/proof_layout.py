@@ -2,8 +2,9 @@
 """The layout of proof files: long paths bound to names, long lines broken.
 
     tools/proof_layout.py                  say which files of the crates have a line of more than 200 bytes, and which proof files an
-                                           answer in which a path of more than eight steps stands twice; exit status 1 if any has
-    tools/proof_layout.py --write NAME..   bind the long paths of these crates' proof files to names and break their long lines
+                                           answer in which a long path stands twice: more than eight steps back in the code, or more
+                                           than five projections; exit status 1 if any has
+    tools/proof_layout.py --write NAME..   break the long lines of these crates' proof files, and bind their paths back to names
 
 A proof that walks the code by hand (proofs/F/Proof.antt) reaches a fact by a path from where an answer stands back to the thing in the
 code that brought the fact: `c.before.before.loop.inv`. Such paths, where they are long, get names of their own; in Answers.antt, where
@@ -24,6 +25,7 @@ WIDTH = 120  # what a broken line is filled to
 WIDE = 130  # an answer with a wider line is laid out anew
 HARD = 200  # any other declaration with a wider line is
 STEP = 8  # a place so many steps back is bound to a name of its own: c8, c16, ..
+LONG = 5  # a path of more projections stands once in an answer
 
 # a line may end with the first and does not begin with them, and the other way round with the second
 AFTER = {"=", ":", "→", "↔", "×", "↦", "in"}
@@ -252,13 +254,23 @@ def with_shared(toks, taken):
 
 
 def repeated(toks):
-    """Whether a path of more than eight steps stands more than once."""
+    """Whether a path of more than eight steps from the place, or of more than five projections from any name, stands more than once."""
     seen = set()
-    for i, n, x, j in paths_of(toks):
+    for _, n, x, _ in paths_of(toks):
         if n >= STEP and x:
             if (n, x) in seen:
                 return True
             seen.add((n, x))
+    i = 0
+    while i < len(toks):
+        j = i + 1
+        while j < len(toks) and not toks[j][1] and (is_step(toks[j][0]) or is_number(toks[j][0])):
+            j += 1
+        path = flat(toks[i:j])
+        if j - i > LONG + 1 and path in seen:
+            return True
+        seen.add(path)
+        i = j
     return False
 
 
@@ -528,7 +540,8 @@ def bound_unit(unit):
             toks = tokens(body)
         except Unfit:
             continue
-        if not (repeated(toks) and not searched(toks) or ".before" in body and wide(whole, WIDE)):
+        walks = any(n for _, n, _, _ in paths_of(toks))
+        if not walks or not (repeated(toks) and not searched(toks) or wide(whole, WIDE)):
             continue
         try:
             new = toks if searched(toks) else with_bindings(*without_bindings(toks))
@@ -564,7 +577,7 @@ def long_lines(text):
         for a, b, _ in answer_spans(unit):
             try:
                 if repeated(tokens(unit[a:b])):
-                    out.append(f"{line}: a path of more than {STEP} steps stands twice in one answer")
+                    out.append(f"{line}: a path of more than {STEP} steps, or of more than {LONG} projections, stands twice in one answer")
             except Unfit:
                 pass
         line += unit.count("\n") + 1
