@@ -3,9 +3,10 @@
 // faces, the lengths of the five tables), then the tables, all little-endian.
 #![tactic(auto)]
 
-ghost use Rattle.std.specs.Prelude.{◌≡◌, ◌≤◌, ◌+◌, ◌*◌, ◌<◌, length};
+ghost use Rattle.std.specs.Prelude.{◌≡◌, ◌≤◌, ◌+◌, ◌*◌, ◌<◌, IfOk, length};
 
-use libc::STDOUT_FILENO;
+use std::io;
+use streams::read_full;
 use tables::Counts;
 
 // The byte at a place as a number; 0 past the end.
@@ -131,9 +132,9 @@ fn is_closed(
 }
 
 // Tells of the mesh at a place, and gives the place of the next one.
-fn tell(bytes: &[u8], at: usize) -> usize
+fn tell(rt: &impl Print, bytes: &[u8], at: usize) -> io::Result<usize>
     requires { at ≤ 536870912 }
-    ensures { result ≤ at + 32768 }
+    ensures { IfOk result (λ next. next ≤ at + 32768) }
 {
     let counts = Counts {
         points: long(bytes, at + 32) as usize,
@@ -146,30 +147,29 @@ fn tell(bytes: &[u8], at: usize) -> usize
     let ds = size(bytes, at + 80, 200);
     let fs = size(bytes, at + 88, 500);
     if is_closed(bytes, at + 96, counts, xs, ps, es, ds, fs) {
-        io::write_all(STDOUT_FILENO, b" closed\n");
+        rt.write_all(b" closed\n")?;
     } else {
-        io::write_all(STDOUT_FILENO, b" not closed\n");
+        rt.write_all(b" not closed\n")?;
     }
-    at + 96 + xs * 8 + ps * 4 + es * 4 + ds * 8 + fs * 4
+    Ok(at + 96 + xs * 8 + ps * 4 + es * 4 + ds * 8 + fs * 4)
 }
 
 // Tells of the meshes one after the other.
-fn tell_all(bytes: &[u8]) {
+fn tell_all(rt: &impl Print, bytes: &[u8]) -> io::Result<()> {
     let mut at = 0;
-    let mut turn: usize = 0;
-    while turn < 4096 {
+    for _ in 0usize..4096 {
         let label = at + 32;
         if bytes.len() < label {
-            return;
+            break;
         }
-        io::write_all(STDOUT_FILENO, &bytes[at..label]);
-        at = tell(bytes, at);
-        turn += 1;
+        rt.write_all(&bytes[at..label])?;
+        at = tell(rt, bytes, at)?;
     }
+    Ok(())
 }
 
-fn main() {
+fn main(rt: HostRuntime) -> io::Result<()> {
     let mut bytes = [0u8; 327680];
-    let n = io::read_full(0, &mut bytes);
-    tell_all(&bytes[..n]);
+    let n = read_full(&mut rt.stdin(), &mut bytes)?;
+    tell_all(&rt, &bytes[..n])
 }

@@ -9,7 +9,8 @@ use answer_numbers::ground_number;
 use building_tests::Bounds;
 use explain_answers::{listing_answer, text_answer};
 use explain_words::{say_accepted, say_edge, say_face, say_reading, say_whole};
-use streams::{is_input_lost, say_output_lost};
+use std::io;
+use streams::{read_input, say_output_lost};
 use text_edges::text_edge;
 use text_meshes::TextBuilt;
 use text_numbers::stands;
@@ -19,47 +20,46 @@ use text_places::{NOWHERE, text_place};
 const INPUT_BYTES: usize = 65536;
 
 // Says a refusal of a text by the ground n, with its place.
-fn explain_refused(text: &[u8], n: u32) -> bool {
+fn explain_refused(rt: &impl Print, text: &[u8], n: u32) -> io::Result<()> {
     let place = text_place(text, Bounds::Refine);
     if place.line == NOWHERE {
-        return say_whole(n);
+        return say_whole(rt, n);
     }
     if place.edge == NOWHERE {
-        return say_face(n, place.line, place.face);
+        return say_face(rt, n, place.line, place.face);
     }
     let edge = text_edge(text, Bounds::Refine, place.face, place.edge);
-    say_edge(n, place.line, place.face, place.edge, edge)
+    say_edge(rt, n, place.line, place.face, place.edge, edge)
 }
 
 // Says what becomes of a mesh text.
-fn explain_text(text: &[u8]) -> bool {
+fn explain_text(rt: &impl Print, text: &[u8]) -> io::Result<()> {
     match text_answer(text) {
-        TextBuilt::Accepted(c) => say_accepted(c),
-        TextBuilt::NotText => explain_refused(text, 1),
-        TextBuilt::Refused(g) => explain_refused(text, ground_number(g)),
+        TextBuilt::Accepted(c) => say_accepted(rt, c),
+        TextBuilt::NotText => explain_refused(rt, text, 1),
+        TextBuilt::Refused(g) => explain_refused(rt, text, ground_number(g)),
     }
 }
 
 // Says what becomes of the bytes that were read.
-fn explain(text: &[u8]) -> bool {
+fn explain(rt: &impl Print, text: &[u8]) -> io::Result<()> {
     if stands(text, 0, b"[mesh 3]") {
-        return say_reading(listing_answer(text));
+        return say_reading(rt, listing_answer(text));
     }
-    explain_text(text)
+    explain_text(rt, text)
 }
 
 // Reads the input into the buffer, and says what becomes of it.
-fn explain_input(buffer: &mut [u8]) {
-    let n = io::read_full(0, buffer);
-    if is_input_lost(b"explain", n, buffer.len()) {
-        return;
+fn explain_input(rt: HostRuntime, buffer: &mut [u8]) -> io::Result<()> {
+    let n = read_input(rt, b"explain", buffer)?;
+    let said = explain(&rt, &buffer[..n]);
+    if said.is_err() {
+        say_output_lost(rt, b"explain");
     }
-    if !explain(&buffer[..n]) {
-        say_output_lost(b"explain");
-    }
+    said
 }
 
-fn main() {
+fn main(rt: HostRuntime) -> io::Result<()> {
     let mut text = [0u8; INPUT_BYTES + 1];
-    explain_input(&mut text);
+    explain_input(rt, &mut text)
 }

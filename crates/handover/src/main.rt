@@ -5,7 +5,8 @@
 #![tactic(auto)]
 
 use crate::handover_text::handover;
-use streams::{is_input_lost, write_output};
+use std::io;
+use streams::{read_input, write_output};
 use text_answers::REFINE_BYTES;
 
 mod handover_text;
@@ -13,14 +14,11 @@ mod handover_text;
 // A listing of 256 points of at most 69 bytes, 512 edges of 56 and 256 faces of 55 has less.
 const LISTING_BYTES: usize = 65536;
 
-fn main() {
+fn main(rt: HostRuntime) -> io::Result<()> {
     // One byte more than the limit. More need not be read: the output for every longer text is the same (`LongText` of `handover_outputs`).
     let mut text = [0u8; REFINE_BYTES + 1];
-    let n = io::read_full(0, &mut text);
-    if is_input_lost(b"handover", n, REFINE_BYTES + 1) {
-        return;
-    }
+    let n = read_input(rt, b"handover", &mut text)?;
     let mut out = [0u8; LISTING_BYTES];
     let k = handover(&text[..n], &mut out);
-    write_output(b"handover", &out[..k]);
+    write_output(rt, b"handover", &out[..k])
 }

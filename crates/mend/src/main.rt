@@ -7,22 +7,20 @@
 ghost use Rattle.std.specs.Prelude.{◌≤◌, length};
 
 use mend_outputs::{MEND_BYTES, mend};
-use streams::{is_input_lost, write_output};
+use std::io;
+use streams::{read_input, write_output};
 
 // Reads a text into the buffer, mends it there, and writes the output.
-fn mend_input(buffer: &mut [u8])
+fn mend_input(rt: HostRuntime, buffer: &mut [u8]) -> io::Result<()>
     requires { 31 ≤ length buffer.old }
 {
-    let n = io::read_full(0, buffer);
-    if is_input_lost(b"mend", n, buffer.len()) {
-        return;
-    }
+    let n = read_input(rt, b"mend", buffer)?;
     let k = mend(buffer, n);
-    write_output(b"mend", &buffer[..k]);
+    write_output(rt, b"mend", &buffer[..k])
 }
 
-fn main() {
+fn main(rt: HostRuntime) -> io::Result<()> {
     // One byte more than the limit. More need not be read: the output for every longer text is the same (`LongText` of `mend_outputs`).
     let mut text = [0u8; MEND_BYTES + 1];
-    mend_input(&mut text);
+    mend_input(rt, &mut text)
 }

@@ -6,9 +6,12 @@
 // Not here: what is told of one record (`records.rt`).
 #![tactic(auto)]
 
-ghost use Rattle.std.specs.Prelude.{◌≡◌, ◌≤◌, length};
+ghost use Rattle.std.specs.Prelude.{◌≡◌, ◌≤◌, IfOk, length};
 
 use crate::records::{HEAD_BYTES, record_bytes, tell};
+use std::io;
+use std::io::Read;
+use streams::read_full;
 
 mod heads;
 mod records;
@@ -17,38 +20,39 @@ mod records;
 const RECORD_BYTES: usize = 16640;
 
 // Reads the next record, and gives how many bytes it has: 0 where no head is left, or where there is no room for it.
-fn read_record(bytes: &mut [u8]) -> usize
-    ensures { (result ≤ length bytes.new) × (length bytes.new ≡ length bytes.old) }
+fn read_record<R: Read>(input: &mut R, bytes: &mut [u8]) -> io::Result<usize>
+    ensures in_bounds { IfOk result (λ n. n ≤ length bytes.new) }
+    ensures len { length bytes.new ≡ length bytes.old }
 {
     if bytes.len() < HEAD_BYTES {
-        return 0;
+        return Ok(0);
     }
-    if io::read_full(0, &mut bytes[..HEAD_BYTES]) < HEAD_BYTES {
-        return 0;
+    if read_full(input, &mut bytes[..HEAD_BYTES])? < HEAD_BYTES {
+        return Ok(0);
     }
     let whole = record_bytes(bytes);
     if bytes.len() < whole {
-        return 0;
+        return Ok(0);
     }
-    HEAD_BYTES + io::read_full(0, &mut bytes[HEAD_BYTES..whole])
+    let rest = read_full(input, &mut bytes[HEAD_BYTES..whole])?;
+    Ok(HEAD_BYTES + rest)
 }
 
 // Tells of the records one after the other, in room for one of them.
-fn tell_all(bytes: &mut [u8])
+fn tell_all(rt: HostRuntime, bytes: &mut [u8]) -> io::Result<()>
     requires { length bytes.old ≤ 8388608 }
 {
-    let mut turn: usize = 0;
-    while turn < 4096 {
-        let n = read_record(bytes);
+    for _ in 0..4096 {
+        let n = read_record(&mut rt.stdin(), bytes)?;
         if n < HEAD_BYTES {
-            return;
+            break;
         }
-        tell(&bytes[..n]);
-        turn += 1;
+        tell(&rt, &bytes[..n])?;
     }
+    Ok(())
 }
 
-fn main() {
+fn main(rt: HostRuntime) -> io::Result<()> {
     let mut bytes = [0u8; RECORD_BYTES];
-    tell_all(&mut bytes);
+    tell_all(rt, &mut bytes)
 }

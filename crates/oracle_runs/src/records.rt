@@ -16,7 +16,6 @@
 ghost use Rattle.std.specs.Prelude.{◌≡◌, ◌≤◌, ◌+◌, length};
 
 use crate::heads::{bounds, change};
-use libc::STDOUT_FILENO;
 use oracle_builds::{Answer, Start, build_bytes, build_changed, put_listed_word};
 use oracle_steps::{StepStage, tell_steps};
 use oracle_tables::fields::{at_most, field, word};
@@ -24,6 +23,7 @@ use oracle_tables::held::{Tables, lent_by};
 use oracle_tables::listing::{tell_mesh, tell_refused, tell_stage};
 use oracle_tables::rows::{no_counts, tell_rows};
 use oracle_trials::{count_changes, count_cuts, tell_tried, tell_zeros};
+use std::io;
 use tables::Counts;
 
 // The bytes of a label; those of a label, the 16 numbers of the head and byte 10.
@@ -84,54 +84,63 @@ fn build_kind(bytes: &[u8], head: usize, text: &[u8], more: usize) -> Start
 }
 
 // Writes the mesh that was built, and makes the steps of the record.
-fn tell_built(bytes: &[u8], head: usize, more: usize, t: Tables, counts: Counts)
+fn tell_built(
+    rt: &impl Print,
+    bytes: &[u8],
+    head: usize,
+    more: usize,
+    t: Tables,
+    counts: Counts,
+) -> io::Result<()>
     requires head_bound { head ≤ 16777216 }
     requires more_bound { more ≤ 8388608 }
 {
-    tell_mesh(t, counts, 0 < field(bytes, head, 5));
-    tell_rows(b"[zero", t, counts);
+    tell_mesh(rt, t, counts, 0 < field(bytes, head, 5))?;
+    tell_rows(rt, b"[zero", t, counts)?;
     let tables = begun(bytes, head, more, t);
-    tell_steps(bytes, head, more, StepStage { counts, tables });
+    tell_steps(rt, bytes, head, more, StepStage { counts, tables })
 }
 
 // Writes the ground on which building refused.
-fn tell_ground(t: Tables, n: u32) {
-    tell_refused(n);
-    tell_rows(b"[zero", t, no_counts());
+fn tell_ground(rt: &impl Print, t: Tables, n: u32) -> io::Result<()> {
+    tell_refused(rt, n)?;
+    tell_rows(rt, b"[zero", t, no_counts())
 }
 
 // Kinds 0, 1, 5 and 6: builds a text, and makes the steps of the record if that is accepted.
-fn tell_text(bytes: &[u8], head: usize, text: &[u8], more: usize)
+fn tell_text(rt: &impl Print, bytes: &[u8], head: usize, text: &[u8], more: usize) -> io::Result<()>
     requires head_bound { head ≤ 16777216 }
     requires more_bound { more ≤ 8388608 }
 {
     let start = build_kind(bytes, head, text, more);
     let t = start.tables;
     let answer = start.answer;
-    tell_stage(0);
+    tell_stage(rt, 0)?;
     match answer {
-        Answer::Accepted(counts) => tell_built(bytes, head, more, t, counts),
-        Answer::Refused(n) => tell_ground(t, n),
+        Answer::Accepted(counts) => tell_built(rt, bytes, head, more, t, counts),
+        Answer::Refused(n) => tell_ground(rt, t, n),
     }
 }
 
 // Tells of a record by its kind.
-fn tell_kind(bytes: &[u8], head: usize, text: &[u8], more: usize)
+fn tell_kind(rt: &impl Print, bytes: &[u8], head: usize, text: &[u8], more: usize) -> io::Result<()>
     requires head_bound { head ≤ 16777216 }
     requires more_bound { more ≤ 8388608 }
 {
     match field(bytes, head, 0) {
-        2 => tell_tried(text.len(), count_cuts(text)),
+        2 => tell_tried(rt, text.len(), count_cuts(text)),
         3 => tell_tried(
+            rt,
             text.len(),
             count_changes(text, (field(bytes, more, 0) % 256) as u8),
         ),
         4 => tell_zeros(
+            rt,
             field(bytes, more, 0),
             field(bytes, more, 1),
             word(bytes, more, 2),
         ),
-        _ => tell_text(bytes, head, text, more),
+        _ => tell_text(rt, bytes, head, text, more),
     }
 }
 
@@ -143,14 +152,14 @@ pub fn record_bytes(bytes: &[u8]) -> usize
 }
 
 // Tells of a record.
-pub fn tell(bytes: &[u8])
+pub fn tell(rt: &impl Print, bytes: &[u8]) -> io::Result<()>
     requires in_bounds { 209 ≤ length bytes.now }
     requires bytes_len_bound { length bytes.now ≤ 8388608 }
 {
     let head = LABEL_BYTES;
-    io::write_all(STDOUT_FILENO, &bytes[..head]);
-    io::write_all(STDOUT_FILENO, b"\n");
+    rt.write_all(&bytes[..head])?;
+    rt.println("")?;
     let n = at_most(field(bytes, head, 1), bytes.len() - HEAD_BYTES);
     let more = HEAD_BYTES + n;
-    tell_kind(bytes, head, &bytes[HEAD_BYTES..more], more);
+    tell_kind(rt, bytes, head, &bytes[HEAD_BYTES..more], more)
 }

@@ -12,6 +12,7 @@ use oracle_tables::listing::{tell_mesh, tell_refused, tell_stage};
 use oracle_tables::rows::{no_counts, tell_rows};
 use refined_meshes::Edition;
 use refining::step;
+use std::io;
 use steps::Stepped;
 use tables::Counts;
 
@@ -174,25 +175,25 @@ fn make(
 }
 
 // Writes what a step answered, the mesh, and what stands in the rows that hold no mesh; gives the mesh.
-fn tell_made(made: MadeStep, told: bool, counts: Counts) -> StepStage {
+fn tell_made(rt: &impl Print, made: MadeStep, told: bool, counts: Counts) -> io::Result<StepStage> {
     let t = made.tables;
     let answer = made.answer;
     match answer {
         Stepped::Refined(c) => {
-            tell_mesh(t, c, told);
-            tell_rows(b"[zero", t, c);
-            tell_rows(b"[scratch", made.scratch, no_counts());
-            StepStage {
+            tell_mesh(rt, t, c, told)?;
+            tell_rows(rt, b"[zero", t, c)?;
+            tell_rows(rt, b"[scratch", made.scratch, no_counts())?;
+            Ok(StepStage {
                 counts: c,
                 tables: t,
-            }
+            })
         }
         _ => {
-            tell_refused(step_number(answer));
-            tell_mesh(t, counts, false);
-            tell_rows(b"[zero", t, counts);
-            tell_rows(b"[scratch", made.scratch, no_counts());
-            StepStage { counts, tables: t }
+            tell_refused(rt, step_number(answer))?;
+            tell_mesh(rt, t, counts, false)?;
+            tell_rows(rt, b"[zero", t, counts)?;
+            tell_rows(rt, b"[scratch", made.scratch, no_counts())?;
+            Ok(StepStage { counts, tables: t })
         }
     }
 }
@@ -221,7 +222,14 @@ fn edition_at(bytes: &[u8], listed: bool, at: usize) -> Edition
 }
 
 // Makes a step in numbered order, or in the edition and the order that are listed at a place, and writes what it answered and left.
-fn tell_step(bytes: &[u8], head: usize, at: usize, told: bool, stage: StepStage) -> StepStage
+fn tell_step(
+    rt: &impl Print,
+    bytes: &[u8],
+    head: usize,
+    at: usize,
+    told: bool,
+    stage: StepStage,
+) -> io::Result<StepStage>
     requires head_bound { head ≤ 16777216 }
     requires at_bound { at ≤ 16777216 }
 {
@@ -239,7 +247,7 @@ fn tell_step(bytes: &[u8], head: usize, at: usize, told: bool, stage: StepStage)
         lent_by(bytes, head, 6),
         lent_by(bytes, head, 11),
     );
-    tell_made(made, told, c)
+    tell_made(rt, made, told, c)
 }
 
 // The place after the order that stands at a place.
@@ -251,7 +259,13 @@ fn after_order(bytes: &[u8], at: usize) -> usize
 }
 
 // Makes the steps of a record, each in the mesh that the last one left.
-pub fn tell_steps(bytes: &[u8], head: usize, more: usize, first: StepStage)
+pub fn tell_steps(
+    rt: &impl Print,
+    bytes: &[u8],
+    head: usize,
+    more: usize,
+    first: StepStage,
+) -> io::Result<()>
     requires head_bound { head ≤ 16777216 }
     requires more_bound { more ≤ 8388608 }
 {
@@ -262,8 +276,9 @@ pub fn tell_steps(bytes: &[u8], head: usize, more: usize, first: StepStage)
     let mut k = 0;
     while k < steps {
         k += 1;
-        tell_stage(k);
-        stage = tell_step(bytes, head, at, k < told, stage);
+        tell_stage(rt, k)?;
+        stage = tell_step(rt, bytes, head, at, k < told, stage)?;
         at = after_order(bytes, at);
     }
+    Ok(())
 }

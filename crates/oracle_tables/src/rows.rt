@@ -6,7 +6,7 @@ use crate::fields::at_most;
 use crate::held::Tables;
 use crate::listing::bits_of;
 use filled_rows::{kept_numbers, kept_words};
-use libc::STDOUT_FILENO;
+use std::io;
 use tables::{Counts, EDGE_WIDTH, FACE_WIDTH, POINT_WIDTH, POSITION_WIDTH};
 
 // The counts of no rows.
@@ -47,27 +47,26 @@ fn count_zero_numbers(numbers: &[f64], from: usize) -> usize
 }
 
 // Writes how many words from a place on are zero, and whether all that follow are as filled.
-fn tell_words(words: &[u32], from: usize) -> bool
+fn tell_words(rt: &impl Print, words: &[u32], from: usize) -> io::Result<bool>
     requires { from ≤ 4294967296 }
 {
     let n = count_zero_words(words, from);
-    io::write_all(STDOUT_FILENO, b" ");
-    io::print_decimal(STDOUT_FILENO, n as u64);
-    kept_words(words, from + n)
+    print!(rt; " {n}")?;
+    Ok(kept_words(words, from + n))
 }
 
 // The same of numbers.
-fn tell_numbers(numbers: &[f64], from: usize) -> bool
+fn tell_numbers(rt: &impl Print, numbers: &[f64], from: usize) -> io::Result<bool>
     requires { from ≤ 4294967296 }
 {
     let n = count_zero_numbers(numbers, from);
-    io::write_all(STDOUT_FILENO, b" ");
-    io::print_decimal(STDOUT_FILENO, n as u64);
-    kept_numbers(numbers, from + n)
+    print!(rt; " {n}")?;
+    Ok(kept_numbers(numbers, from + n))
 }
 
 // Writes of the rows after so many words of the tables how many words or numbers are zero, and whether all that follow are as filled.
 pub fn tell_slices(
+    rt: &impl Print,
     head: &[u8],
     positions: &[f64],
     points: &[u32],
@@ -75,33 +74,33 @@ pub fn tell_slices(
     intervals: &[f64],
     faces: &[u32],
     counts: Counts,
-) {
+) -> io::Result<()> {
     let np = at_most(counts.points, 65536);
     let ne = at_most(counts.edges, 65536);
     let nf = at_most(counts.faces, 65536);
-    io::write_all(STDOUT_FILENO, head);
-    let a = tell_numbers(positions, np * POSITION_WIDTH);
-    let b = tell_words(points, np * POINT_WIDTH);
-    let c = tell_words(edges, ne * EDGE_WIDTH);
-    let d = tell_numbers(intervals, ne);
-    let e = tell_words(faces, nf * FACE_WIDTH);
+    rt.write_all(head)?;
+    let a = tell_numbers(rt, positions, np * POSITION_WIDTH)?;
+    let b = tell_words(rt, points, np * POINT_WIDTH)?;
+    let c = tell_words(rt, edges, ne * EDGE_WIDTH)?;
+    let d = tell_numbers(rt, intervals, ne)?;
+    let e = tell_words(rt, faces, nf * FACE_WIDTH)?;
     if a && b && c && d && e {
-        io::write_all(STDOUT_FILENO, b" kept]\n");
+        rt.println(" kept]")
     } else {
-        io::write_all(STDOUT_FILENO, b" spoilt]\n");
+        rt.println(" spoilt]")
     }
 }
 
 // The same of the tables that the program holds.
-pub fn tell_rows(head: &[u8], t: Tables, counts: Counts) {
+pub fn tell_rows(rt: &impl Print, head: &[u8], t: Tables, counts: Counts) -> io::Result<()> {
     let positions = t.positions;
     let points = t.points;
     let edges = t.edges;
     let intervals = t.intervals;
     let faces = t.faces;
     tell_slices(
-        head, &positions, &points, &edges, &intervals, &faces, counts,
-    );
+        rt, head, &positions, &points, &edges, &intervals, &faces, counts,
+    )
 }
 
 // Whether all of the tables is as filled.

@@ -8,12 +8,12 @@ ghost use Rattle.std.specs.Prelude.{◌≡◌, ◌≤◌, ◌<◌, length};
 
 use building_tests::Bounds;
 use filled_rows::{NUMBER, WORD};
-use libc::STDOUT_FILENO;
 use oracle_builds::{Answer, Lengths, build_bytes, build_lists};
 use oracle_tables::fields::at_most;
 use oracle_tables::held::LentTables;
 use oracle_tables::listing::{tell_refused, tell_stage};
 use oracle_tables::rows::{is_kept, no_counts, tell_slices};
+use std::io;
 use tables::POSITION_WIDTH;
 
 // 1 if a text is refused as not of the form and leaves the tables as they were, else 0.
@@ -101,12 +101,8 @@ pub fn count_changes(text: &[u8], byte: u8) -> usize {
 }
 
 // Writes how many texts were tried, and how many were unformed.
-pub fn tell_tried(tried: usize, unformed: usize) {
-    io::write_all(STDOUT_FILENO, b"[tried ");
-    io::print_decimal(STDOUT_FILENO, tried as u64);
-    io::write_all(STDOUT_FILENO, b" refused ");
-    io::print_decimal(STDOUT_FILENO, unformed as u64);
-    io::write_all(STDOUT_FILENO, b"]\n");
+pub fn tell_tried(rt: &impl Print, tried: usize, unformed: usize) -> io::Result<()> {
+    println!(rt; "[tried {tried} refused {unformed}]")
 }
 
 // Builds from lists of zeros, so many points, faces and listed points, all of these on the first side of face 0.
@@ -147,7 +143,7 @@ fn build_zeros(
 }
 
 // Writes the ground on which lists of zeros are refused, and what stands in the tables then.
-pub fn tell_zeros(np: usize, nf: usize, listed: u32) {
+pub fn tell_zeros(rt: &impl Print, np: usize, nf: usize, listed: u32) -> io::Result<()> {
     let mut positions = [NUMBER; 12300];
     let mut points = [WORD; 12300];
     let mut edges = [WORD; 131200];
@@ -163,11 +159,12 @@ pub fn tell_zeros(np: usize, nf: usize, listed: u32) {
         &mut intervals,
         &mut faces,
     );
-    tell_stage(0);
+    tell_stage(rt, 0)?;
     if let Answer::Refused(n) = answer {
-        tell_refused(n);
+        tell_refused(rt, n)?;
     }
     tell_slices(
+        rt,
         b"[zero",
         &positions,
         &points,
@@ -175,5 +172,5 @@ pub fn tell_zeros(np: usize, nf: usize, listed: u32) {
         &intervals,
         &faces,
         no_counts(),
-    );
+    )
 }

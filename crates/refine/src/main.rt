@@ -5,19 +5,17 @@
 #![tactic(auto)]
 
 use crate::refine_text::{OUTPUT_BYTES, refine};
-use streams::{is_input_lost, write_output};
+use std::io;
+use streams::{read_input, write_output};
 use text_answers::REFINE_BYTES;
 
 mod refine_text;
 
-fn main() {
+fn main(rt: HostRuntime) -> io::Result<()> {
     // One byte more than the limit. More need not be read: the output for every longer text is the same (`LongText` of `refine_outputs`).
     let mut text = [0u8; REFINE_BYTES + 1];
-    let n = io::read_full(0, &mut text);
-    if is_input_lost(b"refine", n, REFINE_BYTES + 1) {
-        return;
-    }
+    let n = read_input(rt, b"refine", &mut text)?;
     let mut out = [0u8; OUTPUT_BYTES];
     let k = refine(&text[..n], &mut out);
-    write_output(b"refine", &out[..k]);
+    write_output(rt, b"refine", &out[..k])
 }

@@ -1,37 +1,110 @@
-// Standard input and standard output of the programs: a read or a write that fails is said on standard error, and never told as a ground.
-// No contract can say what is read and written.
+// Standard input and standard output of the programs: a read or a write that fails is said on standard error, and never told as a ground;
+// its error is the program's. No contract can say what is read from the system and written to it.
+// Contracts: `read_full` of any reader, `is_input_lost`.
 #![tactic(auto)]
 
-use libc::{STDERR_FILENO, STDOUT_FILENO};
+ghost use Rattle.std.specs.Prelude.{◌≡◌, ◌<◌, IfOk, is_err, length, take};
+ghost use Rattle.std.specs.Io.{ReadsAtMost};
+ghost use Rattle.std.specs.Io.KnownBytes.{Consumes, IsAtEnd};
 
-// Says on standard error what the program could not do.
-fn complain(program: &[u8], what: &[u8]) {
-    io::write_all(STDERR_FILENO, program);
-    io::write_all(STDERR_FILENO, what);
+use std::io;
+use std::io::Read;
+
+// Reads until the buffer is full or the input ends, and answers how many bytes were put at the front of the buffer.
+pub fn read_full<R: Read>(input: &mut R, buffer: &mut [u8]) -> io::Result<usize>
+    ensures in_bounds { ReadsAtMost result buffer.new }
+    ensures bytes { IfOk result (λ n. Consumes (R.remaining input.old) (R.remaining input.new) (take n buffer.new)) }
+    ensures end { IfOk result (λ n. n < length buffer.new → IsAtEnd (R.remaining input.new)) }
+{
+    let mut done = 0;
+    while done < buffer.len() {
+        let n = input.read(&mut buffer[done..])?;
+        if n == 0 {
+            break;
+        }
+        done += n;
+    }
+    Ok(done)
 }
 
-// Whether the input cannot be read on, of which n bytes stand in a buffer with room for more: a read that fails looks like the end, so one
-// more is tried.
-pub fn is_input_lost(program: &[u8], n: usize, room: usize) -> bool {
-    if n >= room {
+// Says on standard error what the program could not do.
+fn complain(rt: HostRuntime, program: &[u8], what: &[u8]) {
+    let errors = rt.stderr();
+    // That this cannot be said either can be told nobody.
+    let _ = errors.write_all(program);
+    let _ = errors.write_all(what);
+}
+
+// Whether the input could not be read, which is said.
+pub fn is_input_lost(rt: HostRuntime, program: &[u8], read: &io::Result<usize>) -> bool
+    ensures { result ≡ is_err read.now }
+{
+    if read.is_ok() {
         return false;
     }
-    let mut one = [0u8; 1];
-    if libc::read(0, &mut one) >= 0 {
-        return false;
-    }
-    complain(program, b": standard input cannot be read\n");
+    complain(rt, program, b": standard input cannot be read\n");
     true
 }
 
 // Says that the output cannot be written.
-pub fn say_output_lost(program: &[u8]) {
-    complain(program, b": standard output cannot be written\n");
+pub fn say_output_lost(rt: HostRuntime, program: &[u8]) {
+    complain(rt, program, b": standard output cannot be written\n");
+}
+
+// Reads the input into the buffer, as `read_full` does it.
+pub fn read_input(rt: HostRuntime, program: &[u8], buffer: &mut [u8]) -> io::Result<usize>
+    ensures { ReadsAtMost result buffer.new }
+{
+    let read = read_full(&mut rt.stdin(), buffer);
+    is_input_lost(rt, program, &read);
+    read
 }
 
 // Writes the output.
-pub fn write_output(program: &[u8], bytes: &[u8]) {
-    if !io::write_all(STDOUT_FILENO, bytes) {
-        say_output_lost(program);
+pub fn write_output(rt: HostRuntime, program: &[u8], bytes: &[u8]) -> io::Result<()> {
+    let written = rt.write_all(bytes);
+    if written.is_err() {
+        say_output_lost(rt, program);
+    }
+    written
+}
+
+#[cfg(test)]
+mod tests {
+    use super::*;
+    use std::io::ErrorKind;
+
+    // Gives its bytes one at a time, and fails where none is left.
+    #[derive(Drop)]
+    struct Failing<'a> {
+        left: &'a [u8],
+    }
+
+    impl Read for Failing<'_> {
+        fn read(&mut self, buffer: &mut [u8]) -> io::Result<usize> {
+            if self.left.is_empty() || buffer.is_empty() {
+                return Err(io::Error::from(ErrorKind::Other));
+            }
+            buffer[0] = self.left[0];
+            self.left = &self.left[1..];
+            Ok(1)
+        }
+    }
+
+    #[test]
+    fn reads_until_full(rt: HostRuntime) {
+        let mut buffer = [0u8; 3];
+        let mut input = Failing { left: b"abc" };
+        let read = read_full(&mut input, &mut buffer);
+        assert!(rt; read.is_ok());
+        assert_eq!(rt; buffer, *b"abc");
+    }
+
+    #[test]
+    fn fails_in_mid_stream(rt: HostRuntime) {
+        let mut buffer = [0u8; 4];
+        let mut input = Failing { left: b"abc" };
+        let read = read_full(&mut input, &mut buffer);
+        assert!(rt; read.is_err());
     }
 }

@@ -1,9 +1,9 @@
--- tell_steps meets its contract.
-use Prim.Native.Nat.{◌≤◌, ◌-◌, ◌+◌, ◌*◌}
+-- The orders that have been read have at most 4,422 bytes each; the measure is what is left of the steps.
+use Rattle.std.proofs.Common.{◌+◌, ◌-◌, ◌*◌, ◌≤◌}
 use Rattle.oracle_steps.proofs.tell_steps.Given as goal
 
 abbrev pub invariant-loop-k : goal.invariant-loop-k
-invariant-loop-k l = (l.k ≤ l.steps) × (l.steps ≤ 8) × (l.at ≤ l.more + 4422 * l.k)
+invariant-loop-k g l = (l.k ≤ l.steps) × (l.at ≤ l.more + 4422 * l.k)
 
 abbrev pub decreases-loop-k : goal.decreases-loop-k
-decreases-loop-k l = l.steps - l.k
+decreases-loop-k g l = l.steps - l.k

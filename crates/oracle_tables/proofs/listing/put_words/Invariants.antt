@@ -1,9 +1,0 @@
--- put_words meets its contract.
-use Prim.Native.Nat.{◌≤◌, ◌-◌}
-use Rattle.oracle_tables.proofs.listing.put_words.Given as goal
-
-abbrev pub invariant-loop-i : goal.invariant-loop-i
-invariant-loop-i l = l.i ≤ l.n
-
-abbrev pub decreases-loop-i : goal.decreases-loop-i
-decreases-loop-i l = l.n - l.i
