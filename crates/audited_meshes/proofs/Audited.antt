@@ -16,7 +16,8 @@ use Rattle.tables.specs.Mesh.{left_acw, right_cw, right_acw, interval, face_star
 use Rattle.closed_meshes.specs.Renumbering.{sum_to}
 use Rattle.audited_meshes.specs.Folds.{every, occurrences, distinct, Distinct}
 use Rattle.audited_meshes.specs.Walks.{Walk, back, lost, borders, touches, acw_of_face, acw_of_point, cw_of_face, first_point, face_walk, point_walk, Touches}
-use Rattle.audited_meshes.specs.Audit.{edge_in_range, in_range, interval_fit, numbers_fit, same_ends, edges_differ, acw_links, cw_links, linked, face_walked, point_walked, corners_fit, marks_fit, audit}
+use Rattle.audited_meshes.specs.Audit.{edge_in_range, in_range, interval_fit, numbers_fit, same_ends, edges_differ}
+use Rattle.audited_meshes.specs.Audit.{acw_links, cw_links, linked, face_walked, point_walked, corners_fit, marks_fit, audit}
 use Rattle.audited_meshes.specs.Audited.{Borders, SameEnds, Passes, EdgeInRange, AcwLinks, CwLinks, FaceWalked, PointWalked}
 use Rattle.audited_meshes.specs.Forms.{AuditIsAudited}
 use Rattle.audited_meshes.proofs.Tests.{Is, and_is, or_is, not_is, if-is, eqb_is, ltb-is, leb-is, self-is, every-is}

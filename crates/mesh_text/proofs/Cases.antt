@@ -37,7 +37,8 @@ cube : sizes_of (bytes "[mesh 1]\n" ++
     bytes "[face [0 [4 3ff0000000000000]] [4 [6 3ff0000000000000]] [6 [2 3ff0000000000000]] [2 [0 3ff0000000000000]]]\n" ++
     bytes "[face [1 [3 3ff0000000000000]] [3 [7 3ff0000000000000]] [7 [5 3ff0000000000000]] [5 [1 3ff0000000000000]]]\n" ++
     bytes "[end]\n") ≡ 8 ∷ 6 ∷ 24 ∷ []
-unfolding sizes sizes_of digit_value value stands literal digit bits digits_from decimal_from decimal many coordinate_form point_form listed_form side_form face_form head_form ends mesh text times flat
+unfolding sizes sizes_of digit_value value stands literal digit bits digits_from decimal_from decimal many
+    coordinate_form point_form listed_form side_form face_form head_form ends mesh text times flat
 cube = refl
 
 -- no points, no faces, in both versions; a face and no point; empty sides; 4294967295, as a listed and as a first point; a NaN, which is of the form
@@ -49,7 +50,8 @@ good : map sizes (
     "[mesh 1]\n[face [4294967295 [4294967295 3ff0000000000000]] [0] [0] [0]]\n[end]\n" ∷
     "[mesh 1]\n[point 7ff8000000000000 7ff0000000000000 fff0000000000000]\n[end]\n" ∷ [])
     ≡ (0 ∷ 0 ∷ 0 ∷ []) ∷ (0 ∷ 0 ∷ 0 ∷ []) ∷ (0 ∷ 1 ∷ 1 ∷ []) ∷ (0 ∷ 1 ∷ 0 ∷ []) ∷ (0 ∷ 1 ∷ 1 ∷ []) ∷ (1 ∷ 0 ∷ 0 ∷ []) ∷ []
-unfolding sizes sizes_of digit_value value stands literal digit bits digits_from decimal_from decimal many coordinate_form point_form listed_form side_form face_form head_form ends mesh text times flat
+unfolding sizes sizes_of digit_value value stands literal digit bits digits_from decimal_from decimal many
+    coordinate_form point_form listed_form side_form face_form head_form ends mesh text times flat
 good = refl
 
 -- no byte; one byte; the head alone; cut before the last byte; a byte after the end; a leading zero of the version; a version with more digits;
@@ -84,7 +86,8 @@ bad : map sizes (
     "[mesh 1]\n[face [0 [18446744073709551616 3ff0000000000000]] [0] [0] [0]]\n[end]\n" ∷
     "[mesh 1]\n[face [0 [-1 3ff0000000000000]] [0] [0] [0]]\n[end]\n" ∷ [])
     ≡ replicate 25 []
-unfolding sizes sizes_of digit_value value stands literal digit bits digits_from decimal_from decimal many coordinate_form point_form listed_form side_form face_form head_form ends mesh text times flat
+unfolding sizes sizes_of digit_value value stands literal digit bits digits_from decimal_from decimal many
+    coordinate_form point_form listed_form side_form face_form head_form ends mesh text times flat
 bad = refl
 
 -- the numbers of a text, each in its place
@@ -108,10 +111,12 @@ abbrev one : List ℕ
 one = bytes "[mesh 1]\n[face [0] [0] [0] [0]]\n[end]\n"
 
 too_many : (read_into one (record { points = 1; faces = 0; listed = 1 }) nowhere).reading ≡ Reading.OverLimits
-unfolding within read_into digit_value value stands literal digit bits digits_from decimal_from decimal many coordinate_form point_form listed_form side_form face_form head_form ends mesh text times flat
+unfolding within read_into digit_value value stands literal digit bits digits_from decimal_from decimal many
+    coordinate_form point_form listed_form side_form face_form head_form ends mesh text times flat
 too_many = refl
 
 -- the same with a byte after its end: the form comes first
 form-first : (read_into (one ++ (10 ∷ [])) (record { points = 1; faces = 0; listed = 1 }) nowhere).reading ≡ Reading.NotText
-unfolding within read_into digit_value value stands literal digit bits digits_from decimal_from decimal many coordinate_form point_form listed_form side_form face_form head_form ends mesh text times flat
+unfolding within read_into digit_value value stands literal digit bits digits_from decimal_from decimal many
+    coordinate_form point_form listed_form side_form face_form head_form ends mesh text times flat
 form-first = refl

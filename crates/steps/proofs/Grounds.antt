@@ -27,7 +27,8 @@ use Rattle.refined_meshes.specs.Settled.{settled_rows}
 use Rattle.steps.specs.declared.Stepped.{Stepped}
 use Rattle.steps.specs.declared.Stepped.TheVariants.{Refined, NotClosed, NotEachFaceOnce, NoRoom, NotFinite}
 use Rattle.steps.specs.Positions.{Placing, so_far, not_finite, placed_all}
-use Rattle.steps.specs.Step.{step_ground, refined_counts, each_face_once, within_ceilings, room_for, Made, whole, not_finite_made, made_of, placed_rows, made, step_refusal, ended, tested_if, step_by, step}
+use Rattle.steps.specs.Step.{step_ground, refined_counts, each_face_once, within_ceilings, room_for, Made, whole}
+use Rattle.steps.specs.Step.{not_finite_made, made_of, placed_rows, made, step_refusal, ended, tested_if, step_by, step}
 use Rattle.tables.specs.Counted.{rows_for, first_rows, over_rows}
 use Rattle.steps.specs.Rows.{Room}
 use Rattle.steps.specs.OneStep.{Refused, Untouched}

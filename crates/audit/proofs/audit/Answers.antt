@@ -14,8 +14,14 @@ pub rows_fit-requires : goal.rows_fit-requires
 rows_fit-requires c =
     let r = counts-rows
     (mesh_of c.args.positions.now c.args.points.now c.args.edges.now c.args.intervals.now c.args.faces.now)
-    c.args.counts.points c.args.counts.edges c.args.counts.faces
-    (sym c.rows_for.ensures ∙ c.if-not-rows_for.false) in record { position_width_in_bounds = r.positions-fit; point_width_in_bounds = r.points-fit; edge_width_in_bounds = r.edges_fit; edges_in_bounds = r.intervals-fit; face_width_in_bounds = r.faces-fit }
+    c.args.counts.points c.args.counts.edges c.args.counts.faces (sym c.rows_for.ensures ∙ c.if-not-rows_for.false) in
+    record {
+      position_width_in_bounds = r.positions-fit;
+      point_width_in_bounds = r.points-fit;
+      edge_width_in_bounds = r.edges_fit;
+      edges_in_bounds = r.intervals-fit;
+      face_width_in_bounds = r.faces-fit;
+    }
 
 pub returns-then-not-rows_fit : goal.returns-then-not-rows_fit
 returns-then-not-rows_fit c =
@@ -27,10 +33,19 @@ pub walks_fit-requires : goal.walks_fit-requires
 walks_fit-requires c =
     let r = counts-rows
     (mesh_of c.args.positions.now c.args.points.now c.args.edges.now c.args.intervals.now c.args.faces.now)
-    c.args.counts.points c.args.counts.edges c.args.counts.faces
-    (sym c.rows_for.ensures ∙ c.if-not-rows_for.false) in let rows = sym c.rows_fit.ensures ∙ c.if-not-rows_fit.false in let ends = ends-passed c.args.positions.now c.args.points.now c.args.edges.now c.args.intervals.now c.args.faces.now
-    c.args.counts.points c.args.counts.edges c.args.counts.faces rows in let valences = valence-passed c.args.positions.now c.args.points.now c.args.edges.now c.args.intervals.now c.args.faces.now
-    c.args.counts.points c.args.counts.edges c.args.counts.faces rows in record { point_width_in_bounds = r.points-fit; edge_width_in_bounds = r.edges_fit; face_width_in_bounds = r.faces-fit; ends = ends; by_index = valences }
+    c.args.counts.points c.args.counts.edges c.args.counts.faces (sym c.rows_for.ensures ∙ c.if-not-rows_for.false) in
+    let rows = sym c.rows_fit.ensures ∙ c.if-not-rows_fit.false in
+    let ends = ends-passed c.args.positions.now c.args.points.now c.args.edges.now c.args.intervals.now c.args.faces.now
+    c.args.counts.points c.args.counts.edges c.args.counts.faces rows in
+    let valences = valence-passed c.args.positions.now c.args.points.now c.args.edges.now c.args.intervals.now
+    c.args.faces.now c.args.counts.points c.args.counts.edges c.args.counts.faces rows in
+    record {
+      point_width_in_bounds = r.points-fit;
+      edge_width_in_bounds = r.edges_fit;
+      face_width_in_bounds = r.faces-fit;
+      ends = ends;
+      by_index = valences;
+    }
 
 pub returns : goal.returns
 returns c =

@@ -16,7 +16,14 @@ returns-then-not-face_walks_fit c =
 
 pub walks_with_sole_edges-requires : goal.walks_with_sole_edges-requires
 walks_with_sole_edges-requires c =
-    let sum = sym c.valences_fit.ensures ∙ c.if-not-valences_fit.false in record { point_width_in_bounds = c.requires.point_width_in_bounds; edge_width_in_bounds = c.requires.edge_width_in_bounds; ends = c.requires.ends; by_index = c.requires.by_index; ne_value = sum }
+    let sum = sym c.valences_fit.ensures ∙ c.if-not-valences_fit.false in
+    record {
+      point_width_in_bounds = c.requires.point_width_in_bounds;
+      edge_width_in_bounds = c.requires.edge_width_in_bounds;
+      ends = c.requires.ends;
+      by_index = c.requires.by_index;
+      ne_value = sum;
+    }
 
 pub returns : goal.returns
 returns c =

@@ -27,7 +27,13 @@ returns-then-edges-b-2 c =
 pub is_linked-requires : goal.is_linked-requires
 is_linked-requires c =
     let r = edge-in-range (face_tables c.args.edges.now []) c.args.np c.args.ne c.args.nf c.args.e
-    (sym c.edge_in_range.ensures ∙ c.if-not-edge_in_range.false) in record { edge_width_in_bounds = search rules; e_lt_ne = search rules; e_bound = r.left_acw-in-range; e_bound_2 = r.right_acw-in-range }
+    (sym c.edge_in_range.ensures ∙ c.if-not-edge_in_range.false) in
+    record {
+      edge_width_in_bounds = search rules;
+      e_lt_ne = search rules;
+      e_bound = r.left_acw-in-range;
+      e_bound_2 = r.right_acw-in-range;
+    }
 
 pub returns : goal.returns
 returns c =

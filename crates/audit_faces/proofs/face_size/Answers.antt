@@ -6,8 +6,12 @@ use Rattle.tables.specs.Parts.{face_tables}
 use Rattle.audit_faces.proofs.face_size.Goals as goal
 
 pub returns-in_default : goal.returns-in_default
-returns-in_default c =
-    record { value = size-lost (face_tables c.args.edges.now c.args.faces.now) c.args.ne c.args.f _ _ _ _ _ c.lay_border.ensures c.in_default.is; perimeter_len_2 = c.lay_border.ensures.edges-long ∙ c.requires.perimeter_len; points_len_2 = c.lay_border.ensures.points-long ∙ c.requires.points_len }
+returns-in_default c = record {
+  value = size-lost (face_tables c.args.edges.now c.args.faces.now) c.args.ne c.args.f _ _
+      _ _ _ c.lay_border.ensures c.in_default.is;
+  perimeter_len_2 = c.lay_border.ensures.edges-long ∙ c.requires.perimeter_len;
+  points_len_2 = c.lay_border.ensures.points-long ∙ c.requires.points_len;
+}
 
 pub returns-then-n-lt3 : goal.returns-then-n-lt3
 returns-then-n-lt3 c =

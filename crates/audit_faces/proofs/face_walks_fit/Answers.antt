@@ -12,7 +12,12 @@ loop-f-init c =
 
 pub face_size-n-requires : goal.face_size-n-requires
 face_size-n-requires c =
-    let whole = (c.requires.edge_width_in_bounds, (omega (arith, c.requires.face_width_in_bounds, c.loop-f-test.true), c.loop-f.invariant.2)) in record { edge_width_in_bounds = whole.0; face_width_in_bounds = whole.1.0; perimeter_len = whole.1.1.0; points_len = whole.1.1.1 }
+    record {
+      edge_width_in_bounds = c.requires.edge_width_in_bounds;
+      face_width_in_bounds = omega (arith, c.requires.face_width_in_bounds, c.loop-f-test.true);
+      perimeter_len = c.loop-f.invariant.2.0;
+      points_len = c.loop-f.invariant.2.1;
+    }
 
 pub returns-then-n-eq0 : goal.returns-then-n-eq0
 returns-then-n-eq0 c =

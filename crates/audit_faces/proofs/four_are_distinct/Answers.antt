@@ -40,15 +40,16 @@ returns-then-fourth-third c =
 
 pub returns : goal.returns
 returns c =
-    let second = every_more 0 (differ_at c.args.points.now 1) (every-none _) (ap not (ne_eqb _ _ c.if-second-first.false)) in
-    let third =
-    every_more 1 (differ_at c.args.points.now 2)
+    let second = every_more 0 (differ_at c.args.points.now 1) (every-none _)
+    (ap not (ne_eqb _ _ c.if-second-first.false)) in
+    let third = every_more 1 (differ_at c.args.points.now 2)
     (every_more 0 (differ_at c.args.points.now 2) (every-none _) (ap not (ne_eqb _ _ c.if-third-first.false)))
     (ap not (ne_eqb _ _ c.if-third-second.false)) in
-    let fourth =
-    every_more 2 (differ_at c.args.points.now 3)
+    let fourth = every_more 2 (differ_at c.args.points.now 3)
     (every_more 1 (differ_at c.args.points.now 3)
     (every_more 0 (differ_at c.args.points.now 3) (every-none _) (ap not (ne_eqb _ _ c.if-fourth-first.false)))
-    (ap not (ne_eqb _ _ c.if-fourth-second.false)))
-    (ap not (ne_eqb _ _ c.if-fourth-third.false)) in
-    sym (every_more 3 (new c.args.points.now) (every_more 2 (new c.args.points.now) (every_more 1 (new c.args.points.now) (every_more 0 (new c.args.points.now) (every-none _) (every-none _)) second) third) fourth)
+    (ap not (ne_eqb _ _ c.if-fourth-second.false))) (ap not (ne_eqb _ _ c.if-fourth-third.false)) in
+    sym (every_more 3 (new c.args.points.now)
+    (every_more 2 (new c.args.points.now)
+    (every_more 1 (new c.args.points.now) (every_more 0 (new c.args.points.now) (every-none _) (every-none _)) second)
+    third) fourth)

@@ -7,10 +7,17 @@ use Rattle.building.proofs.build_begun.Goals as goal
 
 pub zero_rows-requires : goal.zero_rows-requires
 zero_rows-requires c =
-    let r = rooms (lists_in c.args.version c.args.coordinates.now c.args.sides.now c.args.firsts.now
-    c.args.listed.now c.args.beside.now)
+    let r = rooms (lists_in c.args.version c.args.coordinates.now c.args.sides.now c.args.firsts.now c.args.listed.now
+    c.args.beside.now)
     (mesh_of c.args.positions.now c.args.points.now c.args.edges.now c.args.intervals.now c.args.faces.now)
-    (c.requires) in record { position_width_in_bounds = r.positions-fit; point_width_in_bounds = r.points-fit; edge_width_in_bounds = r.edges_fit; edges_in_bounds = r.intervals-fit; face_width_in_bounds = r.faces-fit }
+    (c.requires) in
+    record {
+      position_width_in_bounds = r.positions-fit;
+      point_width_in_bounds = r.points-fit;
+      edge_width_in_bounds = r.edges_fit;
+      edges_in_bounds = r.intervals-fit;
+      face_width_in_bounds = r.faces-fit;
+    }
 
 pub build_zeroed-requires : goal.build_zeroed-requires
 build_zeroed-requires c =

@@ -11,22 +11,47 @@ pub enter_faces-requires : goal.enter_faces-requires
 unfolding offset
 enter_faces-requires c =
     let l = lists_in c.args.version c.args.coordinates.now c.args.sides.now c.args.firsts.now c.args.listed.now
-    c.args.beside.now in let m = mesh_of c.args.positions.now c.args.points.now c.args.edges.now c.args.intervals.now
-    c.args.faces.now in let r = rooms-of l m c.requires.zeroed in record { standing = standing-none l m c.args.chain.now c.requires.zeroed (omega (arith, c.requires.listed_in_bounds)) c.requires.by_index; listed_room = lent-rooms l m c.args.chain.now r c.requires.listed_in_bounds; sides_len_bound = r.faces-few; face_width_in_bounds = r.faces-fit; sides_value = r.all_listed; firsts_given = r.firsts-given }
+    c.args.beside.now in
+    let m = mesh_of c.args.positions.now c.args.points.now c.args.edges.now c.args.intervals.now c.args.faces.now in
+    let r = rooms-of l m c.requires.zeroed in
+    record {
+      standing = standing-none l m c.args.chain.now c.requires.zeroed
+          (omega (arith, c.requires.listed_in_bounds)) c.requires.by_index;
+      listed_room = lent-rooms l m c.args.chain.now r c.requires.listed_in_bounds;
+      sides_len_bound = r.faces-few;
+      face_width_in_bounds = r.faces-fit;
+      sides_value = r.all_listed;
+      firsts_given = r.firsts-given;
+    }
 
 pub conclude-requires : goal.conclude-requires
 conclude-requires c =
     let r = rooms-of (lists_in c.args.version c.args.coordinates.now c.args.sides.now c.args.firsts.now
     c.args.listed.now c.args.beside.now)
     (mesh_of c.args.positions.now c.args.points.now c.args.edges.now c.args.intervals.now c.args.faces.now)
-    c.requires.zeroed in record { position_width_in_bounds = r.positions-fit; point_width_in_bounds = rw c.enter_faces.auto.points r.points-fit; edge_width_in_bounds = rw c.enter_faces.auto.edges r.edges_fit; nl_in_bounds = rw c.enter_faces.auto.intervals r.intervals-fit; face_width_in_bounds = rw c.enter_faces.auto.faces r.faces-fit; k_le_nl = (rw c.in-On.is at c.enter_faces.ensures.face_stands).1 }
+    c.requires.zeroed in
+    record {
+      position_width_in_bounds = r.positions-fit;
+      point_width_in_bounds = rw c.enter_faces.auto.points r.points-fit;
+      edge_width_in_bounds = rw c.enter_faces.auto.edges r.edges_fit;
+      nl_in_bounds = rw c.enter_faces.auto.intervals r.intervals-fit;
+      face_width_in_bounds = rw c.enter_faces.auto.faces r.faces-fit;
+      k_le_nl = (rw c.in-On.is at c.enter_faces.ensures.face_stands).1;
+    }
 
 pub zero_rows-requires : goal.zero_rows-requires
 zero_rows-requires c =
     let r = rooms-of (lists_in c.args.version c.args.coordinates.now c.args.sides.now c.args.firsts.now
     c.args.listed.now c.args.beside.now)
     (mesh_of c.args.positions.now c.args.points.now c.args.edges.now c.args.intervals.now c.args.faces.now)
-    c.requires.zeroed in record { position_width_in_bounds = r.positions-fit; point_width_in_bounds = rw c.enter_faces.auto.points r.points-fit; edge_width_in_bounds = rw c.enter_faces.auto.edges r.edges_fit; edges_in_bounds = rw c.enter_faces.auto.intervals r.intervals-fit; face_width_in_bounds = rw c.enter_faces.auto.faces r.faces-fit }
+    c.requires.zeroed in
+    record {
+      position_width_in_bounds = r.positions-fit;
+      point_width_in_bounds = rw c.enter_faces.auto.points r.points-fit;
+      edge_width_in_bounds = rw c.enter_faces.auto.edges r.edges_fit;
+      edges_in_bounds = rw c.enter_faces.auto.intervals r.intervals-fit;
+      face_width_in_bounds = rw c.enter_faces.auto.faces r.faces-fit;
+    }
 
 pub shape_of-positions-in-On : goal.shape_of-positions-in-On
 shape_of-positions-in-On c =

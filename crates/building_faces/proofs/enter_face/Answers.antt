@@ -8,16 +8,27 @@ use Rattle.building_faces.proofs.FacePassing.{fit-placed, passed-fit, passed-unf
 use Rattle.building_faces.proofs.enter_face.Goals as goal
 
 pub face_verdict-requires : goal.face_verdict-requires
-face_verdict-requires c =
-    record { f_in_bounds = rw c.index.ensures c.requires.sided.sides; n_value = rw c.index.ensures c.requires.sided.is-size; n_in_bounds = c.requires.sided.within; n_in_bounds_2 = rw c.requires.listed_room.beside c.requires.sided.within; firsts_given = c.requires.firsts_given }
+face_verdict-requires c = record {
+  f_in_bounds = rw c.index.ensures c.requires.sided.sides;
+  n_value = rw c.index.ensures c.requires.sided.is-size;
+  n_in_bounds = c.requires.sided.within;
+  n_in_bounds_2 = rw c.requires.listed_room.beside c.requires.sided.within;
+  firsts_given = c.requires.firsts_given;
+}
 
 pub enter_perimeter-requires : goal.enter_perimeter-requires
 enter_perimeter-requires c =
-    let p = fit-placed c.args.version c.args.sides.now c.args.firsts.now c.args.listed.now c.args.beside.now
-    c.args.np c.args.f c.args.a c.args.n c.requires.sided
-    (sym
-    (rw c.index.ensures at (c.face_verdict.ensures []))
-    ∙ c.in-Fit.is) in record { standing = c.requires.standing; listed_room = c.requires.listed_room; listed_from = p.0; n_nonzero = p.1; k_le_a = c.requires.k_le_a; face_width_in_bounds = c.requires.face_width_in_bounds }
+    let p = fit-placed c.args.version c.args.sides.now c.args.firsts.now c.args.listed.now c.args.beside.now c.args.np
+    c.args.f c.args.a c.args.n c.requires.sided
+    (sym (rw c.index.ensures at (c.face_verdict.ensures [])) ∙ c.in-Fit.is) in
+    record {
+      standing = c.requires.standing;
+      listed_room = c.requires.listed_room;
+      listed_from = p.0;
+      n_nonzero = p.1;
+      k_le_a = c.requires.k_le_a;
+      face_width_in_bounds = c.requires.face_width_in_bounds;
+    }
 
 pub returns-in-Fit : goal.returns-in-Fit
 returns-in-Fit c =

@@ -94,11 +94,18 @@ connect-requires c =
     c.in-Made.count c.in-Made.edge (c.args.a + c.args.i + 1) (rw c.in-Made.is at c.enter.ensures.standing_2)
     (made_counted (mesh_of [] c.args.points.now c.args.edges.now c.args.intervals.now [])
     (mesh_of [] c.enter.new.points c.enter.new.edges c.enter.new.intervals []) c.args.ring.edges c.args.f
-    (get_or c.args.listed.now (c.args.a + c.args.i) 0) (get_or c.args.listed.now (c.args.a + c.next_place-next.result) 0)
+    (get_or c.args.listed.now (c.args.a + c.args.i) 0)
+    (get_or c.args.listed.now (c.args.a + c.next_place-next.result) 0)
     (get_or c.args.beside.now (c.args.a + c.interval_place.result) nan) c.in-Made.count c.in-Made.edge
     (rw c.in-Made.is at (c.enter.ensures.entered_by [] []))) (omega arith) c.args.ring refl
     (c.requires.closing (omega arith)) c.enter.new.intervals
-    (rw c.enter.auto.intervals (omega (arith, c.requires.i_lt_n))) in record { edge_width_in_bounds = whole.0; edge_width_in_bounds_2 = whole.1.0; i_in_bounds = whole.1.1.0; j_in_bounds = whole.1.1.1 }
+    (rw c.enter.auto.intervals (omega (arith, c.requires.i_lt_n))) in
+    record {
+      edge_width_in_bounds = whole.0;
+      edge_width_in_bounds_2 = whole.1.0;
+      i_in_bounds = whole.1.1.0;
+      j_in_bounds = whole.1.1.1;
+    }
 
 pub shape_of-points-else-i-eq0 : goal.shape_of-points-else-i-eq0
 shape_of-points-else-i-eq0 c =

@@ -18,7 +18,10 @@ returns-then-not-audit c =
 
 pub search-requires : goal.search-requires
 search-requires c =
-    let m : Mesh = mesh_of c.args.positions.now c.args.points.now c.args.edges.now c.args.intervals.now c.args.faces.now in let p = sym c.audit.ensures ∙ c.if-not-audit.false in record { edge_width_in_bounds = rows-stand m c.args.counts p; by_index = ends-stand m c.args.counts p }
+    let m : Mesh = mesh_of c.args.positions.now c.args.points.now c.args.edges.now c.args.intervals.now
+    c.args.faces.now in
+    let p = sym c.audit.ensures ∙ c.if-not-audit.false in
+    record { edge_width_in_bounds = rows-stand m c.args.counts p; by_index = ends-stand m c.args.counts p }
 
 pub returns : goal.returns
 returns c =

@@ -2,8 +2,12 @@
 use Rattle.edge_points.proofs.middle_point.Goals as goal
 
 pub edge_middle-requires : goal.edge_middle-requires
-edge_middle-requires c =
-    record { position_width_in_bounds = rw (c.index.ensures, c.load_edge-edge.ensures) c.requires.origin-there; position_width_in_bounds_2 = rw (c.index-2.ensures, c.load_edge-edge.ensures) c.requires.dest-there; edge_fits = c.requires.edge-fits }
+edge_middle-requires c = record {
+  position_width_in_bounds = rw (c.index.ensures, c.load_edge-edge.ensures)
+      c.requires.origin-there;
+  position_width_in_bounds_2 = rw (c.index-2.ensures, c.load_edge-edge.ensures) c.requires.dest-there;
+  edge_fits = c.requires.edge-fits;
+}
 
 pub returns : goal.returns
 returns c =

@@ -14,8 +14,11 @@ join_places-twisted-requires c =
     }
 
 pub settle-requires : goal.settle-requires
-settle-requires c =
-    record { falling = c.join_places-twisted.ensures.falling; turned_len = (c.requires.turned_len ∙ sym c.start.auto.ups ∙ sym c.join_places-twisted.ensures.same_length); ups_len_bound = omega (arith, c.start.auto.ups, c.join_places-twisted.ensures.same_length, c.requires.ups_len_bound) }
+settle-requires c = record {
+  falling = c.join_places-twisted.ensures.falling;
+  turned_len = (c.requires.turned_len ∙ sym c.start.auto.ups ∙ sym c.join_places-twisted.ensures.same_length);
+  ups_len_bound = omega (arith, c.start.auto.ups, c.join_places-twisted.ensures.same_length, c.requires.ups_len_bound);
+}
 
 pub returns : goal.returns
 returns c =

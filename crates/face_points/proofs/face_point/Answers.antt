@@ -5,8 +5,12 @@ use mathlib.Core.Path.{◌∙◌, ap}
 use Rattle.face_points.proofs.face_point.Goals as goal
 
 pub lay_border-requires : goal.lay_border-requires
-lay_border-requires c =
-    record { edge_width_in_bounds = c.requires.face_point_fits.fit.words; face_width_in_bounds = c.requires.face_point_fits.face-there; perimeter_len = c.requires.perimeter_len; points_len = c.requires.points_len }
+lay_border-requires c = record {
+  edge_width_in_bounds = c.requires.face_point_fits.fit.words;
+  face_width_in_bounds = c.requires.face_point_fits.face-there;
+  perimeter_len = c.requires.perimeter_len;
+  points_len = c.requires.points_len;
+}
 
 pub returns-in_default : goal.returns-in_default
 returns-in_default c =
@@ -14,8 +18,13 @@ returns-in_default c =
     (laid-never-lost _ _ _ _ _ _ c.requires.face_point_fits _ _ _ _ _ c.lay_border.ensures c.in_default.is)
 
 pub window_sum-s-requires : goal.window_sum-s-requires
-window_sum-s-requires c =
-    record { border_fits = laid-edges-fit _ _ _ _ _ _ c.requires.face_point_fits _ _ _ _ _ c.lay_border.ensures c.in-Back.is; points_fit = laid-points-fit _ _ _ _ _ _ c.requires.face_point_fits _ _ _ _ _ c.lay_border.ensures c.in-Back.is; four_again = laid-four-again _ _ _ _ _ _ c.requires.face_point_fits _ _ _ _ _ c.lay_border.ensures c.in-Back.is; corners_turn = laid-corners _ _ _ _ _ _ c.requires.face_point_fits _ _ _ _ _ c.lay_border.ensures c.in-Back.is }
+window_sum-s-requires c = record {
+  border_fits = laid-edges-fit _ _ _ _ _ _ c.requires.face_point_fits _ _ _ _ _
+      c.lay_border.ensures c.in-Back.is;
+  points_fit = laid-points-fit _ _ _ _ _ _ c.requires.face_point_fits _ _ _ _ _ c.lay_border.ensures c.in-Back.is;
+  four_again = laid-four-again _ _ _ _ _ _ c.requires.face_point_fits _ _ _ _ _ c.lay_border.ensures c.in-Back.is;
+  corners_turn = laid-corners _ _ _ _ _ _ c.requires.face_point_fits _ _ _ _ _ c.lay_border.ensures c.in-Back.is;
+}
 
 pub returns : goal.returns
 returns c =

@@ -18,8 +18,13 @@ terms_from-start-requires c =
     }
 
 pub terms_to-ahead-requires : goal.terms_to-ahead-requires
-terms_to-ahead-requires c =
-    record { i_lt_longest_perimeter = omega arith; after_lt_longest_perimeter = omega (arith, c.next_place-k.ensures.upper_bound); edge_fits = border-fits _ _ _ _ _ c.requires.border_fits (omega arith); edge_fits_2 = border-fits _ _ _ _ _ c.requires.border_fits c.next_place-k.ensures.upper_bound; i_value = rw c.next_place-k.ensures.value (c.requires.corners_turn.goes_on 2 (omega arith)) }
+terms_to-ahead-requires c = record {
+  i_lt_longest_perimeter = omega arith;
+  after_lt_longest_perimeter = omega (arith, c.next_place-k.ensures.upper_bound);
+  edge_fits = border-fits _ _ _ _ _ c.requires.border_fits (omega arith);
+  edge_fits_2 = border-fits _ _ _ _ _ c.requires.border_fits c.next_place-k.ensures.upper_bound;
+  i_value = rw c.next_place-k.ensures.value (c.requires.corners_turn.goes_on 2 (omega arith));
+}
 
 pub loop-i-init : goal.loop-i-init
 loop-i-init c =
@@ -32,8 +37,13 @@ next_place-requires c =
     c.loop-i.invariant.within
 
 pub terms_from-second-requires : goal.terms_from-second-requires
-terms_from-second-requires c =
-    record { before_lt_longest_perimeter = omega arith; i_lt_longest_perimeter = omega (arith, c.next_place.ensures.upper_bound); edge_fits = border-fits _ _ _ _ _ c.requires.border_fits c.loop-i.invariant.within; edge_fits_2 = border-fits _ _ _ _ _ c.requires.border_fits c.next_place.ensures.upper_bound; i_value = rw c.next_place.ensures.value (c.requires.corners_turn.goes_back _ c.loop-i.invariant.within) }
+terms_from-second-requires c = record {
+  before_lt_longest_perimeter = omega arith;
+  i_lt_longest_perimeter = omega (arith, c.next_place.ensures.upper_bound);
+  edge_fits = border-fits _ _ _ _ _ c.requires.border_fits c.loop-i.invariant.within;
+  edge_fits_2 = border-fits _ _ _ _ _ c.requires.border_fits c.next_place.ensures.upper_bound;
+  i_value = rw c.next_place.ensures.value (c.requires.corners_turn.goes_back _ c.loop-i.invariant.within);
+}
 
 pub next_place-after-requires : goal.next_place-after-requires
 next_place-after-requires c =

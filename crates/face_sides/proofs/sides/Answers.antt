@@ -71,4 +71,6 @@ shape_of-ds c =
 
 pub returns : goal.returns
 returns c =
-    let whole = end _ _ _ _ _ _ _ _ _ _ _ _ _ _ _ c.loop-k.invariant c.loop-k-test.false in record { run = whole.0; lengths = whole.1.0; firsts = whole.1.1.0; points = whole.1.1.1.0; intervals = whole.1.1.1.1 }
+    let whole = end _ _ _ _ _ _ _ _ _ _ _ _ _ _ _ c.loop-k.invariant c.loop-k-test.false in
+    record
+    { run = whole.0; lengths = whole.1.0; firsts = whole.1.1.0; points = whole.1.1.1.0; intervals = whole.1.1.1.1 }

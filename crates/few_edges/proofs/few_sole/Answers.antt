@@ -68,4 +68,9 @@ loop-n-preserved c =
 
 pub returns : goal.returns
 returns c =
-    let m = point_tables c.args.points.now c.args.edges.now in record { round_apart = λ e. comparing-home m c.args.ne c.args.p _ _ _ _ c.loop-n.invariant.0 (omega arith) (eqb-true _ _ e); value = λ good. eq-eqb _ _ (comparing-open m c.args.ne c.args.p _ _ _ _ c.loop-n.invariant.0 (omega arith) good.0) }
+    let m = point_tables c.args.points.now c.args.edges.now in
+    record {
+      round_apart = λ e. comparing-home m c.args.ne c.args.p _ _ _ _ c.loop-n.invariant.0 (omega arith)
+          (eqb-true _ _ e);
+      value = λ good. eq-eqb _ _ (comparing-open m c.args.ne c.args.p _ _ _ _ c.loop-n.invariant.0 (omega arith) good.0);
+    }

@@ -13,11 +13,23 @@ make_in_rows-requires c =
 pub move_rows-requires : goal.move_rows-requires
 move_rows-requires c =
     let t : Mesh = mesh_of c.args.newpositions.now c.args.newpoints.now c.args.newedges.now c.args.newintervals.now
-    c.args.newfaces.now in let t₁ : Mesh = mesh_of c.make_in_rows.new.newpositions c.make_in_rows.new.newpoints
-    c.make_in_rows.new.newedges c.make_in_rows.new.newintervals
-    c.make_in_rows.new.newfaces in let r = rooms-kept c.args.c t t₁ c.make_in_rows.auto.newpositions c.make_in_rows.auto.newpoints
-    c.make_in_rows.auto.newedges c.make_in_rows.auto.newintervals
-    c.make_in_rows.auto.newfaces c.requires.scratch in record { position_width_in_bounds = r.positions; point_width_in_bounds = r.points; edge_width_in_bounds = r.edges; edges_in_bounds = r.intervals; face_width_in_bounds = r.faces; position_width_in_bounds_2 = c.requires.room.positions; point_width_in_bounds_2 = c.requires.room.points; edge_width_in_bounds_2 = c.requires.room.edges; edges_in_bounds_2 = c.requires.room.intervals; face_width_in_bounds_2 = c.requires.room.faces }
+    c.args.newfaces.now in
+    let t₁ : Mesh = mesh_of c.make_in_rows.new.newpositions c.make_in_rows.new.newpoints c.make_in_rows.new.newedges
+    c.make_in_rows.new.newintervals c.make_in_rows.new.newfaces in
+    let r = rooms-kept c.args.c t t₁ c.make_in_rows.auto.newpositions c.make_in_rows.auto.newpoints
+    c.make_in_rows.auto.newedges c.make_in_rows.auto.newintervals c.make_in_rows.auto.newfaces c.requires.scratch in
+    record {
+      position_width_in_bounds = r.positions;
+      point_width_in_bounds = r.points;
+      edge_width_in_bounds = r.edges;
+      edges_in_bounds = r.intervals;
+      face_width_in_bounds = r.faces;
+      position_width_in_bounds_2 = c.requires.room.positions;
+      point_width_in_bounds_2 = c.requires.room.points;
+      edge_width_in_bounds_2 = c.requires.room.edges;
+      edges_in_bounds_2 = c.requires.room.intervals;
+      face_width_in_bounds_2 = c.requires.room.faces;
+    }
 
 pub shape_of-positions-then-make_in_rows : goal.shape_of-positions-then-make_in_rows
 shape_of-positions-then-make_in_rows c =
@@ -73,11 +85,18 @@ returns-then-make_in_rows c =
 pub zero_rows-requires : goal.zero_rows-requires
 zero_rows-requires c =
     let t : Mesh = mesh_of c.args.newpositions.now c.args.newpoints.now c.args.newedges.now c.args.newintervals.now
-    c.args.newfaces.now in let t₁ : Mesh = mesh_of c.make_in_rows.new.newpositions c.make_in_rows.new.newpoints
-    c.make_in_rows.new.newedges c.make_in_rows.new.newintervals
-    c.make_in_rows.new.newfaces in let r = rooms-kept c.args.c t t₁ c.make_in_rows.auto.newpositions c.make_in_rows.auto.newpoints
-    c.make_in_rows.auto.newedges c.make_in_rows.auto.newintervals
-    c.make_in_rows.auto.newfaces c.requires.scratch in record { position_width_in_bounds = r.positions; point_width_in_bounds = r.points; edge_width_in_bounds = r.edges; edges_in_bounds = r.intervals; face_width_in_bounds = r.faces }
+    c.args.newfaces.now in
+    let t₁ : Mesh = mesh_of c.make_in_rows.new.newpositions c.make_in_rows.new.newpoints c.make_in_rows.new.newedges
+    c.make_in_rows.new.newintervals c.make_in_rows.new.newfaces in
+    let r = rooms-kept c.args.c t t₁ c.make_in_rows.auto.newpositions c.make_in_rows.auto.newpoints
+    c.make_in_rows.auto.newedges c.make_in_rows.auto.newintervals c.make_in_rows.auto.newfaces c.requires.scratch in
+    record {
+      position_width_in_bounds = r.positions;
+      point_width_in_bounds = r.points;
+      edge_width_in_bounds = r.edges;
+      edges_in_bounds = r.intervals;
+      face_width_in_bounds = r.faces;
+    }
 
 pub shape_of-positions : goal.shape_of-positions
 shape_of-positions c =

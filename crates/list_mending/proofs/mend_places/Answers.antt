@@ -6,8 +6,15 @@ use Rattle.list_mending.proofs.mend_places.Goals as goal
 
 pub spread-requires : goal.spread-requires
 spread-requires c =
-    let fit = fitted c.args.coordinates.now c.args.sides.now c.args.firsts.now c.args.listed.now
-    c.args.beside.now c.requires.beside_value in record { sides_len_bound = fit.faces-few; sides_value = fit.all_listed; listed_in_bounds = c.requires.turning_room.tos-fit; listed_in_bounds_2 = c.requires.turning_room.faces-fit; listed_len_bound = fit.listed-few }
+    let fit = fitted c.args.coordinates.now c.args.sides.now c.args.firsts.now c.args.listed.now c.args.beside.now
+    c.requires.beside_value in
+    record {
+      sides_len_bound = fit.faces-few;
+      sides_value = fit.all_listed;
+      listed_in_bounds = c.requires.turning_room.tos-fit;
+      listed_in_bounds_2 = c.requires.turning_room.faces-fit;
+      listed_len_bound = fit.listed-few;
+    }
 
 pub pair_faces-requires : goal.pair_faces-requires
 pair_faces-requires c =

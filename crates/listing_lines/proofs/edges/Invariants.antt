@@ -9,8 +9,10 @@ use Rattle.listing_lines.proofs.Progress.{Progress, Table}
 use Rattle.listing_lines.proofs.edges.Given as goal
 
 abbrev pub invariant-loop-ws : goal.invariant-loop-ws
-invariant-loop-ws l = (length l.ws ≡ length l.initial.ws) × (length l.xs ≡ length l.initial.xs) × Progress l.s (bytes "[edge") (edge_row_form l.s) 8 l.at l.i l.k × Table l.s (bytes "[edge") (edge_row_form l.s) 8 l.at row_words 8 l.initial.ws l.ws l.i l.k × Table l.s
-    (bytes "[edge") (edge_row_form l.s) 8 l.at row_numbers 1 l.initial.xs l.xs l.i l.k
+invariant-loop-ws l = (length l.ws ≡ length l.initial.ws) × (length l.xs ≡ length l.initial.xs) × Progress l.s
+    (bytes "[edge") (edge_row_form l.s) 8 l.at l.i l.k × Table l.s (bytes "[edge") (edge_row_form l.s) 8 l.at row_words
+    8 l.initial.ws l.ws l.i l.k × Table l.s (bytes "[edge") (edge_row_form l.s) 8 l.at row_numbers 1 l.initial.xs l.xs
+    l.i l.k
 
 abbrev pub decreases-loop-ws : goal.decreases-loop-ws
 decreases-loop-ws l = length l.s - l.i

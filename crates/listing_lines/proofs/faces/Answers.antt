@@ -28,17 +28,16 @@ overflow_add-i c =
 
 -- src/lib.rt:158:28
 pub face-requires : goal.face-requires
-face-requires c =
-    (
-      let h = head-inside c.args.s.now (bytes "[face") (face_row_form c.args.s.now) 5 c.args.at refl (omega arith)
-          c.loop-ws.invariant.1 (sym c.stands.ensures ∙ c.loop-ws-test.true) in
-          omega arith,
-      let h = head-inside c.args.s.now (bytes "[face") (face_row_form c.args.s.now) 5 c.args.at refl (omega arith)
-          c.loop-ws.invariant.1 (sym c.stands.ensures ∙ c.loop-ws-test.true) in
-          let c.loop-ws.invariant.1.far = c.loop-ws.invariant.1.far in
-          let c.loop-ws.invariant.1.counted = c.loop-ws.invariant.1.counted in
-          omega arith,
-    )
+face-requires c = (
+  let h = head-inside c.args.s.now (bytes "[face") (face_row_form c.args.s.now) 5 c.args.at refl (omega arith)
+      c.loop-ws.invariant.1 (sym c.stands.ensures ∙ c.loop-ws-test.true) in
+      omega arith,
+  let h = head-inside c.args.s.now (bytes "[face") (face_row_form c.args.s.now) 5 c.args.at refl (omega arith)
+      c.loop-ws.invariant.1 (sym c.stands.ensures ∙ c.loop-ws-test.true) in
+      let bound = c.loop-ws.invariant.1.far in
+      let bound = c.loop-ws.invariant.1.counted in
+      omega arith,
+)
 
 -- src/lib.rt:159:13
 pub shape_of-ws-in_default : goal.shape_of-ws-in_default
@@ -48,10 +47,13 @@ shape_of-ws-in_default c =
 -- src/lib.rt:159:13
 pub returns-in_default : goal.returns-in_default
 returns-in_default c =
-    record { run = stop c.args.s.now (bytes "[face") (face_row_form c.args.s.now) 5 c.args.at refl (omega arith)
+    record {
+      run = stop c.args.s.now (bytes "[face") (face_row_form c.args.s.now) 5 c.args.at refl (omega arith)
           c.loop-ws.invariant.1 (sym c.stands.ensures
           ∙ c.loop-ws-test.true)
-          c.face.ensures.place c.in_default.is; words = tt }
+          c.face.ensures.place c.in_default.is;
+      words = tt;
+    }
 
 -- src/lib.rt:157:5
 pub loop-ws-smaller : goal.loop-ws-smaller
@@ -65,11 +67,14 @@ loop-ws-smaller c =
 
 -- src/lib.rt:157:5
 pub loop-ws-preserved : goal.loop-ws-preserved
-loop-ws-preserved c =
-    (c.face.auto.ws ∙ c.loop-ws.invariant.0, turn c.args.s.now (bytes "[face") (face_row_form c.args.s.now) 5 c.args.at refl (omega arith) c.loop-ws.invariant.1
-          (sym c.stands.ensures ∙ c.loop-ws-test.true) c.face.ensures.place c.in-At.is (takes-face c.args.s.now), table-turn c.args.s.now (bytes "[face") (face_row_form c.args.s.now) 5 c.args.at refl (omega arith) c.loop-ws.invariant.1
-          (sym c.stands.ensures ∙ c.loop-ws-test.true) c.face.ensures.place c.in-At.is row_words 5
-          (λ a n q. (fits-face _ _ a n q).word_count) c.loop-ws.invariant.2 c.face.ensures.words)
+loop-ws-preserved c = (
+  c.face.auto.ws ∙ c.loop-ws.invariant.0,
+  turn c.args.s.now (bytes "[face") (face_row_form c.args.s.now) 5 c.args.at refl (omega arith) c.loop-ws.invariant.1
+      (sym c.stands.ensures ∙ c.loop-ws-test.true) c.face.ensures.place c.in-At.is (takes-face c.args.s.now),
+  table-turn c.args.s.now (bytes "[face") (face_row_form c.args.s.now) 5 c.args.at refl (omega arith)
+      c.loop-ws.invariant.1 (sym c.stands.ensures ∙ c.loop-ws-test.true) c.face.ensures.place c.in-At.is row_words 5
+      (λ a n q. (fits-face _ _ a n q).word_count) c.loop-ws.invariant.2 c.face.ensures.words,
+)
 
 -- src/lib.rt:150:1
 pub shape_of-ws : goal.shape_of-ws
@@ -79,6 +84,9 @@ shape_of-ws c =
 -- src/lib.rt:150:1
 pub returns : goal.returns
 returns c =
-    record { run = end c.args.s.now (bytes "[face") (face_row_form c.args.s.now) 5 c.args.at
-          (sym c.stands.ensures ∙ c.loop-ws-test.false) c.loop-ws.invariant.1; words = table-end c.args.s.now (bytes "[face") (face_row_form c.args.s.now) 5 c.args.at
-          (sym c.stands.ensures ∙ c.loop-ws-test.false) row_words 5 c.loop-ws.invariant.2 }
+    record {
+      run = end c.args.s.now (bytes "[face") (face_row_form c.args.s.now) 5 c.args.at
+          (sym c.stands.ensures ∙ c.loop-ws-test.false) c.loop-ws.invariant.1;
+      words = table-end c.args.s.now (bytes "[face") (face_row_form c.args.s.now) 5 c.args.at
+          (sym c.stands.ensures ∙ c.loop-ws-test.false) row_words 5 c.loop-ws.invariant.2;
+    }

@@ -13,8 +13,13 @@ use Rattle.listing_lines.proofs.points.Goals as goal
 
 -- src/lib.rt:120:5
 pub loop-xs-init : goal.loop-xs-init
-loop-xs-init c =
-    (refl, refl, start c.args.s.now (bytes "[point") (point_row_form c.args.s.now) 3 c.args.at c.requires, table-start c.args.s.now (bytes "[point") (point_row_form c.args.s.now) 3 c.args.at row_numbers 3 _, table-start c.args.s.now (bytes "[point") (point_row_form c.args.s.now) 3 c.args.at row_words 3 _)
+loop-xs-init c = (
+  refl,
+  refl,
+  start c.args.s.now (bytes "[point") (point_row_form c.args.s.now) 3 c.args.at c.requires,
+  table-start c.args.s.now (bytes "[point") (point_row_form c.args.s.now) 3 c.args.at row_numbers 3 _,
+  table-start c.args.s.now (bytes "[point") (point_row_form c.args.s.now) 3 c.args.at row_words 3 _,
+)
 
 -- src/lib.rt:120:11
 pub stands-requires : goal.stands-requires
@@ -30,17 +35,16 @@ overflow_add-i c =
 
 -- src/lib.rt:121:28
 pub point-requires : goal.point-requires
-point-requires c =
-    (
-      let h = head-inside c.args.s.now (bytes "[point") (point_row_form c.args.s.now) 3 c.args.at refl (omega arith)
-          c.loop-xs.invariant.2 (sym c.stands.ensures ∙ c.loop-xs-test.true) in
-          omega arith,
-      let h = head-inside c.args.s.now (bytes "[point") (point_row_form c.args.s.now) 3 c.args.at refl (omega arith)
-          c.loop-xs.invariant.2 (sym c.stands.ensures ∙ c.loop-xs-test.true) in
-          let c.loop-xs.invariant.2.far = c.loop-xs.invariant.2.far in
-          let c.loop-xs.invariant.2.counted = c.loop-xs.invariant.2.counted in
-          omega arith,
-    )
+point-requires c = (
+  let h = head-inside c.args.s.now (bytes "[point") (point_row_form c.args.s.now) 3 c.args.at refl (omega arith)
+      c.loop-xs.invariant.2 (sym c.stands.ensures ∙ c.loop-xs-test.true) in
+      omega arith,
+  let h = head-inside c.args.s.now (bytes "[point") (point_row_form c.args.s.now) 3 c.args.at refl (omega arith)
+      c.loop-xs.invariant.2 (sym c.stands.ensures ∙ c.loop-xs-test.true) in
+      let bound = c.loop-xs.invariant.2.far in
+      let bound = c.loop-xs.invariant.2.counted in
+      omega arith,
+)
 
 -- src/lib.rt:122:13
 pub shape_of-xs-in_default : goal.shape_of-xs-in_default
@@ -55,9 +59,13 @@ shape_of-ws-in_default c =
 -- src/lib.rt:122:13
 pub returns-in_default : goal.returns-in_default
 returns-in_default c =
-    record { run = stop c.args.s.now (bytes "[point") (point_row_form c.args.s.now) 3 c.args.at refl (omega arith) c.loop-xs.invariant.2
+    record {
+      run = stop c.args.s.now (bytes "[point") (point_row_form c.args.s.now) 3 c.args.at refl (omega arith) c.loop-xs.invariant.2
           (sym c.stands.ensures ∙ c.loop-xs-test.true)
-          c.point.ensures.place c.in_default.is; numbers = tt; words = tt }
+          c.point.ensures.place c.in_default.is;
+      numbers = tt;
+      words = tt;
+    }
 
 -- src/lib.rt:120:5
 pub loop-xs-smaller : goal.loop-xs-smaller
@@ -70,14 +78,20 @@ loop-xs-smaller c =
 
 -- src/lib.rt:120:5
 pub loop-xs-preserved : goal.loop-xs-preserved
-loop-xs-preserved c =
-    (c.point.auto.xs ∙ c.loop-xs.invariant.0, c.point.auto.ws ∙ c.loop-xs.invariant.1, turn c.args.s.now (bytes "[point") (point_row_form c.args.s.now) 3 c.args.at refl (omega arith) c.loop-xs.invariant.2
-          (sym c.stands.ensures ∙ c.loop-xs-test.true) c.point.ensures.place c.in-At.is (takes-point c.args.s.now), table-turn c.args.s.now (bytes "[point") (point_row_form c.args.s.now) 3 c.args.at refl (omega arith) c.loop-xs.invariant.2
-          (sym c.stands.ensures ∙ c.loop-xs-test.true) c.point.ensures.place c.in-At.is row_numbers 3
-          (λ a n q. length-map a.numbers float ∙ (fits-point _ _ a n q).number-count) c.loop-xs.invariant.3
-          c.point.ensures.numbers, table-turn c.args.s.now (bytes "[point") (point_row_form c.args.s.now) 3 c.args.at refl (omega arith) c.loop-xs.invariant.2
-          (sym c.stands.ensures ∙ c.loop-xs-test.true) c.point.ensures.place c.in-At.is row_words 3
-          (λ a n q. (fits-point _ _ a n q).word_count) c.loop-xs.invariant.4 c.point.ensures.words)
+loop-xs-preserved c = (
+  c.point.auto.xs ∙ c.loop-xs.invariant.0,
+  c.point.auto.ws ∙ c.loop-xs.invariant.1,
+  turn c.args.s.now (bytes "[point") (point_row_form c.args.s.now) 3 c.args.at refl (omega arith)
+      c.loop-xs.invariant.2 (sym c.stands.ensures ∙ c.loop-xs-test.true) c.point.ensures.place c.in-At.is
+      (takes-point c.args.s.now),
+  table-turn c.args.s.now (bytes "[point") (point_row_form c.args.s.now) 3 c.args.at refl (omega arith)
+      c.loop-xs.invariant.2 (sym c.stands.ensures ∙ c.loop-xs-test.true) c.point.ensures.place c.in-At.is row_numbers 3
+      (λ a n q. length-map a.numbers float ∙ (fits-point _ _ a n q).number-count) c.loop-xs.invariant.3
+      c.point.ensures.numbers,
+  table-turn c.args.s.now (bytes "[point") (point_row_form c.args.s.now) 3 c.args.at refl (omega arith)
+      c.loop-xs.invariant.2 (sym c.stands.ensures ∙ c.loop-xs-test.true) c.point.ensures.place c.in-At.is row_words 3
+      (λ a n q. (fits-point _ _ a n q).word_count) c.loop-xs.invariant.4 c.point.ensures.words,
+)
 
 -- src/lib.rt:112:1
 pub shape_of-xs : goal.shape_of-xs
@@ -92,7 +106,11 @@ shape_of-ws c =
 -- src/lib.rt:112:1
 pub returns : goal.returns
 returns c =
-    record { run = end c.args.s.now (bytes "[point") (point_row_form c.args.s.now) 3 c.args.at
-          (sym c.stands.ensures ∙ c.loop-xs-test.false) c.loop-xs.invariant.2; numbers = table-end c.args.s.now (bytes "[point") (point_row_form c.args.s.now) 3 c.args.at
-            (sym c.stands.ensures ∙ c.loop-xs-test.false) row_numbers 3 c.loop-xs.invariant.3; words = table-end c.args.s.now (bytes "[point") (point_row_form c.args.s.now) 3 c.args.at
-            (sym c.stands.ensures ∙ c.loop-xs-test.false) row_words 3 c.loop-xs.invariant.4 }
+    record {
+      run = end c.args.s.now (bytes "[point") (point_row_form c.args.s.now) 3 c.args.at
+          (sym c.stands.ensures ∙ c.loop-xs-test.false) c.loop-xs.invariant.2;
+      numbers = table-end c.args.s.now (bytes "[point") (point_row_form c.args.s.now) 3 c.args.at
+          (sym c.stands.ensures ∙ c.loop-xs-test.false) row_numbers 3 c.loop-xs.invariant.3;
+      words = table-end c.args.s.now (bytes "[point") (point_row_form c.args.s.now) 3 c.args.at
+          (sym c.stands.ensures ∙ c.loop-xs-test.false) row_words 3 c.loop-xs.invariant.4;
+    }

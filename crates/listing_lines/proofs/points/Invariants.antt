@@ -9,7 +9,10 @@ use Rattle.listing_lines.proofs.Progress.{Progress, Table}
 use Rattle.listing_lines.proofs.points.Given as goal
 
 abbrev pub invariant-loop-xs : goal.invariant-loop-xs
-invariant-loop-xs l = (length l.xs ≡ length l.initial.xs) × (length l.ws ≡ length l.initial.ws) × Progress l.s (bytes "[point") (point_row_form l.s) 3 l.at l.i l.k × Table l.s (bytes "[point") (point_row_form l.s) 3 l.at row_numbers 3 l.initial.xs l.xs l.i l.k × Table l.s (bytes "[point") (point_row_form l.s) 3 l.at row_words 3 l.initial.ws l.ws l.i l.k
+invariant-loop-xs l = (length l.xs ≡ length l.initial.xs) × (length l.ws ≡ length l.initial.ws) × Progress l.s
+    (bytes "[point") (point_row_form l.s) 3 l.at l.i l.k × Table l.s (bytes "[point") (point_row_form l.s) 3 l.at
+    row_numbers 3 l.initial.xs l.xs l.i l.k × Table l.s (bytes "[point") (point_row_form l.s) 3 l.at row_words 3
+    l.initial.ws l.ws l.i l.k
 
 abbrev pub decreases-loop-xs : goal.decreases-loop-xs
 decreases-loop-xs l = length l.s - l.i

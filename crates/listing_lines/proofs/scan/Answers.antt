@@ -166,7 +166,15 @@ shape_of-fs c =
 
 pub returns : goal.returns
 returns c =
-    let whole = whole _ (sym c.stands.ensures ∙ c.if-not-stands.false) c.points.ensures.run c.in-Of.is c.edges.ensures.run
-    c.in-Of-edges.is c.faces.ensures.run c.in-Of-faces.is
-    (sym c.ends.ensures ∙ c.if-not-ends.false) _ _ _ _ _ c.points.ensures.numbers
-    c.points.ensures.words c.edges.ensures.words c.edges.ensures.numbers c.faces.ensures.words in record { sizes = whole.0; positions = whole.1.0; points = whole.1.1.0; edges = whole.1.1.1.0; intervals = whole.1.1.1.1.0; faces = whole.1.1.1.1.1 }
+    let whole = whole _ (sym c.stands.ensures ∙ c.if-not-stands.false) c.points.ensures.run c.in-Of.is
+    c.edges.ensures.run c.in-Of-edges.is c.faces.ensures.run c.in-Of-faces.is (sym c.ends.ensures ∙ c.if-not-ends.false)
+    _ _ _ _ _ c.points.ensures.numbers c.points.ensures.words c.edges.ensures.words c.edges.ensures.numbers
+    c.faces.ensures.words in
+    record {
+      sizes = whole.0;
+      positions = whole.1.0;
+      points = whole.1.1.0;
+      edges = whole.1.1.1.0;
+      intervals = whole.1.1.1.1.0;
+      faces = whole.1.1.1.1.1;
+    }

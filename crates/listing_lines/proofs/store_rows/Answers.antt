@@ -23,5 +23,11 @@ shape_of-fs c =
     c.scan.auto.fs
 
 pub returns : goal.returns
-returns c =
-    record { positions = at-listing c.args.s.now c.requires c.scan.result c.scan.ensures.sizes _ c.scan.ensures.positions; points = at-listing c.args.s.now c.requires c.scan.result c.scan.ensures.sizes _ c.scan.ensures.points; edges = at-listing c.args.s.now c.requires c.scan.result c.scan.ensures.sizes _ c.scan.ensures.edges; intervals = at-listing c.args.s.now c.requires c.scan.result c.scan.ensures.sizes _ c.scan.ensures.intervals; faces = at-listing c.args.s.now c.requires c.scan.result c.scan.ensures.sizes _ c.scan.ensures.faces }
+returns c = record {
+  positions = at-listing c.args.s.now c.requires c.scan.result c.scan.ensures.sizes _
+      c.scan.ensures.positions;
+  points = at-listing c.args.s.now c.requires c.scan.result c.scan.ensures.sizes _ c.scan.ensures.points;
+  edges = at-listing c.args.s.now c.requires c.scan.result c.scan.ensures.sizes _ c.scan.ensures.edges;
+  intervals = at-listing c.args.s.now c.requires c.scan.result c.scan.ensures.sizes _ c.scan.ensures.intervals;
+  faces = at-listing c.args.s.now c.requires c.scan.result c.scan.ensures.sizes _ c.scan.ensures.faces;
+}

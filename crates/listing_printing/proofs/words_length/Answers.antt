@@ -28,14 +28,13 @@ overflow_add-r-in-loop-i c =
 
 -- src/lib.rt:174:5
 pub loop-i-preserved : goal.loop-i-preserved
-loop-i-preserved c =
-    (
+loop-i-preserved c = (
+  omega arith,
+  let bound = c.loop-i-test.true in
+      let m = words_more c.args.words.now c.loop-i.i (omega arith) in
+      let d = c.digits_length.ensures ∙ ap (λ (v : ℕ). length (decimal_digits 20 v)) c.wide-v.ensures in
       omega arith,
-      let c.loop-i-test.true = c.loop-i-test.true in
-          let m = words_more c.args.words.now c.loop-i.i (omega arith) in
-          let d = c.digits_length.ensures ∙ ap (λ (v : ℕ). length (decimal_digits 20 v)) c.wide-v.ensures in
-          omega arith,
-    )
+)
 
 -- src/lib.rt:167:1
 pub returns : goal.returns

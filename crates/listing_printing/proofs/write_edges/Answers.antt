@@ -11,8 +11,7 @@ use Rattle.listing_printing.proofs.write_edges.Goals as goal
 
 -- src/lib.rt:131:5
 pub loop-e-init : goal.loop-e-init
-loop-e-init c =
-    (
+loop-e-init c = (
   omega arith,
   refl,
   lines_start edge_line _ _ (edge_line_row
@@ -22,20 +21,24 @@ loop-e-init c =
 -- src/lib.rt:132:9
 pub write_edge-i-requires : goal.write_edge-i-requires
 write_edge-i-requires c =
-    record { edge_width_in_bounds = omega arith; e_in_bounds = let c.loop-e-test.true = c.loop-e-test.true in
-            let c.requires.edge_width_in_bounds = c.requires.n_in_bounds in
-            omega arith; e_in_bounds_2 = lines-turn-room edge_line _ _ (edge_line_row (mesh_of [] [] c.args.edges.now c.args.intervals.now [])) c.loop-e.e
-              c.loop-e.invariant.2 c.loop-e.invariant.1 c.loop-e-test.true c.requires.intervals_in_bounds; by_index = λ i h. c.requires.by_index i (let c.loop-e-test.true = c.loop-e-test.true in omega arith) }
+    record {
+      edge_width_in_bounds = omega arith;
+      e_in_bounds = let bound = c.loop-e-test.true in
+          let bound = c.requires.n_in_bounds in
+          omega arith;
+      e_in_bounds_2 = lines-turn-room edge_line _ _ (edge_line_row (mesh_of [] [] c.args.edges.now c.args.intervals.now [])) c.loop-e.e
+          c.loop-e.invariant.2 c.loop-e.invariant.1 c.loop-e-test.true c.requires.intervals_in_bounds;
+      by_index = λ i h. c.requires.by_index i (let bound = c.loop-e-test.true in omega arith);
+    }
 
 -- src/lib.rt:131:5
 pub loop-e-preserved : goal.loop-e-preserved
-loop-e-preserved c =
-    (
-      omega arith,
-      c.write_edge-i.auto.out ∙ c.loop-e.invariant.1,
-      lines-turn edge_line _ _ (edge_line_row (mesh_of [] [] c.args.edges.now c.args.intervals.now [])) c.loop-e.e
-          c.loop-e.invariant.2 c.write_edge-i.ensures,
-    )
+loop-e-preserved c = (
+  omega arith,
+  c.write_edge-i.auto.out ∙ c.loop-e.invariant.1,
+  lines-turn edge_line _ _ (edge_line_row (mesh_of [] [] c.args.edges.now c.args.intervals.now [])) c.loop-e.e
+      c.loop-e.invariant.2 c.write_edge-i.ensures,
+)
 
 -- src/lib.rt:122:1
 pub shape_of-out : goal.shape_of-out

@@ -11,7 +11,8 @@ use Rattle.listings.specs.Handing.{up_to, edge_line_row}
 use Rattle.listing_printing.proofs.write_edges.Given as goal
 
 abbrev pub invariant-loop-e : goal.invariant-loop-e
-invariant-loop-e l = (l.e ≤ l.n) × (length l.out ≡ length l.initial.out) × Written l.initial.out l.at (flat edge_line (up_to l.e (edge_line_row (mesh_of [] [] l.edges l.intervals [])))) l.i l.out
+invariant-loop-e l = (l.e ≤ l.n) × (length l.out ≡ length l.initial.out) × Written l.initial.out l.at
+    (flat edge_line (up_to l.e (edge_line_row (mesh_of [] [] l.edges l.intervals [])))) l.i l.out
 
 abbrev pub decreases-loop-e : goal.decreases-loop-e
 decreases-loop-e l = l.n - l.e

@@ -37,13 +37,12 @@ write_bits-i-requires c =
 
 -- src/lib.rt:54:5
 pub loop-j-preserved : goal.loop-j-preserved
-loop-j-preserved c =
-    (
-      omega arith,
-      c.write_bits-i.auto.out ∙ c.loop-j.invariant.1,
-      fields-turn bits_in _ _ c.args.numbers.now c.args.b nan c.loop-j.j c.loop-j.invariant.2 refl
-          (let c.loop-j-test.true = c.loop-j-test.true in omega arith) c.write_bits-i.ensures,
-    )
+loop-j-preserved c = (
+  omega arith,
+  c.write_bits-i.auto.out ∙ c.loop-j.invariant.1,
+  fields-turn bits_in _ _ c.args.numbers.now c.args.b nan c.loop-j.j c.loop-j.invariant.2 refl
+      (let bound = c.loop-j-test.true in omega arith) c.write_bits-i.ensures,
+)
 
 -- src/lib.rt:46:1
 pub shape_of-out : goal.shape_of-out

@@ -11,8 +11,7 @@ use Rattle.listing_printing.proofs.write_points.Goals as goal
 
 -- src/lib.rt:114:5
 pub loop-p-init : goal.loop-p-init
-loop-p-init c =
-    (
+loop-p-init c = (
   omega arith,
   refl,
   lines_start point_line _ _ (point_line_row
@@ -22,20 +21,24 @@ loop-p-init c =
 -- src/lib.rt:115:9
 pub write_point-i-requires : goal.write_point-i-requires
 write_point-i-requires c =
-    record { position_width_in_bounds = omega arith; point_width_in_bounds = let c.loop-p-test.true = c.loop-p-test.true in
-            let c.requires.position_width_in_bounds = c.requires.point_width_in_bounds in
-            omega arith; p_in_bounds = lines-turn-room point_line _ _ (point_line_row (mesh_of c.args.positions.now c.args.points.now [] [] [])) c.loop-p.p
-              c.loop-p.invariant.2 c.loop-p.invariant.1 c.loop-p-test.true c.requires.points_in_bounds; by_index = λ i h. c.requires.by_index i (let c.loop-p-test.true = c.loop-p-test.true in omega arith) }
+    record {
+      position_width_in_bounds = omega arith;
+      point_width_in_bounds = let bound = c.loop-p-test.true in
+          let bound = c.requires.point_width_in_bounds in
+          omega arith;
+      p_in_bounds = lines-turn-room point_line _ _ (point_line_row (mesh_of c.args.positions.now c.args.points.now [] [] [])) c.loop-p.p
+          c.loop-p.invariant.2 c.loop-p.invariant.1 c.loop-p-test.true c.requires.points_in_bounds;
+      by_index = λ i h. c.requires.by_index i (let bound = c.loop-p-test.true in omega arith);
+    }
 
 -- src/lib.rt:114:5
 pub loop-p-preserved : goal.loop-p-preserved
-loop-p-preserved c =
-    (
-      omega arith,
-      c.write_point-i.auto.out ∙ c.loop-p.invariant.1,
-      lines-turn point_line _ _ (point_line_row (mesh_of c.args.positions.now c.args.points.now [] [] [])) c.loop-p.p
-          c.loop-p.invariant.2 c.write_point-i.ensures,
-    )
+loop-p-preserved c = (
+  omega arith,
+  c.write_point-i.auto.out ∙ c.loop-p.invariant.1,
+  lines-turn point_line _ _ (point_line_row (mesh_of c.args.positions.now c.args.points.now [] [] [])) c.loop-p.p
+      c.loop-p.invariant.2 c.write_point-i.ensures,
+)
 
 -- src/lib.rt:105:1
 pub shape_of-out : goal.shape_of-out

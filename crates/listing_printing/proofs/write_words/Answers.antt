@@ -20,15 +20,14 @@ write_number-i-requires c =
 
 -- src/lib.rt:37:5
 pub loop-j-preserved : goal.loop-j-preserved
-loop-j-preserved c =
-    (
-      omega arith,
-      c.write_number-i.auto.out ∙ c.loop-j.invariant.1,
-      fields-turn number_field _ _ c.args.words.now c.args.b 0 c.loop-j.j c.loop-j.invariant.2
-          (ap number_field c.wide-v.ensures)
-          (let c.loop-j-test.true = c.loop-j-test.true in omega arith)
-          c.write_number-i.ensures,
-    )
+loop-j-preserved c = (
+  omega arith,
+  c.write_number-i.auto.out ∙ c.loop-j.invariant.1,
+  fields-turn number_field _ _ c.args.words.now c.args.b 0 c.loop-j.j c.loop-j.invariant.2
+      (ap number_field c.wide-v.ensures)
+      (let bound = c.loop-j-test.true in omega arith)
+      c.write_number-i.ensures,
+)
 
 -- src/lib.rt:30:1
 pub shape_of-out : goal.shape_of-out

@@ -85,16 +85,22 @@ returns-then-audit c =
 pub zero_rows-requires : goal.zero_rows-requires
 zero_rows-requires c =
     let m = mesh_of c.args.positions.now c.args.points.now c.args.edges.now c.args.intervals.now
-    c.args.faces.now in record { position_width_in_bounds = let r = (room_of _ m (sym c.rows_for.ensures ∙ c.if-not-rows_for.false)).positions in
-          omega arith; point_width_in_bounds = let c.store_rows.auto.xs = c.store_rows.auto.ps in
-            let r = (room_of _ m (sym c.rows_for.ensures ∙ c.if-not-rows_for.false)).points in
-            omega arith; edge_width_in_bounds = let c.store_rows.auto.xs = c.store_rows.auto.es in
-              let r = (room_of _ m (sym c.rows_for.ensures ∙ c.if-not-rows_for.false)).edges in
-              omega arith; edges_in_bounds = let c.store_rows.auto.xs = c.store_rows.auto.ds in
-                let r = (room_of _ m (sym c.rows_for.ensures ∙ c.if-not-rows_for.false)).intervals in
-                omega arith; face_width_in_bounds = let c.store_rows.auto.xs = c.store_rows.auto.fs in
-                let r = (room_of _ m (sym c.rows_for.ensures ∙ c.if-not-rows_for.false)).faces in
-                omega arith }
+    c.args.faces.now in record {
+      position_width_in_bounds = let r = (room_of _ m (sym c.rows_for.ensures ∙ c.if-not-rows_for.false)).positions in
+          omega arith;
+      point_width_in_bounds = let bound = c.store_rows.auto.ps in
+          let r = (room_of _ m (sym c.rows_for.ensures ∙ c.if-not-rows_for.false)).points in
+          omega arith;
+      edge_width_in_bounds = let bound = c.store_rows.auto.es in
+          let r = (room_of _ m (sym c.rows_for.ensures ∙ c.if-not-rows_for.false)).edges in
+          omega arith;
+      edges_in_bounds = let bound = c.store_rows.auto.ds in
+          let r = (room_of _ m (sym c.rows_for.ensures ∙ c.if-not-rows_for.false)).intervals in
+          omega arith;
+      face_width_in_bounds = let bound = c.store_rows.auto.fs in
+          let r = (room_of _ m (sym c.rows_for.ensures ∙ c.if-not-rows_for.false)).faces in
+          omega arith;
+    }
 
 pub shape_of-positions : goal.shape_of-positions
 shape_of-positions c =

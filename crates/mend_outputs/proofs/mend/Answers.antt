@@ -36,10 +36,13 @@ returns-then-answer-eq0 c =
 
 pub returns : goal.returns
 returns c =
-    let b = c.mend_text_told-answer.new.text ++ drop c.args.n c.args.buffer.now in let room : length (refused_line c.mend_text_told-answer.result) ≤ length b = let l = length_front c.args.buffer.now c.mend_text_told-answer.new.text
-    c.args.n c.mend_text_told-answer.auto.text in let r = length-refused c.mend_text_told-answer.result in omega arith in record {
+    let b = c.mend_text_told-answer.new.text ++ drop c.args.n c.args.buffer.now in
+    let room : length (refused_line c.mend_text_told-answer.result) ≤ length b = let l = length_front c.args.buffer.now
+    c.mend_text_told-answer.new.text c.args.n c.mend_text_told-answer.auto.text in let r = length-refused
+    c.mend_text_told-answer.result in omega arith in
+    record {
       upper_bound = line-fits _ _ c.write_refused-2.ensures room c.write_refused-2.auto.out;
       buffer_after = line-front _ _ c.write_refused-2.ensures room
-          ∙ sym (refused-output c.args.buffer.now c.args.n c.requires.n_in_bounds c.if-n-gt-MEND_BYTES.false c.mend_text_told-answer.ensures
-          c.if-answer-eq0.false);
+          ∙ sym (refused-output c.args.buffer.now c.args.n c.requires.n_in_bounds c.if-n-gt-MEND_BYTES.false
+          c.mend_text_told-answer.ensures c.if-answer-eq0.false);
     }

@@ -19,7 +19,11 @@ loop-f-init c =
 
 pub face_point-requires : goal.face_point-requires
 face_point-requires c =
-    let whole = (c.requires.rule_fits c.loop-f.f (omega arith), c.loop-f.invariant.2) in record { face_point_fits = whole.0; perimeter_len = whole.1.0; points_len = whole.1.1 }
+    record {
+      face_point_fits = c.requires.rule_fits c.loop-f.f (omega arith);
+      perimeter_len = c.loop-f.invariant.2.0;
+      points_len = c.loop-f.invariant.2.1;
+    }
 
 pub returns-in_default : goal.returns-in_default
 returns-in_default c =

@@ -8,9 +8,11 @@ use Rattle.steps.specs.Positions.{so_far, placed_by}
 use Rattle.placing.proofs.place_face_points.Given as goal
 
 abbrev pub invariant-loop-f : goal.invariant-loop-f
-invariant-loop-f l =
-    (l.f ≤ l.nf) × (length l.newpositions ≡ length l.initial.newpositions) × ((length l.perimeter ≡ 64) × (length l.points ≡ 68))
-    × (placed_by l.f (λ k. get_or l.newfaces (k * 5 + 1) 0) (λ k ps. face_point_in (without_points l.positions l.edges l.intervals l.faces) l.ne k) (so_far l.initial.newpositions) ≡ so_far l.newpositions)
+invariant-loop-f l = (l.f ≤ l.nf) × (length l.newpositions ≡ length l.initial.newpositions) ×
+    ((length l.perimeter ≡ 64) × (length l.points ≡ 68)) ×
+    (placed_by l.f (λ k. get_or l.newfaces (k * 5 + 1) 0)
+    (λ k ps. face_point_in (without_points l.positions l.edges l.intervals l.faces) l.ne k)
+    (so_far l.initial.newpositions) ≡ so_far l.newpositions)
 
 abbrev pub decreases-loop-f : goal.decreases-loop-f
 decreases-loop-f l = l.nf - l.f

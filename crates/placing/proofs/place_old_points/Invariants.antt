@@ -8,9 +8,9 @@ use Rattle.steps.specs.Positions.{so_far, placed_by}
 use Rattle.placing.proofs.place_old_points.Given as goal
 
 abbrev pub invariant-loop-p : goal.invariant-loop-p
-invariant-loop-p l =
-    (l.p ≤ l.np) × (length l.newpositions ≡ length l.initial.newpositions)
-    × (placed_by l.p (λ k. k) (λ k ps. old_point l.positions l.points l.edges l.intervals (edge_point_at ps l.newedges) (face_point_at ps l.newfaces) k) (so_far l.initial.newpositions) ≡ so_far l.newpositions)
+invariant-loop-p l = (l.p ≤ l.np) × (length l.newpositions ≡ length l.initial.newpositions) ×
+    (placed_by l.p (λ k. k) (λ k ps. old_point l.positions l.points l.edges l.intervals (edge_point_at ps l.newedges)
+    (face_point_at ps l.newfaces) k) (so_far l.initial.newpositions) ≡ so_far l.newpositions)
 
 abbrev pub decreases-loop-p : goal.decreases-loop-p
 decreases-loop-p l = l.np - l.p

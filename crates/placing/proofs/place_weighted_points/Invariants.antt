@@ -8,9 +8,10 @@ use Rattle.steps.specs.Positions.{so_far, placed_by}
 use Rattle.placing.proofs.place_weighted_points.Given as goal
 
 abbrev pub invariant-loop-e : goal.invariant-loop-e
-invariant-loop-e l =
-    (l.e ≤ l.ne) × (length l.newpositions ≡ length l.initial.newpositions)
-    × (placed_by l.e (λ k. get_or l.newedges (k * 8 + 1) 0) (λ k ps. weighted_point l.edition l.positions l.edges l.intervals (face_point_at ps l.newfaces) k) (so_far l.initial.newpositions) ≡ so_far l.newpositions)
+invariant-loop-e l = (l.e ≤ l.ne) × (length l.newpositions ≡ length l.initial.newpositions) ×
+    (placed_by l.e (λ k. get_or l.newedges (k * 8 + 1) 0)
+    (λ k ps. weighted_point l.edition l.positions l.edges l.intervals (face_point_at ps l.newfaces) k)
+    (so_far l.initial.newpositions) ≡ so_far l.newpositions)
 
 abbrev pub decreases-loop-e : goal.decreases-loop-e
 decreases-loop-e l = l.ne - l.e

@@ -61,10 +61,15 @@ shape_of-newfaces-in_default c =
 
 pub returns-in_default : goal.returns-in_default
 returns-in_default c =
-    let m : Mesh = mesh_of c.args.positions.now c.args.points.now c.args.edges.now c.args.intervals.now c.args.faces.now in let t : Mesh = mesh_of c.args.newpositions.now c.args.newpoints.now c.args.newedges.now c.args.newintervals.now
-    c.args.newfaces.now in let outcome = refused c.args.edition m c.args.counts c.args.order.now t c.first_ground-ground.result
+    let m : Mesh = mesh_of c.args.positions.now c.args.points.now c.args.edges.now c.args.intervals.now
+    c.args.faces.now in
+    let t : Mesh = mesh_of c.args.newpositions.now c.args.newpoints.now c.args.newedges.now c.args.newintervals.now
+    c.args.newfaces.now in
+    let outcome = refused c.args.edition m c.args.counts c.args.order.now t c.first_ground-ground.result
     c.first_ground-ground.ensures
-    (λ c' e. not-one (subst (λ (x : Stepped). OneOf (1 ∷ 2 ∷ 3 ∷ 4 ∷ []) (tag_of the_type x)) e c.in-Refined.keys2)) in record { outcome = outcome; numbers = λ e l. c.slice_known-4-1.given e; told = ap (λ o. step_numbers o.answer) outcome }
+    (λ c' e. not-one (subst (λ (x : Stepped). OneOf (1 ∷ 2 ∷ 3 ∷ 4 ∷ []) (tag_of the_type x)) e c.in-Refined.keys2)) in
+    record
+    { outcome = outcome; numbers = λ e l. c.slice_known-4-1.given e; told = ap (λ o. step_numbers o.answer) outcome }
 
 pub finish-requires : goal.finish-requires
 finish-requires c =

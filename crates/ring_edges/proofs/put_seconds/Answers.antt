@@ -21,8 +21,12 @@ loop-i-init c = (
 )
 
 pub put_second-requires : goal.put_second-requires
-put_second-requires c =
-    record { small = c.requires.small; i_lt_size = omega arith; edge_width_in_bounds = c.requires.edges_there c.loop-i.i (omega arith); edge_width_in_bounds_2 = omega (arith, c.requires.edges_there_2 c.loop-i.i (omega arith)) }
+put_second-requires c = record {
+  small = c.requires.small;
+  i_lt_size = omega arith;
+  edge_width_in_bounds = c.requires.edges_there c.loop-i.i (omega arith);
+  edge_width_in_bounds_2 = omega (arith, c.requires.edges_there_2 c.loop-i.i (omega arith));
+}
 
 pub loop-i-preserved : goal.loop-i-preserved
 loop-i-preserved c = (

@@ -17,12 +17,22 @@ sole_from-requires c =
     record { point_width_in_bounds = c.requires.point_width_in_bounds; edge_width_in_bounds = c.requires.edge_width_in_bounds; from_le_np = c.loop-p.invariant.0; ends = c.requires.ends }
 
 pub returns-then-index-gt-FEW : goal.returns-then-index-gt-FEW
-returns-then-index-gt-FEW c =
-    record { rounds_from = λ e. rounds-joined (point_tables c.args.points.now c.args.edges.now) c.args.np c.args.ne c.loop-p.p c.loop-p.invariant.2 (c.sole_from.ensures.rounds_from e); value = λ s. c.sole_from.ensures.value (λ q l b. s q (omega arith) b) }
+returns-then-index-gt-FEW c = record {
+  rounds_from = λ e. rounds-joined
+      (point_tables c.args.points.now c.args.edges.now) c.args.np c.args.ne c.loop-p.p c.loop-p.invariant.2
+      (c.sole_from.ensures.rounds_from e);
+  value = λ s. c.sole_from.ensures.value (λ q l b. s q (omega arith) b);
+}
 
 pub few_sole-requires : goal.few_sole-requires
-few_sole-requires c =
-    record { point_width_in_bounds = omega (arith, c.requires.point_width_in_bounds, c.loop-p-test.true); edge_width_in_bounds = c.requires.edge_width_in_bounds; p_in_bounds = omega (arith, c.index.ensures, c.if-index-gt-FEW.false, c.requires.few_in_bounds, c.loop-p.invariant.1); ends = c.requires.ends }
+few_sole-requires c = record {
+  point_width_in_bounds = omega
+      (arith, c.requires.point_width_in_bounds, c.loop-p-test.true);
+  edge_width_in_bounds = c.requires.edge_width_in_bounds;
+  p_in_bounds = omega
+      (arith, c.index.ensures, c.if-index-gt-FEW.false, c.requires.few_in_bounds, c.loop-p.invariant.1);
+  ends = c.requires.ends;
+}
 
 pub returns-then-not-few_sole : goal.returns-then-not-few_sole
 returns-then-not-few_sole c =

@@ -14,8 +14,14 @@ loop-k-init c =
     (omega arith, refl, refl, λ j l. absurd (omega arith))
 
 pub is_sole_in-requires : goal.is_sole_in-requires
-is_sole_in-requires c =
-    record { point_width_in_bounds = omega (arith, c.requires.point_width_in_bounds, c.requires.p_lt_np); edge_width_in_bounds = c.requires.edge_width_in_bounds; ends_window_in_bounds = omega (arith, c.requires.ends_window_in_bounds, c.loop-k.invariant.2); ends = c.requires.ends; p_nonzero = c.requires.p_nonzero }
+is_sole_in-requires c = record {
+  point_width_in_bounds = omega
+      (arith, c.requires.point_width_in_bounds, c.requires.p_lt_np);
+  edge_width_in_bounds = c.requires.edge_width_in_bounds;
+  ends_window_in_bounds = omega (arith, c.requires.ends_window_in_bounds, c.loop-k.invariant.2);
+  ends = c.requires.ends;
+  p_nonzero = c.requires.p_nonzero;
+}
 
 pub returns-then-not-is_sole_in : goal.returns-then-not-is_sole_in
 returns-then-not-is_sole_in c =

@@ -44,11 +44,18 @@ returns-then-not-note c =
 
 pub returns-then-next-start : goal.returns-then-next-start
 returns-then-next-start c =
-    let m = point_tables c.args.points.now c.args.edges.now in let made = step-made c.args.edges.now c.args.ne c.args.p _ _ _
-    (sym c.in-To.is ∙ c.point_step.ensures
-    ∙ ap (point_step c.args.edges.now c.args.ne c.args.p) c.index.ensures) in let fresh = sym c.note.ensures.value ∙ c.if-not-note.false in let then = walking-next m c.args.ne c.args.p c.args.base _ _ _ _ c.loop-n.invariant.0 c.loop-n-test.true c.loop-n.invariant.1
-    made.0 _ _ _ (c.index-in-loop-n.ensures ∙ made.1) made.2 fresh
-    c.note.ensures.seen_after in record { round_in = λ e. walking-home m c.args.ne c.args.p c.args.base _ _ _ _ then (eqb-true _ _ e) c.if-next-start.true; value = λ good. eq-eqb _ _ (walking-early m c.args.ne c.args.p c.args.base _ _ _ _ then (omega arith) c.if-next-start.true good.0) }
+    let m = point_tables c.args.points.now c.args.edges.now in
+    let made = step-made c.args.edges.now c.args.ne c.args.p _ _ _
+    (sym c.in-To.is ∙ c.point_step.ensures ∙ ap (point_step c.args.edges.now c.args.ne c.args.p) c.index.ensures) in
+    let fresh = sym c.note.ensures.value ∙ c.if-not-note.false in
+    let then = walking-next m c.args.ne c.args.p c.args.base _ _ _ _ c.loop-n.invariant.0 c.loop-n-test.true
+    c.loop-n.invariant.1 made.0 _ _ _ (c.index-in-loop-n.ensures ∙ made.1) made.2 fresh c.note.ensures.seen_after in
+    record {
+      round_in = λ e. walking-home m c.args.ne c.args.p c.args.base _ _ _ _ then (eqb-true _ _ e)
+          c.if-next-start.true;
+      value = λ good. eq-eqb _ _
+          (walking-early m c.args.ne c.args.p c.args.base _ _ _ _ then (omega arith) c.if-next-start.true good.0);
+    }
 
 pub loop-n-preserved : goal.loop-n-preserved
 loop-n-preserved c =

@@ -13,8 +13,13 @@ loop-p-init c =
     (c.requires.from_le_np, omega arith, refl, λ q a b. absurd (omega arith))
 
 pub point_sole-requires : goal.point_sole-requires
-point_sole-requires c =
-    record { point_width_in_bounds = c.requires.point_width_in_bounds; p_lt_np = c.loop-p-test.true; edge_width_in_bounds = c.requires.edge_width_in_bounds; ends_window_in_bounds = omega (arith, c.requires.ends_window_in_bounds, c.loop-p.invariant.2); ends = c.requires.ends }
+point_sole-requires c = record {
+  point_width_in_bounds = c.requires.point_width_in_bounds;
+  p_lt_np = c.loop-p-test.true;
+  edge_width_in_bounds = c.requires.edge_width_in_bounds;
+  ends_window_in_bounds = omega (arith, c.requires.ends_window_in_bounds, c.loop-p.invariant.2);
+  ends = c.requires.ends;
+}
 
 pub returns-then-not-point_sole : goal.returns-then-not-point_sole
 returns-then-not-point_sole c =

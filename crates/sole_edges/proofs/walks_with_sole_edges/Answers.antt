@@ -8,8 +8,12 @@ use Rattle.sole_edges.proofs.Walking.{same-at-most}
 use Rattle.sole_edges.proofs.walks_with_sole_edges.Goals as goal
 
 pub all_sole-requires : goal.all_sole-requires
-all_sole-requires c =
-    record { point_width_in_bounds = c.requires.point_width_in_bounds; edge_width_in_bounds = c.requires.edge_width_in_bounds; few_in_bounds = same-at-most _ _ (length-replicate {A = ℕ} few 0); ends = c.requires.ends }
+all_sole-requires c = record {
+  point_width_in_bounds = c.requires.point_width_in_bounds;
+  edge_width_in_bounds = c.requires.edge_width_in_bounds;
+  few_in_bounds = same-at-most _ _ (length-replicate {A = ℕ} few 0);
+  ends = c.requires.ends;
+}
 
 pub returns : goal.returns
 returns c =

@@ -8,8 +8,12 @@ loop-i-init c =
     splitting-start _ _ _ _ _ _ _
 
 pub split_whole-counts-requires : goal.split_whole-counts-requires
-split_whole-counts-requires c =
-    record { in_rows = splitting-rows _ _ _ _ _ _ _ _ _ _ _ _ c.loop-i.invariant c.requires.by_index c.loop-i-test.true; point_width_in_bounds = splitting-old _ _ _ _ _ _ _ _ _ _ _ _ c.loop-i.invariant c.requires.point_width_in_bounds; split_room = splitting-room _ _ _ _ _ _ _ _ _ _ _ _ c.loop-i.invariant c.loop-i-test.true c.requires.split_room }
+split_whole-counts-requires c = record {
+  in_rows = splitting-rows _ _ _ _ _ _ _ _ _ _ _ _ c.loop-i.invariant
+      c.requires.by_index c.loop-i-test.true;
+  point_width_in_bounds = splitting-old _ _ _ _ _ _ _ _ _ _ _ _ c.loop-i.invariant c.requires.point_width_in_bounds;
+  split_room = splitting-room _ _ _ _ _ _ _ _ _ _ _ _ c.loop-i.invariant c.loop-i-test.true c.requires.split_room;
+}
 
 pub loop-i-preserved : goal.loop-i-preserved
 loop-i-preserved c =

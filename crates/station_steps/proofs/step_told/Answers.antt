@@ -47,9 +47,12 @@ shape_of-newfaces c =
 
 pub returns : goal.returns
 returns c =
-    let m : Mesh = mesh_of c.args.positions.now c.args.points.now c.args.edges.now c.args.intervals.now c.args.faces.now in let t : Mesh = mesh_of c.args.newpositions.now c.args.newpoints.now c.args.newedges.now c.args.newintervals.now
-    c.args.newfaces.now in record {
-      outcome = told_of c.args.edition c.args.counts.now m t c.args.order.now c.load_counts-c.ensures c.step-answer.ensures.outcome c.tell_stepped.ensures.value
-          c.tell_stepped.ensures.counts_after;
+    let m : Mesh = mesh_of c.args.positions.now c.args.points.now c.args.edges.now c.args.intervals.now
+    c.args.faces.now in
+    let t : Mesh = mesh_of c.args.newpositions.now c.args.newpoints.now c.args.newedges.now c.args.newintervals.now
+    c.args.newfaces.now in
+    record {
+      outcome = told_of c.args.edition c.args.counts.now m t c.args.order.now c.load_counts-c.ensures
+          c.step-answer.ensures.outcome c.tell_stepped.ensures.value c.tell_stepped.ensures.counts_after;
       numbers = subst (λ k. Binary64 k m) c.load_counts-c.ensures c.step-answer.ensures.numbers;
     }

@@ -23,10 +23,13 @@ returns-then-not-each_face_once c =
 
 pub refined_counts-c-requires : goal.refined_counts-c-requires
 refined_counts-c-requires c =
-    let m : Mesh = mesh_of c.args.positions.now c.args.points.now c.args.edges.now c.args.intervals.now c.args.faces.now in let t : Mesh = mesh_of c.args.newpositions.now c.args.newpoints.now c.args.newedges.now c.args.newintervals.now c.args.newfaces.now in let whole = counts-fit m c.args.counts c.args.order.now t
-    (sym c.audit.ensures
-    ∙ c.if-not-audit.false) (omega arith) (omega arith)
-    (omega arith) in record { faces_bound = whole.0; edges_bound = whole.1 }
+    let m : Mesh = mesh_of c.args.positions.now c.args.points.now c.args.edges.now c.args.intervals.now
+    c.args.faces.now in
+    let t : Mesh = mesh_of c.args.newpositions.now c.args.newpoints.now c.args.newedges.now c.args.newintervals.now
+    c.args.newfaces.now in
+    let whole = counts-fit m c.args.counts c.args.order.now t (sym c.audit.ensures ∙ c.if-not-audit.false) (omega arith)
+    (omega arith) (omega arith) in
+    record { faces_bound = whole.0; edges_bound = whole.1 }
 
 pub returns-then-not-rows_for : goal.returns-then-not-rows_for
 returns-then-not-rows_for c =

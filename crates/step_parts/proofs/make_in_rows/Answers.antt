@@ -103,12 +103,16 @@ pub returns : goal.returns
 unfolding first_rows
 returns c =
     let t : Mesh = mesh_of c.args.newpositions.now c.args.newpoints.now c.args.newedges.now c.args.newintervals.now
-    c.args.newfaces.now in let lp = c.make.auto.newpositions ∙ length-take-le _ c.args.newpositions.now c.requires.scratch.positions in let lw = c.make.auto.newpoints ∙ length-take-le _ c.args.newpoints.now c.requires.scratch.points in let le = c.make.auto.newedges ∙ length-take-le _ c.args.newedges.now c.requires.scratch.edges in let li = c.make.auto.newintervals ∙ length-take-le _ c.args.newintervals.now c.requires.scratch.intervals in let lf = c.make.auto.newfaces ∙ length-take-le _ c.args.newfaces.now c.requires.scratch.faces in record {
+    c.args.newfaces.now in
+    let lp = c.make.auto.newpositions ∙ length-take-le _ c.args.newpositions.now c.requires.scratch.positions in
+    let lw = c.make.auto.newpoints ∙ length-take-le _ c.args.newpoints.now c.requires.scratch.points in
+    let le = c.make.auto.newedges ∙ length-take-le _ c.args.newedges.now c.requires.scratch.edges in
+    let li = c.make.auto.newintervals ∙ length-take-le _ c.args.newintervals.now c.requires.scratch.intervals in
+    let lf = c.make.auto.newfaces ∙ length-take-le _ c.args.newfaces.now c.requires.scratch.faces in
+    record {
       newfaces_value = c.make.ensures
-          ∙ ap (made_as c.make.result) (sym (first-rows-back c.args.c t c.make.new.newpositions
-          c.make.new.newpoints c.make.new.newedges
-          c.make.new.newintervals c.make.new.newfaces lp lw le li lf));
-      newfaces_unchanged = zeroed-rows-back c.args.c t c.make.new.newpositions c.make.new.newpoints
-          c.make.new.newedges c.make.new.newintervals
-          c.make.new.newfaces lp lw le li lf;
+          ∙ ap (made_as c.make.result) (sym (first-rows-back c.args.c t c.make.new.newpositions c.make.new.newpoints
+          c.make.new.newedges c.make.new.newintervals c.make.new.newfaces lp lw le li lf));
+      newfaces_unchanged = zeroed-rows-back c.args.c t c.make.new.newpositions c.make.new.newpoints c.make.new.newedges
+          c.make.new.newintervals c.make.new.newfaces lp lw le li lf;
     }

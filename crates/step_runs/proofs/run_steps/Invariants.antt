@@ -7,9 +7,11 @@ use Rattle.ordered_runs.proofs.Runs.{Going}
 use Rattle.step_runs.proofs.run_steps.Given as goal
 
 abbrev pub invariant-loop-i : goal.invariant-loop-i
-invariant-loop-i l =
-    Going l.edition (mesh_of l.initial.positions l.initial.points l.initial.edges l.initial.intervals l.initial.faces) l.initial.c (mesh_of l.initial.newpositions l.initial.newpoints l.initial.newedges l.initial.newintervals l.initial.newfaces) l.orders l.lengths
-    (mesh_of l.positions l.points l.edges l.intervals l.faces) l.c (mesh_of l.newpositions l.newpoints l.newedges l.newintervals l.newfaces) l.accepted l.at l.i
+invariant-loop-i l = Going l.edition
+    (mesh_of l.initial.positions l.initial.points l.initial.edges l.initial.intervals l.initial.faces) l.initial.c
+    (mesh_of l.initial.newpositions l.initial.newpoints l.initial.newedges l.initial.newintervals l.initial.newfaces)
+    l.orders l.lengths (mesh_of l.positions l.points l.edges l.intervals l.faces) l.c
+    (mesh_of l.newpositions l.newpoints l.newedges l.newintervals l.newfaces) l.accepted l.at l.i
 
 abbrev pub decreases-loop-i : goal.decreases-loop-i
 decreases-loop-i l = length l.lengths - l.i

@@ -12,7 +12,12 @@ use Rattle.t_nurcc_control_point.proofs.radial_edges.Goals as goal
 
 pub returns-in_default : goal.returns-in_default
 returns-in_default c =
-    let w = sym c.in_default.is ∙ c.point_walk.ensures in record { value = w; radial_after = radial-lost (point_walk (point_tables c.args.points.now c.args.edges.now) c.args.ne (length c.args.radial.now) c.args.p) _ w }
+    let w = sym c.in_default.is ∙ c.point_walk.ensures in
+    record {
+      value = w;
+      radial_after = radial-lost
+          (point_walk (point_tables c.args.points.now c.args.edges.now) c.args.ne (length c.args.radial.now) c.args.p) _ w;
+    }
 
 pub loop-i-init : goal.loop-i-init
 loop-i-init c =

@@ -7,8 +7,12 @@ use Rattle.walks.proofs.Border.{border-of-laid, cleared}
 use Rattle.t_nurcc_face.proofs.put_border.Goals as goal
 
 pub lay_border-requires : goal.lay_border-requires
-lay_border-requires c =
-    record { edge_width_in_bounds = c.requires.edge_width_in_bounds; face_width_in_bounds = c.requires.face_width_in_bounds; perimeter_len = rw c.requires.perimeter_value (length-replicate {A = ℕ} 64 0); points_len = rw c.requires.points_value (length-replicate {A = ℕ} 68 0) }
+lay_border-requires c = record {
+  edge_width_in_bounds = c.requires.edge_width_in_bounds;
+  face_width_in_bounds = c.requires.face_width_in_bounds;
+  perimeter_len = rw c.requires.perimeter_value (length-replicate {A = ℕ} 64 0);
+  points_len = rw c.requires.points_value (length-replicate {A = ℕ} 68 0);
+}
 
 pub returns-in_default : goal.returns-in_default
 returns-in_default c =

@@ -24,8 +24,14 @@ build_first-requires c =
       firsts = c.args.firsts.now;
       listed = c.args.listed.now;
       intervals = c.args.beside.now;
-    })
-    c.most.ensures c.read_text.ensures.outcome c.in-Read.is in record { p_in_bounds = h.coordinates; f_in_bounds = h.lengths; n_in_bounds = h.listed; n_in_bounds_2 = h.intervals; f_in_bounds_2 = h.firsts }
+    }) c.most.ensures c.read_text.ensures.outcome c.in-Read.is in
+    record {
+      p_in_bounds = h.coordinates;
+      f_in_bounds = h.lengths;
+      n_in_bounds = h.listed;
+      n_in_bounds_2 = h.intervals;
+      f_in_bounds_2 = h.firsts;
+    }
 
 pub enum_told-1 : goal.enum_told-1
 enum_told-1 c =

@@ -11,7 +11,15 @@ returns-then-not-stands c =
 
 pub read_and_mend-requires : goal.read_and_mend-requires
 read_and_mend-requires c =
-    let head = sym c.stands.ensures ∙ c.if-not-stands.false in record { points_in_bounds = omega arith; faces_in_bounds = omega arith; faces_in_bounds_2 = omega arith; listed_in_bounds = omega arith; listed_in_bounds_2 = omega arith; bytes_value = head }
+    let head = sym c.stands.ensures ∙ c.if-not-stands.false in
+    record {
+      points_in_bounds = omega arith;
+      faces_in_bounds = omega arith;
+      faces_in_bounds_2 = omega arith;
+      listed_in_bounds = omega arith;
+      listed_in_bounds_2 = omega arith;
+      bytes_value = head;
+    }
 
 pub shape_of-text : goal.shape_of-text
 shape_of-text c =

@@ -14,8 +14,18 @@ mend_first-requires c =
       firsts = c.args.firsts.now;
       listed = c.args.listed.now;
       intervals = c.args.beside.now;
-    } in let h = fits General c.args.text.now lent c.most.ensures c.read_text.ensures.outcome c.in-Read.is in let s = said-first c.args.text.now lent c.most.ensures c.read_text.ensures.outcome c.requires.bytes_value
-    c.in-Read.is in record { p_in_bounds = h.coordinates; f_in_bounds = h.lengths; f_in_bounds_2 = h.firsts; n_in_bounds = h.listed; n_in_bounds_2 = h.intervals; said = s }
+    } in
+    let h = fits General c.args.text.now lent c.most.ensures c.read_text.ensures.outcome c.in-Read.is in
+    let s = said-first c.args.text.now lent c.most.ensures c.read_text.ensures.outcome c.requires.bytes_value
+    c.in-Read.is in
+    record {
+      p_in_bounds = h.coordinates;
+      f_in_bounds = h.lengths;
+      f_in_bounds_2 = h.firsts;
+      n_in_bounds = h.listed;
+      n_in_bounds_2 = h.intervals;
+      said = s;
+    }
 
 pub shape_of-text-in-Read : goal.shape_of-text-in-Read
 shape_of-text-in-Read c =

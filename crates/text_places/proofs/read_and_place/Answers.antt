@@ -13,8 +13,16 @@ place_first-requires c =
       firsts = c.args.firsts.now;
       listed = c.args.listed.now;
       intervals = c.args.beside.now;
-    }) c.most.ensures c.read_text.ensures.outcome
-    c.in-Read.is in record { p_in_bounds = h.held.coordinates; f_in_bounds = h.held.lengths; n_in_bounds = h.held.listed; n_in_bounds_2 = h.held.intervals; f_in_bounds_2 = h.held.firsts; p_bound = h.points-few; f_bound = h.faces-few }
+    }) c.most.ensures c.read_text.ensures.outcome c.in-Read.is in
+    record {
+      p_in_bounds = h.held.coordinates;
+      f_in_bounds = h.held.lengths;
+      n_in_bounds = h.held.listed;
+      n_in_bounds_2 = h.held.intervals;
+      f_in_bounds_2 = h.held.firsts;
+      p_bound = h.points-few;
+      f_bound = h.faces-few;
+    }
 
 -- src/lib.rt:161:1
 pub shape_of-coordinates-in-Read : goal.shape_of-coordinates-in-Read

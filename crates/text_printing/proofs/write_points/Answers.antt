@@ -11,31 +11,38 @@ use Rattle.mesh_printing.specs.Faces.{listed_pair_at}
 use Rattle.text_printing.proofs.write_points.Goals as goal
 
 pub loop-i-init : goal.loop-i-init
-loop-i-init c =
-    (
-      omega arith,
-      refl,
-      lines_start listed_part _ _
-          (λ k. listed_pair_at (lists_in Two [] [] [] c.args.listed.now c.args.beside.now) (c.args.a + k)),
-    )
+loop-i-init c = (
+  omega arith,
+  refl,
+  lines_start listed_part _ _
+      (λ k. listed_pair_at (lists_in Two [] [] [] c.args.listed.now c.args.beside.now) (c.args.a + k)),
+)
 
 pub write_listed-j-requires : goal.write_listed-j-requires
-write_listed-j-requires c =
-    record { i_in_bounds = omega arith; i_in_bounds_2 = let c.loop-i-test.true = c.loop-i-test.true in
-            let c.requires.n_in_bounds = c.requires.n_in_bounds in
-            omega arith; nan_value = c.requires.finite_intervals _ (let c.loop-i-test.true = c.loop-i-test.true in let c.requires.n_in_bounds = c.requires.n_in_bounds in let c.requires.beside_len = c.requires.beside_len in omega arith); i_in_bounds_3 = lines-turn-room listed_part _ _
-              (λ k. listed_pair_at (lists_in Two [] [] [] c.args.listed.now c.args.beside.now) (c.args.a + k)) c.loop-i.i
-              c.loop-i.invariant.2 c.loop-i.invariant.1 c.loop-i-test.true c.requires.n_in_bounds_2 }
+write_listed-j-requires c = record {
+  i_in_bounds = omega arith;
+  i_in_bounds_2 =
+      let bound = c.loop-i-test.true in
+      let bound = c.requires.n_in_bounds in
+      omega arith;
+  nan_value = c.requires.finite_intervals _
+      (let bound = c.loop-i-test.true in
+      let bound = c.requires.n_in_bounds in
+      let bound = c.requires.beside_len in
+      omega arith);
+  i_in_bounds_3 = lines-turn-room listed_part _ _
+      (λ k. listed_pair_at (lists_in Two [] [] [] c.args.listed.now c.args.beside.now) (c.args.a + k)) c.loop-i.i
+      c.loop-i.invariant.2 c.loop-i.invariant.1 c.loop-i-test.true c.requires.n_in_bounds_2;
+}
 
 pub loop-i-preserved : goal.loop-i-preserved
-loop-i-preserved c =
-    (
-      omega arith,
-      c.write_listed-j.auto.out ∙ c.loop-i.invariant.1,
-      lines-turn listed_part _ _
-          (λ k. listed_pair_at (lists_in Two [] [] [] c.args.listed.now c.args.beside.now) (c.args.a + k)) c.loop-i.i
-          c.loop-i.invariant.2 c.write_listed-j.ensures,
-    )
+loop-i-preserved c = (
+  omega arith,
+  c.write_listed-j.auto.out ∙ c.loop-i.invariant.1,
+  lines-turn listed_part _ _
+      (λ k. listed_pair_at (lists_in Two [] [] [] c.args.listed.now c.args.beside.now) (c.args.a + k)) c.loop-i.i
+      c.loop-i.invariant.2 c.write_listed-j.ensures,
+)
 
 pub shape_of-out : goal.shape_of-out
 shape_of-out c =

@@ -6,7 +6,9 @@ use Rattle.text_rewriting.proofs.rewrite_faces.Goals as goal
 
 pub turn_faces-requires : goal.turn_faces-requires
 turn_faces-requires c =
-    let h = turn-room c.args.text.now c.args.coordinates.now c.args.sides.now c.args.firsts.now c.args.listed.now c.args.beside.now c.args.turned.now c.requires in record { fitting = h.0; sides_len_bound = h.1; sides_in_bounds = h.2; listed_len_bound = h.3 }
+    let h = turn-room c.args.text.now c.args.coordinates.now c.args.sides.now c.args.firsts.now c.args.listed.now
+    c.args.beside.now c.args.turned.now c.requires in
+    record { fitting = h.0; sides_len_bound = h.1; sides_in_bounds = h.2; listed_len_bound = h.3 }
 
 pub overflow_mul-at : goal.overflow_mul-at
 overflow_mul-at c =

@@ -24,16 +24,14 @@ bounds-order-i c =
 
 pub visit-taken-requires : goal.visit-taken-requires
 visit-taken-requires c =
-    let whole = (
-      c.requires.ceilings,
-      (
-        c.requires.edges,
-        (
-          c.requires.faces,
-          (turning-fits _ _ _ _ _ _ _ _ _ _ _ _ c.loop-i.invariant.0 _ c.index-f.ensures c.requires c.loop-i-test.true, c.loop-i.invariant.1),
-        ),
-      ),
-    ) in record { ceilings = whole.0; edge_width_in_bounds = whole.1.0; face_width_in_bounds = whole.1.1.0; visit_fits = whole.1.1.1.0; found_len = whole.1.1.1.1.0; places_lent = whole.1.1.1.1.1 }
+    record {
+      ceilings = c.requires.ceilings;
+      edge_width_in_bounds = c.requires.edges;
+      face_width_in_bounds = c.requires.faces;
+      visit_fits = turning-fits _ _ _ _ _ _ _ _ _ _ _ _ c.loop-i.invariant.0 _ c.index-f.ensures c.requires c.loop-i-test.true;
+      found_len = c.loop-i.invariant.1.0;
+      places_lent = c.loop-i.invariant.1.1;
+    }
 
 pub loop-i-preserved : goal.loop-i-preserved
 loop-i-preserved c = (

@@ -34,7 +34,8 @@ module _ (s : List ℕ) (at : ℕ) where
   first-inside h {v} {i} e f = let t = takes-decimal s (at + 2) (stands-inside s (bytes " [") at refl h e) v i f in omega arith
 
   module _ {v i : ℕ} {r : Run} where
-    pub no-points : stands s at (bytes " [") ≡ true → decimal s (at + 2) ≡ parsed v i → r ≡ run_answer length (points s i) → r ≡ Run.None → SideRead.None ≡ side_answer (side_form s at)
+    pub no-points : stands s at (bytes " [") ≡ true → decimal s (at + 2) ≡ parsed v i → r ≡ run_answer length
+        (points s i) → r ≡ Run.None → SideRead.None ≡ side_answer (side_form s at)
     unfolding side_form
     no-points e f er en = rw (literal-found s (bytes " [") at e, f, run_none length (points s i) (sym er ∙ en))
 

@@ -30,7 +30,8 @@ unfolding digits_from
 digits-grow s zero v i w n e = let ew : v ≡ w = cc in omega arith
 digits-grow s (suc k) v i w n e = go (ltb (digit_value (get_or s i 0)) 10) refl (digits-grow s k (v * 10 + digit_value (get_or s i 0)) (i + 1) w n)
   where
-    go : (b : Bool) → ltb (digit_value (get_or s i 0)) 10 ≡ b → (digits_from s k (v * 10 + digit_value (get_or s i 0)) (i + 1) ≡ parsed w n → v * 10 + digit_value (get_or s i 0) ≤ w) → v ≤ w
+    go : (b : Bool) → ltb (digit_value (get_or s i 0)) 10 ≡ b
+        → (digits_from s k (v * 10 + digit_value (get_or s i 0)) (i + 1) ≡ parsed w n → v * 10 + digit_value (get_or s i 0) ≤ w) → v ≤ w
     go true eb ih = let r = ih (sym (digits-turn s v i k (ltb-true _ _ eb)) ∙ e) in omega arith
     go false eb ih = let ew : v ≡ w = cc (digits-stop s v i (suc k) (ltb-false _ _ eb)) in omega arith
 
