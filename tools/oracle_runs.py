@@ -8,7 +8,7 @@
 What is expected of a sample is what the oracle recorded of the Rust (oracle/samples/NAME.out); where document 01 or 02 refuses what
 the Rust accepts, it is the ground there: the one that oracle/samples/INDEX names, or 33 where a recorded number is not finite.
 What is expected of a bad input is the ground of document 01. Nothing is taken from the program. The form of the input stands in
-crates/oracle_runs/src/records.rt and heads.rt.
+crates/oracle_runs/src/telling.rt and heads.rt.
 
 A listing of more than FULL bytes is not written but told apart by its remainder: its bytes, each one more, are the digits of a number
 in base 257, and the remainder of that by the prime 2^55 - 55 is written.

@@ -3,18 +3,18 @@
 // mesh. Bad inputs are further records.
 // Its input and what it must write are made by `tools/oracle_runs.py`: what is expected comes from the oracle's recorded files and
 // from document 01, never from this program.
-// Not here: what is told of one record (`records.rt`).
+// Not here: what is told of one record (`telling.rt`).
 #![tactic(auto)]
 
 ghost use Rattle.std.specs.Prelude.{◌≡◌, ◌≤◌, IfOk, length};
 
-use crate::records::{HEAD_BYTES, record_bytes, tell};
+use crate::telling::{HEAD_BYTES, record_bytes, tell};
 use std::io;
 use std::io::Read;
 use streams::read_full;
 
 mod heads;
-mod records;
+mod telling;
 
 // Room for one record: the longest has a text of 16,385 bytes.
 const RECORD_BYTES: usize = 16640;
