@@ -47,7 +47,7 @@ shape_of-faces-then-choose_turns c =
 
 pub shape_of-mates-then-choose_turns : goal.shape_of-mates-then-choose_turns
 shape_of-mates-then-choose_turns c =
-    c.pair_faces.kept.1.1.1.1.1.0
+    c.pair_faces.auto.mates
 
 pub shape_of-turned-then-choose_turns : goal.shape_of-turned-then-choose_turns
 shape_of-turned-then-choose_turns c =
@@ -88,7 +88,7 @@ shape_of-faces-else-choose_turns c =
 
 pub shape_of-mates-else-choose_turns : goal.shape_of-mates-else-choose_turns
 shape_of-mates-else-choose_turns c =
-    c.pair_faces.kept.1.1.1.1.1.0
+    c.pair_faces.auto.mates
 
 pub shape_of-turned : goal.shape_of-turned
 shape_of-turned c =

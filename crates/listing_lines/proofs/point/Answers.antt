@@ -25,7 +25,7 @@ words-requires c =
 -- src/lib.rt:65:9
 pub shape_of-xs-in_default-words : goal.shape_of-xs-in_default-words
 shape_of-xs-in_default-words c =
-    c.coordinates.kept.1.1.1.0
+    c.coordinates.auto.xs
 
 -- src/lib.rt:65:9
 pub shape_of-ws-in_default-words : goal.shape_of-ws-in_default-words

@@ -28,11 +28,11 @@ shape_of-edges c =
 
 pub shape_of-intervals : goal.shape_of-intervals
 shape_of-intervals c =
-    c.step_by_zeros.kept.1.1.1.0
+    c.step_by_zeros.auto.intervals
 
 pub shape_of-faces : goal.shape_of-faces
 shape_of-faces c =
-    c.step_by_zeros.kept.1.1.1.1.0
+    c.step_by_zeros.auto.faces
 
 pub returns : goal.returns
 returns c =

@@ -13,7 +13,7 @@ read_text-requires c =
 
 pub enum_known-version : goal.enum_known-version
 enum_known-version c =
-    c.in-Read.keys1
+    c.in-Read.in-Read-own.keys1
 
 pub build_first-requires : goal.build_first-requires
 build_first-requires c =
@@ -35,11 +35,11 @@ build_first-requires c =
 
 pub enum_told-1 : goal.enum_told-1
 enum_told-1 c =
-    c.in-Read.keys2
+    c.in-NotText.in-NotText-own.keys2
 
 pub enum_told-in-OverLimits : goal.enum_told-in-OverLimits
 enum_told-in-OverLimits c =
-    c.in-Read.keys3
+    c.in-OverLimits.in-OverLimits-own.keys3
 
 pub shape_of-coordinates-in-Read : goal.shape_of-coordinates-in-Read
 shape_of-coordinates-in-Read c =
