@@ -113,6 +113,8 @@ agree :
     {o : NamedMesh first m} {o' : NamedMesh first m'} → Naming k l n hs m o → Naming k' l' n' hs' m' o' → k' ≡ k → StepsPaired l l' hs hs' →
     Binary64 l.counts l.tables → Binary64 l'.counts l'.tables → Agreement n n' → SameAnswers l l' hs hs' × Agreement o o'
 agree done done e no_pair b b' a = (no_answer, a)
+agree done (further x' xs') e pairs b b' a = elim pairs [ ]
+agree (further x xs) done e pairs b b' a = elim pairs [ ]
 agree (further {k} {l} {n} {h} {n' = o} x xs) (further {k = k'} {l = l'} {n = n'} {h = h'} {n' = o'} x' xs') e (one_pair p ps) b b' a =
     let q = same_answer n n' a h h' p in
     let y : Renamed k (outcome l' h').answer n' o' = subst (λ j. Renamed j (outcome l' h').answer n' o') e x' in

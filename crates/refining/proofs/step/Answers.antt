@@ -6,6 +6,7 @@ use mathlib.Core.List.{[], ◌∷◌}
 use mathlib.Core.Logic.{inl, inr}
 use native.Mathlib.Omega.{arith}
 use types.Run.{OneOf}
+use borrow.Enum.Refused.{Among, opened}
 use denote.Enum.Declared.{tag_of}
 use Rattle.steps.specs.declared.Stepped.{Stepped}
 use Rattle.steps.specs.Step.{step_numbers}
@@ -67,7 +68,8 @@ returns-in_default c =
     c.args.newfaces.now in
     let outcome = refused c.args.edition m c.args.counts c.args.order.now t c.first_ground-ground.result
     c.first_ground-ground.ensures
-    (λ c' e. not-one (subst (λ (x : Stepped). OneOf (1 ∷ 2 ∷ 3 ∷ 4 ∷ []) (tag_of the_type x)) e c.in_default.in_default-own.keys2)) in
+    (λ c' e. not-one
+    (opened (subst (λ (x : Stepped). Among (1 ∷ 2 ∷ 3 ∷ 4 ∷ []) (tag_of the_type x)) e c.in_default.in_default-own.keys2))) in
     record
     { outcome = outcome; numbers = λ e l. c.slice_known-4-1.given e; told = ap (λ o. step_numbers o.answer) outcome }
 
