@@ -43,4 +43,4 @@ shape_of-newfaces c =
 
 pub returns : goal.returns
 returns c =
-    let whole = c.step_told.ensures in record { outcome = whole.0; numbers = whole.1 }
+    record { outcome = c.step_told.ensures.outcome; numbers = c.step_told.ensures.numbers }
