@@ -1,4 +1,4 @@
--- One step of a walk of the audit, from an edge whose links may both be followed.
+-- One step of a walk, from an edge whose links may both be followed.
 --     LinksBelow es ne            the links of every edge below ne are below ne
 --     faces_linked, ends_linked     the two links of an edge anticlockwise about its faces, about its ends, are below ne
 --     linked_face_step es ne f e    one step about face f from edge e, if e borders f and its two links about faces are below ne

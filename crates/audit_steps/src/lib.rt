@@ -1,9 +1,10 @@
-// What the audit's walks are made of: one step about a face or a point, and whether a point is new among those that a walk has passed.
+// Steps of walks for the audit, which does not take them yet: one step about a face or a point, and whether a point is new among those
+// that a walk has passed.
 // On a mesh whose rows are in no order a processor cannot foretell on which side of an edge a face is, nor at which end a point, and a
 // walk waits for each row before it knows the next. So a step takes its words by a number in place of a branch, and both links that may
 // be taken are tested, and so loaded, before it is known which one is. Each point that a walk passes leaves the stamp of the walk at the
 // place of its number: where another stamp stands, the point is new, and it need not be compared with those before.
-// Not here: the steps by the side and by the end (`walks`), the walks (`audit_faces`, `few_edges`).
+// Not here: the steps by the side and by the end (`walks`), by which the audit's walks go (`audit_faces`, `few_edges`).
 // Contracts: `linked_face_step`, `linked_point_step`, `is_new`. Definitions: `specs/Linked.antt`, `specs/Noted.antt`. Laws for callers:
 // `proofs/Linked.antt`, `proofs/Noted.antt`.
 #![tactic(auto)]

@@ -14,10 +14,10 @@
 //     specs/Runs.antt          runs of refinements
 //
 // Claims and their proofs:
-//     StaysClosed     a refined closed mesh is closed                              proofs/Refinement.antt, stays-closed
+//     StaysClosed     a refined closed mesh is closed                              proofs/Refinement.antt, stays_closed
 //     NewBorders      the walk about a new face passes its border                  proofs/NewBorders.antt, new-borders
 //     NewCorners      its corners are the points of the walk from the face point   proofs/NewBorders.antt, new-corners
-//     CarriesOver     closed carries over any isomorphism                          proofs/Isomorphisms.antt, carries-over
+//     CarriesOver     closed carries over any isomorphism                          proofs/Isomorphisms.antt, carries_over
 //     RunsNameApart   no two rows of a kind share a name                           proofs/Names.antt, names-differ
 //     TwoRuns         two runs with equally many steps are shared                  proofs/TwoRuns.antt, theorem
 //     SharedIsAll     nothing but row numbers and start edges is left out of it    proofs/SharedIsAll.antt, shared-is-all

@@ -92,7 +92,7 @@ fn edge_middle(
     middle(from, wo, to, wt)
 }
 
-// m (1 - a_r - a_l) + a_l times the left face point + a_r times the right one.
+// m (1 - aR - aL) + aL times the left face point + aR times the right one.
 fn blend(m: Position, a: Shares, left: Position, right: Position) -> Position
     ensures { result ≡ blend m a left right }
 {

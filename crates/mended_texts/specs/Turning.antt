@@ -1,7 +1,7 @@
 -- Faces of a text turned round (document 02, §8): the sides in opposite order, each side backwards, each interval staying on its pair of
 -- points.
 --     backward_from a ps qs    the side that goes on from the point a through ps, run back to where qs goes on
---     backward d              the side `[a [p1 i1] .. [pm im]]` run backwards: `[pm [p(m_1) im] .. [p1 i2] [a i1]]`
+--     backward d              the side `[a [p1 i1] .. [pm im]]` run backwards: `[pm [p(m-1) im] .. [p1 i2] [a i1]]`
 --     turned_onto ds es        the sides ds run backwards, the last one first, before the sides es
 --     turned_face ds           the face turned round
 --     turned_if t ds           the face turned round, if it is to be

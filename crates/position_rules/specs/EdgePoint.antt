@@ -1,11 +1,11 @@
 -- The edge point (document 01, "Edge point", equations 13 to 15). Here ps, es and is are the tables of positions, edges and
 -- intervals, and fp f is the face point of face f.
 --     share                a part of a denominator, 0 if the denominator is small
---     shares is edge       a_l and a_r: the sums of the neighbours on either side over twice the sum of all four
+--     shares is edge       aL and aR: the sums of the neighbours on either side over twice the sum of all four
 --     middle               m: both ends weighted, or the midpoint if the denominator is small
 --     edge_middle           m of edge e from o to t, each end weighted by d + A2 + C2 about that end
 --     edge_middle_of         m of edge e
---     blend                m (1 - a_r - a_l) + a_l times the left face point + a_r times the right one
+--     blend                m (1 - aR - aL) + aL times the left face point + aR times the right one
 --     edge_point            the edge point of edge e
 --     weighted_point ed     what the rule for old points weighs for edge e in the edition ed: "equation 16 weights equation 15's m"
 --                          (document 02, §5) in the second, the edge point in the first
