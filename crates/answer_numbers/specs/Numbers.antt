@@ -1,13 +1,7 @@
--- The answer of a step as one number.
---     step_number a            document 01's number of the ground, 0 for an accepted step
-use Rattle.std.proofs.Math.Option.{Option, none, some}
-use Rattle.std.specs.Prelude.{ℕ}
-use Rattle.steps.specs.declared.Stepped.{Stepped}
-use Rattle.steps.specs.Step.{step_ground}
+-- An answer as one number.
+--     answer_number number a      the number of the refusal, 0 for what is accepted
+use Rattle.std.specs.Prelude.{ℕ, Result, Ok, Err}
 
-abbrev or_zero : Option ℕ → ℕ
-or_zero none = 0
-or_zero (some g) = g
-
-abbrev pub step_number : Stepped → ℕ
-step_number a = or_zero (step_ground a)
+abbrev pub answer_number : {T E : Type 0} → (E → ℕ) → Result T E → ℕ
+answer_number number (Ok x) = 0
+answer_number number (Err g) = number g

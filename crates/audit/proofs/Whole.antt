@@ -19,7 +19,7 @@ use Rattle.tables.specs.Counted.{counts_of, rows_for}
 use Rattle.tables.specs.Mesh.{Mesh, x, y, z, valence, start, mark, origin, dest, left_face, right_face, interval, mesh_of}
 use Rattle.audited_meshes.specs.Folds.{every}
 use Rattle.audited_meshes.specs.Walks.{Walk, back, lost, passed, acw_of_point, face_walk, point_walk}
-use Rattle.audited_meshes.specs.Audit.{edge_in_range, interval_fit, linked, audit}
+use Rattle.audited_meshes.specs.Audit.{interval_fit, linked, audit}
 use Rattle.audited_meshes.specs.Audited.{EdgeInRange}
 use Rattle.audited_meshes.specs.Quick.{point_fit, edge_fit, face_fit, face_back, free, alone, alone_at, one_edge, quick}
 use Rattle.audited_meshes.proofs.Tests.{and_is, not_is, eqb_is, leb-is, every-is, self-is}

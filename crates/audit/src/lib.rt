@@ -8,7 +8,8 @@
 
 ghost use Rattle.std.specs.Prelude.{◌≡◌, [], ℕ, ◌*◌, ◌≤◌, ◌<◌, length};
 ghost use Rattle.tables.specs.Layout.{position_width, point_width, edge_width, face_width};
-ghost use Rattle.tables.specs.Mesh.{valence, mesh_of};
+ghost use Rattle.tables.specs.Mesh.{valence};
+ghost use Rattle.tables.specs.Lent.{tables_of};
 ghost use Rattle.audited_meshes.specs.Audit.{audit};
 ghost use Rattle.tables.specs.Parts.{face_tables, point_tables};
 ghost use Rattle.few_edges.specs.Rounds.{Ends};
@@ -20,36 +21,29 @@ use audit_tests::points::{points_fit, valences_fit};
 use counted_rows::rows_for;
 use face_rows::faces_fit;
 use sole_edges::walks_with_sole_edges;
-use tables::Counts;
+use tables::{Counts, MeshTables};
 
 // The tests of single rows.
-fn rows_fit(
-    positions: &[f64],
-    points: &[u32],
-    edges: &[u32],
-    intervals: &[f64],
-    faces: &[u32],
-    counts: Counts,
-) -> bool
-    requires position_width_in_bounds { counts.points * position_width ≤ length positions.now }
-    requires point_width_in_bounds { counts.points * point_width ≤ length points.now }
-    requires edge_width_in_bounds { counts.edges * edge_width ≤ length edges.now }
-    requires edges_in_bounds { counts.edges ≤ length intervals.now }
-    requires face_width_in_bounds { counts.faces * face_width ≤ length faces.now }
+fn rows_fit(t: &MeshTables, counts: Counts) -> bool
+    requires position_width_in_bounds { counts.points * position_width ≤ length t.now.positions.now }
+    requires point_width_in_bounds { counts.points * point_width ≤ length t.now.points.now }
+    requires edge_width_in_bounds { counts.edges * edge_width ≤ length t.now.edges.now }
+    requires edges_in_bounds { counts.edges ≤ length t.now.intervals.now }
+    requires face_width_in_bounds { counts.faces * face_width ≤ length t.now.faces.now }
     ensures { result
-        ≡ rows_fit positions.now points.now edges.now intervals.now faces.now
+        ≡ rows_fit t.now.positions.now t.now.points.now t.now.edges.now t.now.intervals.now t.now.faces.now
         counts.points counts.edges counts.faces }
 {
     let np = counts.points;
     let ne = counts.edges;
     let nf = counts.faces;
-    if !points_fit(positions, points, ne, np) {
+    if !points_fit(t.positions, t.points, ne, np) {
         return false;
     }
-    if !edges_fit(edges, intervals, np, ne, nf) {
+    if !edges_fit(t.edges, t.intervals, np, ne, nf) {
         return false;
     }
-    faces_fit(faces, np, ne, nf)
+    faces_fit(t.faces, np, ne, nf)
 }
 
 // The sums and the walks.
@@ -75,23 +69,14 @@ fn walks_fit(points: &[u32], edges: &[u32], faces: &[u32], counts: Counts) -> bo
 }
 
 // Whether the tables are a closed mesh.
-pub fn audit(
-    positions: &[f64],
-    points: &[u32],
-    edges: &[u32],
-    intervals: &[f64],
-    faces: &[u32],
-    counts: Counts,
-) -> bool
-    ensures { result ≡ audit
-        (mesh_of positions.now points.now edges.now intervals.now faces.now)
-        counts.points counts.edges counts.faces }
+pub fn audit(t: &MeshTables, counts: Counts) -> bool
+    ensures { result ≡ audit (tables_of t.now) counts.points counts.edges counts.faces }
 {
-    if !rows_for(counts, positions, points, edges, intervals, faces) {
+    if !rows_for(counts, t) {
         return false;
     }
-    if !rows_fit(positions, points, edges, intervals, faces, counts) {
+    if !rows_fit(t, counts) {
         return false;
     }
-    walks_fit(points, edges, faces, counts)
+    walks_fit(t.points, t.edges, t.faces, counts)
 }

@@ -90,12 +90,10 @@ pub fn edges_fit(edges: &[u32], intervals: &[f64], np: usize, ne: usize, nf: usi
     requires ne_in_bounds { ne ≤ length intervals.now }
     ensures { result ≡ every ne (λ e. edge_fit (edge_tables edges.now intervals.now) np ne nf e) }
 {
-    let mut e = 0;
-    while e < ne {
+    for e in 0..ne {
         if !edge_fit(edges, intervals, np, ne, nf, e) {
             return false;
         }
-        e += 1;
     }
     true
 }

@@ -9,25 +9,9 @@ ghost use Rattle.audited_meshes.specs.Folds.{every};
 ghost use Rattle.audit_tests.specs.Parts.{differ_at, face_size, faces_walked};
 ghost use Rattle.tables.specs.Parts.{face_tables};
 
+use audit_tests::points::is_new_among;
 use t_nurcc_face::lay_border;
 use tables::{LONGEST_BORDER, LONGEST_PERIMETER};
-use walks::Passed;
-
-// Whether the point at place i is at none of the places before it.
-fn is_new(points: &[u32; LONGEST_BORDER], i: usize) -> bool
-    requires { i ≤ 67 }
-    ensures { result ≡ every i (λ j. differ_at points.now i j) }
-{
-    let p = points[i];
-    let mut j = 0;
-    while j < i {
-        if points[j] == p {
-            return false;
-        }
-        j += 1;
-    }
-    true
-}
 
 // Whether no point stands twice in the first four places: the same as below for a face of four edges, as nearly all have, with no
 // loop within a loop.
@@ -67,18 +51,16 @@ fn are_distinct(points: &[u32; LONGEST_BORDER], n: usize) -> bool
     if n == 4 {
         return four_are_distinct(points);
     }
-    let mut i = 0;
-    while i < n {
-        if !is_new(points, i) {
+    for i in 0..n {
+        if !is_new_among(points, i, points[i]) {
             return false;
         }
-        i += 1;
     }
     true
 }
 
-// The number of edges of face f; 0 if its walk does not come back, passes fewer than 3 edges or a point twice. The border of the face is
-// laid into the lent arrays, which may hold anything before.
+// The number of edges of face f; none if its walk does not come back, passes fewer than 3 edges or a point twice. The border of the face
+// is laid into the lent arrays, which may hold anything before.
 fn face_size(
     edges: &[u32],
     faces: &[u32],
@@ -86,7 +68,7 @@ fn face_size(
     f: usize,
     perimeter: &mut [u32; LONGEST_PERIMETER],
     points: &mut [u32; LONGEST_BORDER],
-) -> usize
+) -> Option<usize>
     requires edge_width_in_bounds { ne * edge_width ≤ length edges.now }
     requires face_width_in_bounds { f * face_width + face_width ≤ length faces.now }
     requires perimeter_len { length perimeter.old ≡ longest_perimeter }
@@ -95,13 +77,14 @@ fn face_size(
     ensures perimeter_len_2 { length perimeter.new ≡ longest_perimeter }
     ensures points_len_2 { length points.new ≡ longest_border }
 {
-    let Passed::Back(n) = lay_border(edges, faces, ne, f, perimeter, points) else {
-        return 0;
-    };
+    let n = lay_border(edges, faces, ne, f, perimeter, points)?;
     if n < 3 {
-        return 0;
+        return None;
     }
-    if are_distinct(points, n) { n } else { 0 }
+    if !are_distinct(points, n) {
+        return None;
+    }
+    Some(n)
 }
 
 // Whether the walk about each of the first nf faces comes back and passes no point twice, and their sizes add up to a total. The
@@ -115,17 +98,14 @@ pub fn face_walks_fit(edges: &[u32], faces: &[u32], ne: usize, nf: usize, total:
     let mut perimeter = [0u32; LONGEST_PERIMETER];
     let mut points = [0u32; LONGEST_BORDER];
     let mut sum = 0;
-    let mut f = 0;
-    while f < nf {
-        let n = face_size(edges, faces, ne, f, &mut perimeter, &mut points);
-        if n == 0 {
+    for f in 0..nf {
+        let Some(n) = face_size(edges, faces, ne, f, &mut perimeter, &mut points) else {
             return false;
-        }
+        };
         sum += n;
         if total < sum {
             return false;
         }
-        f += 1;
     }
     sum == total
 }

@@ -3,90 +3,63 @@
 // faces, the lengths of the five tables), then the tables, all little-endian.
 #![tactic(auto)]
 
-ghost use Rattle.std.specs.Prelude.{◌≡◌, ◌≤◌, ◌+◌, ◌*◌, ◌<◌, IfOk, length};
+ghost use Rattle.std.specs.Prelude.{◌≡◌, ◌≤◌, ◌+◌, IfOk, length};
 
 use std::io;
+use std::num::f64_from_bits_with_nan;
 use streams::read_full;
-use tables::Counts;
+use tables::{Counts, MeshTables};
 
-// The byte at a place as a number; 0 past the end.
-fn byte(bytes: &[u8], at: usize) -> u64
-    ensures { result < 256 }
-{
-    if at < bytes.len() {
-        bytes[at] as u64
-    } else {
-        0
+// The N bytes at a place; 0 past the end.
+fn bytes_at<const N: usize>(bytes: &[u8], at: usize) -> [u8; N] {
+    let mut found = [0; N];
+    for (b, x) in found.iter_mut().zip(bytes.iter().skip(at)) {
+        *b = *x;
     }
-}
-
-// The word of 4 bytes at a place.
-fn word(bytes: &[u8], at: usize) -> u64
-    requires { at ≤ 8589934592 }
-    ensures { result < 4294967296 }
-{
-    byte(bytes, at)
-        + byte(bytes, at + 1) * 256
-        + byte(bytes, at + 2) * 65536
-        + byte(bytes, at + 3) * 16777216
+    found
 }
 
 // The number of 8 bytes at a place.
-fn long(bytes: &[u8], at: usize) -> u64
-    requires { at ≤ 4294967296 }
-{
-    let low = word(bytes, at);
-    let high = word(bytes, at + 4);
-    high * 4294967296 + low
+fn long(bytes: &[u8], at: usize) -> u64 {
+    u64::from_le_bytes(bytes_at(bytes, at))
 }
 
-// The binary64 number whose bits stand at a place.
-fn number(bytes: &[u8], at: usize) -> f64
-    requires { at ≤ 4294967296 }
-{
-    let bits = long(bytes, at);
-    if 9218868437227405312 < bits % 9223372036854775808 {
-        let zero = 0.0;
-        return zero / zero;
-    }
-    f64::from_bits(bits)
+// What tables hold: words of 4 bytes, and binary64 numbers, by their bits.
+trait Entry: Copy {
+    // Entry i of a table that stands at a place.
+    fn entry(bytes: &[u8], at: usize, i: usize) -> Self
+        requires at_bound { at ≤ 2147483648 }
+        requires i_bound { i ≤ 65536 };
 }
 
-// Fills words from the bytes at a place.
-fn fill_words(bytes: &[u8], at: usize, words: &mut [u32])
-    requires at_bound { at ≤ 2147483648 }
-    requires words_len_bound { length words.old ≤ 65536 }
-    ensures { length words.new ≡ length words.old }
-{
-    let n = words.len();
-    let mut i = 0;
-    while i < n {
-        words[i] = word(bytes, at + i * 4) as u32;
-        i += 1;
+impl Entry for u32 {
+    fn entry(bytes: &[u8], at: usize, i: usize) -> u32 {
+        u32::from_le_bytes(bytes_at(bytes, at + i * 4))
     }
 }
 
-// Fills numbers from the bytes at a place.
-fn fill_numbers(bytes: &[u8], at: usize, numbers: &mut [f64])
+impl Entry for f64 {
+    fn entry(bytes: &[u8], at: usize, i: usize) -> f64 {
+        f64_from_bits_with_nan(long(bytes, at + i * 8))
+    }
+}
+
+// Fills a table from the bytes at a place.
+fn fill<T: Entry>(bytes: &[u8], at: usize, table: &mut [T])
     requires at_bound { at ≤ 2147483648 }
-    requires numbers_len_bound { length numbers.old ≤ 65536 }
-    ensures { length numbers.new ≡ length numbers.old }
+    requires table_len_bound { length table.old ≤ 65536 }
+    ensures { length table.new ≡ length table.old }
 {
-    let n = numbers.len();
-    let mut i = 0;
-    while i < n {
-        numbers[i] = number(bytes, at + i * 8);
-        i += 1;
+    for (i, x) in table.iter_mut().enumerate() {
+        *x = T::entry(bytes, at, i);
     }
 }
 
 // The length of a table that stands at a place, at most what the program has room for.
 fn size(bytes: &[u8], at: usize, most: usize) -> usize
-    requires { at ≤ 4294967296 }
     ensures { result ≤ most }
 {
-    let n = long(bytes, at) as usize;
-    if n <= most { n } else { most }
+    (long(bytes, at) as usize).min(most)
 }
 
 // Whether the mesh at a place is closed. Its tables have these lengths.
@@ -107,28 +80,28 @@ fn is_closed(
     requires ds_bound { ds ≤ 200 }
     requires fs_bound { fs ≤ 500 }
 {
-    let mut positions = [0.0f64; 330];
-    let mut points = [0u32; 330];
-    let mut edges = [0u32; 1600];
-    let mut intervals = [0.0f64; 200];
-    let mut faces = [0u32; 500];
+    let mut positions = [0.0; 330];
+    let mut points = [0; 330];
+    let mut edges = [0; 1600];
+    let mut intervals = [0.0; 200];
+    let mut faces = [0; 500];
     let b = at + xs * 8;
     let c = b + ps * 4;
     let d = c + es * 4;
     let e = d + ds * 8;
-    fill_numbers(bytes, at, &mut positions);
-    fill_words(bytes, b, &mut points);
-    fill_words(bytes, c, &mut edges);
-    fill_numbers(bytes, d, &mut intervals);
-    fill_words(bytes, e, &mut faces);
-    audit::audit(
-        &positions[..xs],
-        &points[..ps],
-        &edges[..es],
-        &intervals[..ds],
-        &faces[..fs],
-        counts,
-    )
+    fill(bytes, at, &mut positions);
+    fill(bytes, b, &mut points);
+    fill(bytes, c, &mut edges);
+    fill(bytes, d, &mut intervals);
+    fill(bytes, e, &mut faces);
+    let tables = MeshTables {
+        positions: &positions[..xs],
+        points: &points[..ps],
+        edges: &edges[..es],
+        intervals: &intervals[..ds],
+        faces: &faces[..fs],
+    };
+    audit::audit(&tables, counts)
 }
 
 // Tells of the mesh at a place, and gives the place of the next one.
@@ -147,9 +120,9 @@ fn tell(rt: &impl Print, bytes: &[u8], at: usize) -> io::Result<usize>
     let ds = size(bytes, at + 80, 200);
     let fs = size(bytes, at + 88, 500);
     if is_closed(bytes, at + 96, counts, xs, ps, es, ds, fs) {
-        rt.write_all(b" closed\n")?;
+        println!(rt; " closed")?;
     } else {
-        rt.write_all(b" not closed\n")?;
+        println!(rt; " not closed")?;
     }
     Ok(at + 96 + xs * 8 + ps * 4 + es * 4 + ds * 8 + fs * 4)
 }
@@ -157,12 +130,11 @@ fn tell(rt: &impl Print, bytes: &[u8], at: usize) -> io::Result<usize>
 // Tells of the meshes one after the other.
 fn tell_all(rt: &impl Print, bytes: &[u8]) -> io::Result<()> {
     let mut at = 0;
-    for _ in 0usize..4096 {
-        let label = at + 32;
-        if bytes.len() < label {
+    for _ in 0..4096usize {
+        let Some(label) = bytes.get(at..at + 32) else {
             break;
-        }
-        rt.write_all(&bytes[at..label])?;
+        };
+        rt.write_all(label)?;
         at = tell(rt, bytes, at)?;
     }
     Ok(())

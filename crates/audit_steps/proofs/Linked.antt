@@ -11,26 +11,25 @@ use native.Mathlib.Omega.{arith}
 use lib.Dec.{eqb, ltb}
 use lib.ListN.{get_or}
 use borrow.Author.Tests.{lt-ltb, le-ltb}
-use Rattle.tables.specs.Mesh.{Mesh, edge_table, left_face, right_face, origin, dest, left_cw, left_acw, right_cw, right_acw}
+use Rattle.std.specs.Prelude.{Some, None}
+use Rattle.tables.specs.Mesh.{Mesh, edge_table, left_face, origin, dest, left_cw, left_acw, right_cw, right_acw}
 use Rattle.audited_meshes.specs.Walks.{borders, touches, acw_of_face, acw_of_point, first_point}
 use Rattle.walks.specs.Places.{end_number}
-use Rattle.walks.specs.Steps.{point_across, to_if, face_step, point_step}
-use Rattle.walks.specs.declared.Step.{Step}
-use Rattle.walks.specs.declared.Step.TheVariants.{To, Lost}
+use Rattle.walks.specs.Steps.{step_to, point_across, to_if, face_step, point_step}
 use Rattle.walks.proofs.Places.{place-one-of, place-choice}
-use Rattle.audit_steps.specs.Linked.{LinksBelow, faces_linked, ends_linked, linked_face_step, linked_point_step}
+use Rattle.audit_steps.specs.Linked.{LinksBelow, linked_face_step, linked_point_step}
 
 -- a step whose tests are t, a and b
-lost-first : (t a b : Bool) (p e : ℕ) → t ≡ false → Lost ≡ to_if (t && (a && b)) p e
+lost-first : (t a b : Bool) (p e : ℕ) → t ≡ false → None ≡ to_if (t && (a && b)) p e
 lost-first t a b p e h = rw h refl
 
-lost-second : (t a b : Bool) (p e : ℕ) → t ≡ true → a ≡ false → Lost ≡ to_if (t && (a && b)) p e
+lost-second : (t a b : Bool) (p e : ℕ) → t ≡ true → a ≡ false → None ≡ to_if (t && (a && b)) p e
 lost-second t a b p e h k = rw (h, k) refl
 
-lost-third : (t a b : Bool) (p e : ℕ) → t ≡ true → a ≡ true → b ≡ false → Lost ≡ to_if (t && (a && b)) p e
+lost-third : (t a b : Bool) (p e : ℕ) → t ≡ true → a ≡ true → b ≡ false → None ≡ to_if (t && (a && b)) p e
 lost-third t a b p e h k l = rw (h, k, l) refl
 
-made : (t a b : Bool) (p e q i : ℕ) → t ≡ true → a ≡ true → b ≡ true → p ≡ q → e ≡ i → To p e ≡ to_if (t && (a && b)) q i
+made : (t a b : Bool) (p e q i : ℕ) → t ≡ true → a ≡ true → b ≡ true → p ≡ q → e ≡ i → Some (step_to p e) ≡ to_if (t && (a && b)) q i
 made t a b p e q i h k l x y = rw (h, k, l, x, y) refl
 
 -- what is chosen by the number of the end that has the row n, of two ends o and d
@@ -65,22 +64,22 @@ module _ (es : List ℕ) (ne e : ℕ) where
         place-one-of es (e * 8 + 2) f first at word
         ∙ ap (λ (j : ℕ). eqb (get_or es (e * 8 + 2) 0) f || eqb (get_or es j 0) f) (omega arith)
 
-    pub face-off : eqb w f ≡ false → Lost ≡ linked_face_step es ne f e
+    pub face-off : eqb w f ≡ false → None ≡ linked_face_step es ne f e
     face-off h = lost-first (borders m f e) (ltb (left_acw m e) ne) (ltb (right_acw m e) ne) (first_point m f e) (acw_of_face m f e) (sym borders-is ∙ h)
 
     module _ (on : eqb w f ≡ true) where
-      pub face-out-left : ne ≤ l → Lost ≡ linked_face_step es ne f e
+      pub face-out-left : ne ≤ l → None ≡ linked_face_step es ne f e
       face-out-left h =
           lost-second (borders m f e) (ltb (left_acw m e) ne) (ltb (right_acw m e) ne) (first_point m f e) (acw_of_face m f e)
           (sym borders-is ∙ on) (rw (← left) (le-ltb l ne h))
 
       module _ (below : l < ne) where
-        pub face-out-right : ne ≤ r → Lost ≡ linked_face_step es ne f e
+        pub face-out-right : ne ≤ r → None ≡ linked_face_step es ne f e
         face-out-right h =
             lost-third (borders m f e) (ltb (left_acw m e) ne) (ltb (right_acw m e) ne) (first_point m f e) (acw_of_face m f e)
             (sym borders-is ∙ on) (rw (← left) (lt-ltb l ne below)) (rw (← right) (le-ltb r ne h))
 
-        pub face-to : r < ne → (p next : ℕ) → p ≡ get_or es (e * 8 + s) 0 → next ≡ cond (eqb s 0) l r → To p next ≡ linked_face_step es ne f e
+        pub face-to : r < ne → (p next : ℕ) → p ≡ get_or es (e * 8 + s) 0 → next ≡ cond (eqb s 0) l r → Some (step_to p next) ≡ linked_face_step es ne f e
         face-to h p next point link =
             made (borders m f e) (ltb (left_acw m e) ne) (ltb (right_acw m e) ne) p next (first_point m f e) (acw_of_face m f e)
             (sym borders-is ∙ on) (rw (← left) (lt-ltb l ne below)) (rw (← right) (lt-ltb r ne h))
@@ -97,22 +96,22 @@ module _ (es : List ℕ) (ne e : ℕ) where
     chosen_is : (x y : ℕ) → cond (eqb s 0) x y ≡ cond (eqb (origin m e) p) x y
     chosen_is x y = by_number o d p first at x y ∙ ap (λ (j : ℕ). cond (eqb j p) x y) from
 
-    pub point-off : eqb (cond (eqb s 0) o d) p ≡ false → Lost ≡ linked_point_step es ne p e
+    pub point-off : eqb (cond (eqb s 0) o d) p ≡ false → None ≡ linked_point_step es ne p e
     point-off h = lost-first (touches m p e) (ltb (left_cw m e) ne) (ltb (right_cw m e) ne) (point_across m p e) (acw_of_point m p e) (sym touches-is ∙ h)
 
     module _ (on : eqb (cond (eqb s 0) o d) p ≡ true) where
-      pub point-out-first : ne ≤ l → Lost ≡ linked_point_step es ne p e
+      pub point-out-first : ne ≤ l → None ≡ linked_point_step es ne p e
       point-out-first h =
           lost-second (touches m p e) (ltb (left_cw m e) ne) (ltb (right_cw m e) ne) (point_across m p e) (acw_of_point m p e)
           (sym touches-is ∙ on) (rw (← left) (le-ltb l ne h))
 
       module _ (below : l < ne) where
-        pub point-out-second : ne ≤ r → Lost ≡ linked_point_step es ne p e
+        pub point-out-second : ne ≤ r → None ≡ linked_point_step es ne p e
         point-out-second h =
             lost-third (touches m p e) (ltb (left_cw m e) ne) (ltb (right_cw m e) ne) (point_across m p e) (acw_of_point m p e)
             (sym touches-is ∙ on) (rw (← left) (lt-ltb l ne below)) (rw (← right) (le-ltb r ne h))
 
-        pub point-to : r < ne → (q next : ℕ) → q ≡ cond (eqb s 0) d o → next ≡ cond (eqb s 0) l r → To q next ≡ linked_point_step es ne p e
+        pub point-to : r < ne → (q next : ℕ) → q ≡ cond (eqb s 0) d o → next ≡ cond (eqb s 0) l r → Some (step_to q next) ≡ linked_point_step es ne p e
         point-to h q next other link =
             made (touches m p e) (ltb (left_cw m e) ne) (ltb (right_cw m e) ne) q next (point_across m p e) (acw_of_point m p e)
             (sym touches-is ∙ on) (rw (← left) (lt-ltb l ne below)) (rw (← right) (lt-ltb r ne h))

@@ -3,7 +3,7 @@
 --     stamped-none              before the first point
 --     stamped-next              one point more, which is noted with the stamp
 --     new-unstamped             a point at whose place the stamp does not stand is new
-use mathlib.Core.Path.{◌≡◌, refl, sym, ◌∙◌, ap}
+use mathlib.Core.Path.{◌≡◌, sym, ◌∙◌, ap}
 use mathlib.Core.Bool.{true}
 use mathlib.Core.List.{List}
 use mathlib.Core.Logic.{◌≢◌}

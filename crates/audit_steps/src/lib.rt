@@ -14,6 +14,7 @@ ghost use Rattle.tables.specs.Layout.{edge_width};
 ghost use Rattle.audit_steps.specs.Linked.{linked_face_step, linked_point_step};
 ghost use Rattle.audit_steps.specs.Noted.{new_among, stamp_places, stamp_place, Stamped};
 
+use audit_tests::points::is_new_among;
 use tables::{
     DEST_WORD, EDGE_WIDTH, LEFT_ACW_WORD, LEFT_CW_WORD, LEFT_FACE_WORD, RIGHT_ACW_WORD,
     RIGHT_CW_WORD, index,
@@ -33,32 +34,32 @@ fn chosen(s: usize, first: u32, second: u32) -> u32
     second
 }
 
-// One step about face f from edge e, whose links anticlockwise about both its faces must be below ne.
-pub fn linked_face_step(edges: &[u32], ne: usize, f: usize, e: usize) -> Step
+// One step about face f from edge e, whose links anticlockwise about both its faces must be below ne; none where the walk is lost.
+pub fn linked_face_step(edges: &[u32], ne: usize, f: usize, e: usize) -> Option<Step>
     requires { e * edge_width + edge_width ≤ length edges.now }
     ensures { result ≡ linked_face_step edges.now ne f e }
 {
     let b = e * EDGE_WIDTH;
     let s = end_number(index(edges[b + LEFT_FACE_WORD]), f);
     if index(edges[b + LEFT_FACE_WORD + s]) != f {
-        return Step::Lost;
+        return None;
     }
     let left = edges[b + LEFT_ACW_WORD];
     let right = edges[b + RIGHT_ACW_WORD];
     if ne <= index(left) {
-        return Step::Lost;
+        return None;
     }
     if ne <= index(right) {
-        return Step::Lost;
+        return None;
     }
-    Step::To {
+    Some(Step {
         point: edges[b + s],
         next: chosen(s, left, right),
-    }
+    })
 }
 
-// One step about point p from edge e, whose links anticlockwise about both its ends must be below ne.
-pub fn linked_point_step(edges: &[u32], ne: usize, p: usize, e: usize) -> Step
+// One step about point p from edge e, whose links anticlockwise about both its ends must be below ne; none where the walk is lost.
+pub fn linked_point_step(edges: &[u32], ne: usize, p: usize, e: usize) -> Option<Step>
     requires { e * edge_width + edge_width ≤ length edges.now }
     ensures { result ≡ linked_point_step edges.now ne p e }
 {
@@ -67,35 +68,20 @@ pub fn linked_point_step(edges: &[u32], ne: usize, p: usize, e: usize) -> Step
     let dest = edges[b + DEST_WORD];
     let s = end_number(index(origin), p);
     if index(chosen(s, origin, dest)) != p {
-        return Step::Lost;
+        return None;
     }
     let first = edges[b + LEFT_CW_WORD];
     let second = edges[b + RIGHT_CW_WORD];
     if ne <= index(first) {
-        return Step::Lost;
+        return None;
     }
     if ne <= index(second) {
-        return Step::Lost;
+        return None;
     }
-    Step::To {
+    Some(Step {
         point: chosen(s, dest, origin),
         next: chosen(s, first, second),
-    }
-}
-
-// Whether q stands at none of the first n places of points.
-fn is_apart(points: &[u32], n: usize, q: u32) -> bool
-    requires { n ≤ length points.now }
-    ensures { result ≡ new_among points.now n q }
-{
-    let mut a = 0;
-    while a < n {
-        if points[a] == q {
-            return false;
-        }
-        a += 1;
-    }
-    true
+    })
 }
 
 // Whether q stands at none of the first n places of points, which have left the stamp of the walk, as q has then. What other walks left
@@ -111,7 +97,7 @@ pub fn is_new(points: &[u32], n: usize, q: u32, stamps: &mut [usize], stamp: usi
     let was = stamps[b];
     stamps[b] = stamp;
     if was == stamp {
-        return is_apart(points, n, q);
+        return is_new_among(points, n, q);
     }
     true
 }

@@ -1,4 +1,4 @@
-// The tests about points.
+// The tests about points, and whether a point is new among those that a walk has passed.
 ghost use Rattle.std.specs.Prelude.{◌≡◌, [], ◌+◌, ◌*◌, ◌≤◌, eqb, length};
 ghost use Rattle.closed_meshes.specs.Renumbering.{sum_to};
 ghost use Rattle.tables.specs.Layout.{position_width, point_width};
@@ -6,6 +6,7 @@ ghost use Rattle.tables.specs.Mesh.{valence};
 ghost use Rattle.audited_meshes.specs.Folds.{every};
 ghost use Rattle.audited_meshes.specs.Quick.{point_fit};
 ghost use Rattle.tables.specs.Parts.{point_tables, position_tables};
+ghost use Rattle.audit_tests.specs.Parts.{new_among};
 
 use records::load_position;
 use tables::{MARK_WORD, POINT_WIDTH, START_WORD, index};
@@ -38,12 +39,10 @@ pub fn points_fit(positions: &[f64], points: &[u32], ne: usize, np: usize) -> bo
     requires point_width_in_bounds { np * point_width ≤ length points.now }
     ensures { result ≡ every np (λ p. point_fit (position_tables positions.now points.now) ne p) }
 {
-    let mut p = 0;
-    while p < np {
+    for p in 0..np {
         if !point_fit(positions, points, ne, p) {
             return false;
         }
-        p += 1;
     }
     true
 }
@@ -55,13 +54,24 @@ pub fn valences_fit(points: &[u32], np: usize, total: usize) -> bool
     ensures { result ≡ eqb (sum_to np (λ p. valence (point_tables points.now []) p)) total }
 {
     let mut sum = 0;
-    let mut p = 0;
-    while p < np {
+    for p in 0..np {
         sum += index(points[p * POINT_WIDTH]);
         if total < sum {
             return false;
         }
-        p += 1;
     }
     sum == total
+}
+
+// Whether q stands at none of the first n places of points.
+pub fn is_new_among(points: &[u32], n: usize, q: u32) -> bool
+    requires { n ≤ length points.now }
+    ensures { result ≡ new_among points.now n q }
+{
+    for point in &points[..n] {
+        if *point == q {
+            return false;
+        }
+    }
+    true
 }

@@ -8,28 +8,26 @@
 use mathlib.Core.Path.{◌≡◌, refl, sym, ◌∙◌, ap, subst}
 use mathlib.Core.Bool.{true, false}
 use mathlib.Core.List.{List, []}
-use Prim.Native.Nat.{ℕ, zero, ◌+◌, ◌*◌, ◌≤◌, ◌<◌}
+use Prim.Native.Nat.{ℕ, ◌+◌, ◌*◌, ◌≤◌, ◌<◌}
 use native.Mathlib.Nat.{le_of_eq}
 use borrow.Author.Tests.{eqb-true}
 use native.Mathlib.Omega.{arith}
 use lib.Ieee.{Float, of_bits, binary64}
 use lib.ListN.{length, get_or, drop, replicate, get_or-append, get_or-replicate, length-replicate}
-use Rattle.tables.specs.Mesh.{Mesh, none, mesh_of}
-use Rattle.tables.specs.Rows.{over, zeroed}
-use Rattle.tables.specs.Counted.{counts_of, rows_for, zeroed_rows}
+use Rattle.std.specs.Prelude.{Result, Ok, Err, ⊤}
+use Rattle.tables.specs.Mesh.{Mesh, none}
+use Rattle.tables.specs.Rows.{zeroed}
+use Rattle.tables.specs.Counted.{rows_for, zeroed_rows}
 use Rattle.tables.proofs.Laws.{length-zeroed}
 use Rattle.built_meshes.specs.Lists.{Lists, general_limits, points_of, faces_of, rows_of, offset, firsts_counted, counts_fit, listed_fit}
 use Rattle.tables.specs.declared.Sizes.{Sizes}
 use Rattle.built_meshes.specs.Perimeters.{BuildState, Progress, on, stopped}
 use Rattle.built_meshes.specs.Answers.{built_numbers}
 use Rattle.built_meshes.specs.Building.{BuildOutcome, build_refusal, whole_if, faces_from, answered, all_faces, build_if, build}
-use Rattle.built_meshes.specs.Whole.{marked, finished, whole_verdict}
+use Rattle.built_meshes.specs.Whole.{finished, whole_verdict}
 use Rattle.built_meshes.specs.declared.Version.{Version}
 use Rattle.built_meshes.specs.declared.Ground.{Ground}
 use Rattle.built_meshes.specs.declared.Ground.TheVariants.{OverCounts, UnfitNumber, FewRows}
-use Rattle.built_meshes.specs.declared.Verdict.{Verdict}
-use Rattle.built_meshes.specs.declared.Verdict.TheVariants.{Fit, Unfit}
-use Rattle.built_meshes.specs.declared.Built.TheVariants.{Accepted, Refused}
 use Rattle.built_meshes.proofs.Begin.{Counted, counts-is, numbers-is, Roomy, rows_is, listed-all}
 use Rattle.built_meshes.proofs.Theorem.{tables_of, zeroed-after}
 use Rattle.building_tests.specs.Lent.{lists, lists_in, FirstsGiven, limits_of}
@@ -160,16 +158,16 @@ module _ (l : Lists) (m t : Mesh) (begun : Begun l m) (zero : t ≡ zeroed_rows 
 
   pub stopped-outcome : (g : Ground) (n after : Mesh) → stopped g n ≡ faces_from (faces_of l) l 0 0 (on (state_at t 0))
       → after ≡ zeroed_rows (rows_of l) n
-      → ◌≡◌ {A = BuildOutcome} (record { answer = Refused g; tables = after }) (answered_from l m)
+      → ◌≡◌ {A = BuildOutcome} (record { answer = Err g; tables = after }) (answered_from l m)
   unfolding answered_from answered
   stopped-outcome g n after h z =
       rw (← all_from (stopped g n) h, z, zeroed-tables (stopped g n) (all_from (stopped g n) h))
 
-  verdict-outcome : (k : ℕ) (n : Mesh) (v : Verdict) → zeroed_rows (rows_of l) n ≡ zeroed_rows (rows_of l) m
+  verdict-outcome : (k : ℕ) (n : Mesh) (v : Result ⊤ Ground) → zeroed_rows (rows_of l) n ≡ zeroed_rows (rows_of l) m
       → concluded l.coordinates (points_of l) (length l.listed) (faces_of l) n k v ≡ whole_if l m (state_at n k) v
   unfolding concluded whole_if finished
-  verdict-outcome k n Fit z = refl
-  verdict-outcome k n (Unfit g) z = ap (λ (x : Mesh). build_refusal g x) z
+  verdict-outcome k n (Ok tt) z = refl
+  verdict-outcome k n (Err g) z = ap (λ (x : Mesh). build_refusal g x) z
 
   pub on-outcome : (k : ℕ) (n : Mesh) (o : BuildOutcome) → on (state_at n k) ≡ faces_from (faces_of l) l 0 0 (on (state_at t 0))
       → o ≡ concluded l.coordinates (points_of l) (length l.listed) (faces_of l) n k (whole_verdict n (points_of l) k)

@@ -11,59 +11,65 @@ ghost use Rattle.built_meshes.specs.Lists.{general_limits, rows_of};
 ghost use Rattle.built_meshes.specs.Answers.{built_numbers};
 ghost use Rattle.built_meshes.specs.Building.{BuildOutcome, build};
 ghost use Rattle.tables.specs.Counted.{zeroed_rows};
-ghost use Rattle.building_tests.specs.Lent.{lists_in, limits_of};
+ghost use Rattle.built_meshes.specs.Lent.{lists_of};
+ghost use Rattle.building_tests.specs.Lent.{limits_of};
 ghost use Rattle.edge_buckets.specs.Buckets.{buckets};
 ghost use Rattle.building.specs.Beginning.{answered_from, Begun, Zeroed};
 
 use building_ends::conclude;
-use building_faces::{Faced, enter_faces};
+use building_faces::enter_faces;
 use building_lists::counts_fit;
 use building_tests::{Bounds, MOST_LISTED};
-use built_meshes::{Built, Ground, Version};
+use built_meshes::{Ground, LentLists};
 use counted_rows::{rows_for, zero_rows};
 use edge_buckets::BUCKETS;
 use list_numbers::numbers_fit;
-use tables::{Counts, POSITION_WIDTH};
+use tables::{Counts, MeshTables, POSITION_WIDTH};
 
 // The words of the chains: a link for each bucket, and one for each edge.
 const CHAIN: usize = BUCKETS + MOST_LISTED;
 
 // Builds in tables whose counted rows are zero, with chains of no edge, from lists that meet no ground up to 4.
 fn build_zeroed(
-    version: Version,
-    coordinates: &[f64],
-    sides: &[u32],
-    firsts: &[u32],
-    listed: &[u32],
-    beside: &[f64],
+    lists: &LentLists,
     positions: &mut [f64],
     points: &mut [u32],
     edges: &mut [u32],
     intervals: &mut [f64],
     faces: &mut [u32],
     chain: &mut [u32],
-) -> Built
-    requires zeroed { Zeroed (lists_in version coordinates.now sides.now firsts.now listed.now beside.now) (mesh_of positions.old points.old edges.old intervals.old faces.old) }
+) -> Result<Counts, Ground>
+    requires zeroed { Zeroed (lists_of lists.now) (mesh_of positions.old points.old edges.old intervals.old faces.old) }
     requires listed_in_bounds { buckets + general_limits.listed ≤ length chain.old }
     requires by_index { (b : ℕ) → b < buckets → get_or chain.old b 0 ≡ 0 }
-    ensures { (m : Mesh) → Begun (lists_in version coordinates.now sides.now firsts.now listed.now beside.now) m →
+    ensures { (m : Mesh) → Begun (lists_of lists.now) m →
         (mesh_of positions.old points.old edges.old intervals.old faces.old)
-        ≡ zeroed_rows (rows_of (lists_in version coordinates.now sides.now firsts.now listed.now beside.now)) m →
+        ≡ zeroed_rows (rows_of (lists_of lists.now)) m →
         ◌≡◌ {A = BuildOutcome} (record {
           answer = result;
           tables = mesh_of positions.new points.new
               edges.new intervals.new faces.new;
         })
-        (answered_from (lists_in version coordinates.now sides.now firsts.now listed.now beside.now) m) }
+        (answered_from (lists_of lists.now) m) }
 {
-    let np = coordinates.len() / POSITION_WIDTH;
-    let nl = listed.len();
-    let nf = sides.len() / 4;
+    let np = lists.coordinates.len() / POSITION_WIDTH;
+    let nl = lists.listed.len();
+    let nf = lists.sides.len() / 4;
     match enter_faces(
-        version, sides, firsts, listed, beside, points, edges, intervals, faces, chain, np,
+        lists.version,
+        lists.sides,
+        lists.firsts,
+        lists.listed,
+        lists.beside,
+        points,
+        edges,
+        intervals,
+        faces,
+        chain,
+        np,
     ) {
-        Faced::On(k) => conclude(
-            coordinates,
+        Ok(k) => conclude(
+            lists.coordinates,
             positions,
             points,
             edges,
@@ -73,7 +79,7 @@ fn build_zeroed(
             nf,
             k,
         ),
-        Faced::Stopped(g) => {
+        Err(g) => {
             zero_rows(
                 Counts {
                     points: np,
@@ -86,39 +92,34 @@ fn build_zeroed(
                 intervals,
                 faces,
             );
-            Built::Refused(g)
+            Err(g)
         }
     }
 }
 
 // Builds from lists that meet no ground up to 4.
 fn build_begun(
-    version: Version,
-    coordinates: &[f64],
-    sides: &[u32],
-    firsts: &[u32],
-    listed: &[u32],
-    beside: &[f64],
+    lists: &LentLists,
     positions: &mut [f64],
     points: &mut [u32],
     edges: &mut [u32],
     intervals: &mut [f64],
     faces: &mut [u32],
-) -> Built
-    requires { Begun (lists_in version coordinates.now sides.now firsts.now listed.now beside.now) (mesh_of positions.old points.old edges.old intervals.old faces.old) }
+) -> Result<Counts, Ground>
+    requires { Begun (lists_of lists.now) (mesh_of positions.old points.old edges.old intervals.old faces.old) }
     ensures { ◌≡◌ {A = BuildOutcome} (record {
       answer = result;
       tables = mesh_of positions.new points.new
           edges.new intervals.new faces.new;
     })
-        (answered_from (lists_in version coordinates.now sides.now firsts.now listed.now beside.now)
+        (answered_from (lists_of lists.now)
         (mesh_of positions.old points.old edges.old intervals.old faces.old)) }
 {
     zero_rows(
         Counts {
-            points: coordinates.len() / POSITION_WIDTH,
-            edges: listed.len(),
-            faces: sides.len() / 4,
+            points: lists.coordinates.len() / POSITION_WIDTH,
+            edges: lists.listed.len(),
+            faces: lists.sides.len() / 4,
         },
         positions,
         points,
@@ -128,79 +129,54 @@ fn build_begun(
     );
     let mut chain = [0u32; CHAIN];
     build_zeroed(
-        version,
-        coordinates,
-        sides,
-        firsts,
-        listed,
-        beside,
-        positions,
-        points,
-        edges,
-        intervals,
-        faces,
-        &mut chain,
+        lists, positions, points, edges, intervals, faces, &mut chain,
     )
 }
 
 // Builds a mesh from lists of any content and lengths in the lent tables, within the bounds. Version 1 does not look at the first points.
 pub fn build(
-    version: Version,
-    coordinates: &[f64],
-    sides: &[u32],
-    firsts: &[u32],
-    listed: &[u32],
-    beside: &[f64],
+    lists: &LentLists,
     positions: &mut [f64],
     points: &mut [u32],
     edges: &mut [u32],
     intervals: &mut [f64],
     faces: &mut [u32],
     bounds: Bounds,
-) -> Built
+) -> Result<Counts, Ground>
     ensures fact { ◌≡◌ {A = BuildOutcome} (record {
       answer = result;
       tables = mesh_of positions.new points.new
           edges.new intervals.new faces.new;
     }) (build (limits_of bounds)
-        (lists_in version coordinates.now sides.now firsts.now listed.now beside.now)
+        (lists_of lists.now)
         (mesh_of positions.old points.old edges.old intervals.old faces.old)) }
     ensures result_value { built_numbers result
         ≡ built_numbers (build (limits_of bounds)
-        (lists_in version coordinates.now sides.now firsts.now listed.now beside.now)
+        (lists_of lists.now)
         (mesh_of positions.old points.old edges.old intervals.old faces.old)).answer }
 {
-    if !counts_fit(version, coordinates, sides, firsts, listed, beside, bounds) {
-        return Built::Refused(Ground::OverCounts);
+    if !counts_fit(lists, bounds) {
+        return Err(Ground::OverCounts);
     }
-    if !numbers_fit(coordinates, beside) {
-        return Built::Refused(Ground::UnfitNumber);
+    if !numbers_fit(lists.coordinates, lists.beside) {
+        return Err(Ground::UnfitNumber);
     }
+    let tables = MeshTables {
+        positions,
+        points,
+        edges,
+        intervals,
+        faces,
+    };
     if !rows_for(
         Counts {
-            points: coordinates.len() / POSITION_WIDTH,
-            edges: listed.len(),
-            faces: sides.len() / 4,
+            points: lists.coordinates.len() / POSITION_WIDTH,
+            edges: lists.listed.len(),
+            faces: lists.sides.len() / 4,
         },
-        positions,
-        points,
-        edges,
-        intervals,
-        faces,
+        &tables,
     ) {
-        return Built::Refused(Ground::FewRows);
+        return Err(Ground::FewRows);
     }
-    build_begun(
-        version,
-        coordinates,
-        sides,
-        firsts,
-        listed,
-        beside,
-        positions,
-        points,
-        edges,
-        intervals,
-        faces,
-    )
+    build_begun(lists, positions, points, edges, intervals, faces)
 }

@@ -7,6 +7,7 @@ use Prim.Native.Nat.{ℕ, zero, suc, ◌*◌}
 use lib.Dec.{eqb}
 use lib.ListN.{length, replicate}
 use lib.Ieee.{Float, nan, inf, of_bits, neg, add, sub, le, lt, binary64}
+use Rattle.std.specs.Prelude.{Ok, Err}
 use Rattle.edge_links.specs.Connect.{links_of}
 use Rattle.tables.specs.Mesh.{Mesh, none}
 use Rattle.built_meshes.specs.Lists.{Lists, general_limits, refine_limits, points_of, faces_of}
@@ -16,7 +17,6 @@ use Rattle.built_meshes.specs.Building.{build}
 use Rattle.building_claims.specs.Pieces.{unit, two, nought, back_to_back}
 use Rattle.built_meshes.specs.declared.Version.TheVariants.{One}
 use Rattle.built_meshes.specs.declared.Ground.TheVariants.{SameWay}
-use Rattle.built_meshes.specs.declared.Built.TheVariants.{Accepted, Refused}
 
 -- ---- pieces
 
@@ -150,7 +150,7 @@ roomy =
 two-triangles :
     build general_limits (triangles 3 2 both_sides) roomy
     ≡ record {
-      answer = Accepted (record { points = 3; edges = 3; faces = 2 });
+      answer = Ok (record { points = 3; edges = 3; faces = 2 });
       tables =
           record {
             positions = replicate 9 nought ++ replicate 3 two;
@@ -167,7 +167,7 @@ two-triangles = refl
 same_way :
     build general_limits (triangles 3 2 (0 ∷ 1 ∷ 2 ∷ 0 ∷ 1 ∷ 2 ∷ [])) roomy
     ≡ record {
-      answer = Refused SameWay;
+      answer = Err SameWay;
       tables =
           record {
             positions = replicate 9 nought ++ replicate 3 two;

@@ -7,9 +7,9 @@ use mathlib.Core.Logic.{◌⊎◌, inl, inr, ◌≢◌}
 use Prim.Native.Nat.{ℕ, zero, suc, ◌+◌, ◌<◌}
 use native.Mathlib.Omega.{arith}
 use lib.Dec.{eqb, ltb}
-use lib.Ieee.{nan}
-use lib.ListN.{get_or}
 use borrow.Author.Tests.{eq-eqb, ne_eqb}
+use Rattle.built_meshes.specs.declared.Ground.{Ground}
+use Rattle.std.specs.Prelude.{Result, Ok, ⊤}
 use Rattle.perimeters.proofs.Laws.{next_more}
 use Rattle.tables.specs.Counted.{zeroed_rows}
 use Rattle.perimeters.specs.Places.{next_place}
@@ -20,7 +20,7 @@ use Rattle.t_spline.specs.declared.TnurccEdge.{TnurccEdge}
 use Rattle.edge_ends.specs.declared.TnurccFaceSide.{TnurccFaceSide}
 use Rattle.edge_ends.specs.declared.TnurccFaceSide.TheVariants.{Left, Right}
 use Rattle.edge_links.specs.Connect.{vertex_state}
-use Rattle.edge_links.specs.Joinable.{share_face, joinable}
+use Rattle.edge_links.specs.Joinable.{share_face}
 use Rattle.tables.specs.Mesh.{Mesh}
 use Rattle.t_nurcc_edge.specs.Joinable.{joinable_rows}
 use Rattle.closed_meshes.specs.Renumbering.{sum_to}
@@ -31,8 +31,6 @@ use Rattle.built_meshes.specs.Perimeters.{BuildState, FaceState, Progress, on, t
 use Rattle.built_meshes.specs.Places.{point_of, next_of}
 use Rattle.built_meshes.specs.Building.{face_passed}
 use Rattle.building_claims.specs.Connects.{turn_connects, places_connect, close_connects, begun, face_connects, faces_connect, AlwaysConnects}
-use Rattle.built_meshes.specs.declared.Verdict.{Verdict}
-use Rattle.built_meshes.specs.declared.Verdict.TheVariants.{Fit}
 use Rattle.built_meshes.proofs.Made.{interval_of}
 use Rattle.built_meshes.proofs.Connecting.{first_of, second_of}
 use Rattle.built_meshes.proofs.Rows.{row}
@@ -144,7 +142,7 @@ module _ (l : Lists) (s : BuildState) (k : ℕ) (kf : k < faces_of l) (sound : F
       (subst (λ i. Sits l r.mesh r.edges k i r.first) (sym (wraps l s k kf sound ready all r a j.0 j.1)) (a.first-sits (omega (arith, j.1))))
   close-connects all x (halts j b w u o) = refl
 
-  face-connects : Faces l k s → face_connects l k (offset l k) s Fit ≡ true
+  face-connects : Faces l k s → face_connects l k (offset l k) s (Ok tt) ≡ true
   unfolding face_connects
   face-connects all =
       let start = round (around-begun l s k kf sound ready all) in
@@ -155,7 +153,7 @@ module _ (l : Lists) (s : BuildState) (k : ℕ) (kf : k < faces_of l) (sound : F
 
 module _ (c : Sizes) (l : Lists) (m₀ : Mesh) (free : ClearLists c l m₀) (s₀ : BuildState) (ready' : Ready l s₀.mesh) where
   verdict-connects :
-      (f : ℕ) (s : BuildState) → f < faces_of l → SoFar c l m₀ free s₀ ready' f s → (v : Verdict) → FaceVerdict c l m₀ f v →
+      (f : ℕ) (s : BuildState) → f < faces_of l → SoFar c l m₀ free s₀ ready' f s → (v : Result ⊤ Ground) → FaceVerdict c l m₀ f v →
       face_connects l f (offset l f) s v ≡ true
   unfolding face_connects
   verdict-connects f s b a v (fit sound r) = face-connects l s f b sound (ready-same l a.within ready') a.faces

@@ -13,12 +13,12 @@ use native.Mathlib.Decide.{ℕ_discrete, dec_lt}
 use lib.Dec.{eqb}
 use lib.Ieee.{nan, of_bits, binary64}
 use lib.ListN.{length, get_or}
+use Rattle.std.specs.Prelude.{Result, Ok, Err}
 use Rattle.tables.specs.Counted.{zeroed_rows}
 use Rattle.perimeters.specs.Places.{next_place, prev_place}
 use Rattle.tables.specs.declared.Sizes.{Sizes}
 use Rattle.t_spline.specs.declared.TnurccEdge.{TnurccEdge}
 use Rattle.tables.specs.Mesh.{Mesh, none, valence, start, mark, origin, dest, left_face, right_face, left_cw, left_acw, right_cw, right_acw, interval}
-use Rattle.tables.specs.Rows.{zeroed}
 use Rattle.tables.specs.declared.Counts.{Counts}
 use Rattle.audited_meshes.specs.Folds.{one_if}
 use Rattle.audited_meshes.specs.Walks.{touches, Touches}
@@ -38,8 +38,6 @@ use Rattle.built_meshes.specs.declared.Ground.{Ground}
 use Rattle.built_meshes.specs.declared.Ground.TheVariants.{OverCounts, UnfitNumber, FewRows, FaceSize, OutOfRange}
 use Rattle.built_meshes.specs.declared.Ground.TheVariants.{PointTwice, FirstPoint, NonRectangularFace, EdgeTripleFace}
 use Rattle.built_meshes.specs.declared.Ground.TheVariants.{SameWay, MissingFace, NoEdge, MissedEdge}
-use Rattle.built_meshes.specs.declared.Built.{Built}
-use Rattle.built_meshes.specs.declared.Built.TheVariants.{Accepted, Refused}
 use Rattle.built_meshes.proofs.Rows.{row}
 use Rattle.built_meshes.proofs.Made.{earlier-not, earlier-differs}
 use Rattle.built_meshes.proofs.Begin.{get_or-zeroed}
@@ -344,7 +342,8 @@ numbers-back : {m m' : Mesh} → SameNumbers m m' → SameNumbers m' m
 numbers-back s = record { points = sym s.points; edges = sym s.edges; faces = sym s.faces }
 
 -- a ground from 10 on
-late : (g : Ground) → Refused g ≢ Refused OverCounts → Refused g ≢ Refused UnfitNumber → Refused g ≢ Refused FewRows → 10 ≤ ground_number g
+late : (g : Ground) → ◌≢◌ {A = Result Counts Ground} (Err g) (Err OverCounts) → ◌≢◌ {A = Result Counts Ground} (Err g) (Err UnfitNumber)
+    → ◌≢◌ {A = Result Counts Ground} (Err g) (Err FewRows) → 10 ≤ ground_number g
 late OverCounts a b c = absurd (a refl)
 late UnfitNumber a b c = absurd (b refl)
 late FewRows a b c = absurd (c refl)
@@ -374,13 +373,13 @@ zeroed-same l m m' =
     }
 
 module _ (c : Sizes) (l : Lists) (m m' : Mesh) (few : c.faces ≤ none) (s : SameNumbers m m') where
-  nothing-met : (k : Counts) → (build c l m).answer ≡ Accepted k → (w : Where) (g : Ground) → ¬ Met c l m w g
+  nothing-met : (k : Counts) → (build c l m).answer ≡ Ok k → (w : Where) (g : Ground) → ¬ Met c l m w g
   nothing-met k e w g h = (accepts-exactly c l m few).0 (k, e) g (w, h)
 
-  accepts-too : (k : Counts) → (build c l m).answer ≡ Accepted k → (k' : Counts) × ((build c l m').answer ≡ Accepted k')
+  accepts-too : (k : Counts) → (build c l m).answer ≡ Ok k → (k' : Counts) × ((build c l m').answer ≡ Ok k')
   accepts-too k e = (accepts-exactly c l m' few).1 (λ g h. nothing-met k e h.0 g (met-same c l m' m (numbers-back s) h.0 g h.1))
 
-  counts_same : (k k' : Counts) → (build c l m).answer ≡ Accepted k → (build c l m').answer ≡ Accepted k' → k' ≡ k
+  counts_same : (k k' : Counts) → (build c l m).answer ≡ Ok k → (build c l m').answer ≡ Ok k' → k' ≡ k
   counts_same k k' e e' =
       let a = accepted-audited c l m few k e in
       let a' = accepted-audited c l m' few k' e' in
@@ -393,7 +392,7 @@ module _ (c : Sizes) (l : Lists) (m m' : Mesh) (few : c.faces ≤ none) (s : Sam
           = rw (x, y, z) in
           e
 
-  first-same : (g : Ground) → (build c l m).answer ≡ Refused g → (build c l m').answer ≡ Refused g
+  first-same : (g : Ground) → (build c l m).answer ≡ Err g → (build c l m').answer ≡ Err g
   first-same g e =
       let w = (first-ground c l m few g).0 e in
       (first-ground c l m' few g).1 (
@@ -404,11 +403,11 @@ module _ (c : Sizes) (l : Lists) (m m' : Mesh) (few : c.faces ≤ none) (s : Sam
         },
       )
 
-  accepted-same : (k : Counts) → (build c l m).answer ≡ Accepted k → (build c l m').answer ≡ Accepted k
-  accepted-same k e = let w = accepts-too k e in w.1 ∙ ap Accepted (counts_same k w.0 e w.1)
+  accepted-same : (k : Counts) → (build c l m).answer ≡ Ok k → (build c l m').answer ≡ Ok k
+  accepted-same k e = let w = accepts-too k e in w.1 ∙ ap Ok (counts_same k w.0 e w.1)
 
   -- no two places of accepted lists run the same way
-  one_way : (k : Counts) → (build c l m).answer ≡ Accepted k → (f i g j p q : ℕ) → Runs l f i p q → Runs l g j p q → (f ≡ g) × (i ≡ j)
+  one_way : (k : Counts) → (build c l m).answer ≡ Ok k → (f i g j p q : ℕ) → Runs l f i p q → Runs l g j p q → (f ≡ g) × (i ≡ j)
   one_way k e f i g j p q r t =
       earlier-or f i g j (λ z. absurd (nothing-met k e (edge g j) SameWay (same_way g j f i p q t r z))) (λ z. z)
       (λ z. absurd (nothing-met k e (edge f i) SameWay (same_way f i g j p q r t z)))
@@ -416,8 +415,8 @@ module _ (c : Sizes) (l : Lists) (m m' : Mesh) (few : c.faces ≤ none) (s : Sam
   pub shows_nothing : ShowsNothing c l m m'
   shows_nothing = go (build c l m).answer refl
     where
-      go : (a : Built) → (build c l m).answer ≡ a → ShowsNothing c l m m'
-      go (Refused g) e =
+      go : (a : Result Counts Ground) → (build c l m).answer ≡ a → ShowsNothing c l m m'
+      go (Err g) e =
           record {
             answer = first-same g e ∙ sym e;
             rows = λ a b d.
@@ -425,7 +424,7 @@ module _ (c : Sizes) (l : Lists) (m m' : Mesh) (few : c.faces ≤ none) (s : Sam
                 subst (λ t. SameCounted l t (build c l m').tables) (sym ((refusals-hold c l m few g e).zeroed n))
                 (subst (λ t. SameCounted l (zeroed_rows (rows_of l) m) t) (sym ((refusals-hold c l m' few g (first-same g e)).zeroed n)) (zeroed-same l m m'));
           }
-      go (Accepted k) e =
+      go (Ok k) e =
           let e' = accepted-same k e in
           let a = accepted-audited c l m few k e in
           let a' = accepted-audited c l m' few k e' in

@@ -6,6 +6,7 @@ use mathlib.Core.List.{List, [], ◌∷◌, ◌++◌}
 use Prim.Native.Nat.{ℕ, zero, suc, ◌+◌}
 use lib.ListN.{replicate}
 use lib.Ieee.{Float, of_bits, neg, add, sub, le, lt, binary64}
+use Rattle.std.specs.Prelude.{Ok}
 use Rattle.edge_links.specs.Connect.{links_of}
 use Rattle.tables.specs.Mesh.{none}
 use Rattle.built_meshes.specs.Lists.{Lists, general_limits}
@@ -13,7 +14,6 @@ use Rattle.built_meshes.specs.Building.{build}
 use Rattle.building_claims.specs.Pieces.{unit, two, nought, back_to_back}
 use Rattle.building_claims.proofs.Cases.{just_enough, Piece, piece, as_expected, all_of}
 use Rattle.built_meshes.specs.declared.Version.TheVariants.{One}
-use Rattle.built_meshes.specs.declared.Built.TheVariants.{Accepted}
 
 -- n numbers, no two alike
 abbrev numbers : ℕ → List Float
@@ -35,7 +35,7 @@ pyramid =
 pyramid-built :
     build general_limits pyramid (just_enough pyramid)
     ≡ record {
-      answer = Accepted (record { points = 5; edges = 8; faces = 5 });
+      answer = Ok (record { points = 5; edges = 8; faces = 5 });
       tables =
           record {
             positions = numbers 15;

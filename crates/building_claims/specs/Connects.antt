@@ -3,7 +3,8 @@
 --     turn_connects, places_connect, close_connects      of one place, of k places, of the first edge and the last
 --     face_connects, faces_connect                      of a face with its tests, of k faces
 --     AlwaysConnects                                 the claim: it always does
-use Rattle.std.specs.Prelude.{◌≡◌, Bool, true, ◌&&◌, ℕ, zero, suc, ◌+◌, ◌≤◌, get_or}
+use Rattle.std.specs.Prelude.{◌≡◌, Bool, true, ◌&&◌, ℕ, zero, suc, ◌+◌, ◌≤◌, get_or, Result, Ok, Err, ⊤}
+use Rattle.built_meshes.specs.declared.Ground.{Ground}
 use Rattle.std.specs.Float.{nan}
 use Rattle.tables.specs.Counted.{rows_for, zeroed_rows}
 use Rattle.perimeters.specs.Places.{next_place}
@@ -15,8 +16,6 @@ use Rattle.built_meshes.specs.Faces.{listed_at, face_verdict}
 use Rattle.built_meshes.specs.Edges.{Entered, at, refused, entered}
 use Rattle.built_meshes.specs.Perimeters.{BuildState, FaceState, Progress, on, stopped, interval_place, turn, places}
 use Rattle.built_meshes.specs.Building.{face_passed}
-use Rattle.built_meshes.specs.declared.Verdict.{Verdict}
-use Rattle.built_meshes.specs.declared.Verdict.TheVariants.{Fit, Unfit}
 
 -- place 0 has no place before it yet
 abbrev pub turn_connects : FaceState → ℕ → Entered → Bool
@@ -41,11 +40,11 @@ close_connects (stopped g m) = true
 abbrev pub begun : BuildState → Progress FaceState
 begun s = on (record { mesh = s.mesh; edges = s.edges; first = 0; before = 0 })
 
-unfoldable pub face_connects : Lists → ℕ → ℕ → BuildState → Verdict → Bool
+unfoldable pub face_connects : Lists → ℕ → ℕ → BuildState → Result ⊤ Ground → Bool
 unfolding places_connect places joinable_rows
-face_connects l f a s Fit =
+face_connects l f a s (Ok tt) =
     places_connect (size l f) l f a (size l f) 0 (begun s) && close_connects (places (size l f) l f a (size l f) 0 (begun s))
-face_connects l f a s (Unfit g) = true
+face_connects l f a s (Err g) = true
 
 unfoldable pub faces_connect : ℕ → Lists → ℕ → ℕ → Progress BuildState → Bool
 unfolding face_connects face_passed face_verdict

@@ -3,14 +3,13 @@
 --     SameCounted l t t'       every word of the rows that ground 4 counts is the same
 --     LentContent              the claim: with as many rows the answers are the same, and unless it is 2, 3 or 4, which leave the
 --                               tables as they are, so are the counted rows afterwards
-use Rattle.std.specs.Prelude.{◌≡◌, ◌≢◌, ℕ, ◌*◌, ◌<◌, ◌≤◌, length, get_or}
+use Rattle.std.specs.Prelude.{◌≡◌, ◌≢◌, ℕ, ◌*◌, ◌<◌, ◌≤◌, length, get_or, Err}
 use Rattle.std.specs.Float.{nan}
 use Rattle.tables.specs.declared.Sizes.{Sizes}
 use Rattle.tables.specs.Mesh.{Mesh, none, point_rows, edge_rows, face_rows}
 use Rattle.built_meshes.specs.Lists.{Lists, points_of, faces_of}
 use Rattle.built_meshes.specs.Building.{build}
 use Rattle.built_meshes.specs.declared.Ground.TheVariants.{OverCounts, UnfitNumber, FewRows}
-use Rattle.built_meshes.specs.declared.Built.TheVariants.{Refused}
 
 pub record SameNumbers (m m' : Mesh) : Type 0 where
   pub points : point_rows m' ≡ point_rows m
@@ -27,7 +26,7 @@ pub record SameCounted (l : Lists) (t t' : Mesh) : Type 0 where
 pub record ShowsNothing (c : Sizes) (l : Lists) (m m' : Mesh) : Type 0 where
   pub answer : (build c l m').answer ≡ (build c l m).answer
   pub rows :
-      (build c l m).answer ≢ Refused OverCounts → (build c l m).answer ≢ Refused UnfitNumber → (build c l m).answer ≢ Refused FewRows →
+      (build c l m).answer ≢ Err OverCounts → (build c l m).answer ≢ Err UnfitNumber → (build c l m).answer ≢ Err FewRows →
       SameCounted l (build c l m).tables (build c l m').tables
 
 abbrev pub LentContent : Type 0

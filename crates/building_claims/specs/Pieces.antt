@@ -6,7 +6,7 @@
 use Rattle.std.specs.Prelude.{cond, List, [], ◌∷◌, ◌++◌, ℕ, zero, suc, ◌+◌, ◌*◌, ◌/◌, ◌%◌, replicate, eqb, Float}
 use Rattle.std.specs.Float.Ieee.{of_bits}
 use Rattle.std.specs.Float.{binary64}
-use Rattle.tables.specs.Layout.{position_width, point_width, edge_width, face_width}
+use Rattle.tables.specs.Layout.{position_width}
 use Rattle.built_meshes.specs.Lists.{Lists}
 use Rattle.built_meshes.specs.declared.Version.TheVariants.{One, Two}
 

@@ -11,9 +11,9 @@ ghost use Rattle.built_meshes.specs.Whole.{whole_verdict};
 ghost use Rattle.building_ends.specs.Concluding.{concluded};
 
 use building_whole::whole::{mark_points, whole_verdict};
-use built_meshes::{Built, Verdict};
+use built_meshes::Ground;
 use counted_rows::zero_rows;
-use tables::{Counts, POSITION_WIDTH, copy_numbers, index};
+use tables::{Counts, POSITION_WIDTH, copy_first, index};
 
 // The verdict on the whole when k edges stand, and the tables by it: finished, or their counted rows made zero.
 pub fn conclude(
@@ -26,7 +26,7 @@ pub fn conclude(
     nl: usize,
     nf: usize,
     k: u32,
-) -> Built
+) -> Result<Counts, Ground>
     requires position_width_in_bounds { length coordinates.now / position_width * position_width ≤ length positions.old }
     requires point_width_in_bounds { length coordinates.now / position_width * point_width ≤ length points.old }
     requires edge_width_in_bounds { nl * edge_width ≤ length edges.old }
@@ -47,16 +47,16 @@ pub fn conclude(
     let np = coordinates.len() / POSITION_WIDTH;
     let ne = index(k);
     match whole_verdict(points, edges, np, ne) {
-        Verdict::Fit => {
-            copy_numbers(coordinates, positions, np * POSITION_WIDTH);
+        Ok(()) => {
+            copy_first(coordinates, positions, np * POSITION_WIDTH);
             mark_points(points, np);
-            Built::Accepted(Counts {
+            Ok(Counts {
                 points: np,
                 edges: ne,
                 faces: nf,
             })
         }
-        Verdict::Unfit(g) => {
+        Err(g) => {
             zero_rows(
                 Counts {
                     points: np,
@@ -69,7 +69,7 @@ pub fn conclude(
                 intervals,
                 faces,
             );
-            Built::Refused(g)
+            Err(g)
         }
     }
 }

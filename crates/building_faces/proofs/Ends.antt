@@ -8,7 +8,6 @@ use native.Mathlib.Decide.{ℕ_discrete}
 use lib.Ieee.{Float}
 use lib.ListN.{length, get_or}
 use Rattle.t_spline.specs.declared.TnurccEdge.{TnurccEdge}
-use Rattle.tables.specs.Mesh.{origin, dest}
 use Rattle.tables.specs.Rows.{put_row}
 use Rattle.tables.specs.Records.{edge_at, edge_words}
 use Rattle.tables.proofs.Laws.{length-put_row, get_or-put_row, get_or-put_row-other}

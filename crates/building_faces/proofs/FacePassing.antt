@@ -9,6 +9,7 @@ use native.Mathlib.Omega.{arith}
 use native.Mathlib.Decide.{dec_le}
 use lib.Ieee.{Float}
 use lib.ListN.{length}
+use Rattle.std.specs.Prelude.{Ok, Err}
 use Rattle.tables.specs.Mesh.{Mesh, mesh_of}
 use Rattle.audited_meshes.proofs.Tests.{and_is, leb-is}
 use Rattle.built_meshes.specs.Lists.{Lists, size, offset}
@@ -17,24 +18,22 @@ use Rattle.built_meshes.specs.Perimeters.{BuildState, Progress, on, stopped, pla
 use Rattle.built_meshes.specs.Building.{face_if, face_passed, faces_from}
 use Rattle.built_meshes.specs.declared.Version.{Version}
 use Rattle.built_meshes.specs.declared.Ground.{Ground}
-use Rattle.built_meshes.specs.declared.Verdict.TheVariants.{Fit, Unfit}
 use Rattle.built_meshes.proofs.Perimeter.{offset-suc}
 use Rattle.building_tests.specs.Lent.{lists, lists_in}
 use Rattle.building_tests.proofs.Laws.{verdict_by, verdict-is}
 use Rattle.edge_search.specs.Chains.{Standing}
 use Rattle.building_faces.specs.Rings.{face_state_at, state_at, ListedFrom, Sided, FaceStands}
-use Rattle.building_faces.specs.declared.Faced.TheVariants as Faces
 
 -- ---- one face
 
-fit-tests : (a b c d e : Bool) → verdict_by a b c d e ≡ Fit → (a ≡ true) × (b ≡ true)
+fit-tests : (a b c d e : Bool) → verdict_by a b c d e ≡ Ok tt → (a ≡ true) × (b ≡ true)
 fit-tests true true c d e h = (refl, refl)
 fit-tests true false c d e h = let z : ◌≡◌ {A = ℕ} 0 1 = cc in absurd (omega arith)
 fit-tests false b c d e h = let z : ◌≡◌ {A = ℕ} 0 1 = cc in absurd (omega arith)
 
 module _ (v : Version) (ss qs ls : List ℕ) (be : List Float) (np f a n : ℕ) (h : Sided ss ls f a n) where
   -- a face that passes its tests has points, and they are in range
-  pub fit-placed : face_verdict (lists_in v [] ss qs ls be) np f a ≡ Fit → ListedFrom np ls a n × (0 < n)
+  pub fit-placed : face_verdict (lists_in v [] ss qs ls be) np f a ≡ Ok tt → ListedFrom np ls a n × (0 < n)
   fit-placed fit =
       let t = fit-tests (size_fit n) (listed_in_range (lists [] [] ls []) np a n) (no_point_twice (lists [] [] ls []) a n)
       (firsts_fit v (lists_in v [] ss qs ls []) f a) (sums_fit v (lists [] ss [] be) f a) (sym (verdict-is v [] ss qs ls be np f a n h.is-size) ∙ fit) in (
@@ -43,12 +42,12 @@ module _ (v : Version) (ss qs ls : List ℕ) (be : List Float) (np f a n : ℕ) 
       )
 
   module _ (cs : List Float) (np-is : length cs / 3 ≡ np) (s : BuildState) where
-    pub passed-fit : (x : Progress BuildState) → face_verdict (lists_in v cs ss qs ls be) np f a ≡ Fit
+    pub passed-fit : (x : Progress BuildState) → face_verdict (lists_in v cs ss qs ls be) np f a ≡ Ok tt
         → x ≡ closed_up f (places n (lists_in v cs ss qs ls be) f a n 0 (on (face_state_at s.mesh s.edges))) → x ≡ face_passed (lists_in v cs ss qs ls be) f a s
     unfolding face_passed face_if perimeter
     passed-fit x fit e = e ∙ rw (np-is, fit, h.is-size)
 
-    pub passed-unfit : (g : Ground) → face_verdict (lists_in v cs ss qs ls be) np f a ≡ Unfit g
+    pub passed-unfit : (g : Ground) → face_verdict (lists_in v cs ss qs ls be) np f a ≡ Err g
         → stopped g s.mesh ≡ face_passed (lists_in v cs ss qs ls be) f a s
     unfolding face_passed face_if
     passed-unfit g unfit = rw (np-is, unfit)
@@ -124,7 +123,7 @@ module _ (v : Version) (np : ℕ) (ss qs ls : List ℕ) (be : List Float) (pts�
       pub face-more : (c : ℕ)
           → ((cs ps : List Float) → length cs / 3 ≡ np
           → on (state_at (mesh_of ps pts' es' is' fs') c) ≡ face_passed (lists_in v cs ss qs ls be) f a (state_at (mesh_of ps pts es is fs) k))
-          → FaceStands np pts' es' ch' (a + n) (Faces.On c)
+          → FaceStands np pts' es' ch' (a + n) (Ok c)
           → length pts' ≡ length pts → length es' ≡ length es → length is' ≡ length is → length fs' ≡ length fs → length ch' ≡ length ch
           → FacePassing pts' es' is' fs' ch' c (a + n) (f + 1)
       face-more c passes s lp le li lf lc =
@@ -161,7 +160,7 @@ module _ (v : Version) (np : ℕ) (ss qs ls : List ℕ) (be : List Float) (pts�
         none : f ≤ length ss / 4 → length ss / 4 ≤ f → length ss / 4 - f ≡ 0
         none a b = omega arith
 
-    pub faces-stand : offset (lists [] ss [] []) (length ss / 4) ≡ length ls → FaceStands np pts es ch (length ls) (Faces.On k)
+    pub faces-stand : offset (lists [] ss [] []) (length ss / 4) ≡ length ls → FaceStands np pts es ch (length ls) (Ok k)
     faces-stand all =
         let c = h.count in
         let b = h.begins in

@@ -7,6 +7,7 @@ use native.Mathlib.Numerals.{add-one}
 use native.Mathlib.Omega.{arith}
 use lib.Ieee.{Float}
 use lib.ListN.{length}
+use Rattle.std.specs.Prelude.{Ok}
 use Rattle.tables.specs.Mesh.{Mesh, mesh_of}
 use Rattle.built_meshes.specs.Lists.{Lists}
 use Rattle.built_meshes.specs.Perimeters.{FaceState, Progress, on, stopped, turn, places}
@@ -16,7 +17,6 @@ use Rattle.building_tests.specs.Lent.{lists_in}
 use Rattle.edge_search.specs.Chains.{Standing}
 use Rattle.building_faces.specs.Rings.{face_state_of, face_state_at, ListedRoom, Closing, TurnStands}
 use Rattle.building_faces.specs.declared.RingEdges.{RingEdges}
-use Rattle.building_faces.specs.declared.Turned.TheVariants as Turns
 
 -- what is lent serves as well when the tables keep their lengths
 pub lent_same : (ls : List ℕ) (be : List Float) (es₀ es : List ℕ) (is₀ is : List Float) (ch₀ ch : List ℕ)
@@ -81,7 +81,7 @@ module _ (v : Version) (np : ℕ) (ls : List ℕ) (be : List Float) (f a n k : �
     pub passing-more : (next : RingEdges)
         → ((cs : List Float) (ss qs : List ℕ) (ps : List Float) (fs : List ℕ)
         → on (face_state_of (mesh_of ps pts' es' is' fs) next) ≡ turn (lists_in v cs ss qs ls be) f a n i (face_state_of (mesh_of ps pts es is fs) ring))
-        → TurnStands np pts' es' ch' (a + i + 1) (Turns.On next)
+        → TurnStands np pts' es' ch' (a + i + 1) (Ok next)
         → length pts' ≡ length pts → length es' ≡ length es → length is' ≡ length is → length ch' ≡ length ch
         → Passing pts' es' is' ch' next (i + 1)
     passing-more next turns s lp le li lc =
@@ -119,6 +119,6 @@ module _ (v : Version) (np : ℕ) (ls : List ℕ) (be : List Float) (f a n k : �
       none a b = omega arith
 
   pub passing-stands : (pts es : List ℕ) (is : List Float) (ch : List ℕ) (ring : RingEdges) (i : ℕ) → Passing pts es is ch ring i → n ≤ i
-      → 0 < n → TurnStands np pts es ch (a + n) (Turns.On ring)
+      → 0 < n → TurnStands np pts es ch (a + n) (Ok ring)
   passing-stands pts es is ch ring i h l z =
       let c = h.count in let w = h.within in (h.standing, omega arith, h.closing (omega arith))

@@ -8,6 +8,7 @@ use lib.Dec.{eqb, ltb}
 use lib.Ieee.{Float, nan}
 use lib.ListN.{length, get_or}
 use borrow.Author.Tests.{ltb-true}
+use Rattle.std.specs.Prelude.{Option, Some, None, Ok, Err}
 use Rattle.perimeters.specs.Places.{next_place}
 use Rattle.tables.specs.Mesh.{Mesh, none, origin, right_face, mesh_of}
 use Rattle.tables.specs.Rows.{put_row}
@@ -21,28 +22,23 @@ use Rattle.built_meshes.specs.Perimeters.{BuildState, FaceState, Progress, on, s
 use Rattle.built_meshes.specs.Edges.{Entered, at, refused, edge_between, entered_at, entered_if, entered, joined, with_edges}
 use Rattle.built_meshes.specs.declared.Version.{Version}
 use Rattle.built_meshes.specs.declared.Ground.{Ground}
-use Rattle.built_meshes.specs.declared.Found.{Found}
-use Rattle.built_meshes.specs.declared.Found.TheVariants as Founds
 use Rattle.building_tests.specs.Lent.{lists_in}
 use Rattle.edge_search.specs.Chains.{Standing, EdgeRoom}
 use Rattle.edge_search.specs.Places.{EnteredPlace, entry_place, entering, EnteredBy}
-use Rattle.edge_search.specs.declared.Entry.TheVariants.{Made, Refused}
 use Rattle.edge_search.proofs.Chains.{edge_between-below, standing-ends}
 use Rattle.building_faces.specs.Rings.{face_state_of, ListedRoom, ListedFrom, Closing, SomeStand, TurnStands, FaceStands}
 use Rattle.building_faces.specs.declared.RingEdges.{RingEdges}
-use Rattle.building_faces.specs.declared.Turned.TheVariants as Turns
-use Rattle.building_faces.specs.declared.Faced.TheVariants as Faces
 use Rattle.building_faces.proofs.Ends.{connected-ends}
 
 -- ---- what an entry says
 
-entering-at : (m n : Mesh) (k e : ℕ) (x : Entered) → entry_place n (Made k e) ≡ entering m x → x ≡ at n k e
+entering-at : (m n : Mesh) (k e : ℕ) (x : Entered) → entry_place n (Ok (record { edges = k; edge = e })) ≡ entering m x → x ≡ at n k e
 entering-at m n k e (at n' k' e') h =
     let q : ◌≡◌ {A = EnteredPlace} (record { mesh = n; edges = k; edge = e }) (record { mesh = n'; edges = k'; edge = e' }) = cc in
     ap (λ (z : EnteredPlace). at z.mesh z.edges z.edge) (sym q)
 entering-at m n k e (refused g) h = let z : ◌≡◌ {A = ℕ} 0 1 = cc in absurd (omega arith)
 
-entering-refused : (m n : Mesh) (g : Ground) (x : Entered) → entry_place n (Refused g) ≡ entering m x → (x ≡ refused g) × (n ≡ m)
+entering-refused : (m n : Mesh) (g : Ground) (x : Entered) → entry_place n (Err g) ≡ entering m x → (x ≡ refused g) × (n ≡ m)
 entering-refused m n g (at n' k' e') h = let z : ◌≡◌ {A = ℕ} 0 1 = cc in absurd (omega arith)
 entering-refused m n g (refused g') h = let a : g' ≡ g = cc in (ap refused a, cc)
 
@@ -63,11 +59,11 @@ entered-counted : (m : Mesh) (k f p q : ℕ) (v : Float) {n : Mesh} {c e : ℕ} 
 unfolding entered entered_if
 entered-counted m k f p q v {n} {c} {e} h = go (edge_between m k p q) refl h
   where
-    go : (x : Found) → edge_between m k p q ≡ x → entered_if m k f p q v x ≡ at n c e → Counted k c e
-    go (Founds.At i) s h = counted-at m k f i (eqb (right_face m i) none) (eqb (origin m i) p) (edge_between-below m k p q i s) h
-    go Founds.Nothing s h = let s : suc k ≡ c = cc in let t : k ≡ e = cc in record { edge-below = omega arith; more = omega arith; one_more = omega arith }
+    go : (x : Option ℕ) → edge_between m k p q ≡ x → entered_if m k f p q v x ≡ at n c e → Counted k c e
+    go (Some i) s h = counted-at m k f i (eqb (right_face m i) none) (eqb (origin m i) p) (edge_between-below m k p q i s) h
+    go None s h = let s : suc k ≡ c = cc in let t : k ≡ e = cc in record { edge-below = omega arith; more = omega arith; one_more = omega arith }
 
-pub made_counted : (m n : Mesh) (k f p q : ℕ) (v : Float) (c e : ℕ) → EnteredBy (Made c e) m n k f p q v → Counted k c e
+pub made_counted : (m n : Mesh) (k f p q : ℕ) (v : Float) (c e : ℕ) → EnteredBy (Ok (record { edges = c; edge = e })) m n k f p q v → Counted k c e
 made_counted m n k f p q v c e h = entered-counted m k f p q v (entering-at m n c e (entered m k f p q v) h)
 
 -- a listed point of the perimeter is a point
@@ -94,12 +90,12 @@ module _ (w : Version) (cs : List Float) (ss qs ls : List ℕ) (be : List Float)
   unfolding turn
   turn_is = rw (ep, eq, ev, en)
 
-  pub turn_stopped : (g : Ground) → EnteredBy (Refused g) m new ring.edges f p q v → stopped g new ≡ turn l f a n i (face_state_of m ring)
+  pub turn_stopped : (g : Ground) → EnteredBy (Err g) m new ring.edges f p q v → stopped g new ≡ turn l f a n i (face_state_of m ring)
   unfolding turned
   turn_stopped g h =
       let r = entering-refused m new g (entered m ring.edges f p q v) h in rw (turn_is, r.0, r.1)
 
-  pub turn-first : (c e : ℕ) → EnteredBy (Made c e) m new ring.edges f p q v → i ≡ 0
+  pub turn-first : (c e : ℕ) → EnteredBy (Ok (record { edges = c; edge = e })) m new ring.edges f p q v → i ≡ 0
       → on (face_state_of new (record { edges = c; first = e; before = e })) ≡ turn l f a n i (face_state_of m ring)
   unfolding turned
   turn-first c e h z = rw (turn_is, entering-at m new c e (entered m ring.edges f p q v) h, z)
@@ -110,7 +106,7 @@ module _ (w : Version) (cs : List Float) (ss qs ls : List ℕ) (be : List Float)
   chained-joined zero c e z = absurd (z refl)
   chained-joined (suc j) c e z = refl
 
-  pub turn_more : (c e : ℕ) (es : List ℕ) → EnteredBy (Made c e) m new ring.edges f p q v → (i ≡ 0 → ⊥)
+  pub turn_more : (c e : ℕ) (es : List ℕ) → EnteredBy (Ok (record { edges = c; edge = e })) m new ring.edges f p q v → (i ≡ 0 → ⊥)
       → es ≡ connected_rows new.edges new.intervals e ring.before
       → on (face_state_of (with_edges new es) (record { edges = c; first = ring.first; before = e })) ≡ turn l f a n i (face_state_of m ring)
   unfolding joined
@@ -134,7 +130,7 @@ module _ (np : ℕ) (pts es ch : List ℕ) (k e o : ℕ) (h : Standing np pts es
 -- ---- what stands after a turn: k edges stood before it, and at most `most` stand after it
 
 module _ (np : ℕ) (pts es ch : List ℕ) (k c e most : ℕ) (h : Standing np pts es ch c) (n : Counted k c e) (few : k + 1 ≤ most) where
-  pub stands-first : TurnStands np pts es ch most (Turns.On (record { edges = c; first = e; before = e }))
+  pub stands-first : TurnStands np pts es ch most (Ok (record { edges = c; first = e; before = e }))
   stands-first =
       let l = n.one_more in
       (h, omega arith, record { first_edge = n.edge-below; before-edge = n.edge-below })
@@ -148,7 +144,7 @@ module _ (np : ℕ) (pts es ch : List ℕ) (k c e most : ℕ) (h : Standing np p
     joined-fits is room = let a = n.one_more in connect-fits np pts es ch c e ring.before h n.edge-below before-below is (omega arith)
 
     pub stands-more : (is : List Float) (new : List ℕ) → new ≡ connected_rows es is e ring.before
-        → TurnStands np pts new ch most (Turns.On (record { edges = c; first = ring.first; before = e }))
+        → TurnStands np pts new ch most (Ok (record { edges = c; first = ring.first; before = e }))
     stands-more is new s =
         let a = n.one_more in
         let b = n.more in
@@ -176,7 +172,7 @@ unfolding closed_up
 closed-stopped f x g m h = rw (← h)
 
 pub face-stands : (np : ℕ) (pts es ch : List ℕ) (is : List Float) (new : List ℕ) (most : ℕ) (ring : RingEdges)
-    → TurnStands np pts es ch most (Turns.On ring) → new ≡ connected_rows es is ring.first ring.before
-    → FaceStands np pts new ch most (Faces.On ring.edges)
+    → TurnStands np pts es ch most (Ok ring) → new ≡ connected_rows es is ring.first ring.before
+    → FaceStands np pts new ch most (Ok ring.edges)
 face-stands np pts es ch is new most ring h s =
     (standing-connected np pts es ch ring.edges ring.first ring.before h.0 h.2.first_edge h.2.before-edge is new s, h.1)

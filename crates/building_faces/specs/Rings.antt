@@ -10,7 +10,8 @@
 --     Closing                 the first edge of a ring and the one before are edges
 --     SomeStand               the links are those of the edges that stand, at most so many
 --     TurnStands, FaceStands  what holds of tables and links after a turn, and after a face
-use Rattle.std.specs.Prelude.{◌≡◌, true, List, [], ℕ, ◌+◌, ◌*◌, ◌≤◌, ◌<◌, Float, length}
+use Rattle.std.specs.Prelude.{◌≡◌, true, List, [], ℕ, ◌+◌, ◌*◌, ◌≤◌, ◌<◌, Float, length, Result, Ok, Err}
+use Rattle.built_meshes.specs.declared.Ground.{Ground}
 use Rattle.tables.specs.Layout.{edge_width}
 use Rattle.tables.specs.Mesh.{Mesh}
 use Rattle.built_meshes.specs.Lists.{size, general_limits}
@@ -20,10 +21,6 @@ use Rattle.building_tests.specs.Lent.{lists}
 use Rattle.edge_buckets.specs.Buckets.{buckets}
 use Rattle.edge_search.specs.Chains.{Standing}
 use Rattle.building_faces.specs.declared.RingEdges.{RingEdges}
-use Rattle.building_faces.specs.declared.Turned.{Turned}
-use Rattle.building_faces.specs.declared.Turned.TheVariants as Turns
-use Rattle.building_faces.specs.declared.Faced.{Faced}
-use Rattle.building_faces.specs.declared.Faced.TheVariants as Faces
 
 abbrev pub face_state_of : Mesh → RingEdges → FaceState
 face_state_of m r = record { mesh = m; edges = r.edges; first = r.first; before = r.before }
@@ -31,16 +28,16 @@ face_state_of m r = record { mesh = m; edges = r.edges; first = r.first; before 
 abbrev pub face_state_at : Mesh → ℕ → FaceState
 face_state_at m k = record { mesh = m; edges = k; first = 0; before = 0 }
 
-abbrev pub turned_state : Mesh → Turned → Progress FaceState
-turned_state m (Turns.On r) = on (face_state_of m r)
-turned_state m (Turns.Stopped g) = stopped g m
+abbrev pub turned_state : Mesh → Result RingEdges Ground → Progress FaceState
+turned_state m (Ok r) = on (face_state_of m r)
+turned_state m (Err g) = stopped g m
 
 abbrev pub state_at : Mesh → ℕ → BuildState
 state_at m k = record { mesh = m; edges = k }
 
-abbrev pub faced_state : Mesh → Faced → Progress BuildState
-faced_state m (Faces.On k) = on (state_at m k)
-faced_state m (Faces.Stopped g) = stopped g m
+abbrev pub faced_state : Mesh → Result ℕ Ground → Progress BuildState
+faced_state m (Ok k) = on (state_at m k)
+faced_state m (Err g) = stopped g m
 
 pub record ListedRoom (ls : List ℕ) (be : List Float) (es : List ℕ) (is : List Float) (ch : List ℕ) : Type 0 where
   pub edge-rows : length ls * edge_width ≤ length es
@@ -66,10 +63,10 @@ abbrev pub SomeStand : ℕ → List ℕ → List ℕ → List ℕ → ℕ → Ty
 SomeStand np pts es ch most = (k : ℕ) × Standing np pts es ch k × (k ≤ most)
 
 -- `most` edges may stand after it
-abbrev pub TurnStands : ℕ → List ℕ → List ℕ → List ℕ → ℕ → Turned → Type 0
-TurnStands np pts es ch most (Turns.On r) = Standing np pts es ch r.edges × (r.edges ≤ most) × Closing r
-TurnStands np pts es ch most (Turns.Stopped g) = SomeStand np pts es ch most
+abbrev pub TurnStands : ℕ → List ℕ → List ℕ → List ℕ → ℕ → Result RingEdges Ground → Type 0
+TurnStands np pts es ch most (Ok r) = Standing np pts es ch r.edges × (r.edges ≤ most) × Closing r
+TurnStands np pts es ch most (Err g) = SomeStand np pts es ch most
 
-abbrev pub FaceStands : ℕ → List ℕ → List ℕ → List ℕ → ℕ → Faced → Type 0
-FaceStands np pts es ch most (Faces.On k) = Standing np pts es ch k × (k ≤ most)
-FaceStands np pts es ch most (Faces.Stopped g) = SomeStand np pts es ch most
+abbrev pub FaceStands : ℕ → List ℕ → List ℕ → List ℕ → ℕ → Result ℕ Ground → Type 0
+FaceStands np pts es ch most (Ok k) = Standing np pts es ch k × (k ≤ most)
+FaceStands np pts es ch most (Err g) = SomeStand np pts es ch most

@@ -17,9 +17,9 @@ ghost use Rattle.tables.specs.Mesh.{mesh_of};
 ghost use Rattle.building_faces.specs.Rings.{face_state_of, face_state_at, turned_state, state_at, faced_state, ListedRoom, ListedFrom, Sided, Closing, TurnStands, FaceStands};
 
 use building_tests::faces::{face_size, face_verdict};
-use built_meshes::{Ground, Verdict, Version};
+use built_meshes::{Ground, Version};
 use edge_ends::NONE;
-use edge_search::{Entry, enter};
+use edge_search::enter;
 use interval_places::interval_place;
 use perimeters::next_place;
 use records::store_face;
@@ -33,20 +33,6 @@ pub struct RingEdges {
     pub edges: u32,
     pub first: u32,
     pub before: u32,
-}
-
-// What a turn answers.
-#[derive(Clone, Copy)]
-pub enum Turned {
-    On(RingEdges),
-    Stopped(Ground),
-}
-
-// What a face answers: how many edges there are then, or the ground.
-#[derive(Clone, Copy)]
-pub enum Faced {
-    On(u32),
-    Stopped(Ground),
 }
 
 // Enters place i of the perimeter of face f, and connects its edge to the one before.
@@ -64,7 +50,7 @@ fn turn_place(
     a: usize,
     n: usize,
     i: usize,
-) -> Turned
+) -> Result<RingEdges, Ground>
     requires standing { Standing np points.old edges.old chain.old ring.edges }
     requires listed_room { ListedRoom listed.now beside.now edges.old intervals.old chain.old }
     requires listed_from { ListedFrom np listed.now a n }
@@ -82,24 +68,20 @@ fn turn_place(
     let q = listed[a + next];
     let v = beside[a + interval_place(version, n, i, next)];
     let k = ring.edges;
-    match enter(points, edges, intervals, chain, np, k, f, p, q, v) {
-        Entry::Made { edges: count, edge } => {
-            if i == 0 {
-                return Turned::On(RingEdges {
-                    edges: count,
-                    first: edge,
-                    before: edge,
-                });
-            }
-            connect(edges, intervals, edge, ring.before);
-            Turned::On(RingEdges {
-                edges: count,
-                first: ring.first,
-                before: edge,
-            })
-        }
-        Entry::Refused(g) => Turned::Stopped(g),
+    let place = enter(points, edges, intervals, chain, np, k, f, p, q, v)?;
+    if i == 0 {
+        return Ok(RingEdges {
+            edges: place.edges,
+            first: place.edge,
+            before: place.edge,
+        });
     }
+    connect(edges, intervals, place.edge, ring.before);
+    Ok(RingEdges {
+        edges: place.edges,
+        first: ring.first,
+        before: place.edge,
+    })
 }
 
 // Enters all n places of the perimeter of face f, while k edges stand.
@@ -116,7 +98,7 @@ fn enter_places(
     f: u32,
     a: usize,
     n: usize,
-) -> Turned
+) -> Result<RingEdges, Ground>
     requires standing { Standing np points.old edges.old chain.old k }
     requires listed_room { ListedRoom listed.now beside.now edges.old intervals.old chain.old }
     requires listed_from { ListedFrom np listed.now a n }
@@ -133,21 +115,12 @@ fn enter_places(
         first: 0,
         before: 0,
     };
-    let mut i = 0;
-    while i < n {
-        match turn_place(
+    for i in 0..n {
+        ring = turn_place(
             version, listed, beside, points, edges, intervals, chain, np, ring, f, a, n, i,
-        ) {
-            Turned::On(next) => {
-                ring = next;
-            }
-            Turned::Stopped(g) => {
-                return Turned::Stopped(g);
-            }
-        }
-        i += 1;
+        )?;
     }
-    Turned::On(ring)
+    Ok(ring)
 }
 
 // Enters the perimeter of face f, connects its first edge to its last, and stores the face's row.
@@ -165,7 +138,7 @@ fn enter_perimeter(
     f: u32,
     a: usize,
     n: usize,
-) -> Faced
+) -> Result<u32, Ground>
     requires standing { Standing np points.old edges.old chain.old k }
     requires listed_room { ListedRoom listed.now beside.now edges.old intervals.old chain.old }
     requires listed_from { ListedFrom np listed.now a n }
@@ -178,23 +151,19 @@ fn enter_perimeter(
         intervals.old faces.old) k)))) }
     ensures face_stands { FaceStands np points.new edges.new chain.new (a + n) result }
 {
-    match enter_places(
+    let ring = enter_places(
         version, listed, beside, points, edges, intervals, chain, np, k, f, a, n,
-    ) {
-        Turned::On(ring) => {
-            connect(edges, intervals, ring.first, ring.before);
-            store_face(
-                faces,
-                index(f),
-                TnurccFace {
-                    edge: ring.first,
-                    corners: [NONE, NONE, NONE, NONE],
-                },
-            );
-            Faced::On(ring.edges)
-        }
-        Turned::Stopped(g) => Faced::Stopped(g),
-    }
+    )?;
+    connect(edges, intervals, ring.first, ring.before);
+    store_face(
+        faces,
+        index(f),
+        TnurccFace {
+            edge: ring.first,
+            corners: [NONE, NONE, NONE, NONE],
+        },
+    );
+    Ok(ring.edges)
 }
 
 // Enters face f, whose n listed points stand from the place a on, if it passes its tests.
@@ -214,7 +183,7 @@ fn enter_face(
     f: u32,
     a: usize,
     n: usize,
-) -> Faced
+) -> Result<u32, Ground>
     requires standing { Standing np points.old edges.old chain.old k }
     requires listed_room { ListedRoom listed.now beside.now edges.old intervals.old chain.old }
     requires sided { Sided sides.now listed.now f a n }
@@ -227,12 +196,10 @@ fn enter_face(
         edges.old intervals.old faces.old) k)) }
     ensures face_stands { FaceStands np points.new edges.new chain.new (a + n) result }
 {
-    match face_verdict(version, sides, firsts, listed, beside, np, index(f), a, n) {
-        Verdict::Fit => enter_perimeter(
-            version, listed, beside, points, edges, intervals, faces, chain, np, k, f, a, n,
-        ),
-        Verdict::Unfit(g) => Faced::Stopped(g),
-    }
+    face_verdict(version, sides, firsts, listed, beside, np, index(f), a, n)?;
+    enter_perimeter(
+        version, listed, beside, points, edges, intervals, faces, chain, np, k, f, a, n,
+    )
 }
 
 // Enters all faces into tables that hold none.
@@ -248,7 +215,7 @@ pub fn enter_faces(
     faces: &mut [u32],
     chain: &mut [u32],
     np: usize,
-) -> Faced
+) -> Result<u32, Ground>
     requires standing { Standing np points.old edges.old chain.old 0 }
     requires listed_room { ListedRoom listed.now beside.now edges.old intervals.old chain.old }
     requires sides_len_bound { length sides.now / 4 ≤ general_limits.faces }
@@ -264,22 +231,13 @@ pub fn enter_faces(
     let nf = sides.len() / 4;
     let mut k = 0;
     let mut a = 0;
-    let mut f = 0;
-    while f < nf {
+    for f in 0..nf {
         let n = face_size(sides, f);
-        match enter_face(
+        k = enter_face(
             version, sides, firsts, listed, beside, points, edges, intervals, faces, chain, np, k,
             f as u32, a, n,
-        ) {
-            Faced::On(count) => {
-                k = count;
-            }
-            Faced::Stopped(g) => {
-                return Faced::Stopped(g);
-            }
-        }
+        )?;
         a += n;
-        f += 1;
     }
-    Faced::On(k)
+    Ok(k)
 }

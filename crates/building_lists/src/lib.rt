@@ -3,13 +3,14 @@
 // Contract: `counts_fit`. Definitions: `Lists` of `built_meshes`.
 #![tactic(auto)]
 
-ghost use Rattle.std.specs.Prelude.{◌≡◌, [], ◌≤◌, length, get_or};
+ghost use Rattle.std.specs.Prelude.{◌≡◌, ◌≤◌, length, get_or};
 ghost use Rattle.closed_meshes.specs.Renumbering.{sum_to};
 ghost use Rattle.built_meshes.specs.Lists.{firsts_counted, counts_fit};
-ghost use Rattle.building_tests.specs.Lent.{lists_in, limits_of};
+ghost use Rattle.built_meshes.specs.Lent.{lists_of};
+ghost use Rattle.building_tests.specs.Lent.{limits_of};
 
 use building_tests::Bounds;
-use built_meshes::Version;
+use built_meshes::{LentLists, Version};
 use tables::{POSITION_WIDTH, index};
 
 // The sum of all words.
@@ -18,58 +19,47 @@ fn sum_of(words: &[u32]) -> usize
     ensures { result ≡ sum_to (length words.now) (λ k. get_or words.now k 0) }
 {
     let mut sum = 0;
-    let mut k = 0;
-    while k < words.len() {
-        sum = sum + index(words[k]);
-        k += 1;
+    for k in 0..words.len() {
+        sum += index(words[k]);
     }
     sum
 }
 
 // Whether there are as many first points as sides, where the version looks at them.
-fn firsts_counted(version: Version, sides: &[u32], firsts: &[u32]) -> bool
-    ensures { result ≡ firsts_counted version (lists_in version [] sides.now firsts.now [] []) }
+fn firsts_counted(lists: &LentLists) -> bool
+    ensures { result ≡ firsts_counted lists.now.version (lists_of lists.now) }
 {
-    match version {
+    match lists.version {
         Version::One => true,
-        Version::Two => firsts.len() == sides.len(),
+        Version::Two => lists.firsts.len() == lists.sides.len(),
     }
 }
 
 // Whether the lists are within the limits and their lengths agree.
-pub fn counts_fit(
-    version: Version,
-    coordinates: &[f64],
-    sides: &[u32],
-    firsts: &[u32],
-    listed: &[u32],
-    beside: &[f64],
-    bounds: Bounds,
-) -> bool
-    ensures { result ≡ counts_fit (limits_of bounds)
-        (lists_in version coordinates.now sides.now firsts.now listed.now beside.now) }
+pub fn counts_fit(lists: &LentLists, bounds: Bounds) -> bool
+    ensures { result ≡ counts_fit (limits_of bounds) (lists_of lists.now) }
 {
     let most = bounds.most();
-    if most.points < coordinates.len() / POSITION_WIDTH {
+    if most.points < lists.coordinates.len() / POSITION_WIDTH {
         return false;
     }
-    if most.faces < sides.len() / 4 {
+    if most.faces < lists.sides.len() / 4 {
         return false;
     }
-    if most.listed < listed.len() {
+    if most.listed < lists.listed.len() {
         return false;
     }
-    if coordinates.len() % POSITION_WIDTH != 0 {
+    if lists.coordinates.len() % POSITION_WIDTH != 0 {
         return false;
     }
-    if sides.len() % 4 != 0 {
+    if lists.sides.len() % 4 != 0 {
         return false;
     }
-    if listed.len() != beside.len() {
+    if lists.listed.len() != lists.beside.len() {
         return false;
     }
-    if sum_of(sides) != listed.len() {
+    if sum_of(lists.sides) != lists.listed.len() {
         return false;
     }
-    firsts_counted(version, sides, firsts)
+    firsts_counted(lists)
 }

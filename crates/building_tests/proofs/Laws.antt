@@ -19,14 +19,14 @@ use native.Mathlib.Omega.{arith}
 use lib.Ieee.{Float, nan, add, of_bits, binary64}
 use lib.Dec.{eqb}
 use lib.ListN.{get_or}
+use Rattle.built_meshes.specs.declared.Ground.{Ground}
+use Rattle.std.specs.Prelude.{Result, Ok, Err, ⊤}
 use Rattle.closed_meshes.specs.Renumbering.{sum_to}
 use Rattle.audited_meshes.proofs.Tests.{and_is, leb-is}
 use Rattle.built_meshes.specs.Lists.{size, firsts_counted}
 use Rattle.built_meshes.specs.Faces.{size_fit, listed_in_range, no_point_twice, side_from, last_before, first_fit, firsts_fit, side_sum, sums_agree, sums_fit, face_verdict}
 use Rattle.built_meshes.specs.declared.Version.{Version}
 use Rattle.built_meshes.specs.declared.Version.TheVariants.{One, Two}
-use Rattle.built_meshes.specs.declared.Verdict.{Verdict}
-use Rattle.built_meshes.specs.declared.Verdict.TheVariants.{Fit, Unfit}
 use Rattle.built_meshes.specs.declared.Ground.TheVariants.{FaceSize, OutOfRange, PointTwice, FirstPoint, NonRectangularFace}
 use Rattle.building_tests.specs.Lent.{lists, lists_in, limits_of}
 use Rattle.building_tests.specs.declared.Bounds.{Bounds}
@@ -107,11 +107,11 @@ pub size-some : (n : ℕ) → size_fit n ≡ true → 0 < n
 size-some n h = let z = ((and_is (leb-is 3 n) (leb-is n 64)).0 h).0 in omega arith
 
 -- the verdict by the five tests
-abbrev pub verdict_by : Bool → Bool → Bool → Bool → Bool → Verdict
+abbrev pub verdict_by : Bool → Bool → Bool → Bool → Bool → Result ⊤ Ground
 verdict_by size points new firsts sums =
-    cond (not size) (Unfit FaceSize)
-    (cond (not points) (Unfit OutOfRange) (cond (not new) (Unfit PointTwice)
-    (cond (not firsts) (Unfit FirstPoint) (cond (not sums) (Unfit NonRectangularFace) Fit))))
+    cond (not size) (Err FaceSize)
+    (cond (not points) (Err OutOfRange) (cond (not new) (Err PointTwice)
+    (cond (not firsts) (Err FirstPoint) (cond (not sums) (Err NonRectangularFace) (Ok tt)))))
 
 pub verdict-is : (v : Version) (cs : List Float) (ss fs ls : List ℕ) (is : List Float) (np f a n : ℕ) → n ≡ size (lists [] ss [] []) f
     → face_verdict (lists_in v cs ss fs ls is) np f a

@@ -5,7 +5,7 @@ ghost use Rattle.built_meshes.specs.Faces.{size_fit, last_before, firsts_fit, si
 ghost use Rattle.built_meshes.specs.declared.Version.TheVariants.{Two};
 ghost use Rattle.building_tests.specs.Lent.{lists, lists_in, FirstsGiven};
 
-use built_meshes::{Ground, Verdict, Version};
+use built_meshes::{Ground, Version};
 use listed_points::{are_points, no_point_twice};
 use side_sums::sums_agree;
 use tables::{LONGEST_PERIMETER, index};
@@ -65,13 +65,11 @@ fn firsts_fit(sides: &[u32], firsts: &[u32], listed: &[u32], f: usize, a: usize,
 {
     let s = f * 4;
     let mut b = 0;
-    let mut k = 0;
-    while k < 4 {
+    for k in 0..4 {
         if !first_fits(firsts, listed, s + k, a, n, b) {
             return false;
         }
         b = b + index(sides[s + k]);
-        k += 1;
     }
     true
 }
@@ -105,10 +103,8 @@ fn side_sum(beside: &[f64], a: usize, n: usize) -> f64
     ensures { result ≡ side_sum beside.now a n }
 {
     let mut sum = 0.0;
-    let mut i = 0;
-    while i < n {
+    for i in 0..n {
         sum = sum + beside[a + i];
-        i += 1;
     }
     sum
 }
@@ -142,7 +138,7 @@ pub fn face_verdict(
     f: usize,
     a: usize,
     n: usize,
-) -> Verdict
+) -> Result<(), Ground>
     requires f_in_bounds { f * 4 + 4 ≤ length sides.now }
     requires n_value { n ≡ size (lists [] sides.now [] []) f }
     requires n_in_bounds { a + n ≤ length listed.now }
@@ -152,19 +148,19 @@ pub fn face_verdict(
         ≡ face_verdict (lists_in version cs sides.now firsts.now listed.now beside.now) np f a }
 {
     if !size_fits(n) {
-        return Verdict::Unfit(Ground::FaceSize);
+        return Err(Ground::FaceSize);
     }
     if !are_points(listed, np, a, n) {
-        return Verdict::Unfit(Ground::OutOfRange);
+        return Err(Ground::OutOfRange);
     }
     if !no_point_twice(listed, a, n) {
-        return Verdict::Unfit(Ground::PointTwice);
+        return Err(Ground::PointTwice);
     }
     if !firsts_agree(version, sides, firsts, listed, f, a, n) {
-        return Verdict::Unfit(Ground::FirstPoint);
+        return Err(Ground::FirstPoint);
     }
     if !sums_fit(version, sides, beside, f, a) {
-        return Verdict::Unfit(Ground::NonRectangularFace);
+        return Err(Ground::NonRectangularFace);
     }
-    Verdict::Fit
+    Ok(())
 }

@@ -6,23 +6,20 @@ ghost use Rattle.audited_meshes.specs.Walks.{passed, point_walk};
 ghost use Rattle.built_meshes.specs.Whole.{no_missing_face, every_edged, no_missed_edge, whole_verdict, mark_of, marked};
 ghost use Rattle.tables.specs.Parts.{point_tables};
 
-use built_meshes::{Ground, Verdict};
+use built_meshes::Ground;
 use edge_ends::NONE;
 use t_nurcc_iter::point_walk;
 use tables::{EDGE_WIDTH, MARK_WORD, POINT_WIDTH, RIGHT_FACE_WORD, index};
-use walks::Passed;
 
 // Whether each of ne edges has a face on its right.
 fn no_missing_face(edges: &[u32], ne: usize) -> bool
     requires { ne * edge_width ≤ length edges.now }
     ensures { result ≡ no_missing_face (point_tables [] edges.now) ne }
 {
-    let mut e = 0;
-    while e < ne {
+    for e in 0..ne {
         if edges[e * EDGE_WIDTH + RIGHT_FACE_WORD] == NONE {
             return false;
         }
-        e += 1;
     }
     true
 }
@@ -32,12 +29,10 @@ fn every_edged(points: &[u32], np: usize) -> bool
     requires { np * point_width ≤ length points.now }
     ensures { result ≡ every_edged (point_tables points.now []) np }
 {
-    let mut p = 0;
-    while p < np {
+    for p in 0..np {
         if points[p * POINT_WIDTH] == 0 {
             return false;
         }
-        p += 1;
     }
     true
 }
@@ -51,8 +46,8 @@ fn walk_passes_all(points: &[u32], edges: &[u32], ne: usize, p: usize) -> bool
 {
     let v = index(points[p * POINT_WIDTH]);
     match point_walk(edges, points, ne, v, p) {
-        Passed::Back(n) => !(n < v),
-        Passed::Lost => !(0 < v),
+        Some(n) => !(n < v),
+        None => !(0 < v),
     }
 }
 
@@ -62,32 +57,30 @@ fn no_missed_edge(points: &[u32], edges: &[u32], np: usize, ne: usize) -> bool
     requires edge_width_in_bounds { ne * edge_width ≤ length edges.now }
     ensures { result ≡ no_missed_edge (point_tables points.now edges.now) np ne }
 {
-    let mut p = 0;
-    while p < np {
+    for p in 0..np {
         if !walk_passes_all(points, edges, ne, p) {
             return false;
         }
-        p += 1;
     }
     true
 }
 
 // The first of the grounds 20 to 22 that holds.
-pub fn whole_verdict(points: &[u32], edges: &[u32], np: usize, ne: usize) -> Verdict
+pub fn whole_verdict(points: &[u32], edges: &[u32], np: usize, ne: usize) -> Result<(), Ground>
     requires point_width_in_bounds { np * point_width ≤ length points.now }
     requires edge_width_in_bounds { ne * edge_width ≤ length edges.now }
     ensures { (ps : List Float) (is : List Float) (fs : List ℕ) → result ≡ whole_verdict (mesh_of ps points.now edges.now is fs) np ne }
 {
     if !no_missing_face(edges, ne) {
-        return Verdict::Unfit(Ground::MissingFace);
+        return Err(Ground::MissingFace);
     }
     if !every_edged(points, np) {
-        return Verdict::Unfit(Ground::NoEdge);
+        return Err(Ground::NoEdge);
     }
     if !no_missed_edge(points, edges, np, ne) {
-        return Verdict::Unfit(Ground::MissedEdge);
+        return Err(Ground::MissedEdge);
     }
-    Verdict::Fit
+    Ok(())
 }
 
 // The mark of a point by its valence.
@@ -102,10 +95,8 @@ pub fn mark_points(points: &mut [u32], np: usize)
     requires { np * point_width ≤ length points.old }
     ensures { points.new ≡ marked np points.old }
 {
-    let mut p = 0;
-    while p < np {
+    for p in 0..np {
         let b = p * POINT_WIDTH;
         points[b + MARK_WORD] = mark_of(points[b]);
-        p += 1;
     }
 }

@@ -10,7 +10,6 @@ use native.Mathlib.Decide.{ℕ_discrete, dec_lt}
 use Rattle.perimeters.proofs.Laws.{next-below, prev-below, next-prev}
 use Rattle.perimeters.specs.Places.{next_place, prev_place}
 use Rattle.tables.specs.declared.Sizes.{Sizes}
-use Rattle.audited_meshes.specs.Walks.{Touches}
 use Rattle.t_spline.specs.Edge.{none}
 use Rattle.t_spline.specs.Ends.{face_from_side}
 use Rattle.edge_ends.specs.declared.TnurccFaceSide.{TnurccFaceSide}

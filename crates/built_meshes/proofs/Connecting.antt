@@ -16,6 +16,7 @@ use lib.Dec.{eqb}
 use lib.ListN.{length, length-set}
 use lib.Seq.{get_or-set_same, get_or-set_other}
 use borrow.Author.Tests.{eqb-true, eqb-false, eq-eqb, ne_eqb}
+use Rattle.std.specs.Prelude.{Option, Some, None}
 use Rattle.edge_ends.specs.Connection.{index_of, connection_at}
 use Rattle.edge_ends.specs.Ends.{acw_on_side, cw_on_side}
 use Rattle.t_spline.specs.Ends.{face_from_side}
@@ -25,8 +26,6 @@ use Rattle.t_spline.specs.declared.TnurccEdge.{TnurccEdge}
 use Rattle.edge_ends.specs.declared.TnurccConnection.{TnurccConnection}
 use Rattle.edge_ends.specs.declared.TnurccFaceSide.{TnurccFaceSide}
 use Rattle.edge_ends.specs.declared.TnurccFaceSide.TheVariants.{Left, Right}
-use Rattle.edge_links.specs.declared.Links.{Links}
-use Rattle.edge_links.specs.declared.Links.TheVariants.{Both, Mismatch}
 use Rattle.edge_links.specs.declared.Pair.{Pair}
 use Rattle.edge_ends.proofs.Laws.{index_below, connection-at-index}
 
@@ -173,7 +172,7 @@ module _ (i j : ℕ) (e o : TnurccEdge) where
 
   linked-wrote :
       (s t : TnurccFaceSide) (c d : TnurccConnection) (p : Pair) → length p.first.connections ≡ 4 → length p.other.connections ≡ 4 →
-      RightLinks s t c d → Wrote p (with_links i j (Both c d) p)
+      RightLinks s t c d → Wrote p (with_links i j (Some (c, d)) p)
   linked-wrote s t c d p four four' r =
       record {
         kept-first = keeps-set p.first j c;
@@ -240,10 +239,10 @@ module _ (i j : ℕ) (e o : TnurccEdge) where
   state_of Left Right = 2
   state_of Right Left = 3
 
-  -- what a state sets is right: Mismatch sets nothing
-  data Sets (s t : TnurccFaceSide) : Links → Type 0 where
-    sets : {c d : TnurccConnection} → RightLinks s t c d → Sets s t (Both c d)
-    nothing : Sets s t Mismatch
+  -- what a state sets is right: a mismatch sets nothing
+  data Sets (s t : TnurccFaceSide) : Option (TnurccConnection × TnurccConnection) → Type 0 where
+    sets : {c d : TnurccConnection} → RightLinks s t c d → Sets s t (Some (c, d))
+    nothing : Sets s t None
 
   sets_of : (s t : TnurccFaceSide) (v : ℕ) → face_from_side e s ≢ none → face_from_side e s ≡ face_from_side o t → Vertex v → Sets s t (links_of (state_of s t) v)
   unfolding links_of
@@ -285,7 +284,7 @@ module _ (i j : ℕ) (e o : TnurccEdge) where
       Wrote p (served (same_face (face_from_side e s) (face_from_side o t)) (state_of s t) (vertex_state e o) i j p)
   served-wrote s t p four four' = go (same_face (face_from_side e s) (face_from_side o t)) refl
     where
-      by : (ls : Links) → Sets s t ls → Wrote p (with_links i j ls p)
+      by : (ls : Option (TnurccConnection × TnurccConnection)) → Sets s t ls → Wrote p (with_links i j ls p)
       by ls (sets {c = c} {d = d} r) = linked-wrote s t c d p four four' r
       by ls nothing = wrote_none p
 
@@ -326,7 +325,7 @@ module _ (i j : ℕ) (e o : TnurccEdge) where
 
     step-links :
         (s t : TnurccFaceSide) (p : Pair) → Wrote pairs p → Follows t o s e →
-        links_of (state_of s t) (vertex_state e o) ≡ Both (cw_on_side s) (acw_on_side t) → LinkedIn s t (step s t p)
+        links_of (state_of s t) (vertex_state e o) ≡ Some (cw_on_side s, acw_on_side t) → LinkedIn s t (step s t p)
     step-links s t p w f h =
         rw (true-same_face (face_from_side e s) (face_from_side o t) (λ z. f.a-face (f.same-face ∙ z)) (sym f.same-face), h)
         (link_set p.first j (cw_on_side s) (w.kept-first.links ∙ four), link_set p.other i (acw_on_side t) (w.kept-other.links ∙ four'))
@@ -334,7 +333,7 @@ module _ (i j : ℕ) (e o : TnurccEdge) where
     -- Two edges of two ends each that do not join the same two points share one point at most, so the state is the right one.
     module _ (ends : e.origin ≢ e.dest) (ends' : o.origin ≢ o.dest)
         (along : e.origin ≡ o.origin → e.dest ≡ o.dest → ⊥) (against : e.origin ≡ o.dest → e.dest ≡ o.origin → ⊥) where
-      links-right : (s t : TnurccFaceSide) → second_of t o ≡ first_of s e → links_of (state_of s t) (vertex_state e o) ≡ Both (cw_on_side s) (acw_on_side t)
+      links-right : (s t : TnurccFaceSide) → second_of t o ≡ first_of s e → links_of (state_of s t) (vertex_state e o) ≡ Some (cw_on_side s, acw_on_side t)
       unfolding links_of
       links-right Left Left h = rw (eq-eqb e.origin o.dest (sym h))
       links-right Right Right h = rw (ne_eqb e.origin o.dest (λ z. against z (sym h)), eq-eqb e.dest o.origin (sym h))

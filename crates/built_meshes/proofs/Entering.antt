@@ -11,9 +11,10 @@ use Prim.Native.Nat.{ℕ, zero, suc, ◌+◌, ◌*◌, ◌<◌, ◌≤◌}
 use native.Mathlib.Omega.{arith}
 use native.Mathlib.Decide.{ℕ_discrete}
 use lib.Dec.{eqb}
-use lib.Ieee.{Float, nan}
-use lib.ListN.{length, get_or}
+use lib.Ieee.{Float}
+use lib.ListN.{length}
 use borrow.Author.Tests.{eqb-true, eqb-false, eq-eqb, ne_eqb}
+use Rattle.std.specs.Prelude.{Option, Some, None}
 use Rattle.perimeters.specs.Places.{next_place}
 use Rattle.perimeters.proofs.Laws.{next-below, next-differs}
 use Rattle.t_spline.specs.Edge.{none}
@@ -29,14 +30,12 @@ use Rattle.audited_meshes.specs.Walks.{touches, Touches}
 use Rattle.audited_meshes.specs.Audit.{interval_fit}
 use Rattle.audited_meshes.proofs.Folds.{below_suc, sum_to-cong}
 use Rattle.audited_meshes.proofs.Tests.{Is, and_is, or_is, eqb_is}
-use Rattle.built_meshes.specs.Lists.{Lists, points_of, size, offset}
+use Rattle.built_meshes.specs.Lists.{Lists, points_of, size}
 use Rattle.built_meshes.specs.Edges.{joins, or_last, edge_between, lone_edge, touched, new_edge, with_right_face, Entered, at, refused, entered_at, entered_if, entered}
 use Rattle.built_meshes.specs.Places.{point_of, next_of, Earlier}
 use Rattle.built_meshes.specs.Beyond.{Within}
 use Rattle.built_meshes.specs.declared.Ground.{Ground}
 use Rattle.built_meshes.specs.declared.Ground.TheVariants.{EdgeTripleFace, SameWay}
-use Rattle.built_meshes.specs.declared.Found.{Found}
-use Rattle.built_meshes.specs.declared.Found.TheVariants as Founds
 use Rattle.built_meshes.proofs.Connecting.{first_of, second_of, acw_of, cw_of}
 use Rattle.built_meshes.proofs.Rows.{row, with_right, row-new_edge, row-new_edge-other, valence-new_edge-first}
 use Rattle.built_meshes.proofs.Rows.{valence-new_edge-second, valence-new_edge-other, start-new_edge-first}
@@ -55,16 +54,16 @@ joins-is m p q e =
     or_is (and_is (eqb_is (origin m e) p) (eqb_is (dest m e) q)) (and_is (eqb_is (origin m e) q) (eqb_is (dest m e) p))
 
 -- an edge below k that joins the points, or none does
-pub data Finds (m : Mesh) (k p q : ℕ) : Found → Type 0 where
-  finds : {e : ℕ} → e < k → Joins m p q e → Finds m k p q (Founds.At e)
-  finds-none : ((e : ℕ) → e < k → ¬ Joins m p q e) → Finds m k p q Founds.Nothing
+pub data Finds (m : Mesh) (k p q : ℕ) : Option ℕ → Type 0 where
+  finds : {e : ℕ} → e < k → Joins m p q e → Finds m k p q (Some e)
+  finds-none : ((e : ℕ) → e < k → ¬ Joins m p q e) → Finds m k p q None
 
 pub found-is : (m : Mesh) (k p q : ℕ) → Finds m k p q (edge_between m k p q)
 unfolding edge_between
 found-is m zero p q = finds-none (λ e l. absurd (omega arith))
 found-is m (suc k) p q = go (edge_between m k p q) (found-is m k p q) (joins m p q k) refl
   where
-    go : (r : Found) → Finds m k p q r → (b : Bool) → joins m p q k ≡ b → Finds m (suc k) p q (or_last r b k)
+    go : (r : Option ℕ) → Finds m k p q r → (b : Bool) → joins m p q k ≡ b → Finds m (suc k) p q (or_last r b k)
     go r (finds {e = e} l j) b h = finds {e = e} (omega arith) j
     go r (finds-none none) true h = finds {e = k} (omega arith) ((joins-is m p q k).0 h)
     go r (finds-none none) false h =
@@ -596,6 +595,6 @@ module _ (l : Lists) (D C : ℕ → ℕ → Type 0) (m : Mesh) (ne : ℕ) (f₀ 
             let turn = turns-back e j (eqb-false (origin m e) p h') in
             goes (goes-filled e k (eqb-true (right_face m e) none h) turn.0 turn.1)
 
-        go : (r : Found) → Finds m ne p q r → Came (entered_if m ne f₀ p q value r)
+        go : (r : Option ℕ) → Finds m ne p q r → Came (entered_if m ne f₀ p q value r)
         go r (finds {e = e} k j) = at_edge e k j (eqb (right_face m e) none) (eqb (origin m e) p) refl refl
         go r (finds-none h) = goes (goes-new h)

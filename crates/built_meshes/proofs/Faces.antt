@@ -2,13 +2,14 @@
 --     verdict-is              what the verdict of a face says
 --     faces-came              what comes of all faces
 use mathlib.Core.Path.{◌≡◌, refl, sym, ◌∙◌, ap₂, subst}
-use mathlib.Core.Bool.{Bool, true, false, not, ◌&&◌, cond, true≢false}
-use mathlib.Core.Logic.{◌⊎◌, inl, inr, ⊎_elim, ◌≢◌}
+use mathlib.Core.Bool.{Bool, true, false, not, cond}
+use mathlib.Core.Logic.{inl, inr, ⊎_elim, ◌≢◌}
 use Prim.Native.Nat.{ℕ, zero, suc, ◌+◌, ◌<◌, ◌≤◌}
 use native.Mathlib.Omega.{arith}
 use native.Mathlib.Decide.{dec_lt}
 use lib.Dec.{eqb, ltb, leb}
 use borrow.Author.Tests.{leb-false, ltb-false, eqb-true, not-false}
+use Rattle.std.specs.Prelude.{Result, Ok, Err, ⊤}
 use Rattle.perimeters.specs.Places.{next_place}
 use Rattle.perimeters.proofs.Laws.{next-below, next-differs}
 use Rattle.tables.specs.Mesh.{Mesh}
@@ -27,8 +28,6 @@ use Rattle.built_meshes.specs.Beyond.{Within}
 use Rattle.built_meshes.specs.Grounds.{Where, face, edge, Met, face-size, out_of_range, point-twice, first-point, non-rectangular, triple-face, same_way, rank, FirstMet}
 use Rattle.built_meshes.specs.declared.Ground.{Ground}
 use Rattle.built_meshes.specs.declared.Ground.TheVariants.{FaceSize, OutOfRange, PointTwice, FirstPoint, NonRectangularFace, EdgeTripleFace, SameWay}
-use Rattle.built_meshes.specs.declared.Verdict.{Verdict}
-use Rattle.built_meshes.specs.declared.Verdict.TheVariants.{Fit, Unfit}
 use Rattle.built_meshes.proofs.Rows.{row}
 use Rattle.built_meshes.proofs.Beyond.{within-refl, within-trans}
 use Rattle.built_meshes.proofs.Invariant.{FaceSound, OneWay}
@@ -44,9 +43,9 @@ why-number (this-way f i d a b n) = omega arith
 -- ---- one face
 
 module _ (c : Sizes) (l : Lists) (m₀ : Mesh) where
-  pub data FaceVerdict (f : ℕ) : Verdict → Type 0 where
-    fit : FaceSound l f → Agrees l f → FaceVerdict f Fit
-    unfit : {g : Ground} → Met c l m₀ (face f) g → Tests l f (rank g) → 10 ≤ ground_number g → FaceVerdict f (Unfit g)
+  pub data FaceVerdict (f : ℕ) : Result ⊤ Ground → Type 0 where
+    fit : FaceSound l f → Agrees l f → FaceVerdict f (Ok tt)
+    unfit : {g : Ground} → Met c l m₀ (face f) g → Tests l f (rank g) → 10 ≤ ground_number g → FaceVerdict f (Err g)
 
   range-is : (f : ℕ) → Is (listed_in_range l (points_of l) (offset l f) (size l f)) ((i : ℕ) → i < size l f → point_of l f i < points_of l)
   unfolding listed_in_range
@@ -85,9 +84,9 @@ module _ (c : Sizes) (l : Lists) (m₀ : Mesh) where
       (eqb-true (point_of l f w.0) (point_of l f u.0) (not-false (eqb (point_of l f w.0) (point_of l f u.0)) u.2))
 
   -- what is left of the verdict after 12
-  abbrev version_verdict : ℕ → Verdict
+  abbrev version_verdict : ℕ → Result ⊤ Ground
   version_verdict f =
-      cond (not (firsts_fit l.version l f (offset l f))) (Unfit FirstPoint) (cond (not (sums_fit l.version l f (offset l f))) (Unfit NonRectangularFace) Fit)
+      cond (not (firsts_fit l.version l f (offset l f))) (Err FirstPoint) (cond (not (sums_fit l.version l f (offset l f))) (Err NonRectangularFace) (Ok tt))
 
   pub verdict-is : (f : ℕ) → f < faces_of l → FaceVerdict f (face_verdict l (points_of l) f (offset l f))
   unfolding face_verdict
@@ -145,19 +144,19 @@ module _ (c : Sizes) (l : Lists) (m₀ : Mesh) where
           }
 
       sums : FaceSound l f → firsts_fit l.version l f (offset l f) ≡ true → (t : Bool) → sums_fit l.version l f (offset l f) ≡ t →
-          FaceVerdict f (cond (not t) (Unfit NonRectangularFace) Fit)
+          FaceVerdict f (cond (not t) (Err NonRectangularFace) (Ok tt))
       sums s hf true h = fit s (hf, h)
       sums s hf false h = unfit {g = NonRectangularFace} (non-rectangular f b (sums_apart l f (offset l f) h)) (tests-13 s hf) (omega arith)
 
       firsts : FaceSound l f → (t : Bool) → firsts_fit l.version l f (offset l f) ≡ t →
-          FaceVerdict f (cond (not t) (Unfit FirstPoint) (cond (not (sums_fit l.version l f (offset l f))) (Unfit NonRectangularFace) Fit))
+          FaceVerdict f (cond (not t) (Err FirstPoint) (cond (not (sums_fit l.version l f (offset l f))) (Err NonRectangularFace) (Ok tt)))
       firsts s true h = sums s h (sums_fit l.version l f (offset l f)) refl
       firsts s false h =
           let x = firsts-apart l f (offset l f) (omega (arith, s.at-least-3)) h in
           unfit {g = FirstPoint} (first-point f x.side x.place x.two b x.is-side x.last x.differs) (tests-12 s) (omega arith)
 
       twice : size_fit (size l f) ≡ true → listed_in_range l (points_of l) (offset l f) (size l f) ≡ true → (t : Bool) → no_point_twice l (offset l f) (size l f) ≡ t →
-          FaceVerdict f (cond (not t) (Unfit PointTwice) (version_verdict f))
+          FaceVerdict f (cond (not t) (Err PointTwice) (version_verdict f))
       twice hs hr true h =
           let both = (and_is (leb-is 3 (size l f)) (leb-is (size l f) 64)).0 hs in
           firsts (record { at-least-3 = both.0; at-most-64 = both.1; in-range = (range-is f).0 hr; distinct = distinct_of f ((twice-is f).0 h) })
@@ -165,14 +164,14 @@ module _ (c : Sizes) (l : Lists) (m₀ : Mesh) where
       twice hs hr false h = unfit {g = PointTwice} (twice-met f b h) (tests-11 hs hr) (omega arith)
 
       ranges : size_fit (size l f) ≡ true → (t : Bool) → listed_in_range l (points_of l) (offset l f) (size l f) ≡ t →
-          FaceVerdict f (cond (not t) (Unfit OutOfRange)
-          (cond (not (no_point_twice l (offset l f) (size l f))) (Unfit PointTwice) (version_verdict f)))
+          FaceVerdict f (cond (not t) (Err OutOfRange)
+          (cond (not (no_point_twice l (offset l f) (size l f))) (Err PointTwice) (version_verdict f)))
       ranges hs true h = twice hs h (no_point_twice l (offset l f) (size l f)) refl
       ranges hs false h = unfit {g = OutOfRange} (range-met f b h) (tests-10 hs) (omega arith)
 
       sizes : (t : Bool) → size_fit (size l f) ≡ t →
-          FaceVerdict f (cond (not t) (Unfit FaceSize) (cond (not (listed_in_range l (points_of l) (offset l f) (size l f))) (Unfit OutOfRange)
-          (cond (not (no_point_twice l (offset l f) (size l f))) (Unfit PointTwice) (version_verdict f))))
+          FaceVerdict f (cond (not t) (Err FaceSize) (cond (not (listed_in_range l (points_of l) (offset l f) (size l f))) (Err OutOfRange)
+          (cond (not (no_point_twice l (offset l f) (size l f))) (Err PointTwice) (version_verdict f))))
       sizes true h = ranges h (listed_in_range l (points_of l) (offset l f) (size l f)) refl
       sizes false h = unfit {g = FaceSize} (size-met f b h) tests-9 (omega arith)
 
@@ -300,7 +299,7 @@ module _ (c : Sizes) (l : Lists) (m₀ : Mesh) where
         entered sound r x (halted {g = g} j k w u o) =
             stopped-at {g = g} (edge f j) (refused-first clear f j b (fit-more f a.fit-faces sound r) k u w) (why-number w) (within-trans l a.within o)
 
-        go : (v : Verdict) → FaceVerdict f v → Along (suc f) (face_if l f (offset l f) s v)
+        go : (v : Result ⊤ Ground) → FaceVerdict f v → Along (suc f) (face_if l f (offset l f) s v)
         go v (fit sound r) = entered sound r (perimeter l f (offset l f) s) (perimeter-came l s f b sound (ready-same l a.within ready) a.faces)
         go v (unfit {g = g} h t n) = stopped-at {g = g} (face f) (face-first f s b a h t) n a.within
 

@@ -19,7 +19,7 @@ use Rattle.t_spline.specs.Edge.{none}
 use Rattle.t_spline.specs.Ends.{face_from_side}
 use Rattle.edge_ends.specs.declared.TnurccFaceSide.{TnurccFaceSide}
 use Rattle.edge_ends.specs.declared.TnurccFaceSide.TheVariants.{Left, Right}
-use Rattle.tables.specs.Mesh.{Mesh, z, valence, start, mark, point_rows, edge_rows, face_rows}
+use Rattle.tables.specs.Mesh.{Mesh, valence, start, mark, point_rows, edge_rows, face_rows}
 use Rattle.tables.specs.Rows.{over}
 use Rattle.audited_meshes.specs.Walks.{passed, point_walk}
 use Rattle.audited_meshes.specs.Audited.{Audited}

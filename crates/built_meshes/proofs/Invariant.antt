@@ -17,7 +17,7 @@ use Rattle.perimeters.proofs.Laws.{next-below, next-injective}
 use Rattle.t_spline.specs.Edge.{none}
 use Rattle.t_spline.specs.Ends.{face_from_side}
 use Rattle.edge_ends.specs.declared.TnurccFaceSide.{TnurccFaceSide}
-use Rattle.tables.specs.Mesh.{Mesh, valence, start, origin, dest, interval}
+use Rattle.tables.specs.Mesh.{Mesh, valence, start}
 use Rattle.closed_meshes.specs.Renumbering.{sum_to}
 use Rattle.audited_meshes.specs.Folds.{one_if}
 use Rattle.audited_meshes.specs.Walks.{touches, Touches}

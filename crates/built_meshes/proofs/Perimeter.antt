@@ -23,8 +23,8 @@ use Rattle.audited_meshes.specs.Audit.{interval_fit}
 use Rattle.audited_meshes.specs.Folds.{one_if}
 use Rattle.audited_meshes.proofs.Folds.{below_suc, sum_to-cong}
 use Rattle.built_meshes.specs.Lists.{Lists, points_of, faces_of, size, offset}
-use Rattle.built_meshes.specs.Edges.{Entered, at, entered, joined}
-use Rattle.built_meshes.specs.Perimeters.{BuildState, FaceState, Progress, on, stopped, chained, turned, interval_place, turn, places, face_of, with_face, closed_up, perimeter}
+use Rattle.built_meshes.specs.Edges.{Entered, entered, joined}
+use Rattle.built_meshes.specs.Perimeters.{BuildState, FaceState, Progress, on, stopped, turned, interval_place, turn, places, face_of, with_face, closed_up, perimeter}
 use Rattle.built_meshes.specs.Places.{point_of, next_of, Earlier}
 use Rattle.built_meshes.specs.Beyond.{Within}
 use Rattle.built_meshes.specs.declared.Version.{Version}

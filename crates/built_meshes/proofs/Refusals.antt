@@ -7,6 +7,7 @@ use Prim.Native.Nat.{ℕ, zero, suc, ◌+◌, ◌<◌, ◌≤◌}
 use native.Mathlib.Omega.{arith}
 use lib.Dec.{eqb}
 use borrow.Author.Tests.{eqb-true, not-false}
+use Rattle.std.specs.Prelude.{Result, Ok, Err, ⊤}
 use Rattle.t_spline.specs.Edge.{none}
 use Rattle.t_spline.specs.Ends.{face_from_side}
 use Rattle.edge_ends.specs.declared.TnurccFaceSide.{TnurccFaceSide}
@@ -27,8 +28,6 @@ use Rattle.built_meshes.specs.Whole.{no_missing_face, every_edged, no_missed_edg
 use Rattle.built_meshes.specs.Grounds.{HasMissingFace, HasNoEdge, HasMissedEdge, Where, whole, Met, missing-face, no_edge, missed-edge, rank, FirstMet}
 use Rattle.built_meshes.specs.declared.Ground.{Ground}
 use Rattle.built_meshes.specs.declared.Ground.TheVariants.{MissingFace, NoEdge, MissedEdge}
-use Rattle.built_meshes.specs.declared.Verdict.{Verdict}
-use Rattle.built_meshes.specs.declared.Verdict.TheVariants.{Fit, Unfit}
 use Rattle.built_meshes.proofs.Connecting.{first_of, second_of}
 use Rattle.built_meshes.proofs.Rows.{row}
 use Rattle.built_meshes.proofs.Invariant.{Invariant}
@@ -169,9 +168,9 @@ module _ (c : Sizes) (l : Lists) (m₀ : Mesh) (s : BuildState) (all : Faces l (
       go e b (inl z) = begins-here Left e b z
       go e b (inr z) = begins-here Right e b z
 
-  pub data WholeVerdict : Verdict → Type 0 where
-    whole-fit : WholeFit → ((w : Where) (g : Ground) → ¬ Met c l m₀ w g) → WholeVerdict Fit
-    whole-unfit : {g : Ground} → FirstMet c l m₀ whole g → 20 ≤ ground_number g → WholeVerdict (Unfit g)
+  pub data WholeVerdict : Result ⊤ Ground → Type 0 where
+    whole-fit : WholeFit → ((w : Where) (g : Ground) → ¬ Met c l m₀ w g) → WholeVerdict (Ok tt)
+    whole-unfit : {g : Ground} → FirstMet c l m₀ whole g → 20 ≤ ground_number g → WholeVerdict (Err g)
 
   module _ (clear : ClearLists c l m₀) (fit : FitFaces c l m₀ (faces_of l)) where
     entered-fit : (f i : ℕ) → IsPlace l f i → (¬ Triple l f i) × (¬ Same l f i)
@@ -188,7 +187,8 @@ module _ (c : Sizes) (l : Lists) (m₀ : Mesh) (s : BuildState) (all : Faces l (
     unfolding whole_verdict
     whole-verdict-is = faces (no_missing_face m ne) refl
       where
-        walks : no_missing_face m ne ≡ true → every_edged m (points_of l) ≡ true → (b : Bool) → no_missed_edge m (points_of l) ne ≡ b → WholeVerdict (cond (not b) (Unfit MissedEdge) Fit)
+        walks : no_missing_face m ne ≡ true → every_edged m (points_of l) ≡ true → (b : Bool) → no_missed_edge m (points_of l) ne ≡ b
+            → WholeVerdict (cond (not b) (Err MissedEdge) (Ok tt))
         walks f e true h =
             whole-fit (record { right = right-faces f; edged = edged-is e; walked = walked-is h })
             (nothing-met c l m₀ clear (fit-tests c l m₀ (faces_of l) fit) entered-fit (missing-none (right-faces f)) (no-edge-none (right-faces f) (edged-is e))
@@ -199,7 +199,7 @@ module _ (c : Sizes) (l : Lists) (m₀ : Mesh) (s : BuildState) (all : Faces l (
             (missed-edge (missed-met l m ne v (right-faces f) (edged-is e) h))) (omega arith)
 
         edges : no_missing_face m ne ≡ true → (b : Bool) → every_edged m (points_of l) ≡ b →
-            WholeVerdict (cond (not b) (Unfit NoEdge) (cond (not (no_missed_edge m (points_of l) ne)) (Unfit MissedEdge) Fit))
+            WholeVerdict (cond (not b) (Err NoEdge) (cond (not (no_missed_edge m (points_of l) ne)) (Err MissedEdge) (Ok tt)))
         edges f true h = walks f h (no_missed_edge m (points_of l) ne) refl
         edges f false h =
             whole-unfit {g = NoEdge}
@@ -207,7 +207,7 @@ module _ (c : Sizes) (l : Lists) (m₀ : Mesh) (s : BuildState) (all : Faces l (
             (omega arith)
 
         faces : (b : Bool) → no_missing_face m ne ≡ b →
-            WholeVerdict (cond (not b) (Unfit MissingFace) (cond (not (every_edged m (points_of l))) (Unfit NoEdge) (cond (not (no_missed_edge m (points_of l) ne)) (Unfit MissedEdge) Fit)))
+            WholeVerdict (cond (not b) (Err MissingFace) (cond (not (every_edged m (points_of l))) (Err NoEdge) (cond (not (no_missed_edge m (points_of l) ne)) (Err MissedEdge) (Ok tt))))
         faces true h = edges h (every_edged m (points_of l)) refl
         faces false h =
             whole-unfit {g = MissingFace}

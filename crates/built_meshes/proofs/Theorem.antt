@@ -10,6 +10,7 @@ use Prim.Native.Nat.{ℕ, suc, ◌*◌, ◌<◌, ◌≤◌}
 use native.Mathlib.Omega.{arith}
 use lib.Dec.{eqb}
 use borrow.Author.Tests.{ne_eqb}
+use Rattle.std.specs.Prelude.{Result, Ok, Err, ⊤}
 use Rattle.t_spline.specs.Edge.{none}
 use Rattle.tables.specs.Mesh.{Mesh}
 use Rattle.tables.specs.declared.Counts.{Counts}
@@ -33,8 +34,6 @@ use Rattle.built_meshes.specs.declared.Ground.{Ground}
 use Rattle.built_meshes.specs.declared.Ground.TheVariants.{OverCounts, UnfitNumber, FewRows, FaceSize, OutOfRange}
 use Rattle.built_meshes.specs.declared.Ground.TheVariants.{PointTwice, FirstPoint, NonRectangularFace, EdgeTripleFace}
 use Rattle.built_meshes.specs.declared.Ground.TheVariants.{SameWay, MissingFace, NoEdge, MissedEdge}
-use Rattle.built_meshes.specs.declared.Verdict.{Verdict}
-use Rattle.built_meshes.specs.declared.Built.TheVariants.{Accepted, Refused}
 use Rattle.built_meshes.proofs.Rows.{row}
 use Rattle.built_meshes.proofs.Beyond.{within-refl, within-trans, zeroed_rows-within}
 use Rattle.built_meshes.proofs.Entering.{counted}
@@ -62,7 +61,7 @@ module _ (c : Sizes) (l : Lists) (m : Mesh) (few : c.faces ≤ none) where
     refuses : {g : Ground} (w : Where) → FirstMet c l m w g → 10 ≤ ground_number g → Within l m (zeroed_rows (rows_of l) m) → CameOut (build_refusal g (zeroed_rows (rows_of l) m))
     accepts :
         {k : Counts} {t : Mesh} → AuditedCounts l t k → Builds l t k.edges → Within l m t → ((w : Where) (g : Ground) → ¬ Met c l m w g) →
-        CameOut (record { answer = Accepted k; tables = t })
+        CameOut (record { answer = Ok k; tables = t })
 
   module _ (counted' : Counted c l) (numbered : Numbered l) (roomy : Roomy l m) where
     pub clear : ClearLists c l m
@@ -100,7 +99,7 @@ module _ (c : Sizes) (l : Lists) (m : Mesh) (few : c.faces ≤ none) where
 
         whole-came : (s : BuildState) (all : Faces l (faces_of l) s) → FitFaces c l m (faces_of l) → Within l m s.mesh →
             ((x : ℕ) → s.edges ≤ x → row s.mesh x ≡ row (zeroed_rows (rows_of l) m) x) →
-            (x : Verdict) → WholeVerdict c l m s all x → CameOut (whole_if l m s x)
+            (x : Result ⊤ Ground) → WholeVerdict c l m s all x → CameOut (whole_if l m s x)
         whole-came s all fit within later x (whole-fit w n) =
             accepts (audited-counts s all fit within later w) (builds-after s all fit within later w) (within-after s all fit within later w) n
         whole-came s all fit within later x (whole-unfit {g = g} h n) = refuses {g = g} whole h (omega arith) zeros
@@ -135,14 +134,14 @@ module _ (c : Sizes) (l : Lists) (m : Mesh) (few : c.faces ≤ none) where
 pub first-ground : FirstGround
 first-ground c l m few g = (to (build c l m) (build-came c l m few), λ w. from (build c l m) (build-came c l m few) w.0 w.1)
   where
-    to : (o : BuildOutcome) → CameOut c l m few o → o.answer ≡ Refused g → (w : Where) × FirstMet c l m w g
+    to : (o : BuildOutcome) → CameOut c l m few o → o.answer ≡ Err g → (w : Where) × FirstMet c l m w g
     to o (refuses-early {g = g'} w h n) a = let same : g' ≡ g = cc in (w, subst (λ g. FirstMet c l m w g) same h)
     to o (refuses {g = g'} w h n z) a = let same : g' ≡ g = cc in (w, subst (λ g. FirstMet c l m w g) same h)
     to o (accepts h b w n) a = let z : ◌≡◌ {A = ℕ} 0 1 = cc in absurd (omega arith)
 
-    from : (o : BuildOutcome) → CameOut c l m few o → (w : Where) → FirstMet c l m w g → o.answer ≡ Refused g
-    from o (refuses-early {g = g'} w' h n) w f = ap Refused (first-once c l m w' g' w g h f)
-    from o (refuses {g = g'} w' h n z) w f = ap Refused (first-once c l m w' g' w g h f)
+    from : (o : BuildOutcome) → CameOut c l m few o → (w : Where) → FirstMet c l m w g → o.answer ≡ Err g
+    from o (refuses-early {g = g'} w' h n) w f = ap Err (first-once c l m w' g' w g h f)
+    from o (refuses {g = g'} w' h n z) w f = ap Err (first-once c l m w' g' w g h f)
     from o (accepts h b z n) w f = absurd (n w g f.met)
 
 pub refusals-hold : RefusalsHold
@@ -154,7 +153,7 @@ refusals-hold c l m few g answer = go (build c l m) refl (build-came c l m few) 
     holds' : Holds c l m g
     holds' = (first.0, first.1.met)
 
-    go : (o : BuildOutcome) → build c l m ≡ o → CameOut c l m few o → o.answer ≡ Refused g → RefusedBy c l m g
+    go : (o : BuildOutcome) → build c l m ≡ o → CameOut c l m few o → o.answer ≡ Err g → RefusedBy c l m g
     go o e (refuses-early {g = g'} w h n) a =
         let same : g' ≡ g = cc in
         let less : ground_number g < 10 = subst (λ g. ground_number g < 10) same n in
@@ -168,12 +167,12 @@ refusals-hold c l m few g answer = go (build c l m) refl (build-came c l m few) 
 pub accepts-exactly : AcceptsExactly
 accepts-exactly c l m few = (λ a g h. to (build c l m) (build-came c l m few) a.0 a.1 h.0 g h.1, λ h. from (build c l m) (build-came c l m few) h)
   where
-    to : (o : BuildOutcome) → CameOut c l m few o → (k : Counts) → o.answer ≡ Accepted k → (w : Where) (g : Ground) → ¬ Met c l m w g
+    to : (o : BuildOutcome) → CameOut c l m few o → (k : Counts) → o.answer ≡ Ok k → (w : Where) (g : Ground) → ¬ Met c l m w g
     to o (refuses-early w h n) k a = let z : ◌≡◌ {A = ℕ} 0 1 = cc in absurd (omega arith)
     to o (refuses w h n z) k a = let y : ◌≡◌ {A = ℕ} 0 1 = cc in absurd (omega arith)
     to o (accepts h b w n) k a = n
 
-    from : (o : BuildOutcome) → CameOut c l m few o → ((g : Ground) → ¬ Holds c l m g) → (k : Counts) × (o.answer ≡ Accepted k)
+    from : (o : BuildOutcome) → CameOut c l m few o → ((g : Ground) → ¬ Holds c l m g) → (k : Counts) × (o.answer ≡ Ok k)
     from o (refuses-early {g = g} w h n) none' = absurd (none' g (w, h.met))
     from o (refuses {g = g} w h n z) none' = absurd (none' g (w, h.met))
     from o (accepts {k = k} h b w n) none' = (k, refl)
@@ -203,7 +202,7 @@ over-of c l m (w, h) = go w OverCounts h refl
 pub accepted-audited : AcceptedAudited
 accepted-audited c l m few k answer = go (build c l m) (build-came c l m few) answer
   where
-    go : (o : BuildOutcome) → CameOut c l m few o → o.answer ≡ Accepted k → AuditedCounts l o.tables k
+    go : (o : BuildOutcome) → CameOut c l m few o → o.answer ≡ Ok k → AuditedCounts l o.tables k
     go o (refuses-early w h n) a = let z : ◌≡◌ {A = ℕ} 0 1 = cc in absurd (omega arith)
     go o (refuses x h n w) a = let z : ◌≡◌ {A = ℕ} 0 1 = cc in absurd (omega arith)
     go o (accepts {k = k'} {t = t} h b w n) a = let same : k' ≡ k = cc in subst (λ k. AuditedCounts l t k) same h
@@ -211,7 +210,7 @@ accepted-audited c l m few k answer = go (build c l m) (build-came c l m few) an
 pub accepted-builds : AcceptedBuilds
 accepted-builds c l m few k answer = go (build c l m) (build-came c l m few) answer
   where
-    go : (o : BuildOutcome) → CameOut c l m few o → o.answer ≡ Accepted k → Builds l o.tables k.edges
+    go : (o : BuildOutcome) → CameOut c l m few o → o.answer ≡ Ok k → Builds l o.tables k.edges
     go o (refuses-early w h n) a = let z : ◌≡◌ {A = ℕ} 0 1 = cc in absurd (omega arith)
     go o (refuses x h n w) a = let z : ◌≡◌ {A = ℕ} 0 1 = cc in absurd (omega arith)
     go o (accepts {k = k'} {t = t} h b w n) a = let same : k' ≡ k = cc in subst (λ (k : Counts). Builds l t k.edges) same b

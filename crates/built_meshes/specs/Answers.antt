@@ -1,12 +1,11 @@
 -- The answers of building in the documents' numbers.
 --     ground_number g          the number of a ground
 --     built_numbers a          the numbers of an answer: points, edges and faces, or that of the ground
-use Rattle.std.specs.Prelude.{List, [], ◌∷◌, ℕ}
+use Rattle.std.specs.Prelude.{List, [], ◌∷◌, ℕ, Result, Ok, Err}
+use Rattle.tables.specs.declared.Counts.{Counts}
 use Rattle.built_meshes.specs.declared.Ground.{Ground}
 use Rattle.built_meshes.specs.declared.Ground.TheVariants.{OverCounts, UnfitNumber, FewRows, FaceSize, OutOfRange, PointTwice}
 use Rattle.built_meshes.specs.declared.Ground.TheVariants.{FirstPoint, NonRectangularFace, EdgeTripleFace, SameWay, MissingFace, NoEdge, MissedEdge}
-use Rattle.built_meshes.specs.declared.Built.{Built}
-use Rattle.built_meshes.specs.declared.Built.TheVariants.{Accepted, Refused}
 
 abbrev pub ground_number : Ground → ℕ
 ground_number OverCounts = 2
@@ -23,6 +22,6 @@ ground_number MissingFace = 20
 ground_number NoEdge = 21
 ground_number MissedEdge = 22
 
-abbrev pub built_numbers : Built → List ℕ
-built_numbers (Accepted k) = k.points ∷ k.edges ∷ k.faces ∷ []
-built_numbers (Refused g) = ground_number g ∷ []
+abbrev pub built_numbers : Result Counts Ground → List ℕ
+built_numbers (Ok k) = k.points ∷ k.edges ∷ k.faces ∷ []
+built_numbers (Err g) = ground_number g ∷ []

@@ -4,8 +4,8 @@
 --     BuildOutcome            the answer, and the tables afterwards
 --     build c l m             building from the lists l in the lent tables m, within the limits c
 -- Grounds 2 to 4 leave the tables as they are, the others leave the counted rows zero; rows beyond are never touched.
-use Rattle.std.specs.Prelude.{Bool, true, false, ℕ, zero, suc, ◌+◌}
-use Rattle.tables.specs.Layout.{position_width, point_width, edge_width, face_width}
+use Rattle.std.specs.Prelude.{Bool, true, false, ℕ, zero, suc, ◌+◌, Result, Ok, Err, ⊤}
+use Rattle.tables.specs.declared.Counts.{Counts}
 use Rattle.tables.specs.Mesh.{Mesh}
 use Rattle.tables.specs.Counted.{rows_for, zeroed_rows}
 use Rattle.built_meshes.specs.Lists.{Lists, points_of, faces_of, rows_of, size, counts_fit, listed_fit}
@@ -15,17 +15,13 @@ use Rattle.built_meshes.specs.Perimeters.{BuildState, Progress, on, stopped, per
 use Rattle.built_meshes.specs.Whole.{whole_verdict, finished}
 use Rattle.built_meshes.specs.declared.Ground.{Ground}
 use Rattle.built_meshes.specs.declared.Ground.TheVariants.{OverCounts, UnfitNumber, FewRows}
-use Rattle.built_meshes.specs.declared.Verdict.{Verdict}
-use Rattle.built_meshes.specs.declared.Verdict.TheVariants.{Fit, Unfit}
-use Rattle.built_meshes.specs.declared.Built.{Built}
-use Rattle.built_meshes.specs.declared.Built.TheVariants.{Accepted, Refused}
 
 -- ---- the faces
 
-unfoldable pub face_if : Lists → ℕ → ℕ → BuildState → Verdict → Progress BuildState
+unfoldable pub face_if : Lists → ℕ → ℕ → BuildState → Result ⊤ Ground → Progress BuildState
 unfolding perimeter
-face_if l f a s Fit = perimeter l f a s
-face_if l f a s (Unfit g) = stopped g s.mesh
+face_if l f a s (Ok tt) = perimeter l f a s
+face_if l f a s (Err g) = stopped g s.mesh
 
 -- face f, whose listed points stand from a on
 unfoldable pub face_passed : Lists → ℕ → ℕ → BuildState → Progress BuildState
@@ -39,18 +35,18 @@ faces_from (suc k) l f a (on s) = faces_from k l (suc f) (a + size l f) (face_pa
 faces_from (suc k) l f a (stopped g m) = stopped g m
 
 pub record BuildOutcome : Type 0 where
-  pub answer : Built
+  pub answer : Result Counts Ground
   pub tables : Mesh
 
 abbrev pub build_refusal : Ground → Mesh → BuildOutcome
-build_refusal g m = record { answer = Refused g; tables = m }
+build_refusal g m = record { answer = Err g; tables = m }
 
 -- what is answered of the state s in which all faces stand
-unfoldable pub whole_if : Lists → Mesh → BuildState → Verdict → BuildOutcome
+unfoldable pub whole_if : Lists → Mesh → BuildState → Result ⊤ Ground → BuildOutcome
 unfolding zeroed_rows finished
-whole_if l m s Fit =
-    record { answer = Accepted (record { points = points_of l; edges = s.edges; faces = faces_of l }); tables = finished l s.mesh }
-whole_if l m s (Unfit g) = build_refusal g (zeroed_rows (rows_of l) m)
+whole_if l m s (Ok tt) =
+    record { answer = Ok (record { points = points_of l; edges = s.edges; faces = faces_of l }); tables = finished l s.mesh }
+whole_if l m s (Err g) = build_refusal g (zeroed_rows (rows_of l) m)
 
 unfoldable pub answered : Lists → Mesh → Progress BuildState → BuildOutcome
 unfolding zeroed_rows whole_if whole_verdict

@@ -5,7 +5,7 @@
 --     Beside l t ne f i a c   the edges a and c are those of the next and of the previous place
 --     Builds l t ne           the tables t with ne edges are what document 01 makes of the lists l
 --     AcceptedBuilds         the claim: so is every build that is accepted
-use Rattle.std.specs.Prelude.{◌≡◌, ◌⊎◌, ◌≢◌, ℕ, ◌+◌, ◌<◌, ◌≤◌, length, get_or}
+use Rattle.std.specs.Prelude.{◌≡◌, ◌⊎◌, ◌≢◌, ℕ, ◌<◌, ◌≤◌, length, get_or, Ok}
 use Rattle.std.specs.Float.{nan}
 use Rattle.perimeters.specs.Places.{next_place, prev_place}
 use Rattle.tables.specs.declared.Sizes.{Sizes}
@@ -18,7 +18,6 @@ use Rattle.built_meshes.specs.Lists.{Lists, points_of, faces_of, size}
 use Rattle.built_meshes.specs.Places.{point_of, next_of, beside_of, IsPlace, Runs, Between, Earlier}
 use Rattle.built_meshes.specs.Building.{build}
 use Rattle.built_meshes.specs.declared.Version.TheVariants.{One, Two}
-use Rattle.built_meshes.specs.declared.Built.TheVariants.{Accepted}
 
 pub record First (l : Lists) (f i : ℕ) : Type 0 where
   pub is-place : IsPlace l f i
@@ -62,5 +61,5 @@ pub record Builds (l : Lists) (t : Mesh) (ne : ℕ) : Type 0 where
 
 abbrev pub AcceptedBuilds : Type 0
 AcceptedBuilds =
-    (c : Sizes) (l : Lists) (m : Mesh) → c.faces ≤ none → (k : Counts) → (build c l m).answer ≡ Accepted k →
+    (c : Sizes) (l : Lists) (m : Mesh) → c.faces ≤ none → (k : Counts) → (build c l m).answer ≡ Ok k →
     Builds l (build c l m).tables k.edges

@@ -5,7 +5,7 @@
 --     AcceptedAudited      what it accepts passes the audit, with all points and faces and half as many edges as points listed;
 --                           the edge rows that ground 4 counts beyond the last edge are zero
 --     UntouchedBeyond      whatever the answer, the rows beyond those that ground 4 counts are untouched
-use Rattle.std.specs.Prelude.{◌≡◌, true, [], ◌∷◌, ◌↔◌, ℕ, ◌*◌, ◌<◌, ◌≤◌, length}
+use Rattle.std.specs.Prelude.{◌≡◌, true, [], ◌∷◌, ◌↔◌, ℕ, ◌*◌, ◌<◌, ◌≤◌, length, Ok, Err}
 use Rattle.std.specs.Float.Ieee.{of_bits}
 use Rattle.std.specs.Float.{binary64}
 use Rattle.t_spline.specs.declared.TnurccEdge.{TnurccEdge}
@@ -21,12 +21,11 @@ use Rattle.built_meshes.specs.Building.{build}
 use Rattle.built_meshes.specs.Beyond.{Within}
 use Rattle.built_meshes.specs.Grounds.{Where, FirstMet, Holds}
 use Rattle.built_meshes.specs.declared.Ground.{Ground}
-use Rattle.built_meshes.specs.declared.Built.TheVariants.{Accepted, Refused}
 
 abbrev pub FirstGround : Type 0
 FirstGround =
     (c : Sizes) (l : Lists) (m : Mesh) → c.faces ≤ none → (g : Ground) →
-    ((build c l m).answer ≡ Refused g) ↔ ((w : Where) × FirstMet c l m w g)
+    ((build c l m).answer ≡ Err g) ↔ ((w : Where) × FirstMet c l m w g)
 
 pub record RefusedBy (c : Sizes) (l : Lists) (m : Mesh) (g : Ground) : Type 0 where
   pub holds : Holds c l m g
@@ -34,12 +33,12 @@ pub record RefusedBy (c : Sizes) (l : Lists) (m : Mesh) (g : Ground) : Type 0 wh
   pub zeroed : 10 ≤ ground_number g → (build c l m).tables ≡ zeroed_rows (rows_of l) m
 
 abbrev pub RefusalsHold : Type 0
-RefusalsHold = (c : Sizes) (l : Lists) (m : Mesh) → c.faces ≤ none → (g : Ground) → (build c l m).answer ≡ Refused g → RefusedBy c l m g
+RefusalsHold = (c : Sizes) (l : Lists) (m : Mesh) → c.faces ≤ none → (g : Ground) → (build c l m).answer ≡ Err g → RefusedBy c l m g
 
 abbrev pub AcceptsExactly : Type 0
 AcceptsExactly =
     (c : Sizes) (l : Lists) (m : Mesh) → c.faces ≤ none →
-    ((k : Counts) × ((build c l m).answer ≡ Accepted k)) ↔ ((g : Ground) → ¬ Holds c l m g)
+    ((k : Counts) × ((build c l m).answer ≡ Ok k)) ↔ ((g : Ground) → ¬ Holds c l m g)
 
 abbrev pub zero_edge : TnurccEdge
 zero_edge =
@@ -61,7 +60,7 @@ pub record AuditedCounts (l : Lists) (t : Mesh) (k : Counts) : Type 0 where
 
 abbrev pub AcceptedAudited : Type 0
 AcceptedAudited =
-    (c : Sizes) (l : Lists) (m : Mesh) → c.faces ≤ none → (k : Counts) → (build c l m).answer ≡ Accepted k →
+    (c : Sizes) (l : Lists) (m : Mesh) → c.faces ≤ none → (k : Counts) → (build c l m).answer ≡ Ok k →
     AuditedCounts l (build c l m).tables k
 
 abbrev pub UntouchedBeyond : Type 0

@@ -6,7 +6,7 @@
 --     joined m e o            the tables with the edges e and o connected
 -- An edge that exists keeps its interval. Under building the none mark on the right of an edge says that there is no face yet. The
 -- Rust looks for all edges of a face before it makes one; that is the same, since no point is listed twice in a face.
-use Rattle.std.specs.Prelude.{Bool, true, false, ◌&&◌, ◌||◌, List, [], ◌∷◌, ℕ, zero, suc, ◌+◌, ◌*◌, eqb, get_or, set, Float}
+use Rattle.std.specs.Prelude.{Bool, true, false, ◌&&◌, ◌||◌, List, [], ◌∷◌, ℕ, zero, suc, ◌+◌, ◌*◌, eqb, get_or, set, Float, Option, Some, None}
 use Rattle.t_spline.specs.declared.TnurccEdge.{TnurccEdge}
 use Rattle.tables.specs.Layout.{point_width, start_word, edge_width, right_face_word}
 use Rattle.tables.specs.Mesh.{Mesh, none, origin, dest, right_face, mesh_of}
@@ -15,8 +15,6 @@ use Rattle.tables.specs.Records.{edge_words}
 use Rattle.t_nurcc_edge.specs.Connected.{connected_rows}
 use Rattle.built_meshes.specs.declared.Ground.{Ground}
 use Rattle.built_meshes.specs.declared.Ground.TheVariants.{EdgeTripleFace, SameWay}
-use Rattle.built_meshes.specs.declared.Found.{Found}
-use Rattle.built_meshes.specs.declared.Found.TheVariants.{At, Nothing}
 
 -- ---- an edge
 
@@ -24,13 +22,13 @@ abbrev pub joins : Mesh → ℕ → ℕ → ℕ → Bool
 joins m p q e = eqb (origin m e) p && eqb (dest m e) q || eqb (origin m e) q && eqb (dest m e) p
 
 -- what is found among one edge more
-abbrev pub or_last : Found → Bool → ℕ → Found
-or_last (At e) here k = At e
-or_last Nothing true k = At k
-or_last Nothing false k = Nothing
+abbrev pub or_last : Option ℕ → Bool → ℕ → Option ℕ
+or_last (Some e) here k = Some e
+or_last None true k = Some k
+or_last None false k = None
 
-unfoldable pub edge_between : Mesh → ℕ → ℕ → ℕ → Found
-edge_between m zero p q = Nothing
+unfoldable pub edge_between : Mesh → ℕ → ℕ → ℕ → Option ℕ
+edge_between m zero p q = None
 edge_between m (suc k) p q = or_last (edge_between m k p q) (joins m p q k) k
 
 -- a new edge: its neighbours are all itself, and there is no face on its right
@@ -74,10 +72,10 @@ entered_at m k f e false same = refused EdgeTripleFace
 entered_at m k f e true true = refused SameWay
 entered_at m k f e true false = at (with_right_face m e f) k e
 
-unfoldable pub entered_if : Mesh → ℕ → ℕ → ℕ → ℕ → Float → Found → Entered
+unfoldable pub entered_if : Mesh → ℕ → ℕ → ℕ → ℕ → Float → Option ℕ → Entered
 unfolding entered_at new_edge
-entered_if m k f p q v (At e) = entered_at m k f e (eqb (right_face m e) none) (eqb (origin m e) p)
-entered_if m k f p q v Nothing = at (new_edge m k f p q v) (suc k) k
+entered_if m k f p q v (Some e) = entered_at m k f e (eqb (right_face m e) none) (eqb (origin m e) p)
+entered_if m k f p q v None = at (new_edge m k f p q v) (suc k) k
 
 -- face f has a place from p to q with the interval v; the tables hold k edges
 unfoldable pub entered : Mesh → ℕ → ℕ → ℕ → ℕ → Float → Entered

@@ -11,7 +11,8 @@
 --     sums_agree v s0 s1 s2 s3 s0 - s2 + s1 - s3 is small in version 1; s0 - s2 and s1 - s3 are in version 2
 --     sums_fit                 the sums of the four sides agree: else 13
 --     face_verdict             the first of these grounds that holds of face f
-use Rattle.std.specs.Prelude.{Bool, true, not, ◌&&◌, cond, List, ℕ, zero, suc, ◌+◌, ◌-◌, ◌*◌, eqb, ltb, leb, get_or, Float}
+use Rattle.std.specs.Prelude.{Bool, true, not, ◌&&◌, cond, List, ℕ, zero, suc, ◌+◌, ◌-◌, ◌*◌, eqb, ltb, leb, get_or, Float, Result, Ok, Err, ⊤}
+use Rattle.built_meshes.specs.declared.Ground.{Ground}
 use Rattle.std.specs.Float.{nan, binary64}
 use Rattle.std.specs.Float.Ieee.{add, sub, of_bits}
 use Rattle.positions.specs.Position.{small}
@@ -20,8 +21,6 @@ use Rattle.audited_meshes.specs.Folds.{every}
 use Rattle.built_meshes.specs.Lists.{Lists, side_length, size}
 use Rattle.built_meshes.specs.declared.Version.{Version}
 use Rattle.built_meshes.specs.declared.Version.TheVariants.{One, Two}
-use Rattle.built_meshes.specs.declared.Verdict.{Verdict}
-use Rattle.built_meshes.specs.declared.Verdict.TheVariants.{Fit, Unfit}
 use Rattle.built_meshes.specs.declared.Ground.TheVariants.{FaceSize, OutOfRange, PointTwice, FirstPoint, NonRectangularFace}
 
 abbrev pub listed_at : Lists → ℕ → ℕ → ℕ
@@ -78,11 +77,11 @@ sums_fit v l f a = sums_agree v (sum_of_side l f a 0) (sum_of_side l f a 1) (sum
 
 -- ---- the verdict
 
-unfoldable pub face_verdict : Lists → ℕ → ℕ → ℕ → Verdict
+unfoldable pub face_verdict : Lists → ℕ → ℕ → ℕ → Result ⊤ Ground
 unfolding listed_in_range no_point_twice firsts_fit sums_fit
 face_verdict l np f a =
-    cond (not (size_fit (size l f))) (Unfit FaceSize)
-    (cond (not (listed_in_range l np a (size l f))) (Unfit OutOfRange)
-    (cond (not (no_point_twice l a (size l f))) (Unfit PointTwice)
-    (cond (not (firsts_fit l.version l f a)) (Unfit FirstPoint)
-    (cond (not (sums_fit l.version l f a)) (Unfit NonRectangularFace) Fit))))
+    cond (not (size_fit (size l f))) (Err FaceSize)
+    (cond (not (listed_in_range l np a (size l f))) (Err OutOfRange)
+    (cond (not (no_point_twice l a (size l f))) (Err PointTwice)
+    (cond (not (firsts_fit l.version l f a)) (Err FirstPoint)
+    (cond (not (sums_fit l.version l f a)) (Err NonRectangularFace) (Ok tt)))))

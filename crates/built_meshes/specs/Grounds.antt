@@ -17,7 +17,6 @@ use Rattle.positions.specs.Position.{small}
 use Rattle.tables.specs.Layout.{position_width, longest_perimeter}
 use Rattle.tables.specs.Mesh.{Mesh, point_rows, edge_rows, face_rows}
 use Rattle.closed_meshes.specs.Renumbering.{sum_to}
-use Rattle.audited_meshes.specs.Walks.{Touches}
 use Rattle.audited_meshes.specs.Audit.{interval_fit}
 use Rattle.built_meshes.specs.Lists.{Lists, points_of, faces_of, size, offset}
 use Rattle.tables.specs.declared.Sizes.{Sizes}

@@ -1,5 +1,6 @@
 pub mod Answers
 pub mod Lists
+pub mod Lent
 pub mod Faces
 pub mod Edges
 pub mod Perimeters

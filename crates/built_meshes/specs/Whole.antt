@@ -5,15 +5,14 @@
 --     whole_verdict m np ne    the first of these grounds that holds of the tables
 --     marked k ws             the table of points with the first k points marked: 1 if the valence is not 4
 --     finished l m            the tables when all is built
-use Rattle.std.specs.Prelude.{Bool, not, cond, List, ℕ, zero, suc, ◌+◌, ◌*◌, eqb, ltb, get_or, set}
+use Rattle.std.specs.Prelude.{Bool, not, cond, List, ℕ, zero, suc, ◌+◌, ◌*◌, eqb, ltb, get_or, set, Result, Ok, Err, ⊤}
+use Rattle.built_meshes.specs.declared.Ground.{Ground}
 use Rattle.tables.specs.Layout.{position_width, point_width, mark_word}
 use Rattle.tables.specs.Mesh.{Mesh, none, valence, right_face, mesh_of}
 use Rattle.tables.specs.Rows.{over}
 use Rattle.audited_meshes.specs.Folds.{every}
 use Rattle.audited_meshes.specs.Walks.{passed, point_walk}
 use Rattle.built_meshes.specs.Lists.{Lists, points_of}
-use Rattle.built_meshes.specs.declared.Verdict.{Verdict}
-use Rattle.built_meshes.specs.declared.Verdict.TheVariants.{Fit, Unfit}
 use Rattle.built_meshes.specs.declared.Ground.TheVariants.{MissingFace, NoEdge, MissedEdge}
 
 unfoldable pub no_missing_face : Mesh → ℕ → Bool
@@ -28,12 +27,12 @@ unfoldable pub no_missed_edge : Mesh → ℕ → ℕ → Bool
 unfolding every point_walk
 no_missed_edge m np ne = every np (λ p. not (ltb (passed (point_walk m ne (valence m p) p)) (valence m p)))
 
-unfoldable pub whole_verdict : Mesh → ℕ → ℕ → Verdict
+unfoldable pub whole_verdict : Mesh → ℕ → ℕ → Result ⊤ Ground
 unfolding no_missing_face every_edged no_missed_edge
 whole_verdict m np ne =
-    cond (not (no_missing_face m ne)) (Unfit MissingFace)
-    (cond (not (every_edged m np)) (Unfit NoEdge)
-    (cond (not (no_missed_edge m np ne)) (Unfit MissedEdge) Fit))
+    cond (not (no_missing_face m ne)) (Err MissingFace)
+    (cond (not (every_edged m np)) (Err NoEdge)
+    (cond (not (no_missed_edge m np ne)) (Err MissedEdge) (Ok tt)))
 
 abbrev pub mark_of : ℕ → ℕ
 mark_of v = cond (eqb v 4) 0 1

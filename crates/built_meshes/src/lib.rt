@@ -10,14 +10,24 @@
 // in `proofs/Theorem.antt`. What else is claimed of building, and pieces that are computed, stand in `building_claims`.
 #![tactic(auto)]
 
-use tables::Counts;
-
 // The version of lists, which is that of the mesh text they stand for (document 02, §4). The versions differ at three places: which
 // interval an edge takes, whether the first points of the sides are looked at, and how the side sums are compared.
 #[derive(Clone, Copy)]
 pub enum Version {
     One,
     Two,
+}
+
+// The lists of a mesh that are lent to be read: the coordinates, 3 a point; the side lengths, 4 a face; the first points, one a
+// side, which version 1 does not look at; the listed points, and the interval beside each.
+#[derive(Clone, Copy)]
+pub struct LentLists<'a> {
+    pub version: Version,
+    pub coordinates: &'a [f64],
+    pub sides: &'a [u32],
+    pub firsts: &'a [u32],
+    pub listed: &'a [u32],
+    pub beside: &'a [f64],
 }
 
 // Why building refuses. Document 01's number stands beside each.
@@ -49,25 +59,4 @@ pub enum Ground {
     NoEdge,
     // 22: a point walk that misses an edge
     MissedEdge,
-}
-
-// What a test of grounds says.
-#[derive(Clone, Copy)]
-pub enum Verdict {
-    Fit,
-    Unfit(Ground),
-}
-
-// The answer of building: how many points, edges and faces the mesh has, or the ground.
-#[derive(Clone, Copy)]
-pub enum Built {
-    Accepted(Counts),
-    Refused(Ground),
-}
-
-// The edge that joins two points, if there is one.
-#[derive(Clone, Copy)]
-pub enum Found {
-    At(u32),
-    Nothing,
 }

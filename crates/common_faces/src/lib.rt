@@ -18,7 +18,7 @@ use tables::{EDGE_WIDTH, LEFT_FACE_WORD, index};
 fn number_of(test: bool) -> usize
     ensures { result ≡ cond test 0 1 }
 {
-    if test { 0 } else { 1 }
+    usize::from(!test)
 }
 
 // Whether edge e has the face f on a side. The side is a number, so that no branch depends on it.
@@ -47,10 +47,7 @@ fn borders(edges: &[u32], e: usize, f: u32) -> bool
     requires { e * edge_width + edge_width ≤ length edges.now }
     ensures { result ≡ cond (eqb f none) false (has_face edges.now e f) }
 {
-    if f == NONE {
-        return false;
-    }
-    has_face(edges, e, f)
+    f != NONE && has_face(edges, e, f)
 }
 
 // The face that edge r has in common with the next edge.

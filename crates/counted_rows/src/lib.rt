@@ -6,33 +6,25 @@
 ghost use Rattle.std.specs.Prelude.{◌≡◌, ◌*◌, ◌≤◌, length};
 ghost use Rattle.tables.specs.Layout.{position_width, point_width, edge_width, face_width};
 ghost use Rattle.tables.specs.Mesh.{Mesh, mesh_of};
+ghost use Rattle.tables.specs.Lent.{tables_of};
 ghost use Rattle.tables.specs.Counted.{rows_for, zeroed_rows};
 
 use tables::{
-    Counts, EDGE_WIDTH, FACE_WIDTH, POINT_WIDTH, POSITION_WIDTH, edge_rows, face_rows, point_rows,
-    zero_numbers, zero_words,
+    Counts, EDGE_WIDTH, FACE_WIDTH, MeshTables, POINT_WIDTH, POSITION_WIDTH, edge_rows, face_rows,
+    fill_first, point_rows,
 };
 
 // Whether the tables have the rows of a mesh with these counts.
-pub fn rows_for(
-    c: Counts,
-    positions: &[f64],
-    points: &[u32],
-    edges: &[u32],
-    intervals: &[f64],
-    faces: &[u32],
-) -> bool
-    ensures { result
-        ≡ rows_for c
-        (mesh_of positions.now points.now edges.now intervals.now faces.now) }
+pub fn rows_for(c: Counts, t: &MeshTables) -> bool
+    ensures { result ≡ rows_for c (tables_of t.now) }
 {
-    if point_rows(positions, points) < c.points {
+    if point_rows(t.positions, t.points) < c.points {
         return false;
     }
-    if edge_rows(edges, intervals) < c.edges {
+    if edge_rows(t.edges, t.intervals) < c.edges {
         return false;
     }
-    c.faces <= face_rows(faces)
+    c.faces <= face_rows(t.faces)
 }
 
 // Zeroes the rows of a mesh with these counts.
@@ -54,9 +46,9 @@ pub fn zero_rows(
         (zeroed_rows c
         (mesh_of positions.old points.old edges.old intervals.old faces.old)) }
 {
-    zero_numbers(positions, c.points * POSITION_WIDTH);
-    zero_words(points, c.points * POINT_WIDTH);
-    zero_words(edges, c.edges * EDGE_WIDTH);
-    zero_numbers(intervals, c.edges);
-    zero_words(faces, c.faces * FACE_WIDTH);
+    fill_first(positions, c.points * POSITION_WIDTH, 0.0);
+    fill_first(points, c.points * POINT_WIDTH, 0);
+    fill_first(edges, c.edges * EDGE_WIDTH, 0);
+    fill_first(intervals, c.edges, 0.0);
+    fill_first(faces, c.faces * FACE_WIDTH, 0);
 }

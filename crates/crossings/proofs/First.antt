@@ -5,8 +5,9 @@ use Prim.Native.Nat.{ℕ, zero, suc, ◌+◌, ◌-◌, ◌≤◌, ◌<◌}
 use native.Mathlib.Omega.{arith}
 use native.Mathlib.Numerals.{add-one}
 use native.Mathlib.Decide.{ℕ_discrete}
-use Rattle.crossings.specs.declared.Crossing.{Crossing}
-use Rattle.crossings.specs.declared.Crossing.TheVariants.{At, NotFiniteDepth, NotClosed, Nowhere}
+use Rattle.std.specs.Prelude.{Result, Ok, Err}
+use Rattle.crossings.specs.declared.NoCrossing.{NoCrossing}
+use Rattle.crossings.specs.declared.NoCrossing.TheVariants.{NotFiniteDepth, NotClosed, Nowhere}
 use Rattle.crossings.specs.Crossings.{first_from}
 
 left-suc : (n e : ℕ) → e < n → n - e ≡ suc (n - (e + 1))
@@ -14,7 +15,7 @@ left-suc n e l = omega arith
 
 -- one turn of a search that has passed e of n numbers
 module _ (test : ℕ → Bool) (n e : ℕ) (l : e < n) where
-  pub first-here : test e ≡ true → first_from test (n - e) e ≡ At e
+  pub first-here : test e ≡ true → first_from test (n - e) e ≡ Ok e
   unfolding first_from
   first-here t = rw (left-suc n e l, t)
 
@@ -23,7 +24,7 @@ module _ (test : ℕ → Bool) (n e : ℕ) (l : e < n) where
   first-later t = rw (left-suc n e l, t, add-one e)
 
 -- nothing is left of a search that has passed all
-pub first-none : (test : ℕ → Bool) (n e : ℕ) → n ≤ e → first_from test (n - e) e ≡ Nowhere
+pub first-none : (test : ℕ → Bool) (n e : ℕ) → n ≤ e → first_from test (n - e) e ≡ Err Nowhere
 unfolding first_from
 first-none test n e l = rw (none_left n e l)
   where
@@ -31,14 +32,14 @@ first-none test n e l = rw (none_left n e l)
     none_left n e l = omega arith
 
 -- r is the first of the k numbers from e on that pass, or none of them does
-abbrev pub FirstOf : (ℕ → Bool) → ℕ → ℕ → Crossing → Type 0
-FirstOf test k e (At i) = (i < e + k) × (test i ≡ true) × ((j : ℕ) → e ≤ j → j < i → test j ≡ false)
-FirstOf test k e Nowhere = (j : ℕ) → e ≤ j → j < e + k → test j ≡ false
-FirstOf test k e NotFiniteDepth = ⊥
-FirstOf test k e NotClosed = ⊥
+abbrev pub FirstOf : (ℕ → Bool) → ℕ → ℕ → Result ℕ NoCrossing → Type 0
+FirstOf test k e (Ok i) = (i < e + k) × (test i ≡ true) × ((j : ℕ) → e ≤ j → j < i → test j ≡ false)
+FirstOf test k e (Err Nowhere) = (j : ℕ) → e ≤ j → j < e + k → test j ≡ false
+FirstOf test k e (Err NotFiniteDepth) = ⊥
+FirstOf test k e (Err NotClosed) = ⊥
 
 -- one number more in front, which does not pass
-first-of-more : (test : ℕ → Bool) (k e : ℕ) (r : Crossing) → test e ≡ false → FirstOf test k (suc e) r → FirstOf test (suc k) e r
+first-of-more : (test : ℕ → Bool) (k e : ℕ) (r : Result ℕ NoCrossing) → test e ≡ false → FirstOf test k (suc e) r → FirstOf test (suc k) e r
 first-of-more test k e r t = go r
   where
     before : (A : ℕ → Type 0) → ((j : ℕ) → suc e ≤ j → A j → test j ≡ false) → (j : ℕ) → e ≤ j → A j → test j ≡ false
@@ -48,11 +49,11 @@ first-of-more test k e r t = go r
         this (yes q) = rw q t
         this (no d) = h j (omega arith) a
 
-    go : (r : Crossing) → FirstOf test k (suc e) r → FirstOf test (suc k) e r
-    go (At i) (l, p, none) = (omega arith, p, before (λ j. j < i) none)
-    go Nowhere none = before (λ j. j < e + suc k) (λ j g l. none j g (omega arith))
-    go NotFiniteDepth h = h
-    go NotClosed h = h
+    go : (r : Result ℕ NoCrossing) → FirstOf test k (suc e) r → FirstOf test (suc k) e r
+    go (Ok i) (l, p, none) = (omega arith, p, before (λ j. j < i) none)
+    go (Err Nowhere) none = before (λ j. j < e + suc k) (λ j g l. none j g (omega arith))
+    go (Err NotFiniteDepth) h = h
+    go (Err NotClosed) h = h
 
 pub first-is : (test : ℕ → Bool) (k e : ℕ) → FirstOf test k e (first_from test k e)
 unfolding first_from

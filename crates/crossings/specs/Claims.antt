@@ -9,24 +9,23 @@
 --     AllJoined m c       the points of the mesh are all joined through edges
 --     JoinedFound        the claim: in such a mesh every finite depth at or above some point and at or below some point, as are
 --                         those from the lowest point to the highest, is answered with an edge: 41 cannot occur
-use Rattle.std.specs.Prelude.{◌≡◌, true, false, ◌↔◌, ◌⊎◌, ℕ, ◌<◌, Float}
+use Rattle.std.specs.Prelude.{Result, Ok, ◌≡◌, true, false, ◌↔◌, ◌⊎◌, ℕ, ◌<◌, Float}
 use Rattle.std.specs.Float.Ieee.{le}
 use Rattle.std.specs.Float.Ieee.Scale.{finite}
+use Rattle.crossings.specs.declared.NoCrossing.{NoCrossing}
 use Rattle.tables.specs.Mesh.{Mesh, z, origin, dest}
 use Rattle.tables.specs.declared.Counts.{Counts}
 use Rattle.audited_meshes.specs.Audit.{audit}
-use Rattle.crossings.specs.declared.Crossing.{Crossing}
-use Rattle.crossings.specs.declared.Crossing.TheVariants.{At}
 use Rattle.crossings.specs.Crossings.{crosses, number_of, Searchable, Finds, find}
 
-pub record Grounds (m : Mesh) (c : Counts) (d : Float) (r : Crossing) : Type 0 where
+pub record Grounds (m : Mesh) (c : Counts) (d : Float) (r : Result ℕ NoCrossing) : Type 0 where
   pub not_finite : (number_of r ≡ 42) ↔ (finite d ≡ false)
   pub not-closed : (number_of r ≡ 30) ↔ ((finite d ≡ true) × (audit m c.points c.edges c.faces ≡ false))
   pub nowhere : (number_of r ≡ 41) ↔ (Searchable m c d × ((e : ℕ) → e < c.edges → crosses m d e ≡ false))
   pub somewhere : (number_of r ≡ 0) ↔ (Searchable m c d × ((e : ℕ) × (e < c.edges) × (crosses m d e ≡ true)))
 
 abbrev pub Exactly : Type 0
-Exactly = (m : Mesh) (c : Counts) (d : Float) (r : Crossing) → Finds m c d r → Grounds m c d r
+Exactly = (m : Mesh) (c : Counts) (d : Float) (r : Result ℕ NoCrossing) → Finds m c d r → Grounds m c d r
 
 abbrev pub FindFinds : Type 0
 FindFinds = (m : Mesh) (c : Counts) (d : Float) → Finds m c d (find m c d)
@@ -38,7 +37,7 @@ pub record Lowest (m : Mesh) (c : Counts) (d : Float) (e : ℕ) : Type 0 where
   pub none-lower : (i : ℕ) → i < e → crosses m d i ≡ false
 
 abbrev pub LowestExactly : Type 0
-LowestExactly = (m : Mesh) (c : Counts) (d : Float) (e : ℕ) → (find m c d ≡ At e) ↔ Lowest m c d e
+LowestExactly = (m : Mesh) (c : Counts) (d : Float) (e : ℕ) → (find m c d ≡ Ok e) ↔ Lowest m c d e
 
 abbrev pub Joins : Mesh → ℕ → ℕ → ℕ → Type 0
 Joins m e p q = ((origin m e ≡ p) × (dest m e ≡ q)) ⊎ ((origin m e ≡ q) × (dest m e ≡ p))
@@ -53,4 +52,4 @@ AllJoined m c = (p q : ℕ) → p < c.points → q < c.points → EdgeChain m c.
 abbrev pub JoinedFound : Type 0
 JoinedFound =
     (m : Mesh) (c : Counts) (d : Float) → Searchable m c d → AllJoined m c → (low high : ℕ) → low < c.points → high < c.points
-    → le (z m low) d ≡ true → le d (z m high) ≡ true → (e : ℕ) × (find m c d ≡ At e)
+    → le (z m low) d ≡ true → le d (z m high) ≡ true → (e : ℕ) × (find m c d ≡ Ok e)

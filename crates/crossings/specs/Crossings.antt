@@ -7,14 +7,14 @@
 --     Finds m c d r            r answers the depth d on the mesh m with the counts c; which of several edges it names is free
 --     first_from test k e       the first of the k numbers from e on that pass the test
 --     find m c d               the answer of the finder: as `Finds` says, with the lowest-numbered of the edges that cross
-use Rattle.std.specs.Prelude.{◌≡◌, Bool, true, false, cond, ◌&&◌, ◌||◌, ℕ, zero, suc, ◌<◌, Float}
+use Rattle.std.specs.Prelude.{Result, Ok, Err, ◌≡◌, Bool, true, false, cond, ◌&&◌, ◌||◌, ℕ, zero, suc, ◌<◌, Float}
 use Rattle.std.specs.Float.Ieee.{le}
 use Rattle.std.specs.Float.Ieee.Scale.{finite}
+use Rattle.crossings.specs.declared.NoCrossing.{NoCrossing}
+use Rattle.crossings.specs.declared.NoCrossing.TheVariants.{NotFiniteDepth, NotClosed, Nowhere}
 use Rattle.tables.specs.Mesh.{Mesh, z, origin, dest}
 use Rattle.tables.specs.declared.Counts.{Counts}
 use Rattle.audited_meshes.specs.Audit.{audit}
-use Rattle.crossings.specs.declared.Crossing.{Crossing}
-use Rattle.crossings.specs.declared.Crossing.TheVariants.{At, NotFiniteDepth, NotClosed, Nowhere}
 
 abbrev pub between : Float → Float → Float → Bool
 between a b d = le a d && le d b
@@ -25,28 +25,28 @@ spans a b d = between a b d || between b a d
 abbrev pub crosses : Mesh → Float → ℕ → Bool
 crosses m d e = spans (z m (origin m e)) (z m (dest m e)) d
 
-abbrev pub number_of : Crossing → ℕ
-number_of (At e) = 0
-number_of NotFiniteDepth = 42
-number_of NotClosed = 30
-number_of Nowhere = 41
+abbrev pub number_of : Result ℕ NoCrossing → ℕ
+number_of (Ok e) = 0
+number_of (Err NotFiniteDepth) = 42
+number_of (Err NotClosed) = 30
+number_of (Err Nowhere) = 41
 
 abbrev pub Searchable : Mesh → Counts → Float → Type 0
 Searchable m c d = (finite d ≡ true) × (audit m c.points c.edges c.faces ≡ true)
 
 -- 42 first, then 30, then 41 or an edge
-abbrev pub Finds : Mesh → Counts → Float → Crossing → Type 0
-Finds m c d NotFiniteDepth = finite d ≡ false
-Finds m c d NotClosed = (finite d ≡ true) × (audit m c.points c.edges c.faces ≡ false)
-Finds m c d Nowhere = Searchable m c d × ((e : ℕ) → e < c.edges → crosses m d e ≡ false)
-Finds m c d (At e) = Searchable m c d × (e < c.edges) × (crosses m d e ≡ true)
+abbrev pub Finds : Mesh → Counts → Float → Result ℕ NoCrossing → Type 0
+Finds m c d (Err NotFiniteDepth) = finite d ≡ false
+Finds m c d (Err NotClosed) = (finite d ≡ true) × (audit m c.points c.edges c.faces ≡ false)
+Finds m c d (Err Nowhere) = Searchable m c d × ((e : ℕ) → e < c.edges → crosses m d e ≡ false)
+Finds m c d (Ok e) = Searchable m c d × (e < c.edges) × (crosses m d e ≡ true)
 
-unfoldable pub first_from : (ℕ → Bool) → ℕ → ℕ → Crossing
-first_from test zero e = Nowhere
-first_from test (suc k) e = cond (test e) (At e) (first_from test k (suc e))
+unfoldable pub first_from : (ℕ → Bool) → ℕ → ℕ → Result ℕ NoCrossing
+first_from test zero e = Err Nowhere
+first_from test (suc k) e = cond (test e) (Ok e) (first_from test k (suc e))
 
-abbrev pub find : Mesh → Counts → Float → Crossing
+abbrev pub find : Mesh → Counts → Float → Result ℕ NoCrossing
 find m c d =
     cond (finite d)
-    (cond (audit m c.points c.edges c.faces) (first_from (λ e. crosses m d e) c.edges 0) NotClosed)
-    NotFiniteDepth
+    (cond (audit m c.points c.edges c.faces) (first_from (λ e. crosses m d e) c.edges 0) (Err NotClosed))
+    (Err NotFiniteDepth)

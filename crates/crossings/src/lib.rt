@@ -4,10 +4,9 @@
 // number that passes a test) and `proofs/Joined.antt` (chains of edges); computed meshes: `mesh_cases`.
 #![tactic(auto)]
 
-// The answer of the depth finder: the first edge that crosses the depth, or the ground. Its number stands beside each ground.
+// The ground on which the depth finder names no edge. Its number stands beside it.
 #[derive(Clone, Copy)]
-pub enum Crossing {
-    At(usize),
+pub enum NoCrossing {
     // 42: the depth is not finite
     NotFiniteDepth,
     // 30: the audit fails

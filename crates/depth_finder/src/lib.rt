@@ -6,15 +6,15 @@
 
 ghost use Rattle.std.specs.Prelude.{◌≡◌, ℕ, ◌+◌, ◌*◌, ◌≤◌, ◌<◌, length};
 ghost use Rattle.tables.specs.Layout.{edge_width};
-ghost use Rattle.tables.specs.Mesh.{mesh_of};
+ghost use Rattle.tables.specs.Lent.{tables_of};
 ghost use Rattle.crossings.specs.Crossings.{between, spans, crosses, first_from, find};
 ghost use Rattle.depth_finder.specs.Ends.{end_tables, EndsStand};
 
 use audit::audit;
-use crossings::Crossing;
+use crossings::NoCrossing;
 use positions::is_finite;
 use records::{load_edge_words, load_position};
-use tables::{Counts, index};
+use tables::{Counts, MeshTables, index};
 
 // Whether a depth is at or above one number and at or below another.
 fn is_between(low: f64, high: f64, depth: f64) -> bool
@@ -49,42 +49,29 @@ fn crosses_depth(positions: &[f64], edges: &[u32], e: usize, depth: f64) -> bool
     spans_depth(origin.z, dest.z, depth)
 }
 
-// The first of ne edges that crosses a depth, or the word that none does.
-fn search(positions: &[f64], edges: &[u32], ne: usize, depth: f64) -> Crossing
+// The first of ne edges that crosses a depth.
+fn search(positions: &[f64], edges: &[u32], ne: usize, depth: f64) -> Result<usize, NoCrossing>
     requires edge_width_in_bounds { ne * edge_width ≤ length edges.now }
     requires by_index { (e : ℕ) → e < ne → EndsStand positions.now edges.now e }
     ensures { result ≡ first_from (λ e. crosses (end_tables positions.now edges.now) depth e) ne 0 }
 {
-    let mut e = 0;
-    while e < ne {
+    for e in 0..ne {
         if crosses_depth(positions, edges, e, depth) {
-            return Crossing::At(e);
+            return Ok(e);
         }
-        e += 1;
     }
-    Crossing::Nowhere
+    Err(NoCrossing::Nowhere)
 }
 
 // The lowest-numbered edge of the mesh that crosses a depth, or the ground on which there is none.
-pub fn find_depth(
-    positions: &[f64],
-    points: &[u32],
-    edges: &[u32],
-    intervals: &[f64],
-    faces: &[u32],
-    counts: Counts,
-    depth: f64,
-) -> Crossing
-    ensures { result
-        ≡ find
-        (mesh_of positions.now points.now edges.now intervals.now faces.now)
-        counts depth }
+pub fn find_depth(t: &MeshTables, counts: Counts, depth: f64) -> Result<usize, NoCrossing>
+    ensures { result ≡ find (tables_of t.now) counts depth }
 {
     if !is_finite(depth) {
-        return Crossing::NotFiniteDepth;
+        return Err(NoCrossing::NotFiniteDepth);
     }
-    if !audit(positions, points, edges, intervals, faces, counts) {
-        return Crossing::NotClosed;
+    if !audit(t, counts) {
+        return Err(NoCrossing::NotClosed);
     }
-    search(positions, edges, counts.edges, depth)
+    search(t.positions, t.edges, counts.edges, depth)
 }

@@ -10,7 +10,7 @@ ghost use Rattle.edge_ends.specs.Connection.{index_of, connection_at};
 ghost use Rattle.edge_ends.specs.Ends.{acw_at_end, cw_at_end, other_end, acw_on_side, cw_on_side, first_end};
 ghost use Rattle.edge_ends.specs.Faces.{same_face};
 
-// The mark for no row, which stands where the Rust has `None`.
+// The mark for no row, which stands where the Rust has `None`: the tables that C callers lend hold it.
 pub const NONE: u32 = 4294967295;
 
 // Which of an edge's four neighbours is meant.
@@ -45,7 +45,7 @@ impl TnurccConnection {
 
     pub const RIGHT_ACW: usize = 3;
 
-    // The connection with this number. A number past the last one is read as the last.
+    // The connection with this number. A number past the last one is read as the last, so this is no `TryFrom`.
     pub fn from_usize(i: usize) -> Self
         ensures { result ≡ connection_at i }
     {
@@ -74,6 +74,7 @@ impl TnurccConnection {
     }
 }
 
+// Of ends and of sides each method is a table of its own, and no two differ in a type or a number alone.
 impl TnurccVertexEnd {
     // Which neighbour is next anticlockwise about the point at this end.
     pub fn acw(self) -> TnurccConnection

@@ -7,21 +7,21 @@ use native.Mathlib.Omega.{arith}
 use borrow.Author.Tests.{ne_eqb}
 use lib.Dec.{eqb}
 use lib.ListN.{get_or}
+use Rattle.std.specs.Prelude.{Option, Some, None}
 use Rattle.edge_ends.specs.Connection.{index_of, connection_at}
+use Rattle.edge_ends.specs.declared.TnurccConnection.{TnurccConnection}
 use Rattle.edge_links.specs.Connect.{links_of}
-use Rattle.edge_links.specs.declared.Links.{Links}
-use Rattle.edge_links.specs.declared.Links.TheVariants.{Both, Mismatch}
 use Rattle.edge_ends.proofs.Laws.{index_below, connection-at-index}
 use Rattle.edge_links.proofs.Table.{at}
 
 -- the numbers by which the table names links, 4 for a mismatch
-abbrev pub own_number : Links → ℕ
-own_number (Both c d) = index_of c
-own_number Mismatch = 4
+abbrev pub own_number : Option (TnurccConnection × TnurccConnection) → ℕ
+own_number (Some (c, d)) = index_of c
+own_number None = 4
 
-abbrev pub other_number : Links → ℕ
-other_number (Both c d) = index_of d
-other_number Mismatch = 4
+abbrev pub other_number : Option (TnurccConnection × TnurccConnection) → ℕ
+other_number (Some (c, d)) = index_of d
+other_number None = 4
 
 abbrev pub table : List ℕ
 table =
@@ -57,37 +57,22 @@ other-entry f v hf hv =
     let vert : k / 2 % 4 ≡ v = rw half (omega arith) in
     entry k (omega arith) ∙ rw (odd, face, vert)
 
-own-number-small : (l : Links) → own_number l ≤ 4
-own-number-small (Both c d) = omega (arith, index_below c)
-own-number-small Mismatch = omega arith
-
-other-number-small : (l : Links) → other_number l ≤ 4
-other-number-small (Both c d) = omega (arith, index_below d)
-other-number-small Mismatch = omega arith
-
--- the numbers of the table are small
-pub own-small : (f v : ℕ) → f < 4 → v < 4 → get_or table (f * 8 + v * 2) 0 ≤ 4
-own-small f v hf hv = rw (own-entry f v hf hv) (own-number-small (links_of f v))
-
-pub other-small : (f v : ℕ) → f < 4 → v < 4 → get_or table (f * 8 + v * 2 + 1) 0 ≤ 4
-other-small f v hf hv = rw (other-entry f v hf hv) (other-number-small (links_of f v))
-
-pub mismatch-of-number : (l : Links) → own_number l ≡ 4 → l ≡ Mismatch
-mismatch-of-number (Both c d) h = absurd (never (index_below c) h)
+pub mismatch-of-number : (l : Option (TnurccConnection × TnurccConnection)) → own_number l ≡ 4 → l ≡ None
+mismatch-of-number (Some (c, d)) h = absurd (never (index_below c) h)
   where
     never : {n : ℕ} → n < 4 → n ≡ 4 → ⊥
     never a b = omega arith
-mismatch-of-number Mismatch h = refl
+mismatch-of-number None h = refl
 
-pub both-of-numbers : (l : Links) → (own_number l ≡ 4 → ⊥) → Both (connection_at (own_number l)) (connection_at (other_number l)) ≡ l
-both-of-numbers (Both c d) h = rw (connection-at-index c, connection-at-index d)
-both-of-numbers Mismatch h = absurd (h refl)
+pub both-of-numbers : (l : Option (TnurccConnection × TnurccConnection)) → (own_number l ≡ 4 → ⊥) → Some (connection_at (own_number l), connection_at (other_number l)) ≡ l
+both-of-numbers (Some (c, d)) h = rw (connection-at-index c, connection-at-index d)
+both-of-numbers None h = absurd (h refl)
 
 and-false : (b : Bool) → b && false ≡ false
 and-false true = refl
 and-false false = refl
 
-pub links-face-past : (f v : ℕ) → 4 ≤ f → links_of f v ≡ Mismatch
+pub links-face-past : (f v : ℕ) → 4 ≤ f → links_of f v ≡ None
 unfolding links_of
 links-face-past f v h =
     simp (
@@ -97,7 +82,7 @@ links-face-past f v h =
       ne_eqb 3 f (λ (e : 3 ≡ f). omega arith),
     )
 
-pub links-vertex-past : (f v : ℕ) → 4 ≤ v → links_of f v ≡ Mismatch
+pub links-vertex-past : (f v : ℕ) → 4 ≤ v → links_of f v ≡ None
 unfolding links_of
 links-vertex-past f v h =
     simp (

@@ -11,13 +11,6 @@ ghost use Rattle.edge_links.specs.Joinable.{share_face, joinable};
 use edge_ends::{TnurccConnection, same_face};
 use t_spline::TnurccEdge;
 
-// The links that two states set: the first edge's and the other's.
-#[derive(Clone, Copy)]
-pub enum Links {
-    Both(TnurccConnection, TnurccConnection),
-    Mismatch,
-}
-
 // Two edges that are connected to each other.
 #[derive(Clone, Copy)]
 pub struct Pair {
@@ -65,30 +58,31 @@ const LINKS: [u8; 32] = [
     TnurccConnection::LEFT_ACW as u8,
 ];
 
-// The links of a face state and a vertex state.
-pub fn link_directions(face: usize, vert: usize) -> Links
+// The links that a face state and a vertex state set, the first edge's and the other's; none where the states mismatch.
+pub fn link_directions(face: usize, vert: usize) -> Option<(TnurccConnection, TnurccConnection)>
     ensures { result ≡ links_of face vert }
 {
     if 4 <= face {
-        return Links::Mismatch;
+        return None;
     }
     if 4 <= vert {
-        return Links::Mismatch;
+        return None;
     }
     let k = face * 8 + vert * 2;
-    let own = LINKS[k] as usize;
+    let own = usize::from(LINKS[k]);
     if own == NO_LINK {
-        return Links::Mismatch;
+        return None;
     }
-    let other = LINKS[k + 1] as usize;
-    Links::Both(
+    let other = usize::from(LINKS[k + 1]);
+    Some((
         TnurccConnection::from_usize(own),
         TnurccConnection::from_usize(other),
-    )
+    ))
 }
 
 impl Pair {
-    // The first vertex state that holds of the two edges; 4 where they share no point.
+    // The first vertex state that holds of the two edges; 4 where they share no point. The states are numbers, as `LINKS` is looked up by
+    // them, and `vertex_state` says which.
     pub fn vert_state(self) -> usize
         ensures { result ≡ vertex_state self.first self.other }
     {
@@ -134,15 +128,15 @@ impl Pair {
     }
 
     // The pair, of the rows `i` and `j`, with the links set.
-    fn with_links(self, links: Links, i: u32, j: u32) -> Pair
+    fn with_links(self, links: Option<(TnurccConnection, TnurccConnection)>, i: u32, j: u32) -> Pair
         ensures { result ≡ with_links i j links self }
     {
-        match links {
-            Links::Both(own, other) => Pair {
-                first: self.first.set_connection(j, own),
-                other: self.other.set_connection(i, other),
-            },
-            Links::Mismatch => self,
+        let Some((own, other)) = links else {
+            return self;
+        };
+        Pair {
+            first: self.first.set_connection(j, own),
+            other: self.other.set_connection(i, other),
         }
     }
 

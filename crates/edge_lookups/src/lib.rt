@@ -22,10 +22,7 @@ fn runs(listed: &[u32], a: usize, n: usize, j: usize, p: u32, q: u32) -> bool
     ensures { result ≡ (eqb (get_or listed.now (a + j) 0) p && eqb (get_or listed.now (a + next_place n j) 0) q) }
 {
     let k = next_place(n, j);
-    if listed[a + j] == p {
-        return listed[a + k] == q;
-    }
-    false
+    listed[a + j] == p && listed[a + k] == q
 }
 
 // Whether no place of the face runs from p to q.
@@ -33,12 +30,10 @@ fn none_runs(listed: &[u32], a: usize, n: usize, p: u32, q: u32) -> bool
     requires { a + n ≤ length listed.now }
     ensures { result ≡ every n (λ j. not (eqb (get_or listed.now (a + j) 0) p && eqb (get_or listed.now (a + next_place n j) 0) q)) }
 {
-    let mut j = 0;
-    while j < n {
+    for j in 0..n {
         if runs(listed, a, n, j, p, q) {
             return false;
         }
-        j += 1;
     }
     true
 }
@@ -50,14 +45,12 @@ fn same_way_before(sides: &[u32], listed: &[u32], f: usize, p: u32, q: u32) -> T
     ensures { result ≡ same_way_before (lists [] sides.now listed.now []) p q f }
 {
     let mut a = 0;
-    let mut g = 0;
-    while g < f {
+    for g in 0..f {
         let n = face_size(sides, g);
         if !none_runs(listed, a, n, p, q) {
             return ToldEdge::Again(p, q, g);
         }
         a += n;
-        g += 1;
     }
     ToldEdge::First(p, q)
 }
@@ -88,14 +81,12 @@ pub fn told_edge(sides: &[u32], listed: &[u32], f: usize, i: usize) -> ToldEdge
         return ToldEdge::Missing;
     }
     let mut a = 0;
-    let mut g = 0;
-    while g < f {
+    for g in 0..f {
         let n = face_size(sides, g);
         if listed.len() - a < n {
             return ToldEdge::Missing;
         }
         a += n;
-        g += 1;
     }
     told_from(sides, listed, f, a, i)
 }

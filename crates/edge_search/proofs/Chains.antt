@@ -21,9 +21,8 @@ use lib.Ieee.{Float}
 use lib.ListN.{length, get_or, set}
 use lib.Seq.{get_or-set_other}
 use borrow.Author.Tests.{eqb-true, eq-eqb, ne_eqb}
+use Rattle.std.specs.Prelude.{Option, Some, None, Result, Ok, Err}
 use Rattle.tables.specs.Mesh.{Mesh, none, origin, dest, mesh_of, edge_table}
-use Rattle.built_meshes.specs.declared.Found.{Found}
-use Rattle.built_meshes.specs.declared.Found.TheVariants.{At, Nothing}
 use Rattle.built_meshes.specs.declared.Ground.TheVariants.{EdgeTripleFace, SameWay}
 use Rattle.built_meshes.specs.Edges.{joins, or_last, edge_between, new_edge, entered_at, entered_if, entered, with_right_face}
 use Rattle.built_meshes.proofs.Entering.{Finds, finds, finds-none, found-is}
@@ -31,8 +30,8 @@ use Rattle.edge_buckets.specs.Buckets.{buckets, bucket_of}
 use Rattle.edge_buckets.proofs.Buckets.{bucket_of-swap}
 use Rattle.edge_search.specs.Chains.{link_to, EndsKept, bucket_at, Newest, Standing}
 use Rattle.edge_search.specs.Places.{edges_after, EnteredBy, FilledBy}
-use Rattle.edge_search.specs.declared.Entry.{Entry}
-use Rattle.edge_search.specs.declared.Entry.TheVariants.{Made, Refused}
+use Rattle.built_meshes.specs.declared.Ground.{Ground}
+use Rattle.edge_search.specs.declared.PlaceEdge.{PlaceEdge}
 
 -- ---- buckets
 
@@ -61,11 +60,11 @@ not-joined es p q e n = go (joins (edge_table es) p q e) refl
 pub edge_between-table : (m : Mesh) (k p q : ℕ) → edge_between m k p q ≡ edge_between (edge_table m.edges) k p q
 unfolding edge_between
 edge_between-table m zero p q = refl
-edge_between-table m (suc k) p q = ap (λ (x : Found). or_last x (joins m p q k) k) (edge_between-table m k p q)
+edge_between-table m (suc k) p q = ap (λ (x : Option ℕ). or_last x (joins m p q k) k) (edge_between-table m k p q)
 
-or_last-none : (x : Found) (k : ℕ) → or_last x false k ≡ x
-or_last-none (At e) k = refl
-or_last-none Nothing k = refl
+or_last-none : (x : Option ℕ) (k : ℕ) → or_last x false k ≡ x
+or_last-none (Some e) k = refl
+or_last-none None k = refl
 
 pub edge_between-gap : (es : List ℕ) (p q l b : ℕ) → l ≤ b → ((e : ℕ) → l ≤ e → e < b → bucket_at es e ≢ bucket_of p q)
     → edge_between (edge_table es) b p q ≡ edge_between (edge_table es) l p q
@@ -79,10 +78,10 @@ edge_between-gap es p q l (suc b) h n = go (dec_le l b) (λ g. edge_between-gap 
         rw (not-joined es p q b (n b g (omega arith))) (or_last-none (edge_between (edge_table es) b p q) b ∙ rest g)
     go (no g) rest = let s : suc b ≡ l = omega arith in ap (λ (i : ℕ). edge_between (edge_table es) i p q) s
 
-pub edge_between-below : (m : Mesh) (k p q e : ℕ) → edge_between m k p q ≡ At e → e < k
+pub edge_between-below : (m : Mesh) (k p q e : ℕ) → edge_between m k p q ≡ Some e → e < k
 edge_between-below m k p q e h = below (edge_between m k p q) (found-is m k p q) h
   where
-    below : (x : Found) → Finds m k p q x → x ≡ At e → e < k
+    below : (x : Option ℕ) → Finds m k p q x → x ≡ Some e → e < k
     below x (finds {e = i} l j) s = let same : i ≡ e = cc in omega arith
     below x (finds-none n) s = let z : ◌≡◌ {A = ℕ} 0 1 = cc in absurd (omega arith)
 
@@ -154,9 +153,9 @@ standing-ends np pts es new ch k s n h =
 
 -- ---- links
 
-pub link_to-edge : (l : ℕ) → (l ≡ 0 → ⊥) → At (l - 1) ≡ link_to l
+pub link_to-edge : (l : ℕ) → (l ≡ 0 → ⊥) → Some (l - 1) ≡ link_to l
 link_to-edge zero n = absurd (n refl)
-link_to-edge (suc l) n = ap At (less l)
+link_to-edge (suc l) n = ap Some (less l)
   where
     less : (l : ℕ) → suc l - 1 ≡ l
     less l = omega arith
@@ -164,7 +163,7 @@ link_to-edge (suc l) n = ap At (less l)
 -- ---- a side filled, or refused
 
 module _ (es : List ℕ) (k f e p : ℕ) where
-  pub filled-triple : (get_or es (e * 8 + 3) 0 ≡ none → ⊥) → FilledBy es k f e p (Refused EdgeTripleFace) es
+  pub filled-triple : (get_or es (e * 8 + 3) 0 ≡ none → ⊥) → FilledBy es k f e p (Err EdgeTripleFace) es
   unfolding entered_at
   filled-triple n =
       record {
@@ -173,7 +172,7 @@ module _ (es : List ℕ) (k f e p : ℕ) where
         count = refl;
       }
 
-  pub filled-same-way : get_or es (e * 8 + 3) 0 ≡ none → get_or es (e * 8) 0 ≡ p → FilledBy es k f e p (Refused SameWay) es
+  pub filled-same-way : get_or es (e * 8 + 3) 0 ≡ none → get_or es (e * 8) 0 ≡ p → FilledBy es k f e p (Err SameWay) es
   unfolding entered_at
   filled-same-way a b =
       record {
@@ -183,7 +182,7 @@ module _ (es : List ℕ) (k f e p : ℕ) where
       }
 
   pub filled-made : get_or es (e * 8 + 3) 0 ≡ none → (get_or es (e * 8) 0 ≡ p → ⊥)
-      → FilledBy es k f e p (Made k e) (set es (e * 8 + 3) f)
+      → FilledBy es k f e p (Ok (record { edges = k; edge = e })) (set es (e * 8 + 3) f)
   unfolding entered_at with_right_face
   filled-made a b =
       record {
@@ -195,17 +194,17 @@ module _ (es : List ℕ) (k f e p : ℕ) where
 -- ---- a place entered
 
 module _ (pts es : List ℕ) (is : List Float) (k f p q : ℕ) (v : Float) where
-  pub entered-found : (e : ℕ) (r : Entry) (new : List ℕ) → edge_between (edge_table es) k p q ≡ At e → FilledBy es k f e p r new
+  pub entered-found : (e : ℕ) (r : Result PlaceEdge Ground) (new : List ℕ) → edge_between (edge_table es) k p q ≡ Some e → FilledBy es k f e p r new
       → (ps : List Float) (fs : List ℕ) → EnteredBy r (mesh_of ps pts es is fs) (mesh_of ps pts new is fs) k f p q v
   unfolding entered entered_if
   entered-found e r new found h ps fs =
       rw (edge_between-table (mesh_of ps pts es is fs) k p q ∙ found) (h.filled (mesh_of ps pts es is fs) refl)
 
-  pub entered-new : (ps : List Float) (fs : List ℕ) (n : Mesh) → edge_between (edge_table es) k p q ≡ Nothing
-      → n ≡ new_edge (mesh_of ps pts es is fs) k f p q v → EnteredBy (Made (k + 1) k) (mesh_of ps pts es is fs) n k f p q v
+  pub entered-new : (ps : List Float) (fs : List ℕ) (n : Mesh) → edge_between (edge_table es) k p q ≡ None
+      → n ≡ new_edge (mesh_of ps pts es is fs) k f p q v → EnteredBy (Ok (record { edges = k + 1; edge = k })) (mesh_of ps pts es is fs) n k f p q v
   unfolding entered entered_if
   entered-new ps fs n found made = rw (edge_between-table (mesh_of ps pts es is fs) k p q ∙ found, made, add-one k)
 
-pub standing-filled : (np : ℕ) (pts es ch new : List ℕ) (k f e p : ℕ) (r : Entry) → FilledBy es k f e p r new → length new ≡ length es
+pub standing-filled : (np : ℕ) (pts es ch new : List ℕ) (k f e p : ℕ) (r : Result PlaceEdge Ground) → FilledBy es k f e p r new → length new ≡ length es
     → Standing np pts es ch k → Standing np pts new ch (edges_after r k)
 standing-filled np pts es ch new k f e p r h l s = rw h.count (standing-ends np pts es new ch k h.ends l s)

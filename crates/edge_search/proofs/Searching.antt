@@ -6,17 +6,16 @@ use mathlib.Core.List.{List}
 use Prim.Native.Nat.{ℕ, suc, ◌+◌, ◌≤◌, ◌<◌}
 use native.Mathlib.Omega.{arith}
 use lib.ListN.{get_or}
+use Rattle.std.specs.Prelude.{Option, Some, None}
 use Rattle.tables.specs.Mesh.{Mesh, edge_table}
-use Rattle.built_meshes.specs.declared.Found.{Found}
-use Rattle.built_meshes.specs.declared.Found.TheVariants.{At, Nothing}
 use Rattle.built_meshes.specs.Edges.{joins, or_last, edge_between}
 use Rattle.edge_buckets.specs.Buckets.{buckets, bucket_of}
 use Rattle.edge_search.specs.Chains.{link_to, bucket_at, Newest, Chained}
 use Rattle.edge_search.proofs.Chains.{edge_between-gap}
 
-abbrev pub or_else : Found → Found → Found
-or_else (At e) other = At e
-or_else Nothing other = other
+abbrev pub or_else : Option ℕ → Option ℕ → Option ℕ
+or_else (Some e) other = Some e
+or_else None other = other
 
 pub record Searching (es : List ℕ) (p q k link found : ℕ) : Type 0 where
   pub below : link ≤ k
@@ -24,15 +23,15 @@ pub record Searching (es : List ℕ) (p q k link found : ℕ) : Type 0 where
   pub found_below : found ≤ k
   pub left : or_else (edge_between (edge_table es) link p q) (link_to found) ≡ edge_between (edge_table es) k p q
 
-or_else-nothing : (x : Found) → or_else x Nothing ≡ x
-or_else-nothing (At e) = refl
-or_else-nothing Nothing = refl
+or_else-nothing : (x : Option ℕ) → or_else x None ≡ x
+or_else-nothing (Some e) = refl
+or_else-nothing None = refl
 
-found_turn : (x : Found) (j : Bool) (e found : ℕ)
+found_turn : (x : Option ℕ) (j : Bool) (e found : ℕ)
     → or_else x (link_to (cond j (suc e) found)) ≡ or_else (or_last x j e) (link_to found)
-found_turn (At i) j e found = refl
-found_turn Nothing true e found = refl
-found_turn Nothing false e found = refl
+found_turn (Some i) j e found = refl
+found_turn None true e found = refl
+found_turn None false e found = refl
 
 cond_below : (j : Bool) (a b k : ℕ) → a ≤ k → b ≤ k → cond j a b ≤ k
 cond_below true a b k h g = h
@@ -69,7 +68,7 @@ module _ (es : List ℕ) (p q k : ℕ) where
         within = o.within;
         found_below = cond_below (joins m p q e) (suc e) found k l h.found_below;
         left =
-            ap (λ (x : Found). or_else x (link_to (cond (joins m p q e) (suc e) found)))
+            ap (λ (x : Option ℕ). or_else x (link_to (cond (joins m p q e) (suc e) found)))
             (sym (edge_between-gap es p q next e o-below o.none_between))
             ∙ found_turn (edge_between m e p q) (joins m p q e) e found
             ∙ h.left;

@@ -11,21 +11,19 @@
 --     Headed, Chained         the links to the newest of k edges of each bucket, and those behind each of k edges
 --     Standing                what holds of the tables of points and edges and of the links while k edges stand
 --     EdgeRoom                there is a row and a link for an edge k
-use Rattle.std.specs.Prelude.{◌≡◌, List, ◌≢◌, ℕ, zero, suc, ◌+◌, ◌*◌, ◌≤◌, ◌<◌, length, get_or, set, Float}
+use Rattle.std.specs.Prelude.{◌≡◌, List, ◌≢◌, ℕ, zero, suc, ◌+◌, ◌*◌, ◌≤◌, ◌<◌, length, get_or, set, Float, Option, Some, None}
 use Rattle.tables.specs.Layout.{point_width, edge_width}
 use Rattle.tables.specs.Mesh.{origin, dest, edge_table}
 use Rattle.edge_buckets.specs.Buckets.{buckets, bucket_of}
-use Rattle.built_meshes.specs.declared.Found.{Found}
-use Rattle.built_meshes.specs.declared.Found.TheVariants.{At, Nothing}
 
 -- every edge has the same ends in both tables
 pub record EndsKept (es new : List ℕ) : Type 0 where
   pub origins : (e : ℕ) → origin (edge_table new) e ≡ origin (edge_table es) e
   pub dests : (e : ℕ) → dest (edge_table new) e ≡ dest (edge_table es) e
 
-abbrev pub link_to : ℕ → Found
-link_to zero = Nothing
-link_to (suc e) = At e
+abbrev pub link_to : ℕ → Option ℕ
+link_to zero = None
+link_to (suc e) = Some e
 
 abbrev pub bucket_at : List ℕ → ℕ → ℕ
 bucket_at es e = bucket_of (origin (edge_table es) e) (dest (edge_table es) e)

@@ -14,28 +14,18 @@ ghost use Rattle.edge_buckets.specs.Buckets.{buckets, bucket_of};
 ghost use Rattle.edge_search.specs.Chains.{link_to, Newest, chained_edge, Headed, Chained, Standing, EdgeRoom};
 ghost use Rattle.edge_search.specs.Places.{edges_after, EnteredBy, FilledBy};
 
-use built_meshes::{Found, Ground};
+use built_meshes::Ground;
 use edge_buckets::{BUCKETS, bucket};
 use edge_ends::NONE;
 use records::store_edge;
 use t_spline::TnurccEdge;
 use tables::{DEST_WORD, EDGE_WIDTH, POINT_WIDTH, RIGHT_FACE_WORD, START_WORD, index};
 
-// What entering a place of a perimeter answers: how many edges there are then and the place's edge, or the ground.
+// A place of a perimeter that is entered: how many edges there are then, and the place's edge.
 #[derive(Clone, Copy)]
-pub enum Entry {
-    Made { edges: u32, edge: u32 },
-    Refused(Ground),
-}
-
-// Whether two numbers are two others, in their order.
-fn are(a: u32, b: u32, p: u32, q: u32) -> bool
-    ensures { result ≡ eqb a p && eqb b q }
-{
-    if a == p {
-        return b == q;
-    }
-    false
+pub struct PlaceEdge {
+    pub edges: u32,
+    pub edge: u32,
 }
 
 // Whether edge e joins the points p and q, in either direction.
@@ -45,17 +35,7 @@ fn joins_points(edges: &[u32], e: usize, p: u32, q: u32) -> bool
 {
     let origin = edges[e * EDGE_WIDTH];
     let dest = edges[e * EDGE_WIDTH + DEST_WORD];
-    if are(origin, dest, p, q) {
-        return true;
-    }
-    are(origin, dest, q, p)
-}
-
-// The one of two links that a test chooses.
-fn chosen(test: bool, link: u32, other: u32) -> u32
-    ensures { result ≡ cond test link other }
-{
-    if test { link } else { other }
+    origin == p && dest == q || origin == q && dest == p
 }
 
 // The link to the first of the k edges that join the points p and q, found along the chain that begins with the link from.
@@ -71,24 +51,26 @@ fn search(edges: &[u32], chain: &[u32], k: u32, from: u32, p: u32, q: u32) -> u3
     let mut found = 0;
     while 0 < link {
         let e = index(link - 1);
-        found = chosen(joins_points(edges, e, p, q), link, found);
+        if joins_points(edges, e, p, q) {
+            found = link;
+        }
         link = chain[BUCKETS + e];
     }
     found
 }
 
 // The edge of a link.
-fn edge_of(link: u32) -> Found
+fn edge_of(link: u32) -> Option<u32>
     ensures { result ≡ link_to link }
 {
     if link == 0 {
-        return Found::Nothing;
+        return None;
     }
-    Found::At(link - 1)
+    Some(link - 1)
 }
 
 // The first of the k edges that join the points p and q.
-fn find_edge(edges: &[u32], chain: &[u32], k: u32, p: u32, q: u32) -> Found
+fn find_edge(edges: &[u32], chain: &[u32], k: u32, p: u32, q: u32) -> Option<u32>
     requires edge_width_in_bounds { k * edge_width ≤ length edges.now }
     requires k_in_bounds { buckets + k ≤ length chain.now }
     requires chained { Chained edges.now chain.now k }
@@ -162,19 +144,19 @@ fn make_edge(
 }
 
 // Puts face f on the right of edge e at a place whose first point is p, if there is no face and the edge runs the other way.
-fn fill_edge(edges: &mut [u32], k: u32, f: u32, e: u32, p: u32) -> Entry
+fn fill_edge(edges: &mut [u32], k: u32, f: u32, e: u32, p: u32) -> Result<PlaceEdge, Ground>
     requires { e * edge_width + edge_width ≤ length edges.old }
     ensures { FilledBy edges.old k f e p result edges.new }
 {
     let b = index(e) * EDGE_WIDTH;
     if edges[b + RIGHT_FACE_WORD] != NONE {
-        return Entry::Refused(Ground::EdgeTripleFace);
+        return Err(Ground::EdgeTripleFace);
     }
     if edges[b] == p {
-        return Entry::Refused(Ground::SameWay);
+        return Err(Ground::SameWay);
     }
     edges[b + RIGHT_FACE_WORD] = f;
-    Entry::Made { edges: k, edge: e }
+    Ok(PlaceEdge { edges: k, edge: e })
 }
 
 // Enters a place of face f, from p to q with the interval v, while k edges stand. The contract alone looks at np, as above.
@@ -189,7 +171,7 @@ pub fn enter(
     p: u32,
     q: u32,
     v: f64,
-) -> Entry
+) -> Result<PlaceEdge, Ground>
     requires standing { Standing np points.old edges.old chain.old k }
     requires edge_room { EdgeRoom edges.old intervals.old chain.old k }
     requires p_lt_np { p < np }
@@ -199,13 +181,13 @@ pub fn enter(
     ensures standing_2 { Standing np points.new edges.new chain.new (edges_after result k) }
 {
     match find_edge(edges, chain, k, p, q) {
-        Found::At(e) => fill_edge(edges, k, f, e, p),
-        Found::Nothing => {
+        Some(e) => fill_edge(edges, k, f, e, p),
+        None => {
             make_edge(points, edges, intervals, chain, np, k, f, p, q, v);
-            Entry::Made {
+            Ok(PlaceEdge {
                 edges: k + 1,
                 edge: k,
-            }
+            })
         }
     }
 }

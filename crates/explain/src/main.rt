@@ -5,61 +5,52 @@
 // written. A read or a write that fails is said on standard error (`streams`).
 #![tactic(auto)]
 
-use answer_numbers::ground_number;
 use building_tests::Bounds;
+use built_meshes::Ground;
 use explain_answers::{listing_answer, text_answer};
-use explain_words::{say_accepted, say_edge, say_face, say_reading, say_whole};
+use explain_words::{say_accepted, say_edge, say_face, say_not_text, say_reading, say_whole};
 use std::io;
 use streams::{read_input, say_output_lost};
 use text_edges::text_edge;
-use text_meshes::TextBuilt;
-use text_numbers::stands;
+use text_meshes::TextRefusal;
 use text_places::{NOWHERE, text_place};
 
 // The listings that `handover` writes have less, and texts that are longer than `refine` takes are refused all the same.
 const INPUT_BYTES: usize = 65536;
 
-// Says a refusal of a text by the ground n, with its place.
-fn explain_refused(rt: &impl Print, text: &[u8], n: u32) -> io::Result<()> {
+// Says a refusal of a text by the ground g, with its place.
+fn explain_refused(rt: &impl Print, text: &[u8], g: Ground) -> io::Result<()> {
     let place = text_place(text, Bounds::Refine);
     if place.line == NOWHERE {
-        return say_whole(rt, n);
+        return say_whole(rt, g);
     }
     if place.edge == NOWHERE {
-        return say_face(rt, n, place.line, place.face);
+        return say_face(rt, g, place.line, place.face);
     }
     let edge = text_edge(text, Bounds::Refine, place.face, place.edge);
-    say_edge(rt, n, place.line, place.face, place.edge, edge)
+    say_edge(rt, g, place.line, place.face, place.edge, edge)
 }
 
 // Says what becomes of a mesh text.
 fn explain_text(rt: &impl Print, text: &[u8]) -> io::Result<()> {
     match text_answer(text) {
-        TextBuilt::Accepted(c) => say_accepted(rt, c),
-        TextBuilt::NotText => explain_refused(rt, text, 1),
-        TextBuilt::Refused(g) => explain_refused(rt, text, ground_number(g)),
+        Ok(c) => say_accepted(rt, c),
+        Err(TextRefusal::NotText) => say_not_text(rt),
+        Err(TextRefusal::Refused(g)) => explain_refused(rt, text, g),
     }
 }
 
 // Says what becomes of the bytes that were read.
 fn explain(rt: &impl Print, text: &[u8]) -> io::Result<()> {
-    if stands(text, 0, b"[mesh 3]") {
-        return say_reading(rt, listing_answer(text));
+    if text.starts_with(b"[mesh 3]") {
+        say_reading(rt, listing_answer(text))
+    } else {
+        explain_text(rt, text)
     }
-    explain_text(rt, text)
-}
-
-// Reads the input into the buffer, and says what becomes of it.
-fn explain_input(rt: HostRuntime, buffer: &mut [u8]) -> io::Result<()> {
-    let n = read_input(rt, b"explain", buffer)?;
-    let said = explain(&rt, &buffer[..n]);
-    if said.is_err() {
-        say_output_lost(rt, b"explain");
-    }
-    said
 }
 
 fn main(rt: HostRuntime) -> io::Result<()> {
-    let mut text = [0u8; INPUT_BYTES + 1];
-    explain_input(rt, &mut text)
+    let mut text = [0; INPUT_BYTES + 1];
+    let n = read_input(rt, "explain", &mut text)?;
+    explain(&rt, &text[..n]).inspect_err(|_| say_output_lost(rt, "explain"))
 }

@@ -11,14 +11,14 @@ ghost use Rattle.refine_outputs.specs.Output.{zero_tables};
 
 use building_tests::Bounds;
 use listing_reading::read_listing;
-use listings::ListingReading;
+use listings::ListingRefusal;
 use numbered_steps::{LENT_EDGES, LENT_FACES, LENT_POINTS};
-use tables::{EDGE_WIDTH, FACE_WIDTH, POINT_WIDTH, POSITION_WIDTH};
+use tables::{Counts, EDGE_WIDTH, FACE_WIDTH, POINT_WIDTH, POSITION_WIDTH};
 use text_building::build_text;
-use text_meshes::TextBuilt;
+use text_meshes::TextRefusal;
 
 // The answer to a mesh text of any bytes within the limits of `refine`.
-pub fn text_answer(text: &[u8]) -> TextBuilt
+pub fn text_answer(text: &[u8]) -> Result<Counts, TextRefusal>
     ensures { result ≡ (build_text Refine text.now zero_tables).answer }
 {
     let mut positions = [0.0; LENT_POINTS * POSITION_WIDTH];
@@ -38,7 +38,7 @@ pub fn text_answer(text: &[u8]) -> TextBuilt
 }
 
 // The answer to a handover listing of any bytes.
-pub fn listing_answer(text: &[u8]) -> ListingReading
+pub fn listing_answer(text: &[u8]) -> Result<Counts, ListingRefusal>
     ensures { result ≡ (read_listing text.now zero_tables).answer }
 {
     let mut positions = [0.0; LENT_POINTS * POSITION_WIDTH];

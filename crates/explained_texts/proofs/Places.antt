@@ -4,18 +4,18 @@ use mathlib.Core.List.{List}
 use Prim.Native.Nat.{ℕ, ◌≤◌}
 use native.Mathlib.Omega.{arith}
 use lib.ListN.{length}
+use Rattle.tables.specs.declared.Counts.{Counts}
+use Rattle.std.specs.Prelude.{Result, Ok, Err}
 use Rattle.tables.specs.Mesh.{Mesh, none}
 use Rattle.mesh_text.specs.Text.{TextMesh}
 use Rattle.built_meshes.specs.Building.{build}
 use Rattle.built_meshes.specs.declared.Ground.{Ground}
-use Rattle.built_meshes.specs.declared.Built.{Built}
-use Rattle.built_meshes.specs.declared.Built.TheVariants as Built
 use Rattle.building_tests.specs.Lent.{limits_of}
 use Rattle.building_tests.specs.declared.Bounds.{Bounds}
 use Rattle.building_tests.specs.declared.Bounds.TheVariants.{General, Refine}
 use Rattle.text_meshes.specs.TextBuilding.{lists_of, told, TextOutcome, build_text}
 use Rattle.text_meshes.specs.Claims.{StandsFor}
-use Rattle.text_meshes.specs.declared.TextBuilt.TheVariants.{Refused}
+use Rattle.text_meshes.specs.declared.TextRefusal.TheVariants.{Refused}
 use Rattle.text_meshes.proofs.Theorem.{of-lists}
 use Rattle.refusal_places.specs.Spots.{spotted, where_of}
 use Rattle.refusal_places.proofs.Theorem.{spot-is-first}
@@ -26,9 +26,9 @@ few : (b : Bounds) → (limits_of b).faces ≤ none
 few General = omega arith
 few Refine = omega arith
 
-told-refused : (x : Built) (g : Ground) → told x ≡ Refused g → x ≡ Built.Refused g
-told-refused (Built.Accepted k) g h = absurd (let z : ◌≡◌ {A = ℕ} 0 1 = cc in omega arith)
-told-refused (Built.Refused g') g h = let y : g' ≡ g = cc in ap Built.Refused y
+told-refused : (x : Result Counts Ground) (g : Ground) → told x ≡ Err (Refused g) → x ≡ Err g
+told-refused (Ok k) g h = absurd (let z : ◌≡◌ {A = ℕ} 0 1 = cc in omega arith)
+told-refused (Err g') g h = let y : g' ≡ g = cc in ap Err y
 
 pub place-is-first : PlaceIsFirst
 unfolding text_place text_place_if form_place

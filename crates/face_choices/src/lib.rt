@@ -19,22 +19,10 @@ fn start(ups: &mut [u32], odds: &mut [bool])
     requires ups_len_bound { length ups.old ≤ 4096 }
     ensures { Started ups.new odds.new }
 {
-    let mut f = 0;
-    while f < ups.len() {
+    for f in 0..ups.len() {
         ups[f] = f as u32;
         odds[f] = false;
-        f += 1;
     }
-}
-
-// Whether one of two holds, or both.
-fn are_either(a: bool, b: bool) -> bool
-    ensures { result ≡ (a || b) }
-{
-    if a {
-        return true;
-    }
-    b
 }
 
 // Joins the face of place k and that of its mate, if it has one, and says whether that is twisted.
@@ -74,10 +62,8 @@ fn join_places(
         ups.new odds.new result }
 {
     let mut twisted = false;
-    let mut k = 0;
-    while k < mates.len() {
-        twisted = are_either(twisted, join_place(listed, faces, mates, k, ups, odds));
-        k += 1;
+    for k in 0..mates.len() {
+        twisted |= join_place(listed, faces, mates, k, ups, odds);
     }
     twisted
 }
@@ -89,10 +75,8 @@ fn settle(ups: &mut [u32], odds: &mut [bool], turned: &mut [bool])
     requires ups_len_bound { length ups.old ≤ 4096 }
     ensures { Settled ups.old odds.old turned.new }
 {
-    let mut f = 0;
-    while f < turned.len() {
+    for f in 0..turned.len() {
         turned[f] = find_part(ups, odds, f as u32).odd;
-        f += 1;
     }
 }
 

@@ -10,6 +10,7 @@ use lib.Dec.{eqb, ltb}
 use lib.Ieee.{Float}
 use lib.ListN.{length, get_or}
 use native.Mathlib.Numerals.{add-one}
+use Rattle.std.specs.Prelude.{Result, Ok, Err, ⊤}
 use Rattle.tables.specs.Layout.{position_width}
 use Rattle.audited_meshes.specs.Folds.{every}
 use Rattle.audited_meshes.proofs.Tests.{Is, self-is, ltb-is, every-is}
@@ -17,8 +18,6 @@ use Rattle.closed_meshes.specs.Renumbering.{sum_to}
 use Rattle.built_meshes.specs.Lists.{Lists, points_of, faces_of, size, offset}
 use Rattle.built_meshes.specs.Faces.{size_fit, listed_in_range, no_point_twice, firsts_fit, sums_fit, face_verdict}
 use Rattle.built_meshes.specs.declared.Version.{Version}
-use Rattle.built_meshes.specs.declared.Verdict.{Verdict}
-use Rattle.built_meshes.specs.declared.Verdict.TheVariants.{Fit, Unfit}
 use Rattle.built_meshes.specs.declared.Ground.{Ground}
 use Rattle.built_meshes.specs.declared.Ground.TheVariants.{FaceSize, OutOfRange, PointTwice, FirstPoint, NonRectangularFace, EdgeTripleFace, SameWay}
 use Rattle.building_tests.specs.Lent.{lists, lists_in}
@@ -29,16 +28,15 @@ use Rattle.face_places.proofs.Laws.{offset-more, offset-le}
 use Rattle.shared_edges.specs.Chains.{low_at, mate_at, third_at, LinksRoom, PairRoom, PlacesRoom, PlacesEntered, EnteredTo}
 use Rattle.shared_edges.proofs.Laws.{mate-below}
 use Rattle.refusal_places.specs.declared.Spot.{Spot}
-use Rattle.refusal_places.specs.declared.Spot.TheVariants.{Clear, Face, Edge}
+use Rattle.refusal_places.specs.declared.Spot.TheVariants.{Face, Edge}
 use Rattle.refusal_places.specs.Spots.{then_spot, runs_with, runs_with_mate, spot_at, edge_spot, edges_spot, verdict_spot, face_spot, faces_spot}
-use Rattle.refusal_places.proofs.Theorem.{Stops, face-stops, edge-stops}
+use Rattle.refusal_places.proofs.Theorem.{Stops, stops}
 use Rattle.face_grounds.specs.Found.{runs_with_at, edge_spot_at, edges_spot_at, FoundIf}
 
 -- ---- what stops
 
-stopped-then : (s t : Spot) → Stops s → then_spot s t ≡ s
-stopped-then s t (face-stops f g) = refl
-stopped-then s t (edge-stops f i g) = refl
+stopped-then : (s t : Result ⊤ Spot) → Stops s → then_spot s t ≡ s
+stopped-then s t (stops x) = refl
 
 -- ---- one place
 
@@ -65,10 +63,10 @@ one-third ls ts k = let e : k + 0 ≡ k = omega arith in rw e
 
 pub third-met :
     (ls ts : List ℕ) (f i k : ℕ) (r : Bool) → r ≡ every 1 (λ i. not (third_at ls ts (k + i))) → r ≡ false →
-    Edge f i EdgeTripleFace ≡ spot_at f i (third_at ls ts k) (runs_with_at ls (mate_at ls ts k) k)
+    Err (Edge f i EdgeTripleFace) ≡ spot_at f i (third_at ls ts k) (runs_with_at ls (mate_at ls ts k) k)
 third-met ls ts f i k r a b = go (third_at ls ts k) (sym (one-third ls ts k) ∙ sym a ∙ b)
   where
-    go : (t : Bool) → not t ≡ false → Edge f i EdgeTripleFace ≡ spot_at f i t (runs_with_at ls (mate_at ls ts k) k)
+    go : (t : Bool) → not t ≡ false → Err (Edge f i EdgeTripleFace) ≡ spot_at f i t (runs_with_at ls (mate_at ls ts k) k)
     go true h = refl
     go false h = absurd (false≢true (sym h))
 
@@ -89,7 +87,7 @@ mate-within ls ts k m e = omega (arith, mate-below ls ts k)
 pub same_met :
     (ls ts : List ℕ) (f i k : ℕ) (r : Bool) (m : ℕ) (s : Bool) → r ≡ every 1 (λ i. not (third_at ls ts (k + i))) → r ≡ true →
     m ≡ mate_at ls ts k → s ≡ runs_with_at ls m k → s ≡ true →
-    Edge f i SameWay ≡ spot_at f i (third_at ls ts k) (runs_with_at ls (mate_at ls ts k) k)
+    Err (Edge f i SameWay) ≡ spot_at f i (third_at ls ts k) (runs_with_at ls (mate_at ls ts k) k)
 same_met ls ts f i k r m s a b e q t =
     let x : runs_with_at ls (mate_at ls ts k) k ≡ true = ap (λ (m : ℕ). runs_with_at ls m k) (sym e) ∙ sym q ∙ t in
     rw (not_third ls ts k r a b, x)
@@ -97,7 +95,7 @@ same_met ls ts f i k r m s a b e q t =
 pub none-met :
     (ls ts : List ℕ) (f i k : ℕ) (r : Bool) (m : ℕ) (s : Bool) → r ≡ every 1 (λ i. not (third_at ls ts (k + i))) → r ≡ true →
     m ≡ mate_at ls ts k → s ≡ runs_with_at ls m k → s ≡ false →
-    Clear ≡ spot_at f i (third_at ls ts k) (runs_with_at ls (mate_at ls ts k) k)
+    Ok tt ≡ spot_at f i (third_at ls ts k) (runs_with_at ls (mate_at ls ts k) k)
 none-met ls ts f i k r m s a b e q t =
     let x : runs_with_at ls (mate_at ls ts k) k ≡ false = ap (λ (m : ℕ). runs_with_at ls m k) (sym e) ∙ sym q ∙ t in
     rw (not_third ls ts k r a b, x)
@@ -124,7 +122,7 @@ pub record EdgesEntered (ls ts heads₀ links₀ mates₀ seconds₀ heads links
   pub mates-length : length mates ≡ length mates₀
   pub seconds-length : length seconds ≡ length seconds₀
   pub entered : PlacesEntered ls ts heads links mates seconds (a + i)
-  pub clear : edges_spot_at ls ts f a i ≡ Clear
+  pub clear : edges_spot_at ls ts f a i ≡ Ok tt
 
 pub edges_none :
     (ls ts heads links mates seconds : List ℕ) (f a n : ℕ) → PlacesEntered ls ts heads links mates seconds a →
@@ -141,7 +139,7 @@ edges_none ls ts heads links mates seconds f a n e =
       clear = unfold edges_spot_at in refl;
     }
 
-edges-stay : (ls ts : List ℕ) (f a : ℕ) (s : Spot) → Stops s → (k n : ℕ) → k ≤ n → edges_spot_at ls ts f a k ≡ s → edges_spot_at ls ts f a n ≡ s
+edges-stay : (ls ts : List ℕ) (f a : ℕ) (s : Result ⊤ Spot) → Stops s → (k n : ℕ) → k ≤ n → edges_spot_at ls ts f a k ≡ s → edges_spot_at ls ts f a n ≡ s
 unfolding edges_spot_at
 edges-stay ls ts f a s stop k zero b e = let q : k ≡ 0 = omega arith in rw q at e
 edges-stay ls ts f a s stop k (suc n) b e = go (ℕ_discrete k (suc n)) (λ h. edges-stay ls ts f a s stop k n h e)
@@ -167,14 +165,14 @@ module _ (ls ts heads₀ links₀ mates₀ seconds₀ heads links mates seconds 
   pub edges_few : a + i < 16384
   edges_few = (rooms.room i l).few
 
-  module _ (r : Spot) (told : r ≡ spot_at f i (third_at ls ts (a + i)) (runs_with_at ls (mate_at ls ts (a + i)) (a + i))) where
-    pub edges-stopped : (s : Spot) → Stops s → r ≡ s → s ≡ edges_spot_at ls ts f a n
+  module _ (r : Result ⊤ Spot) (told : r ≡ spot_at f i (third_at ls ts (a + i)) (runs_with_at ls (mate_at ls ts (a + i)) (a + i))) where
+    pub edges-stopped : (s : Result ⊤ Spot) → Stops s → r ≡ s → s ≡ edges_spot_at ls ts f a n
     unfolding edges_spot_at
     edges-stopped s stop q = sym (edges-stay ls ts f a s stop (suc i) n l (rw e.clear (sym told ∙ q)))
 
     pub edges_more :
         (heads' links' mates' seconds' : List ℕ) → length heads' ≡ length heads → length links' ≡ length links →
-        length mates' ≡ length mates → length seconds' ≡ length seconds → r ≡ Clear →
+        length mates' ≡ length mates → length seconds' ≡ length seconds → r ≡ Ok tt →
         FoundIf ls ts heads' links' mates' seconds' (a + i + 1) r →
         EdgesEntered ls ts heads₀ links₀ mates₀ seconds₀ heads' links' mates' seconds' f a n (i + 1)
     unfolding edges_spot_at
@@ -193,13 +191,13 @@ module _ (ls ts heads₀ links₀ mates₀ seconds₀ heads links mates seconds 
 pub edges-all :
     (ls ts heads₀ links₀ mates₀ seconds₀ heads links mates seconds : List ℕ) (f a n i : ℕ) → n ≤ i →
     EdgesEntered ls ts heads₀ links₀ mates₀ seconds₀ heads links mates seconds f a n i →
-    (Clear ≡ edges_spot_at ls ts f a n) × PlacesEntered ls ts heads links mates seconds (a + n)
+    (Ok tt ≡ edges_spot_at ls ts f a n) × PlacesEntered ls ts heads links mates seconds (a + n)
 edges-all ls ts heads₀ links₀ mates₀ seconds₀ heads links mates seconds f a n i b e =
     let s : i ≡ n = omega (arith, e.not-past) in (sym (rw s at e.clear), rw s at e.entered)
 
 -- ---- one face
 
-in-range : (a b : Bool) (rest : Verdict) → cond (not a) (Unfit FaceSize) (cond (not b) (Unfit OutOfRange) rest) ≡ Fit → b ≡ true
+in-range : (a b : Bool) (rest : Result ⊤ Ground) → cond (not a) (Err FaceSize) (cond (not b) (Err OutOfRange) rest) ≡ Ok tt → b ≡ true
 in-range true true rest h = refl
 in-range true false rest h = absurd (unfit OutOfRange h)
 in-range false b rest h = absurd (unfit FaceSize h)
@@ -207,20 +205,20 @@ in-range false b rest h = absurd (unfit FaceSize h)
 -- a face that is fit has points in range
 points-in-range :
     (v : Version) (ss fs ls : List ℕ) (is : List Float) (np f a n : ℕ) → n ≡ size (lists [] ss [] []) f →
-    face_verdict (lists_in v [] ss fs ls is) np f a ≡ Fit → (i : ℕ) → i < n → get_or ls (a + i) 0 < np
+    face_verdict (lists_in v [] ss fs ls is) np f a ≡ Ok tt → (i : ℕ) → i < n → get_or ls (a + i) 0 < np
 unfolding face_verdict listed_in_range
 points-in-range v ss fs ls is np f a n e h i b =
     (every-is (size (lists [] ss [] []) f) (λ i. ltb-is (get_or ls (a + i) 0) np)).0
     (in-range (size_fit (size (lists [] ss [] []) f)) (every (size (lists [] ss [] []) f) (λ i. ltb (get_or ls (a + i) 0) np))
-    (cond (not (no_point_twice (lists_in v [] ss fs ls is) a (size (lists_in v [] ss fs ls is) f))) (Unfit PointTwice)
-    (cond (not (firsts_fit v (lists_in v [] ss fs ls is) f a)) (Unfit FirstPoint)
-    (cond (not (sums_fit v (lists_in v [] ss fs ls is) f a)) (Unfit NonRectangularFace) Fit)))
+    (cond (not (no_point_twice (lists_in v [] ss fs ls is) a (size (lists_in v [] ss fs ls is) f))) (Err PointTwice)
+    (cond (not (firsts_fit v (lists_in v [] ss fs ls is) f a)) (Err FirstPoint)
+    (cond (not (sums_fit v (lists_in v [] ss fs ls is) f a)) (Err NonRectangularFace) (Ok tt))))
     h)
     i (rw e at b)
 
 pub places-room :
     (v : Version) (ss fs ls : List ℕ) (is : List Float) (ts : List ℕ) (nh : ℕ) (links mates seconds : List ℕ) (np f a n : ℕ) →
-    FaceRoom ss fs ls is ts nh links mates seconds np f a n → face_verdict (lists_in v [] ss fs ls is) np f a ≡ Fit →
+    FaceRoom ss fs ls is ts nh links mates seconds np f a n → face_verdict (lists_in v [] ss fs ls is) np f a ≡ Ok tt →
     PlacesRoom ls ts nh links mates seconds a n
 places-room v ss fs ls is ts nh links mates seconds np f a n r h =
     record {
@@ -242,10 +240,10 @@ places-room v ss fs ls is ts nh links mates seconds np f a n r h =
           };
     }
 
-pub face-fit : (f : ℕ) (v : Verdict) (r e : Spot) → v ≡ Fit → r ≡ e → r ≡ then_spot (verdict_spot f v) e
+pub face-fit : (f : ℕ) (v : Result ⊤ Ground) (r e : Result ⊤ Spot) → v ≡ Ok tt → r ≡ e → r ≡ then_spot (verdict_spot f v) e
 face-fit f v r e a b = rw a b
 
-pub face-unfit : (f : ℕ) (v : Verdict) (e : Spot) (g : Ground) → v ≡ Unfit g → Face f g ≡ then_spot (verdict_spot f v) e
+pub face-unfit : (f : ℕ) (v : Result ⊤ Ground) (e : Result ⊤ Spot) (g : Ground) → v ≡ Err g → Err (Face f g) ≡ then_spot (verdict_spot f v) e
 face-unfit f v e g a = rw a
 
 -- ---- the lists show the places
@@ -274,7 +272,7 @@ module _ (ss ls ts : List ℕ) (shown : TosShown ss ls ts) (all : offset (lists 
 
 -- ---- all faces
 
-faces-stay : (l : Lists) (ps : List FacePlace) (s : Spot) → Stops s → (k n : ℕ) → k ≤ n → faces_spot l ps k ≡ s → faces_spot l ps n ≡ s
+faces-stay : (l : Lists) (ps : List FacePlace) (s : Result ⊤ Spot) → Stops s → (k n : ℕ) → k ≤ n → faces_spot l ps k ≡ s → faces_spot l ps n ≡ s
 unfolding faces_spot
 faces-stay l ps s stop k zero b e = let q : k ≡ 0 = omega arith in rw q at e
 faces-stay l ps s stop k (suc n) b e = go (ℕ_discrete k (suc n)) (λ h. faces-stay l ps s stop k n h e)
@@ -293,7 +291,7 @@ pub record FacesEntered (v : Version) (ss fs ls : List ℕ) (is : List Float)
   pub seconds-length : length seconds ≡ length seconds₀
   pub at-is : a ≡ offset (lists [] ss [] []) f
   pub entered : PlacesEntered ls ts heads links mates seconds a
-  pub clear : (cs : List Float) → length cs / position_width ≡ np → faces_spot (lists_in v cs ss fs ls is) (places_of (lists [] ss ls [])) f ≡ Clear
+  pub clear : (cs : List Float) → length cs / position_width ≡ np → faces_spot (lists_in v cs ss fs ls is) (places_of (lists [] ss ls [])) f ≡ Ok tt
 
 pub faces-start :
     (v : Version) (ss fs ls : List ℕ) (is : List Float) (ts heads links mates seconds : List ℕ) (np : ℕ) →
@@ -339,7 +337,7 @@ module _ (v : Version) (ss fs ls : List ℕ) (is : List Float) (ts heads₀ link
   pub faces-few : a + n ≤ 16384
   faces-few = omega (arith, end_below, room.few)
 
-  module _ (r : Spot)
+  module _ (r : Result ⊤ Spot)
       (told : (cs : List Float) → r ≡ then_spot (verdict_spot f (face_verdict (lists_in v cs ss fs ls is) np f a)) (edges_spot_at ls ts f a n)) where
     edges_are : edges_spot_at ls ts f a n ≡ edges_spot (places_of (lists [] ss ls [])) f (offset (lists [] ss [] []) f) (size (lists [] ss [] []) f)
     edges_are =
@@ -361,7 +359,7 @@ module _ (v : Version) (ss fs ls : List ℕ) (is : List Float) (ts heads₀ link
         s.at-is
 
     pub faces-stopped :
-        (t : Spot) → Stops t → r ≡ t → (cs : List Float) → length cs / position_width ≡ np →
+        (t : Result ⊤ Spot) → Stops t → r ≡ t → (cs : List Float) → length cs / position_width ≡ np →
         t ≡ faces_spot (lists_in v cs ss fs ls is) (places_of (lists [] ss ls [])) (length ss / 4)
     unfolding faces_spot
     faces-stopped t stop e cs h =
@@ -371,7 +369,7 @@ module _ (v : Version) (ss fs ls : List ℕ) (is : List Float) (ts heads₀ link
 
     pub faces-more :
         (heads' links' mates' seconds' : List ℕ) → length heads' ≡ length heads → length links' ≡ length links → length mates' ≡ length mates →
-        length seconds' ≡ length seconds → r ≡ Clear → FoundIf ls ts heads' links' mates' seconds' (a + n) r →
+        length seconds' ≡ length seconds → r ≡ Ok tt → FoundIf ls ts heads' links' mates' seconds' (a + n) r →
         FacesEntered v ss fs ls is ts heads₀ links₀ mates₀ seconds₀ heads' links' mates' seconds' np (a + n) (f + 1)
     unfolding faces_spot
     faces-more heads' links' mates' seconds' x y z w e after =
@@ -393,7 +391,7 @@ pub faces-end :
     FacesEntered v ss fs ls is ts heads₀ links₀ mates₀ seconds₀ heads links mates seconds np a f →
     FacesRoom ss fs ls is ts (length heads₀) links₀ mates₀ seconds₀ np → length ss / 4 ≤ f →
     ((cs : List Float) → length cs / position_width ≡ np →
-    Clear ≡ faces_spot (lists_in v cs ss fs ls is) (places_of (lists [] ss ls [])) (length ss / 4))
+    Ok tt ≡ faces_spot (lists_in v cs ss fs ls is) (places_of (lists [] ss ls [])) (length ss / 4))
     × PlacesEntered ls ts heads links mates seconds (length ls)
 faces-end v ss fs ls is ts heads₀ links₀ mates₀ seconds₀ heads links mates seconds np a f s room e =
     let q : f ≡ length ss / 4 = omega (arith, s.not-past) in

@@ -15,7 +15,7 @@ ghost use Rattle.refusal_places.specs.Spots.{then_spot, spot_at, verdict_spot, f
 ghost use Rattle.face_grounds.specs.Found.{runs_with_at, edges_spot_at, FoundIf};
 
 use building_tests::faces::{face_size, face_verdict};
-use built_meshes::{Ground, Verdict, Version};
+use built_meshes::{Ground, Version};
 use refusal_places::Spot;
 use shared_edges::enter_places;
 use tables::index;
@@ -44,7 +44,7 @@ fn enter_edge(
     f: usize,
     i: usize,
     k: usize,
-) -> Spot
+) -> Result<(), Spot>
     requires links_room { LinksRoom listed.now tos.now (length heads.old) links.old k }
     requires pair_room { PairRoom mates.old seconds.old k }
     requires places_entered { PlacesEntered listed.now tos.now heads.old links.old mates.old seconds.old k }
@@ -54,13 +54,13 @@ fn enter_edge(
         seconds.new (k + 1) result }
 {
     if !enter_places(listed, tos, heads, links, mates, seconds, k, 1) {
-        return Spot::Edge(f, i, Ground::EdgeTripleFace);
+        return Err(Spot::Edge(f, i, Ground::EdgeTripleFace));
     }
     let m = mates[k];
     if runs_with(listed, m, k) {
-        return Spot::Edge(f, i, Ground::SameWay);
+        return Err(Spot::Edge(f, i, Ground::SameWay));
     }
-    Spot::Clear
+    Ok(())
 }
 
 // Enters the n places of face f, which stand from place a on, and says what is met first; past that no more are entered.
@@ -74,22 +74,17 @@ fn enter_edges(
     f: usize,
     a: usize,
     n: usize,
-) -> Spot
+) -> Result<(), Spot>
     requires places_room { PlacesRoom listed.now tos.now (length heads.old) links.old mates.old seconds.old a n }
     requires places_entered { PlacesEntered listed.now tos.now heads.old links.old mates.old seconds.old a }
     ensures value { result ≡ edges_spot_at listed.now tos.now f a n }
     ensures found_if { FoundIf listed.now tos.now heads.new links.new mates.new
         seconds.new (a + n) result }
 {
-    let mut i = 0;
-    while i < n {
-        match enter_edge(listed, tos, heads, links, mates, seconds, f, i, a + i) {
-            Spot::Face(x, g) => return Spot::Face(x, g),
-            Spot::Edge(x, y, g) => return Spot::Edge(x, y, g),
-            Spot::Clear => i += 1,
-        }
+    for i in 0..n {
+        enter_edge(listed, tos, heads, links, mates, seconds, f, i, a + i)?;
     }
-    Spot::Clear
+    Ok(())
 }
 
 // What is met first in face f, whose n listed points stand from the place a on; its places are entered.
@@ -108,7 +103,7 @@ fn enter_face(
     f: usize,
     a: usize,
     n: usize,
-) -> Spot
+) -> Result<(), Spot>
     requires face_room { FaceRoom sides.now firsts.now listed.now beside.now tos.now (length heads.old) links.old mates.old seconds.old np f a n }
     requires places_entered { PlacesEntered listed.now tos.now heads.old links.old mates.old seconds.old a }
     ensures value { (cs : List Float) → result ≡ then_spot (verdict_spot f (face_verdict (lists_in version cs sides.now firsts.now
@@ -117,8 +112,8 @@ fn enter_face(
         seconds.new (a + n) result }
 {
     match face_verdict(version, sides, firsts, listed, beside, np, f, a, n) {
-        Verdict::Unfit(g) => Spot::Face(f, g),
-        Verdict::Fit => enter_edges(listed, tos, heads, links, mates, seconds, f, a, n),
+        Err(g) => Err(Spot::Face(f, g)),
+        Ok(()) => enter_edges(listed, tos, heads, links, mates, seconds, f, a, n),
     }
 }
 
@@ -135,7 +130,7 @@ pub fn faces_spot(
     mates: &mut [u32],
     seconds: &mut [u32],
     np: usize,
-) -> Spot
+) -> Result<(), Spot>
     requires faces_room { FacesRoom sides.now firsts.now listed.now beside.now tos.now (length heads.old) links.old mates.old seconds.old np }
     requires tos_shown { TosShown sides.now listed.now tos.now }
     requires places_entered { PlacesEntered listed.now tos.now heads.old links.old mates.old seconds.old 0 }
@@ -147,19 +142,12 @@ pub fn faces_spot(
 {
     let nf = sides.len() / 4;
     let mut a = 0;
-    let mut f = 0;
-    while f < nf {
+    for f in 0..nf {
         let n = face_size(sides, f);
-        match enter_face(
+        enter_face(
             version, sides, firsts, listed, beside, tos, heads, links, mates, seconds, np, f, a, n,
-        ) {
-            Spot::Face(x, g) => return Spot::Face(x, g),
-            Spot::Edge(x, y, g) => return Spot::Edge(x, y, g),
-            Spot::Clear => {
-                a = a + n;
-                f += 1;
-            }
-        }
+        )?;
+        a += n;
     }
-    Spot::Clear
+    Ok(())
 }

@@ -3,16 +3,16 @@
 // Contracts: `count_faces`, `store_faces`. Definitions and laws: `mesh_lines`.
 #![tactic(auto)]
 
-ghost use Rattle.std.specs.Prelude.{◌≡◌, ◌≤◌, map, length};
+ghost use Rattle.std.specs.Prelude.{◌≡◌, ◌≤◌, map, length, OnSome};
 ghost use Rattle.text_numbers.specs.Form.{bytes, many};
 ghost use Rattle.mesh_lines.specs.Grammar.{face_form, flat, side_first, side_points, side_intervals};
-ghost use Rattle.mesh_lines.specs.Parts.{length_word, listed_in, run_answer, lines_answer, Parses, stored, AtRun, AtLines};
+ghost use Rattle.mesh_lines.specs.Parts.{length_word, listed_in, run_answer, lines_answer, Parses, stored};
 
 use face_sides::sides;
-use mesh_lines::{Lines, Run};
+use mesh_lines::Lines;
 use text_numbers::stands;
 
-// A face line after `[face`: its four sides and the end of the line.
+// A face line after `[face`, its four sides and the end of the line: how many points it lists, and the place after it.
 fn face(
     s: &[u8],
     at: usize,
@@ -22,21 +22,19 @@ fn face(
     ps: &mut [u32],
     ds: &mut [f64],
     n: usize,
-) -> Run
+) -> Option<(usize, usize)>
     requires { (at ≤ length s.now) × ((f ≤ at) × (n ≤ at)) }
     ensures run { result ≡ run_answer listed_in (face_form s.now at) }
-    ensures lengths { AtRun result (ls.new ≡ stored (map length_word) ls.old f (face_form s.now at)) }
-    ensures firsts { AtRun result (qs.new ≡ stored (map side_first) qs.old f (face_form s.now at)) }
-    ensures points { AtRun result (ps.new ≡ stored (flat side_points) ps.old n (face_form s.now at)) }
-    ensures intervals { AtRun result (ds.new ≡ stored (flat side_intervals) ds.old n (face_form s.now at)) }
+    ensures lengths { OnSome result (ls.new ≡ stored (map length_word) ls.old f (face_form s.now at)) }
+    ensures firsts { OnSome result (qs.new ≡ stored (map side_first) qs.old f (face_form s.now at)) }
+    ensures points { OnSome result (ps.new ≡ stored (flat side_points) ps.old n (face_form s.now at)) }
+    ensures intervals { OnSome result (ds.new ≡ stored (flat side_intervals) ds.old n (face_form s.now at)) }
 {
-    let Run::Of(c, i) = sides(s, at, ls, qs, f, ps, ds, n) else {
-        return Run::None;
-    };
+    let (c, i) = sides(s, at, ls, qs, f, ps, ds, n)?;
     if !stands(s, i, b"]\n") {
-        return Run::None;
+        return None;
     }
-    Run::Of(c, i + 2)
+    Some((c, i + 2))
 }
 
 // The face lines, how many they are, and how many points they list. Where one is not of the form, what stands in the lists is left free
@@ -48,42 +46,40 @@ fn faces(
     qs: &mut [u32],
     ps: &mut [u32],
     ds: &mut [f64],
-) -> Lines
+) -> Option<Lines>
     requires { at ≤ length s.now }
     ensures faces { result ≡ lines_answer (many s.now (bytes "[face") (face_form s.now) (length s.now) at) }
-    ensures lengths { AtLines result (ls.new ≡ stored (flat (map length_word)) ls.old 0 (many s.now (bytes "[face")
+    ensures lengths { OnSome result (ls.new ≡ stored (flat (map length_word)) ls.old 0 (many s.now (bytes "[face")
         (face_form s.now) (length s.now) at)) }
-    ensures firsts { AtLines result (qs.new ≡ stored (flat (map side_first)) qs.old 0 (many s.now (bytes "[face")
+    ensures firsts { OnSome result (qs.new ≡ stored (flat (map side_first)) qs.old 0 (many s.now (bytes "[face")
         (face_form s.now) (length s.now) at)) }
-    ensures points { AtLines result (ps.new ≡ stored (flat (flat side_points)) ps.old 0 (many s.now (bytes "[face")
+    ensures points { OnSome result (ps.new ≡ stored (flat (flat side_points)) ps.old 0 (many s.now (bytes "[face")
         (face_form s.now) (length s.now) at)) }
-    ensures intervals { AtLines result (ds.new ≡ stored (flat (flat side_intervals)) ds.old 0 (many s.now (bytes "[face")
+    ensures intervals { OnSome result (ds.new ≡ stored (flat (flat side_intervals)) ds.old 0 (many s.now (bytes "[face")
         (face_form s.now) (length s.now) at)) }
 {
     let mut i = at;
     let mut k: usize = 0;
     let mut c: usize = 0;
     while stands(s, i, b"[face") {
-        let Run::Of(m, j) = face(s, i + 5, ls, qs, 4 * k, ps, ds, c) else {
-            return Lines::None;
-        };
+        let (m, j) = face(s, i + 5, ls, qs, 4 * k, ps, ds, c)?;
         i = j;
         k += 1;
         c += m;
     }
-    Lines::Are(k, c, i)
+    Some(Lines {
+        faces: k,
+        listed: c,
+        after: i,
+    })
 }
 
 // How many face lines stand at a place, how many points they list, and the place after them. Their numbers are stored nowhere.
-pub fn count_faces(s: &[u8], at: usize) -> Lines
+pub fn count_faces(s: &[u8], at: usize) -> Option<Lines>
     requires { at ≤ length s.now }
     ensures { result ≡ lines_answer (many s.now (bytes "[face") (face_form s.now) (length s.now) at) }
 {
-    let mut ls = [0u32; 1];
-    let mut qs = [0u32; 1];
-    let mut ps = [0u32; 1];
-    let mut ds = [0.0; 1];
-    faces(s, at, &mut ls, &mut qs, &mut ps, &mut ds)
+    faces(s, at, &mut [], &mut [], &mut [], &mut [])
 }
 
 // Stores the numbers of the face lines at a place, as far as the lists have rows: the lengths and the first points of their sides, the

@@ -17,12 +17,11 @@ use Rattle.built_meshes.specs.Lists.{Lists, points_of, faces_of, size, offset}
 use Rattle.built_meshes.specs.Faces.{size_fit, listed_in_range, no_point_twice, firsts_fit, sums_fit, face_verdict}
 use Rattle.built_meshes.specs.Answers.{ground_number}
 use Rattle.built_meshes.specs.declared.Version.TheVariants.{Two}
-use Rattle.built_meshes.specs.declared.Verdict.{Verdict}
-use Rattle.built_meshes.specs.declared.Verdict.TheVariants.{Fit, Unfit}
 use Rattle.built_meshes.specs.declared.Ground.{Ground}
 use Rattle.built_meshes.specs.declared.Ground.TheVariants.{FaceSize, OutOfRange, PointTwice, FirstPoint, NonRectangularFace, EdgeTripleFace}
 use Rattle.building_tests.specs.Lent.{lists, lists_in}
 use borrow.Author.Tests.{eqb-true, eq-eqb}
+use Rattle.std.specs.Prelude.{Result, Ok, Err, ⊤}
 use Rattle.built_meshes.specs.Places.{point_of}
 use Rattle.mended_lists.specs.Edges.{FacePlace, places_of, place_at, same_edge, latest, mate, third}
 use Rattle.mended_lists.specs.Mending.{forgiven, edges_mend, then_edges, face_mends, then_face, faces_mend}
@@ -33,32 +32,32 @@ use Rattle.face_places.proofs.Laws.{offset-more, offset-le, same-offset}
 use Rattle.shared_edges.specs.Chains.{low_at, joins_at, mate_at, has_mate_at, third_at, LinksRoom, PairRoom, PlacesRoom, PlacesEntered}
 use Rattle.face_mending.specs.Shown.{FaceRoom, FacesRoom, TosShown, EnteredIf}
 
-pub unfit : (g : Ground) → Unfit g ≡ Fit → ⊥
+pub unfit : (g : Ground) → ◌≡◌ {A = Result ⊤ Ground} (Err g) (Ok tt) → ⊥
 unfit g h = let z : ◌≡◌ {A = ℕ} 0 1 = cc in omega arith
 
 -- a face that passes 11 has points in range
 in-range :
-    (a b : Bool) (rest : Verdict) → forgiven (cond (not a) (Unfit FaceSize) (cond (not b) (Unfit OutOfRange) rest)) ≡ Fit → b ≡ true
+    (a b : Bool) (rest : Result ⊤ Ground) → forgiven (cond (not a) (Err FaceSize) (cond (not b) (Err OutOfRange) rest)) ≡ Ok tt → b ≡ true
 in-range true true rest h = refl
 in-range true false rest h = absurd (unfit OutOfRange h)
 in-range false b rest h = absurd (unfit FaceSize h)
 
 points-in-range :
     (ss fs ls : List ℕ) (is : List Float) (np f a n : ℕ) → n ≡ size (lists [] ss [] []) f →
-    forgiven (face_verdict (lists_in Two [] ss fs ls is) np f a) ≡ Fit → (i : ℕ) → i < n → get_or ls (a + i) 0 < np
+    forgiven (face_verdict (lists_in Two [] ss fs ls is) np f a) ≡ Ok tt → (i : ℕ) → i < n → get_or ls (a + i) 0 < np
 unfolding face_verdict listed_in_range
 points-in-range ss fs ls is np f a n e h i b =
     (every-is (size (lists [] ss [] []) f) (λ i. ltb-is (get_or ls (a + i) 0) np)).0
     (in-range (size_fit (size (lists [] ss [] []) f)) (every (size (lists [] ss [] []) f) (λ i. ltb (get_or ls (a + i) 0) np))
-    (cond (not (no_point_twice (lists_in Two [] ss fs ls is) a (size (lists_in Two [] ss fs ls is) f))) (Unfit PointTwice)
-    (cond (not (firsts_fit Two (lists_in Two [] ss fs ls is) f a)) (Unfit FirstPoint)
-    (cond (not (sums_fit Two (lists_in Two [] ss fs ls is) f a)) (Unfit NonRectangularFace) Fit)))
+    (cond (not (no_point_twice (lists_in Two [] ss fs ls is) a (size (lists_in Two [] ss fs ls is) f))) (Err PointTwice)
+    (cond (not (firsts_fit Two (lists_in Two [] ss fs ls is) f a)) (Err FirstPoint)
+    (cond (not (sums_fit Two (lists_in Two [] ss fs ls is) f a)) (Err NonRectangularFace) (Ok tt))))
     h)
     i (rw e at b)
 
 pub places-room :
     (ss fs ls : List ℕ) (is : List Float) (ts : List ℕ) (nh : ℕ) (links mates seconds : List ℕ) (np f a n : ℕ) →
-    FaceRoom ss fs ls is ts nh links mates seconds np f a n → forgiven (face_verdict (lists_in Two [] ss fs ls is) np f a) ≡ Fit →
+    FaceRoom ss fs ls is ts nh links mates seconds np f a n → forgiven (face_verdict (lists_in Two [] ss fs ls is) np f a) ≡ Ok tt →
     PlacesRoom ls ts nh links mates seconds a n
 places-room ss fs ls is ts nh links mates seconds np f a n r h =
     record {
@@ -82,21 +81,21 @@ places-room ss fs ls is ts nh links mates seconds np f a n r h =
 
 -- ---- 13 is not the mender's
 
-pub forgiven-sums : (v : Verdict) (g : Ground) (n : ℕ) → v ≡ Unfit g → n ≡ ground_number g → n ≡ 13 → Fit ≡ forgiven v
+pub forgiven-sums : (v : Result ⊤ Ground) (g : Ground) (n : ℕ) → v ≡ Err g → n ≡ ground_number g → n ≡ 13 → Ok tt ≡ forgiven v
 forgiven-sums v g n e a b = rw (e, eq-eqb (ground_number g) 13 (sym a ∙ b))
 
-pub forgiven-other : (v : Verdict) (g : Ground) (n : ℕ) → v ≡ Unfit g → n ≡ ground_number g → n ≢ 13 → Unfit g ≡ forgiven v
+pub forgiven-other : (v : Result ⊤ Ground) (g : Ground) (n : ℕ) → v ≡ Err g → n ≡ ground_number g → n ≢ 13 → Err g ≡ forgiven v
 forgiven-other v g n e a b = rw (e, eqb-false (ground_number g) 13 (λ q. b (a ∙ q)))
 
 -- ---- one face
 
-pub edges_fit : (v : Verdict) (e : Bool) → v ≡ Fit → e ≡ true → Fit ≡ then_edges v e
+pub edges_fit : (v : Result ⊤ Ground) (e : Bool) → v ≡ Ok tt → e ≡ true → Ok tt ≡ then_edges v e
 edges_fit v e a b = rw (a, b)
 
-pub edges-third : (v : Verdict) (e : Bool) → v ≡ Fit → e ≡ false → Unfit EdgeTripleFace ≡ then_edges v e
+pub edges-third : (v : Result ⊤ Ground) (e : Bool) → v ≡ Ok tt → e ≡ false → Err EdgeTripleFace ≡ then_edges v e
 edges-third v e a b = rw (a, b)
 
-pub edges-after : (v : Verdict) (e : Bool) (g : Ground) → v ≡ Unfit g → Unfit g ≡ then_edges v e
+pub edges-after : (v : Result ⊤ Ground) (e : Bool) (g : Ground) → v ≡ Err g → Err g ≡ then_edges v e
 edges-after v e g a = rw a
 
 -- ---- the lists show the places
@@ -143,12 +142,12 @@ every-same (suc n) test other e = go (every-same n test other (λ i b. e i (omeg
     go : every n test ≡ every n other → test n ≡ other n → (every n test && test n) ≡ (every n other && other n)
     go a b = rw (a, b)
 
-stays-unfit : (l : Lists) (ps : List FacePlace) (g : Ground) (k n : ℕ) → k ≤ n → faces_mend l ps k ≡ Unfit g → faces_mend l ps n ≡ Unfit g
+stays-unfit : (l : Lists) (ps : List FacePlace) (g : Ground) (k n : ℕ) → k ≤ n → faces_mend l ps k ≡ Err g → faces_mend l ps n ≡ Err g
 unfolding faces_mend
 stays-unfit l ps g k zero b e = let q : k ≡ 0 = omega arith in rw q at e
 stays-unfit l ps g k (suc n) b e = go (ℕ_discrete k (suc n)) (λ h. stays-unfit l ps g k n h e)
   where
-    go : Dec (k ≡ suc n) → (k ≤ n → faces_mend l ps n ≡ Unfit g) → then_face (faces_mend l ps n) (face_mends l ps n) ≡ Unfit g
+    go : Dec (k ≡ suc n) → (k ≤ n → faces_mend l ps n ≡ Err g) → then_face (faces_mend l ps n) (face_mends l ps n) ≡ Err g
     go (yes q) before = rw q at e
     go (no q) before = rw (before (omega arith))
 
@@ -161,7 +160,7 @@ pub record FacesEntered (ss fs ls : List ℕ) (is : List Float) (ts heads₀ lin
   pub seconds-length : length seconds ≡ length seconds₀
   pub at-is : a ≡ offset (lists [] ss [] []) f
   pub entered : PlacesEntered ls ts heads links mates seconds a
-  pub fit : (cs : List Float) → length cs / position_width ≡ np → faces_mend (lists_in Two cs ss fs ls is) (places_of (lists [] ss ls [])) f ≡ Fit
+  pub fit : (cs : List Float) → length cs / position_width ≡ np → faces_mend (lists_in Two cs ss fs ls is) (places_of (lists [] ss ls [])) f ≡ Ok tt
 
 pub faces-start :
     (ss fs ls : List ℕ) (is : List Float) (ts heads links mates seconds : List ℕ) (np : ℕ) → PlacesEntered ls ts heads links mates seconds 0 →
@@ -206,7 +205,7 @@ module _ (ss fs ls : List ℕ) (is : List Float) (ts heads₀ links₀ mates₀ 
   pub faces-few : a + n ≤ 16384
   faces-few = omega (arith, end_below, room.few)
 
-  module _ (r : Verdict)
+  module _ (r : Result ⊤ Ground)
       (told : (cs : List Float) → r ≡ then_edges (forgiven (face_verdict (lists_in Two cs ss fs ls is) np f a)) (every n (λ i. not (third_at ls ts (a + i))))) where
     edges-shown : every n (λ i. not (third_at ls ts (a + i))) ≡ edges_mend (places_of (lists [] ss ls [])) (offset (lists [] ss [] []) f) (size (lists [] ss [] []) f)
     unfolding edges_mend
@@ -230,8 +229,8 @@ module _ (ss fs ls : List ℕ) (is : List Float) (ts heads₀ links₀ mates₀ 
         s.at-is
 
     pub faces-stopped :
-        (g : Ground) → r ≡ Unfit g → (cs : List Float) → length cs / position_width ≡ np →
-        Unfit g ≡ faces_mend (lists_in Two cs ss fs ls is) (places_of (lists [] ss ls [])) (length ss / 4)
+        (g : Ground) → r ≡ Err g → (cs : List Float) → length cs / position_width ≡ np →
+        Err g ≡ faces_mend (lists_in Two cs ss fs ls is) (places_of (lists [] ss ls [])) (length ss / 4)
     unfolding faces_mend
     faces-stopped g e cs h =
         sym
@@ -240,7 +239,7 @@ module _ (ss fs ls : List ℕ) (is : List Float) (ts heads₀ links₀ mates₀ 
 
     pub faces-more :
         (heads' links' mates' seconds' : List ℕ) → length heads' ≡ length heads → length links' ≡ length links → length mates' ≡ length mates →
-        length seconds' ≡ length seconds → r ≡ Fit → EnteredIf ls ts heads' links' mates' seconds' (a + n) r →
+        length seconds' ≡ length seconds → r ≡ Ok tt → EnteredIf ls ts heads' links' mates' seconds' (a + n) r →
         FacesEntered ss fs ls is ts heads₀ links₀ mates₀ seconds₀ heads' links' mates' seconds' np (a + n) (f + 1)
     unfolding faces_mend
     faces-more heads' links' mates' seconds' x y z w e after =
@@ -261,7 +260,7 @@ pub faces-end :
     (ss fs ls : List ℕ) (is : List Float) (ts heads₀ links₀ mates₀ seconds₀ heads links mates seconds : List ℕ) (np a f : ℕ) →
     FacesEntered ss fs ls is ts heads₀ links₀ mates₀ seconds₀ heads links mates seconds np a f →
     FacesRoom ss fs ls is ts (length heads₀) links₀ mates₀ seconds₀ np → length ss / 4 ≤ f →
-    ((cs : List Float) → length cs / position_width ≡ np → Fit ≡ faces_mend (lists_in Two cs ss fs ls is) (places_of (lists [] ss ls [])) (length ss / 4))
+    ((cs : List Float) → length cs / position_width ≡ np → Ok tt ≡ faces_mend (lists_in Two cs ss fs ls is) (places_of (lists [] ss ls [])) (length ss / 4))
     × PlacesEntered ls ts heads links mates seconds (length ls)
 faces-end ss fs ls is ts heads₀ links₀ mates₀ seconds₀ heads links mates seconds np a f s room e =
     let q : f ≡ length ss / 4 = omega (arith, s.not-past) in

@@ -3,10 +3,9 @@
 --     FacesRoom             the lists have room for all faces
 --     TosShown              a list of the points that the places run to
 --     EnteredIf             the lists after k places, if the verdict is that they are fit
-use Rattle.std.specs.Prelude.{◌≡◌, List, [], ℕ, ◌+◌, ◌*◌, ◌/◌, ◌≤◌, ◌<◌, Float, length, get_or}
+use Rattle.std.specs.Prelude.{◌≡◌, List, [], ℕ, ◌+◌, ◌*◌, ◌/◌, ◌≤◌, ◌<◌, Float, length, get_or, Result, Ok, ⊤}
+use Rattle.built_meshes.specs.declared.Ground.{Ground}
 use Rattle.built_meshes.specs.Lists.{size, offset}
-use Rattle.built_meshes.specs.declared.Verdict.{Verdict}
-use Rattle.built_meshes.specs.declared.Verdict.TheVariants.{Fit}
 use Rattle.building_tests.specs.Lent.{lists}
 use Rattle.mended_lists.specs.Edges.{places_of, place_at}
 use Rattle.shared_edges.specs.Chains.{PlacesEntered}
@@ -40,5 +39,5 @@ pub record FacesRoom (ss fs ls : List ℕ) (is : List Float) (ts : List ℕ) (nh
 abbrev pub TosShown : List ℕ → List ℕ → List ℕ → Type 0
 TosShown ss ls ts = (j : ℕ) → j < length ls → get_or ts j 0 ≡ (place_at (places_of (lists [] ss ls [])) j).to
 
-abbrev pub EnteredIf : List ℕ → List ℕ → List ℕ → List ℕ → List ℕ → List ℕ → ℕ → Verdict → Type 0
-EnteredIf ls ts heads links mates seconds k r = r ≡ Fit → PlacesEntered ls ts heads links mates seconds k
+abbrev pub EnteredIf : List ℕ → List ℕ → List ℕ → List ℕ → List ℕ → List ℕ → ℕ → Result ⊤ Ground → Type 0
+EnteredIf ls ts heads links mates seconds k r = r ≡ Ok tt → PlacesEntered ls ts heads links mates seconds k

@@ -16,26 +16,17 @@ ghost use Rattle.face_places.specs.Spread.{Spread};
 ghost use Rattle.shared_edges.specs.Chains.{third_at, PlacesEntered};
 ghost use Rattle.face_mending.specs.Shown.{FaceRoom, FacesRoom, TosShown, EnteredIf};
 
-use answer_numbers::ground_number;
 use building_tests::faces::{face_size, face_verdict};
-use built_meshes::{Ground, Verdict, Version};
+use built_meshes::{Ground, Version};
 use shared_edges::enter_places;
 
-// The number of the ground that is not the mender's.
-const NON_RECTANGULAR_FACE: u32 = 13;
-
 // A verdict of building, but for 13.
-fn forgive(v: Verdict) -> Verdict
+fn forgive(v: Result<(), Ground>) -> Result<(), Ground>
     ensures { result ≡ forgiven v }
 {
     match v {
-        Verdict::Fit => Verdict::Fit,
-        Verdict::Unfit(g) => {
-            if ground_number(g) == NON_RECTANGULAR_FACE {
-                return Verdict::Fit;
-            }
-            Verdict::Unfit(g)
-        }
+        Err(Ground::NonRectangularFace) => Ok(()),
+        other => other,
     }
 }
 
@@ -54,7 +45,7 @@ fn enter_face(
     f: usize,
     a: usize,
     n: usize,
-) -> Verdict
+) -> Result<(), Ground>
     requires face_room { FaceRoom sides.now firsts.now listed.now beside.now tos.now (length heads.old) links.old mates.old seconds.old np f a n }
     requires places_entered { PlacesEntered listed.now tos.now heads.old links.old mates.old seconds.old a }
     ensures value { (cs : List Float) → result ≡ then_edges (forgiven (face_verdict (lists_in Two cs sides.now firsts.now
@@ -62,15 +53,11 @@ fn enter_face(
     ensures entered_if { EnteredIf listed.now tos.now heads.new links.new mates.new
         seconds.new (a + n) result }
 {
-    match forgive(face_verdict(Version::Two, sides, firsts, listed, beside, np, f, a, n)) {
-        Verdict::Unfit(g) => Verdict::Unfit(g),
-        Verdict::Fit => {
-            if enter_places(listed, tos, heads, links, mates, seconds, a, n) {
-                return Verdict::Fit;
-            }
-            Verdict::Unfit(Ground::EdgeTripleFace)
-        }
+    forgive(face_verdict(Version::Two, sides, firsts, listed, beside, np, f, a, n))?;
+    if enter_places(listed, tos, heads, links, mates, seconds, a, n) {
+        return Ok(());
     }
+    Err(Ground::EdgeTripleFace)
 }
 
 // The first of these grounds, face by face; the places of all faces are entered if there is none.
@@ -85,7 +72,7 @@ pub fn mend_faces(
     mates: &mut [u32],
     seconds: &mut [u32],
     np: usize,
-) -> Verdict
+) -> Result<(), Ground>
     requires faces_room { FacesRoom sides.now firsts.now listed.now beside.now tos.now (length heads.old) links.old mates.old seconds.old np }
     requires tos_shown { TosShown sides.now listed.now tos.now }
     requires places_entered { PlacesEntered listed.now tos.now heads.old links.old mates.old seconds.old 0 }
@@ -97,18 +84,12 @@ pub fn mend_faces(
 {
     let nf = sides.len() / 4;
     let mut a = 0;
-    let mut f = 0;
-    while f < nf {
+    for f in 0..nf {
         let n = face_size(sides, f);
-        match enter_face(
+        enter_face(
             sides, firsts, listed, beside, tos, heads, links, mates, seconds, np, f, a, n,
-        ) {
-            Verdict::Unfit(g) => return Verdict::Unfit(g),
-            Verdict::Fit => {
-                a = a + n;
-                f += 1;
-            }
-        }
+        )?;
+        a += n;
     }
-    Verdict::Fit
+    Ok(())
 }

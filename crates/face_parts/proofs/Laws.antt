@@ -1,6 +1,6 @@
 -- The laws of parts kept in two lists. Assumes nothing.
 use mathlib.Core.Path.{◌≡◌, refl, sym, ◌∙◌, ap}
-use mathlib.Core.Bool.{Bool, true, false, ◌||◌, false≢true, or-false}
+use mathlib.Core.Bool.{Bool, true, false, not, beq, ◌||◌, false≢true, or-false}
 use mathlib.Core.Logic.{◌⊎◌, inl, inr, ◌≢◌}
 use mathlib.Core.List.{List}
 use Prim.Native.Nat.{ℕ, ◌≤◌, ◌<◌, min, max}
@@ -12,6 +12,13 @@ use Rattle.mended_lists.specs.declared.Part.{Part}
 use Rattle.mended_lists.specs.Parts.{Parts, differ, lone_part, part_moved, apart, parts_joined}
 use Rattle.mended_lists.proofs.Parts.{differ_self, differ-false, differ-swap, differ-assoc, Moves, here, elsewhere, moves, Joins, one, two, joins, moved_all}
 use Rattle.face_parts.specs.Kept.{shifted, Falling, PartsKept, FoundPart, JoinedParts}
+
+-- the language's test of two truth values for being unlike
+pub differ-is : (a b : Bool) → not (beq a b) ≡ differ a b
+differ-is true true = refl
+differ-is true false = refl
+differ-is false true = refl
+differ-is false false = refl
 
 shifted-shifted : (a b : Bool) (p : Part) → shifted a (shifted b p) ≡ shifted (differ a b) p
 shifted-shifted a b p =

@@ -12,16 +12,6 @@ ghost use Rattle.face_parts.specs.Kept.{Falling, PartsKept, FoundPart, JoinedPar
 use mended_lists::Part;
 use tables::index;
 
-// Whether one of two holds, and not the other.
-fn are_different(a: bool, b: bool) -> bool
-    ensures { result ≡ differ a b }
-{
-    if a {
-        return !b;
-    }
-    b
-}
-
 // Lets face g skip the face that it points to.
 fn skip(ups: &mut [u32], odds: &mut [bool], g: usize)
     requires falling { Falling ups.old odds.old }
@@ -32,7 +22,7 @@ fn skip(ups: &mut [u32], odds: &mut [bool], g: usize)
 {
     let u = index(ups[g]);
     let w = ups[u];
-    let o = are_different(odds[g], odds[u]);
+    let o = odds[g] != odds[u];
     ups[g] = w;
     odds[g] = o;
 }
@@ -49,11 +39,11 @@ pub fn find_part(ups: &mut [u32], odds: &mut [bool], f: u32) -> Part
     while up != g {
         let h = index(g);
         skip(ups, odds, h);
-        odd = are_different(odd, odds[h]);
+        odd = odd != odds[h];
         g = ups[h];
         up = ups[index(g)];
     }
-    Part { root: g, odd: odd }
+    Part { root: g, odd }
 }
 
 // Lets face high point to face low.
@@ -77,7 +67,7 @@ pub fn join(ups: &mut [u32], odds: &mut [bool], f: u32, g: u32, way: bool) -> bo
 {
     let a = find_part(ups, odds, f);
     let b = find_part(ups, odds, g);
-    let d = are_different(are_different(a.odd, b.odd), way);
+    let d = (a.odd != b.odd) != way;
     let x = a.root;
     let y = b.root;
     if x == y {

@@ -19,12 +19,10 @@ fn spread_face(listed: &[u32], tos: &mut [u32], faces: &mut [u32], f: u32, a: us
     requires listed_len_bound { length listed.now ≤ 16384 }
     ensures { FaceSpread listed.now f a n tos.old faces.old tos.new faces.new }
 {
-    let mut i = 0;
-    while i < n {
+    for i in 0..n {
         let j = next_place(n, i);
         tos[a + i] = listed[a + j];
         faces[a + i] = f;
-        i += 1;
     }
 }
 
@@ -39,11 +37,9 @@ pub fn spread(sides: &[u32], listed: &[u32], tos: &mut [u32], faces: &mut [u32])
 {
     let nf = sides.len() / 4;
     let mut a = 0;
-    let mut f = 0;
-    while f < nf {
+    for f in 0..nf {
         let n = face_size(sides, f);
         spread_face(listed, tos, faces, f as u32, a, n);
         a = a + n;
-        f += 1;
     }
 }

@@ -13,6 +13,7 @@ use native.Mathlib.Decide.{dec_lt}
 use native.Mathlib.Numerals.{add-one}
 use lib.ListN.{get_or, length}
 use lib.Ieee.{Float}
+use Rattle.std.specs.Prelude.{Option, Some, None}
 use Rattle.perimeters.specs.Places.{around, next_place}
 use Rattle.perimeters.proofs.Laws.{around-below, next_more, next_last, next-below}
 use Rattle.audited_meshes.specs.Walks.{first_point}
@@ -21,8 +22,6 @@ use Rattle.tables.specs.Records.{position_at}
 use Rattle.walks.specs.Border.{border_of, border, BorderLaid}
 use Rattle.walks.specs.Steps.{passed_by}
 use Rattle.walks.specs.declared.FaceBorder.{FaceBorder}
-use Rattle.walks.specs.declared.Passed.{Passed}
-use Rattle.walks.specs.declared.Passed.TheVariants as Passed
 use Rattle.walks.proofs.Border.{laid-passed, laid-edge, laid-point}
 use Rattle.walks.proofs.Laws.{get_or-padded, border-walk, border-point, border-point-again}
 use Rattle.refined_meshes.proofs.Turns.{turns-cong}
@@ -50,18 +49,18 @@ window_sum-points ps es is pt pt' ed n same =
     no_windows
 
 module _ (ps : List Float) (es : List ℕ) (is : List Float) (fs : List ℕ) (ne f : ℕ) (h : FacePointFits ps es is fs ne f)
-    (answer : Passed) (xs qs xs₀ qs₀ : List ℕ) (laid : BorderLaid (face_tables es fs) ne f answer xs qs xs₀ qs₀) where
+    (answer : Option ℕ) (xs qs xs₀ qs₀ : List ℕ) (laid : BorderLaid (face_tables es fs) ne f answer xs qs xs₀ qs₀) where
   abbrev B : FaceBorder
   B = border (face_tables es fs) ne f
 
   passed_is : answer ≡ B.passed
   passed_is = laid-passed (face_tables es fs) ne f answer xs qs xs₀ qs₀ laid
 
-  pub laid-never-lost : answer ≡ Passed.Lost → ⊥
+  pub laid-never-lost : answer ≡ None → ⊥
   laid-never-lost l = never-lost ps es is fs ne f h B refl (sym passed_is ∙ l)
 
-  module _ {n : ℕ} (came : answer ≡ Passed.Back n) where
-    back_is : B.passed ≡ Passed.Back n
+  module _ {n : ℕ} (came : answer ≡ Some n) where
+    back_is : B.passed ≡ Some n
     back_is = sym passed_is ∙ came
 
     edge-is : (i : ℕ) → i < n → get_or xs i 0 ≡ get_or B.edges i 0
@@ -87,7 +86,7 @@ module _ (ps : List Float) (es : List ℕ) (is : List Float) (fs : List ℕ) (ne
       points-there = λ j l. rw (point-is j l) ((border-points-fit ps es is fs ne f h B refl back_is).points-there j l);
     }
 
-    same_count : {k : ℕ} → Passed.Back n ≡ Passed.Back k → n ≡ k
+    same_count : {k : ℕ} → Some n ≡ Some k → n ≡ k
     same_count q = cc
 
     count : n ≡ length h.border

@@ -18,11 +18,10 @@ ghost use Rattle.face_points.specs.Terms.{terms_about, six, FourAgain};
 use perimeters::next_place;
 use position_rules::WeightedSum;
 use position_rules::intervals::{a1, a2, c1, c2};
-use positions::{Placed, Position};
+use positions::Position;
 use records::load_position;
 use t_nurcc_face::lay_border;
 use tables::{LONGEST_BORDER, LONGEST_PERIMETER, index};
-use walks::Passed;
 
 // The interval of an edge, and those after two steps anticlockwise and two steps clockwise about one of its points.
 #[derive(Clone, Copy)]
@@ -121,8 +120,7 @@ fn window_sum(
     let ahead = terms_to(edges, intervals, border, points[3], 2, k);
     let mut first = start;
     let mut third = ahead;
-    let mut i = 0;
-    while i < last {
+    for i in 0..last {
         let second = terms_from(edges, intervals, border, points[i + 1], i, next_place(n, i));
         let after = next_place(n, k);
         let fourth = terms_to(edges, intervals, border, points[i + 4], k, after);
@@ -132,7 +130,6 @@ fn window_sum(
         first = second;
         third = fourth;
         k = after;
-        i += 1;
     }
     let w = six_terms(third, first) * six_terms(start, ahead);
     s.with_term(load_position(positions, index(points[last + 2])), w)
@@ -149,7 +146,7 @@ pub fn face_point(
     f: usize,
     perimeter: &mut [u32; LONGEST_PERIMETER],
     points: &mut [u32; LONGEST_BORDER],
-) -> Placed
+) -> Option<Position>
     requires face_point_fits { FacePointFits positions.now edges.now intervals.now faces.now ne f }
     requires perimeter_len { length perimeter.old ≡ longest_perimeter }
     requires points_len { length points.old ≡ longest_border }
@@ -157,9 +154,7 @@ pub fn face_point(
     ensures perimeter_len_2 { length perimeter.new ≡ longest_perimeter }
     ensures points_len_2 { length points.new ≡ longest_border }
 {
-    let Passed::Back(n) = lay_border(edges, faces, ne, f, perimeter, points) else {
-        return Placed::NotFinite;
-    };
+    let n = lay_border(edges, faces, ne, f, perimeter, points)?;
     let s = window_sum(positions, edges, intervals, points, perimeter, n);
     s.sum.over(s.weight).placed()
 }

@@ -51,12 +51,10 @@ pub fn faces_fit(faces: &[u32], np: usize, ne: usize, nf: usize) -> bool
     requires { nf * face_width ≤ length faces.now }
     ensures { result ≡ every nf (λ f. face_fit (face_tables [] faces.now) np ne f) }
 {
-    let mut f = 0;
-    while f < nf {
+    for f in 0..nf {
         if !face_fit(faces, np, ne, f) {
             return false;
         }
-        f += 1;
     }
     true
 }

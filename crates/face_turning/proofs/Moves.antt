@@ -1,118 +1,17 @@
--- The laws of values moved within a stretch: a stretch put into opposite order, and what of that makes a face turned. Assumes nothing.
-use mathlib.Core.Path.{◌≡◌, refl, sym, ◌∙◌, ap}
+-- The laws of values moved within a stretch: what of a stretch put into opposite order makes a face turned. Assumes nothing.
+use mathlib.Core.Path.{◌≡◌, refl}
 use mathlib.Core.Bool.{Bool, true, false, cond}
-use mathlib.Core.Logic.{◌⊎◌, inl, inr, ◌≢◌}
+use mathlib.Core.Logic.{◌⊎◌, inl, inr}
 use mathlib.Core.List.{List}
-use Prim.Native.Nat.{ℕ, zero, suc, ◌+◌, ◌-◌, ◌*◌, ◌/◌, ◌≤◌, ◌<◌}
+use Prim.Native.Nat.{ℕ, suc, ◌+◌, ◌-◌, ◌*◌, ◌≤◌, ◌<◌}
 use native.Mathlib.Omega.{arith}
-use native.Mathlib.Decide.{ℕ_discrete, dec_lt}
-use lib.ListN.{length, get_or, set, length-set}
-use lib.Seq.{get_or-set_same, get_or-set_other}
+use native.Mathlib.Decide.{ℕ_discrete}
+use lib.ListN.{get_or}
 use lib.Ieee.{nan}
 use Rattle.built_meshes.specs.Lists.{Lists}
 use Rattle.mended_lists.specs.Reversal.{turned_point, turned_interval, turned_side, turned_first}
 use Rattle.mended_lists.proofs.Reversal.{turned-last, turned-other, first-other}
 use Rattle.face_turning.specs.Moved.{Moved, FaceTurned}
-
--- ---- a stretch put into opposite order
-
--- i values from each end of the stretch have changed places
-pub record Reversing {A : Type 0} (d : A) (a n : ℕ) (xs ys : List A) (i : ℕ) : Type 0 where
-  pub not-past : i ≤ n / 2
-  pub same_length : length ys ≡ length xs
-  pub low : (j : ℕ) → j < i → get_or ys (a + j) d ≡ get_or xs (a + (n - 1 - j)) d
-  pub high : (j : ℕ) → j < i → get_or ys (a + (n - 1 - j)) d ≡ get_or xs (a + j) d
-  pub others : (k : ℕ) → ((j : ℕ) → j < i → (k ≢ a + j) × (k ≢ a + (n - 1 - j))) → get_or ys k d ≡ get_or xs k d
-
-never : (j : ℕ) → j < 0 → ⊥
-never j b = omega arith
-
-module _ {A : Type 0} (d : A) (a n : ℕ) where
-  pub reversing-none : (xs : List A) → Reversing d a n xs xs 0
-  reversing-none xs =
-      record {
-        not-past = omega arith;
-        same_length = refl;
-        low = λ j b. absurd (never j b);
-        high = λ j b. absurd (never j b);
-        others = λ k h. refl;
-      }
-
-  -- the values at the places a + i and a + j are exchanged
-  pub reversing-more :
-      (xs ys : List A) (i j : ℕ) → Reversing d a n xs ys i → i < n / 2 → j ≡ n - 1 - i → a + n ≤ length xs →
-      Reversing d a n xs (set (set ys (a + i) (get_or ys (a + j) d)) (a + j) (get_or ys (a + i) d)) (i + 1)
-  reversing-more xs ys i j s l e fits =
-      record {
-        not-past = omega arith;
-        same_length =
-            length-set once (a + j) (get_or ys (a + i) d) ∙ length-set ys (a + i) (get_or ys (a + j) d) ∙ s.same_length;
-        low = λ k b. low k b (ℕ_discrete k i);
-        high = λ k b. high k b (ℕ_discrete k i);
-        others = λ k h.
-            let p = h i (omega arith) in
-            untouched k p.0 (λ q. p.1 (q ∙ rw e)) ∙ s.others k (λ m b. h m (omega arith));
-      }
-    where
-      once : List A
-      once = set ys (a + i) (get_or ys (a + j) d)
-
-      twice : List A
-      twice = set once (a + j) (get_or ys (a + i) d)
-
-      in_ys : a + i < length ys
-      in_ys = omega (arith, s.same_length)
-
-      in-once : a + j < length once
-      in-once = omega (arith, s.same_length, length-set ys (a + i) (get_or ys (a + j) d))
-
-      untouched : (k : ℕ) → k ≢ a + i → k ≢ a + j → get_or twice k d ≡ get_or ys k d
-      untouched k p q =
-          get_or-set_other once (a + j) k (get_or ys (a + i) d) d q ∙ get_or-set_other ys (a + i) k (get_or ys (a + j) d) d p
-
-      -- neither place was touched before
-      own : (k : ℕ) → (k ≡ i) ⊎ (k ≡ j) → get_or ys (a + k) d ≡ get_or xs (a + k) d
-      own k w = s.others (a + k) (λ m b. (differs m b w, differs-high m b w))
-        where
-          differs : (m : ℕ) → m < i → (k ≡ i) ⊎ (k ≡ j) → a + k ≢ a + m
-          differs m b (inl q) r = omega arith
-          differs m b (inr q) r = omega arith
-
-          differs-high : (m : ℕ) → m < i → (k ≡ i) ⊎ (k ≡ j) → a + k ≢ a + (n - 1 - m)
-          differs-high m b (inl q) r = omega arith
-          differs-high m b (inr q) r = omega arith
-
-      low : (k : ℕ) → k < i + 1 → Dec (k ≡ i) → get_or twice (a + k) d ≡ get_or xs (a + (n - 1 - k)) d
-      low k b (yes q) =
-          rw (q, ← e)
-          (get_or-set_other once (a + j) (a + i) (get_or ys (a + i) d) d (λ t. omega arith)
-          ∙ get_or-set_same ys (a + i) (get_or ys (a + j) d) d in_ys ∙ own j (inr refl))
-      low k b (no q) =
-          untouched (a + k) (λ t. q (omega arith)) (λ t. omega arith) ∙ s.low k (omega arith)
-
-      high : (k : ℕ) → k < i + 1 → Dec (k ≡ i) → get_or twice (a + (n - 1 - k)) d ≡ get_or xs (a + k) d
-      high k b (yes q) =
-          rw (q, ← e) (get_or-set_same once (a + j) (get_or ys (a + i) d) d in-once ∙ own i (inl refl))
-      high k b (no q) =
-          untouched (a + (n - 1 - k)) (λ t. omega arith) (λ t. q (omega arith)) ∙ s.high k (omega arith)
-
-  pub reversing-all :
-      (xs ys : List A) (i : ℕ) → n / 2 ≤ i → Reversing d a n xs ys i → Moved d a n (λ k. turned_interval n k) xs ys
-  reversing-all xs ys i h s =
-      record { inside = λ k b. inside k b (dec_lt k i) (dec_lt (n - 1 - k) i); outside = outside }
-    where
-      inside : (k : ℕ) → k < n → Dec (k < i) → Dec (n - 1 - k < i) → get_or ys (a + k) d ≡ get_or xs (a + (n - 1 - k)) d
-      inside k b (yes p) q = s.low k p
-      inside k b (no p) (yes q) =
-          let back : n - 1 - (n - 1 - k) ≡ k = omega arith in
-          rw back at (s.high (n - 1 - k) q)
-      inside k b (no p) (no q) =
-          let middle : n - 1 - k ≡ k = omega (arith, s.not-past) in
-          rw middle (s.others (a + k) (λ j c. (λ t. omega arith, λ t. omega arith)))
-
-      outside : (k : ℕ) → (k < a) ⊎ (a + n ≤ k) → get_or ys k d ≡ get_or xs k d
-      outside k (inl p) = s.others k (λ j b. (λ t. omega arith, λ t. omega (arith, s.not-past)))
-      outside k (inr p) = s.others k (λ j b. (λ t. omega (arith, s.not-past), λ t. omega (arith, s.not-past)))
 
 -- ---- one face
 

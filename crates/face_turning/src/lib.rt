@@ -14,46 +14,12 @@ ghost use Rattle.face_turning.specs.Moved.{Moved, FaceTurned, AllTurned};
 
 use building_tests::faces::face_size;
 
-// Puts the n words from the place a on into opposite order.
-fn reverse_words(words: &mut [u32], a: usize, n: usize)
-    requires n_in_bounds { a + n ≤ length words.old }
-    requires words_len_bound { length words.old ≤ 16384 }
-    ensures { Moved 0 a n (λ i. turned_interval n i) words.old words.new }
+// Puts the n items from the place a on into opposite order.
+fn reverse_within<T>(items: &mut [T], a: usize, n: usize)
+    requires { a + n ≤ length items.old }
+    ensures { (d : T) → Moved d a n (λ i. turned_interval n i) items.old items.new }
 {
-    let mut i = 0;
-    while i < n / 2 {
-        let j = n - 1 - i;
-        let word = words[a + i];
-        words[a + i] = words[a + j];
-        words[a + j] = word;
-        i += 1;
-    }
-}
-
-// Puts the n numbers from the place a on into opposite order.
-fn reverse_numbers(numbers: &mut [f64], a: usize, n: usize)
-    requires n_in_bounds { a + n ≤ length numbers.old }
-    requires numbers_len_bound { length numbers.old ≤ 16384 }
-    ensures { Moved nan a n (λ i. turned_interval n i) numbers.old numbers.new }
-{
-    let mut i = 0;
-    while i < n / 2 {
-        let j = n - 1 - i;
-        let number = numbers[a + i];
-        numbers[a + i] = numbers[a + j];
-        numbers[a + j] = number;
-        i += 1;
-    }
-}
-
-// How many of n points are turned: the last stays.
-fn all_but_last(n: usize) -> usize
-    ensures { result ≡ n - 1 }
-{
-    if n == 0 {
-        return 0;
-    }
-    n - 1
+    items[a..a + n].reverse();
 }
 
 // Turns face f, whose n listed points stand from the place a on, or leaves it.
@@ -71,10 +37,6 @@ fn turn_face(
     requires f_in_bounds_2 { f * 4 + 4 ≤ length firsts.old }
     requires n_in_bounds { a + n ≤ length listed.old }
     requires n_in_bounds_2 { a + n ≤ length beside.old }
-    requires sides_len_bound { length sides.old ≤ 16384 }
-    requires firsts_len_bound { length firsts.old ≤ 16384 }
-    requires listed_len_bound { length listed.old ≤ 16384 }
-    requires beside_len_bound { length beside.old ≤ 16384 }
     ensures { FaceTurned turned f a n
         (lists_in Two [] sides.old firsts.old listed.old beside.old)
         (lists_in Two [] sides.new firsts.new listed.new beside.new) }
@@ -83,11 +45,11 @@ fn turn_face(
         return;
     }
     let b = f * 4;
-    let m = all_but_last(n);
-    reverse_words(sides, b, 4);
-    reverse_words(firsts, b + 1, 3);
-    reverse_words(listed, a, m);
-    reverse_numbers(beside, a, n);
+    let m = n.saturating_sub(1);
+    reverse_within(sides, b, 4);
+    reverse_within(firsts, b + 1, 3);
+    reverse_within(listed, a, m);
+    reverse_within(beside, a, n);
 }
 
 // Turns the faces that are to be turned.
@@ -108,11 +70,9 @@ pub fn turn_faces(
 {
     let nf = sides.len() / 4;
     let mut a = 0;
-    let mut f = 0;
-    while f < nf {
+    for f in 0..nf {
         let n = face_size(sides, f);
         turn_face(sides, firsts, listed, beside, turned[f], f, a, n);
         a = a + n;
-        f += 1;
     }
 }

@@ -11,25 +11,11 @@ ghost use Rattle.std.specs.Prelude.{◌≡◌, true, [], ◌+◌, ◌*◌, ◌�
 ghost use Rattle.tables.specs.Layout.{point_width, edge_width};
 ghost use Rattle.tables.specs.Mesh.{valence};
 ghost use Rattle.tables.specs.Parts.{face_tables, point_tables};
-ghost use Rattle.few_edges.specs.Rounds.{new_end, Ends, RoundApart, Good};
+ghost use Rattle.few_edges.specs.Rounds.{Ends, RoundApart, Good};
 
+use audit_tests::points::is_new_among;
 use tables::{POINT_WIDTH, START_WORD, index};
-use walks::{Step, point_step};
-
-// Whether q stands at none of the first n places of ends.
-fn is_new_end(ends: &[u32], n: usize, q: u32) -> bool
-    requires { n ≤ length ends.now }
-    ensures { result ≡ new_end ends.now n q }
-{
-    let mut a = 0;
-    while a < n {
-        if ends[a] == q {
-            return false;
-        }
-        a += 1;
-    }
-    true
-}
+use walks::point_step;
 
 // Whether the walk about point p, which has no more edges than there are places in ends, is at its start again after its valence, and
 // not before, and each of its edges is the only one between its two points.
@@ -51,17 +37,15 @@ pub fn few_sole(
     let k = index(points[p * POINT_WIDTH]);
     let start = points[p * POINT_WIDTH + START_WORD];
     let mut i = start;
-    let mut n = 0;
-    while n < k {
-        let Step::To { point, next } = point_step(edges, ne, p, index(i)) else {
+    for n in 0..k {
+        let Some(step) = point_step(edges, ne, p, index(i)) else {
             return false;
         };
-        if !is_new_end(ends, n, point) {
+        if !is_new_among(ends, n, step.point) {
             return false;
         }
-        ends[n] = point;
-        i = next;
-        n += 1;
+        ends[n] = step.point;
+        i = step.next;
     }
     i == start
 }

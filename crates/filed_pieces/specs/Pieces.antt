@@ -4,7 +4,8 @@
 --     pieces                 their list, in document 01's order
 --     AsFiled                every piece is answered as document 01 says
 -- A piece that passes a ground is accepted. All intervals are 1 where nothing else is said.
-use Rattle.std.specs.Prelude.{◌≡◌, List, [], ◌∷◌, ◌++◌, map, ℕ, ◌*◌, replicate}
+use Rattle.std.specs.Prelude.{◌≡◌, List, [], ◌∷◌, ◌++◌, map, ℕ, ◌*◌, replicate, Result, Ok, Err}
+use Rattle.built_meshes.specs.declared.Ground.{Ground}
 use Rattle.tables.specs.Layout.{position_width, point_width, edge_width, face_width}
 use Rattle.tables.specs.Mesh.{Mesh, mesh_of}
 use Rattle.tables.specs.declared.Counts.{Counts}
@@ -13,8 +14,6 @@ use Rattle.built_meshes.specs.Answers.{built_numbers}
 use Rattle.built_meshes.specs.Building.{BuildOutcome, build}
 use Rattle.building_claims.specs.Pieces.{unit, two, nought, tiny, above_tiny, cube, back_to_back, even}
 use Rattle.built_meshes.specs.declared.Version.TheVariants.{One}
-use Rattle.built_meshes.specs.declared.Built.{Built}
-use Rattle.built_meshes.specs.declared.Built.TheVariants.{Accepted, Refused}
 use Rattle.refined_meshes.specs.declared.Edition.TheVariants.{First}
 use Rattle.steps.specs.Step.{step_numbers, refined_counts, step}
 use Rattle.runs.specs.Runs.{numbered}
@@ -39,9 +38,9 @@ used c =
 abbrev pub step_answers : BuildOutcome → Mesh → List (List ℕ)
 step_answers o t = stepped_if o.answer o.tables t
   where
-    stepped_if : Built → Mesh → Mesh → List (List ℕ)
-    stepped_if (Accepted c) m t = built_numbers (Accepted c) ∷ step_numbers (step First m c (numbered c.faces) t).answer ∷ []
-    stepped_if (Refused g) m t = built_numbers (Refused g) ∷ []
+    stepped_if : Result Counts Ground → Mesh → Mesh → List (List ℕ)
+    stepped_if (Ok c) m t = built_numbers (Ok c) ∷ step_numbers (step First m c (numbered c.faces) t).answer ∷ []
+    stepped_if (Err g) m t = built_numbers (Err g) ∷ []
 
 -- The rows that ground 4 counts are twice the edges of an accepted mesh, so that a step from as many has room too.
 unfoldable pub answers_to : Asked → Lists → List (List ℕ)

@@ -2,7 +2,6 @@
 --     all-stop     an element that fails the test
 --     all-turn     an element that passes it
 --     all_end      no element is left
---     differs, is_same    two numbers by the test of the code
 use mathlib.Core.Path.{◌≡◌}
 use mathlib.Core.Bool.{Bool, true, false}
 use mathlib.Core.List.{List}
@@ -10,8 +9,6 @@ use Prim.Native.Nat.{ℕ, suc, ◌+◌, ◌≤◌, ◌<◌}
 use native.Mathlib.Omega.{arith}
 use lib.ListN.{length, get_or, drop, drop_of_length-le}
 use lib.Seq.{drop-cons}
-use lib.Ieee.{Float, eq, ne}
-use borrow.Author.Tests.{not-true, not-false}
 use Rattle.filled_rows.specs.Filled.{all}
 
 module _ {A : Type 0} (test : A → Bool) (d : A) (l : List A) (i : ℕ) where
@@ -28,11 +25,3 @@ module _ {A : Type 0} (test : A → Bool) (d : A) (l : List A) (i : ℕ) where
   pub all_end : length l ≤ i → true ≡ all test (drop i l)
   unfolding all
   all_end h = rw (drop_of_length-le l h)
-
-pub differs : (x y : Float) → ne x y ≡ true → eq x y ≡ false
-unfolding ne
-differs x y e = not-true _ e
-
-pub is_same : (x y : Float) → ne x y ≡ false → eq x y ≡ true
-unfolding ne
-is_same x y e = not-false _ e

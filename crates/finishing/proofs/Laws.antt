@@ -2,6 +2,7 @@
 --     over-first-rows                  only the first rows are copied
 --     ended-whole, ended-not-finite    a step that is made, and one that meets 33
 --     rooms-kept                       rows are there as before, where lengths are as before
+use Rattle.std.specs.Prelude.{Ok, Err}
 use mathlib.Core.Path.{◌≡◌, ap}
 use mathlib.Core.List.{List, ◌++◌}
 use Prim.Native.Nat.{ℕ, ◌*◌}
@@ -12,7 +13,7 @@ use native.Mathlib.Nat.{le_refl}
 use Rattle.tables.specs.Mesh.{Mesh}
 use Rattle.tables.specs.Rows.{over}
 use Rattle.tables.specs.declared.Counts.{Counts}
-use Rattle.steps.specs.declared.Stepped.TheVariants.{Refined, NotFinite}
+use Rattle.steps.specs.declared.StepRefusal.TheVariants.{NotFinite}
 use Rattle.steps.specs.Step.{Made, whole, not_finite_made, StepOutcome, ended}
 use Rattle.tables.specs.Counted.{first_rows, zeroed_rows, over_rows}
 use Rattle.steps.specs.Rows.{Room}
@@ -37,12 +38,12 @@ over-first-rows c new t =
 
 module _ (m : Mesh) (c : Counts) (t t₁ : Mesh) (d : Made) (zeros : zeroed_rows c t₁ ≡ zeroed_rows c t) where
   pub ended-whole : {m₂ t₂ : Mesh} → d ≡ whole (first_rows c t₁) → m₂ ≡ over_rows c t₁ m → t₂ ≡ zeroed_rows c t₁
-      → ◌≡◌ {A = StepOutcome} (record { answer = Refined c; tables = m₂; scratch = t₂ }) (ended m c t d)
+      → ◌≡◌ {A = StepOutcome} (record { answer = Ok c; tables = m₂; scratch = t₂ }) (ended m c t d)
   unfolding ended
   ended-whole e copied zeroed = rw (e, copied, zeroed, zeros, over-first-rows c t₁ m)
 
   pub ended-not-finite : {t₂ : Mesh} → d ≡ not_finite_made → t₂ ≡ zeroed_rows c t₁
-      → ◌≡◌ {A = StepOutcome} (record { answer = NotFinite; tables = m; scratch = t₂ }) (ended m c t d)
+      → ◌≡◌ {A = StepOutcome} (record { answer = Err NotFinite; tables = m; scratch = t₂ }) (ended m c t d)
   unfolding ended
   ended-not-finite e zeroed = rw (e, zeroed, zeros)
 

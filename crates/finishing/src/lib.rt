@@ -12,7 +12,7 @@ use counted_rows::zero_rows;
 use refined_meshes::Edition;
 use row_moves::move_rows;
 use step_parts::make_in_rows;
-use steps::Stepped;
+use steps::StepRefusal;
 use tables::Counts;
 
 // Makes the step of an edition to the counts c: the refined mesh is made in scratch and, if all is finite, moved to the tables; scratch is
@@ -32,7 +32,7 @@ pub fn finish(
     newintervals: &mut [f64],
     newfaces: &mut [u32],
     edition: Edition,
-) -> Stepped
+) -> Result<Counts, StepRefusal>
     requires { TestsPassed edition (mesh_of positions.old points.old edges.old intervals.old faces.old) counts order.now
         (mesh_of newpositions.old newpoints.old newedges.old newintervals.old newfaces.old) c }
     ensures { ◌≡◌ {A = StepOutcome}
@@ -74,8 +74,8 @@ pub fn finish(
             intervals,
             faces,
         );
-        return Stepped::Refined(c);
+        return Ok(c);
     }
     zero_rows(c, newpositions, newpoints, newedges, newintervals, newfaces);
-    Stepped::NotFinite
+    Err(StepRefusal::NotFinite)
 }

@@ -3,6 +3,7 @@
 --     room-same              32 is the same by lengths
 --     finite-there, finite-here      every new position is finite on the one side exactly if it is on the other
 --     same_answer            the answers are the same
+use Rattle.std.specs.Prelude.{Ok, Err}
 use mathlib.Core.Path.{◌≡◌, refl, sym, ◌∙◌, ap, ap₂}
 use mathlib.Core.Bool.{Bool, true, false, ◌&&◌}
 use mathlib.Core.List.{List}
@@ -24,7 +25,7 @@ use Rattle.audited_meshes.proofs.Holds.{audit-is-closed}
 use Rattle.refined_meshes.specs.declared.Edition.TheVariants.{Second}
 use Rattle.position_rules.specs.FacePoint.{face_point_in}
 use Rattle.position_rules.specs.Rules.{edge_point_in, old_point_in}
-use Rattle.steps.specs.declared.Stepped.TheVariants.{Refined, NotFinite}
+use Rattle.steps.specs.declared.StepRefusal.TheVariants.{NotFinite}
 use Rattle.steps.specs.Step.{refined_counts, each_face_once, within_ceilings, room_for, Made, whole, not_finite_made, ended, step_by, step}
 use Rattle.steps.specs.OneStep.{AllFinite}
 use Rattle.steps.proofs.Grounds.{rooms-of-test, begun, step_is, step-made}
@@ -85,13 +86,13 @@ module _
     (m : Mesh) (c : Counts) (order : List ℕ) (t : Mesh) (ha : audit m c.points c.edges c.faces ≡ true)
     (ho : each_face_once c.faces order ≡ true) (hr : room_for (refined_counts c) m t ≡ true)
   where
-    either : ((step Second m c order t).answer ≡ NotFinite) ⊎ ((step Second m c order t).answer ≡ Refined (refined_counts c))
+    either : ((step Second m c order t).answer ≡ Err NotFinite) ⊎ ((step Second m c order t).answer ≡ Ok (refined_counts c))
     unfolding ended
     either = go (begun Second m c order t) refl
       where
         go :
             (w : Made) → begun Second m c order t ≡ w →
-            ((step Second m c order t).answer ≡ NotFinite) ⊎ ((step Second m c order t).answer ≡ Refined (refined_counts c))
+            ((step Second m c order t).answer ≡ Err NotFinite) ⊎ ((step Second m c order t).answer ≡ Ok (refined_counts c))
         go (whole n) e = inr (ap (λ o. o.answer) (step-made Second m c order t ha ho hr (whole n) e))
         go not_finite_made e = inl (ap (λ o. o.answer) (step-made Second m c order t ha ho hr not_finite_made e))
 
@@ -106,12 +107,12 @@ module _
         (here : AllFinite Second (first_rows c' m') c' → AllFinite Second (first_rows c m) c)
       where
         -- 33 refuses the one exactly if it refuses the other.
-        lost-there : (step Second m c order t).answer ≡ NotFinite → (step Second m' c' order' t').answer ≡ NotFinite
+        lost-there : (step Second m c order t).answer ≡ Err NotFinite → (step Second m' c' order' t').answer ≡ Err NotFinite
         lost-there e =
             (not-finite-exactly Second m' c' order' t' ha' ho' (sym room ∙ hr)).1
             (λ w. (not-finite-exactly Second m c order t ha ho hr).0 e (here w))
 
-        lost-here : (step Second m' c' order' t').answer ≡ NotFinite → (step Second m c order t).answer ≡ NotFinite
+        lost-here : (step Second m' c' order' t').answer ≡ Err NotFinite → (step Second m c order t).answer ≡ Err NotFinite
         lost-here e =
             (not-finite-exactly Second m c order t ha ho hr).1
             (λ w. (not-finite-exactly Second m' c' order' t' ha' ho' (sym room ∙ hr)).0 e (there w))
@@ -120,12 +121,12 @@ module _
         answer-finite = go (either m c order t ha ho hr) (either m' c' order' t' ha' ho' (sym room ∙ hr))
           where
             go :
-                ((step Second m c order t).answer ≡ NotFinite) ⊎ ((step Second m c order t).answer ≡ Refined (refined_counts c)) →
-                ((step Second m' c' order' t').answer ≡ NotFinite) ⊎ ((step Second m' c' order' t').answer ≡ Refined (refined_counts c')) →
+                ((step Second m c order t).answer ≡ Err NotFinite) ⊎ ((step Second m c order t).answer ≡ Ok (refined_counts c)) →
+                ((step Second m' c' order' t').answer ≡ Err NotFinite) ⊎ ((step Second m' c' order' t').answer ≡ Ok (refined_counts c')) →
                 (step Second m c order t).answer ≡ (step Second m' c' order' t').answer
             go (inl e) x = e ∙ sym (lost-there e)
             go (inr e) (inl e') = lost-here e' ∙ sym e'
-            go (inr e) (inr e') = e ∙ ap (λ x. Refined (refined_counts x)) same ∙ sym e'
+            go (inr e) (inr e') = e ∙ ap (λ x. Ok (refined_counts x)) same ∙ sym e'
 
     answer-same :
         (room_for (refined_counts c) m t ≡ true →

@@ -1,4 +1,5 @@
 -- Full agreement, by induction over both lists: the next steps have the same answer, and what they leave agrees. Assumes nothing.
+use Rattle.std.specs.Prelude.{Ok}
 use mathlib.Core.Path.{◌≡◌, refl, sym, ◌∙◌, ap, subst, path_j}
 use mathlib.Core.List.{List}
 use mathlib.Core.Logic.{◌⊎◌, inl, inr}
@@ -14,7 +15,6 @@ use Rattle.audited_meshes.specs.Rows.{HoldsClosed}
 use Rattle.audited_meshes.proofs.Holds.{audit-is-closed}
 use Rattle.refined_meshes.specs.declared.Edition.{Edition}
 use Rattle.refined_meshes.specs.declared.Edition.TheVariants.{Second}
-use Rattle.steps.specs.declared.Stepped.TheVariants.{Refined}
 use Rattle.steps.specs.Step.{step_ground, refined_counts, whole, step}
 use Rattle.steps.specs.Rows.{Room}
 use Rattle.steps.specs.OneStep.{Refinement, Binary64}
@@ -34,7 +34,7 @@ use Rattle.full_agreement.proofs.Answers.{same_answer}
 -- An accepted step leaves the lengths of the tables as they are.
 module _
     (ed : Edition) (m : Mesh) (c : Counts) (order : List ℕ) (t : Mesh) (h : HoldsClosed m c.points c.edges c.faces) (b : Binary64 c m)
-    (c' : Counts) (e : (step ed m c order t).answer ≡ Refined c')
+    (c' : Counts) (e : (step ed m c order t).answer ≡ Ok c')
   where
     lengths-kept : SameLengths m (step ed m c order t).tables
     unfolding over_rows
@@ -64,7 +64,7 @@ module _
     (x' : Renamed k (outcome l' h').answer n' o')
   where
     -- Both are accepted.
-    accepted-agrees : (c : Counts) → (outcome l h).answer ≡ Refined c → (outcome l' h').answer ≡ Refined c → Agreement o o'
+    accepted-agrees : (c : Counts) → (outcome l h).answer ≡ Ok c → (outcome l' h').answer ≡ Ok c → Agreement o o'
     accepted-agrees c e e' =
         let r = (made_of l h b n.holds c e).refinement in
         let r' = (made_of l' h' b' n'.holds c e').refinement in
@@ -103,7 +103,7 @@ module _
     step-agrees : (outcome l h).answer ≡ (outcome l' h').answer → Agreement o o'
     step-agrees e = go (answered (outcome l h).answer)
       where
-        go : ((c : Counts) × ((outcome l h).answer ≡ Refined c)) ⊎ ((g : ℕ) × (step_ground (outcome l h).answer ≡ some g)) → Agreement o o'
+        go : ((c : Counts) × ((outcome l h).answer ≡ Ok c)) ⊎ ((g : ℕ) × (step_ground (outcome l h).answer ≡ some g)) → Agreement o o'
         go (inl (c, q)) = accepted-agrees c q (sym e ∙ q)
         go (inr (g, q)) = refused-agrees g q (ap step_ground (sym e) ∙ q)
 

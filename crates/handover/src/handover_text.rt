@@ -15,9 +15,9 @@ use answer_numbers::ground_number;
 use building_tests::Bounds;
 use handover_parts::write_handed;
 use numbered_steps::{LENT_EDGES, LENT_FACES, LENT_POINTS, numbered_step};
-use tables::{Counts, EDGE_WIDTH, FACE_WIDTH, POINT_WIDTH, POSITION_WIDTH};
+use tables::{Counts, EDGE_WIDTH, FACE_WIDTH, MeshTables, POINT_WIDTH, POSITION_WIDTH};
 use text_building::build_text;
-use text_meshes::TextBuilt;
+use text_meshes::TextRefusal;
 
 // The fewest bytes that are to be lent.
 pub const LEAST_BYTES: usize = 256;
@@ -42,7 +42,14 @@ fn write_built(
         result out.new }
 {
     let answer = numbered_step(positions, points, edges, intervals, faces, counts);
-    write_handed(out, positions, points, edges, intervals, faces, answer)
+    let tables = MeshTables {
+        positions,
+        points,
+        edges,
+        intervals,
+        faces,
+    };
+    write_handed(out, &tables, answer)
 }
 
 // Writes the output for a text, by tables that are lent.
@@ -71,11 +78,9 @@ fn write_output(
         intervals,
         faces,
     ) {
-        TextBuilt::Accepted(counts) => {
-            write_built(out, positions, points, edges, intervals, faces, counts)
-        }
-        TextBuilt::NotText => write_refused(out, 0, 1),
-        TextBuilt::Refused(g) => write_refused(out, 0, ground_number(g) as u64),
+        Ok(counts) => { write_built(out, positions, points, edges, intervals, faces, counts) }
+        Err(TextRefusal::NotText) => write_refused(out, 0, 1),
+        Err(TextRefusal::Refused(g)) => write_refused(out, 0, ground_number(g) as u64),
     }
 }
 

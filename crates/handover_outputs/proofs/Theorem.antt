@@ -1,6 +1,7 @@
 -- The claims of the output. Assumes nothing.
 --     long-text, fits        the claims of `specs/Claims.antt`
 --     answer-fits            no more bytes are answered than are lent
+use Rattle.std.specs.Prelude.{Result, Ok, Err}
 use mathlib.Core.Path.{◌≡◌, refl, sym, ap}
 use mathlib.Core.Bool.{Bool, true, false}
 use mathlib.Core.List.{List}
@@ -15,11 +16,12 @@ use Rattle.mesh_answers.proofs.Laws.{length-refused}
 use Rattle.built_meshes.specs.Answers.{ground_number}
 use Rattle.building_tests.specs.declared.Bounds.TheVariants.{Refine}
 use Rattle.text_meshes.specs.TextBuilding.{build_text}
-use Rattle.text_meshes.specs.declared.TextBuilt.{TextBuilt}
-use Rattle.text_meshes.specs.declared.TextBuilt.TheVariants.{Accepted, NotText, Refused}
+use Rattle.text_meshes.specs.declared.TextRefusal.{TextRefusal}
+use Rattle.text_meshes.specs.declared.TextRefusal.TheVariants.{NotText, Refused}
+use Rattle.tables.specs.declared.Counts.{Counts}
 use Rattle.steps.specs.Step.{within_ceilings}
-use Rattle.steps.specs.declared.Stepped.{Stepped}
-use Rattle.steps.specs.declared.Stepped.TheVariants as Stepped
+use Rattle.steps.specs.declared.StepRefusal.{StepRefusal}
+use Rattle.steps.specs.Step.{refusal_number}
 use Rattle.listings.specs.Handing.{listing_of, passes_audit, written, write_listing}
 use Rattle.refine_outputs.specs.Output.{zero_tables, numbered_step, OutputWritten}
 use Rattle.handover_outputs.specs.Output.{listed_bytes, listed, stepped_bytes, built_bytes, handover_from, handover_output, writing_if, handover}
@@ -36,20 +38,17 @@ length-listed true false fits l out e h = let k = length-refused 2 in omega arit
 length-listed true true false l out e h = let k = length-refused 4 in omega arith
 length-listed true true true l out e h = leb-true (length l) (length out) e
 
-length-stepped : (a : Stepped) (m : Mesh) (out : List ℕ) → 256 ≤ length out → length (stepped_bytes a m out) ≤ length out
+length-stepped : (a : Result Counts StepRefusal) (m : Mesh) (out : List ℕ) → 256 ≤ length out → length (stepped_bytes a m out) ≤ length out
 unfolding stepped_bytes listed write_listing
-length-stepped (Stepped.Refined c) m out h =
+length-stepped (Ok c) m out h =
     length-listed (passes_audit m c) (within_ceilings c) (leb (length (listing_of m c)) (length out)) (listing_of m c) out refl h
-length-stepped Stepped.NotClosed m out h = let k = length-refused 30 in omega arith
-length-stepped Stepped.NotEachFaceOnce m out h = let k = length-refused 31 in omega arith
-length-stepped Stepped.NoRoom m out h = let k = length-refused 32 in omega arith
-length-stepped Stepped.NotFinite m out h = let k = length-refused 33 in omega arith
+length-stepped (Err g) m out h = let k = length-refused (refusal_number g) in omega arith
 
-length-built : (a : TextBuilt) (m : Mesh) (out : List ℕ) → 256 ≤ length out → length (built_bytes a m out) ≤ length out
+length-built : (a : Result Counts TextRefusal) (m : Mesh) (out : List ℕ) → 256 ≤ length out → length (built_bytes a m out) ≤ length out
 unfolding built_bytes
-length-built (Accepted c) m out h = length-stepped (numbered_step c m).answer (numbered_step c m).tables out h
-length-built NotText m out h = let k = length-refused 1 in omega arith
-length-built (Refused g) m out h = let k = length-refused (ground_number g) in omega arith
+length-built (Ok c) m out h = length-stepped (numbered_step c m).answer (numbered_step c m).tables out h
+length-built (Err NotText) m out h = let k = length-refused 1 in omega arith
+length-built (Err (Refused g)) m out h = let k = length-refused (ground_number g) in omega arith
 
 pub fits : OutputFits
 unfolding handover handover_output handover_from

@@ -6,52 +6,45 @@
 --     handover_output s out    the whole output
 --     writing_if fits xs out   the bytes xs at the front of the bytes out, if these are enough; else nothing is written
 --     handover s out          the output at the front of the bytes that are lent; nothing where these are fewer than output_bytes
-use Rattle.std.specs.Prelude.{Bool, true, false, List, ℕ, leb, length}
+use Rattle.std.specs.Prelude.{Bool, true, false, List, ℕ, leb, length, Result, Ok, Err}
 use Rattle.std.proofs.lemmas.List.Edits.{sets}
 use Rattle.tables.specs.Mesh.{Mesh}
 use Rattle.tables.specs.declared.Counts.{Counts}
 use Rattle.building_tests.specs.declared.Bounds.TheVariants.{Refine}
 use Rattle.text_meshes.specs.TextBuilding.{text_numbers, build_text}
-use Rattle.text_meshes.specs.declared.TextBuilt.{TextBuilt}
-use Rattle.text_meshes.specs.declared.TextBuilt.TheVariants.{Accepted, NotText, Refused}
+use Rattle.text_meshes.specs.declared.TextRefusal.{TextRefusal}
+use Rattle.text_meshes.specs.declared.TextRefusal.TheVariants.{NotText, Refused}
 use Rattle.steps.specs.Step.{step_numbers, StepOutcome}
-use Rattle.steps.specs.declared.Stepped.{Stepped}
-use Rattle.steps.specs.declared.Stepped.TheVariants as Stepped
+use Rattle.steps.specs.declared.StepRefusal.{StepRefusal}
 use Rattle.mesh_answers.specs.Lines.{refused_line}
 use Rattle.listings.specs.Handing.{listing_of, write_listing, writing_number}
-use Rattle.listings.specs.declared.Writing.{Writing}
-use Rattle.listings.specs.declared.Writing.TheVariants as Writing
+use Rattle.listings.specs.declared.WritingRefusal.{WritingRefusal}
 use Rattle.refine_outputs.specs.Output.{output_bytes, zero_tables, ground_line, numbered_step}
 use Rattle.refine_outputs.specs.Output as refine
 
-abbrev pub listed_bytes : Writing → List ℕ → List ℕ
-listed_bytes (Writing.Written n) l = l
-listed_bytes Writing.NotClosed l = refused_line (writing_number Writing.NotClosed)
-listed_bytes Writing.OverCeilings l = refused_line (writing_number Writing.OverCeilings)
-listed_bytes Writing.TooShort l = refused_line (writing_number Writing.TooShort)
+abbrev pub listed_bytes : Result ℕ WritingRefusal → List ℕ → List ℕ
+listed_bytes (Ok n) l = l
+listed_bytes (Err g) l = refused_line (writing_number (Err g))
 
 unfoldable pub listed : Mesh → Counts → List ℕ → List ℕ
 unfolding write_listing
 listed m c out = listed_bytes (write_listing m c out).answer (listing_of m c)
 
-unfoldable pub stepped_bytes : Stepped → Mesh → List ℕ → List ℕ
+unfoldable pub stepped_bytes : Result Counts StepRefusal → Mesh → List ℕ → List ℕ
 unfolding listed
-stepped_bytes (Stepped.Refined c) m out = listed m c out
-stepped_bytes Stepped.NotClosed m out = ground_line (step_numbers Stepped.NotClosed)
-stepped_bytes Stepped.NotEachFaceOnce m out = ground_line (step_numbers Stepped.NotEachFaceOnce)
-stepped_bytes Stepped.NoRoom m out = ground_line (step_numbers Stepped.NoRoom)
-stepped_bytes Stepped.NotFinite m out = ground_line (step_numbers Stepped.NotFinite)
+stepped_bytes (Ok c) m out = listed m c out
+stepped_bytes (Err g) m out = ground_line (step_numbers (Err g))
 
 -- by the outcome of the step
 abbrev pub refined_bytes : StepOutcome → List ℕ → List ℕ
 refined_bytes o out = stepped_bytes o.answer o.tables out
 
 -- by the answer of building, and the tables m that it left
-unfoldable pub built_bytes : TextBuilt → Mesh → List ℕ → List ℕ
+unfoldable pub built_bytes : Result Counts TextRefusal → Mesh → List ℕ → List ℕ
 unfolding numbered_step stepped_bytes
-built_bytes (Accepted c) m out = refined_bytes (numbered_step c m) out
-built_bytes NotText m out = ground_line (text_numbers NotText)
-built_bytes (Refused g) m out = ground_line (text_numbers (Refused g))
+built_bytes (Ok c) m out = refined_bytes (numbered_step c m) out
+built_bytes (Err NotText) m out = ground_line (text_numbers (Err NotText))
+built_bytes (Err (Refused g)) m out = ground_line (text_numbers (Err (Refused g)))
 
 unfoldable pub handover_from : List ℕ → Mesh → List ℕ → List ℕ
 unfolding build_text built_bytes

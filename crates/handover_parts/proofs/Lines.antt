@@ -1,4 +1,5 @@
 -- What is written after a step. Assumes nothing.
+use Rattle.std.specs.Prelude.{Result, Ok, Err}
 use mathlib.Core.Path.{◌≡◌, refl, sym, ap, ◌∙◌}
 use mathlib.Core.Bool.{Bool, true, false}
 use mathlib.Core.List.{List}
@@ -9,22 +10,19 @@ use lib.ListN.{length}
 use lib.Seq.{sets}
 use Rattle.tables.specs.Mesh.{Mesh}
 use Rattle.tables.specs.declared.Counts.{Counts}
-use Rattle.steps.specs.Step.{within_ceilings}
-use Rattle.steps.specs.declared.Stepped.{Stepped}
-use Rattle.steps.specs.declared.Stepped.TheVariants as Stepped
+use Rattle.steps.specs.Step.{refusal_number, within_ceilings}
+use Rattle.steps.specs.declared.StepRefusal.{StepRefusal}
 use Rattle.mesh_answers.specs.Lines.{refused_line}
 use Rattle.mesh_answers.specs.Writing.{Written}
 use Rattle.listings.specs.Handing.{listing_of, passes_audit, WritingOutcome, written, write_listing}
-use Rattle.listings.specs.declared.Writing.{Writing}
-use Rattle.listings.specs.declared.Writing.TheVariants as Writing
+use Rattle.listings.specs.declared.WritingRefusal.{WritingRefusal}
+use Rattle.listings.specs.declared.WritingRefusal.TheVariants as WritingRefusal
 use Rattle.handover_outputs.specs.Output.{listed, stepped_bytes}
 
 -- what an answer of writing the listing l to out says of the bytes o that are left
-abbrev Left : Writing → List ℕ → List ℕ → List ℕ → Type 0
-Left (Writing.Written n) l out o = (n ≡ length l) × (o ≡ sets out 0 l)
-Left Writing.NotClosed l out o = o ≡ out
-Left Writing.OverCeilings l out o = o ≡ out
-Left Writing.TooShort l out o = o ≡ out
+abbrev Left : Result ℕ WritingRefusal → List ℕ → List ℕ → List ℕ → Type 0
+Left (Ok n) l out o = (n ≡ length l) × (o ≡ sets out 0 l)
+Left (Err g) l out o = o ≡ out
 
 left-written : (closed within fits : Bool) (l out : List ℕ)
     → Left (written closed within fits l out).answer l out (written closed within fits l out).text
@@ -33,7 +31,7 @@ left-written true false fits l out = refl
 left-written true true false l out = refl
 left-written true true true l out = (refl, refl)
 
-module _ (m : Mesh) (c : Counts) (out : List ℕ) {a : Writing} {o : List ℕ} (e : record { answer = a; text = o } ≡ write_listing m c out) where
+module _ (m : Mesh) (c : Counts) (out : List ℕ) {a : Result ℕ WritingRefusal} {o : List ℕ} (e : record { answer = a; text = o } ≡ write_listing m c out) where
   answered : (write_listing m c out).answer ≡ a
   answered = ap (λ (w : WritingOutcome). w.answer) (sym e)
 
@@ -44,10 +42,10 @@ module _ (m : Mesh) (c : Counts) (out : List ℕ) {a : Writing} {o : List ℕ} (
   unfolding write_listing
   left_by = left-written (passes_audit m c) (within_ceilings c) (leb (length (listing_of m c)) (length out)) (listing_of m c) out
 
-  left : {b : Writing} → a ≡ b → Left b (listing_of m c) out o
+  left : {b : Result ℕ WritingRefusal} → a ≡ b → Left b (listing_of m c) out o
   left h = let k = left_by in rw (answered ∙ h, texted) at k
 
-  pub is-listed : {n : ℕ} → a ≡ Writing.Written n → Written out 0 (listed m c out) n o
+  pub is-listed : {n : ℕ} → a ≡ Ok n → Written out 0 (listed m c out) n o
   unfolding listed
   is-listed {n} h =
       let (k, s) = left h in
@@ -55,39 +53,27 @@ module _ (m : Mesh) (c : Counts) (out : List ℕ) {a : Writing} {o : List ℕ} (
       rw (answered ∙ h) w
 
   module _ {r : ℕ} {o' : List ℕ} where
-    pub is-not-closed : a ≡ Writing.NotClosed → Written o 0 (refused_line 30) r o'
+    pub is-not-closed : a ≡ Err WritingRefusal.NotClosed → Written o 0 (refused_line 30) r o'
         → Written out 0 (listed m c out) r o'
     unfolding listed
     is-not-closed h w = let k = left h in rw (answered ∙ h) (rw k at w)
 
-    pub is-over : a ≡ Writing.OverCeilings → Written o 0 (refused_line 2) r o'
+    pub is-over : a ≡ Err WritingRefusal.OverCeilings → Written o 0 (refused_line 2) r o'
         → Written out 0 (listed m c out) r o'
     unfolding listed
     is-over h w = let k = left h in rw (answered ∙ h) (rw k at w)
 
-    pub is-too-short : a ≡ Writing.TooShort → Written o 0 (refused_line 4) r o'
+    pub is-too-short : a ≡ Err WritingRefusal.TooShort → Written o 0 (refused_line 4) r o'
         → Written out 0 (listed m c out) r o'
     unfolding listed
     is-too-short h w = let k = left h in rw (answered ∙ h) (rw k at w)
 
-module _ (m : Mesh) (out : List ℕ) {a : Stepped} {r : ℕ} {o : List ℕ} where
-  pub handed : {c : Counts} → a ≡ Stepped.Refined c → Written out 0 (listed m c out) r o
+module _ (m : Mesh) (out : List ℕ) {a : Result Counts StepRefusal} {r : ℕ} {o : List ℕ} where
+  pub handed : {c : Counts} → a ≡ Ok c → Written out 0 (listed m c out) r o
       → Written out 0 (stepped_bytes a m out) r o
   unfolding stepped_bytes
   handed h w = rw h w
 
-  pub handed-not-closed : a ≡ Stepped.NotClosed → Written out 0 (refused_line 30) r o → Written out 0 (stepped_bytes a m out) r o
+  pub handed-refused : {g : StepRefusal} → a ≡ Err g → Written out 0 (refused_line (refusal_number g)) r o → Written out 0 (stepped_bytes a m out) r o
   unfolding stepped_bytes
-  handed-not-closed h w = rw h w
-
-  pub handed-not-once : a ≡ Stepped.NotEachFaceOnce → Written out 0 (refused_line 31) r o → Written out 0 (stepped_bytes a m out) r o
-  unfolding stepped_bytes
-  handed-not-once h w = rw h w
-
-  pub handed-no-room : a ≡ Stepped.NoRoom → Written out 0 (refused_line 32) r o → Written out 0 (stepped_bytes a m out) r o
-  unfolding stepped_bytes
-  handed-no-room h w = rw h w
-
-  pub handed-not-finite : a ≡ Stepped.NotFinite → Written out 0 (refused_line 33) r o → Written out 0 (stepped_bytes a m out) r o
-  unfolding stepped_bytes
-  handed-not-finite h w = rw h w
+  handed-refused h w = rw h w

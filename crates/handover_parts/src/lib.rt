@@ -5,66 +5,45 @@
 #![tactic(auto)]
 
 ghost use Rattle.std.specs.Prelude.{◌≤◌, length};
-ghost use Rattle.tables.specs.Mesh.{mesh_of};
+ghost use Rattle.tables.specs.Lent.{tables_of};
 ghost use Rattle.mesh_answers.specs.Writing.{Written};
 ghost use Rattle.refine_outputs.specs.Output.{output_bytes};
 ghost use Rattle.handover_outputs.specs.Output.{listed, stepped_bytes};
 
 use answer_lines::write_refused;
 use listing_writing::write_listing;
-use listings::Writing;
-use steps::Stepped;
-use tables::Counts;
+use listings::WritingRefusal;
+use steps::StepRefusal;
+use tables::{Counts, MeshTables};
 
 // Writes the listing of a mesh, or the ground on which it is not written.
-fn write_listed(
-    out: &mut [u8],
-    positions: &[f64],
-    points: &[u32],
-    edges: &[u32],
-    intervals: &[f64],
-    faces: &[u32],
-    counts: Counts,
-) -> usize
+fn write_listed(out: &mut [u8], t: &MeshTables, counts: Counts) -> usize
     requires { output_bytes ≤ length out.old }
     ensures { Written out.old 0
         (listed
-        (mesh_of positions.now points.now edges.now intervals.now faces.now)
+        (tables_of t.now)
         counts out.old)
         result out.new }
 {
-    match write_listing(positions, points, edges, intervals, faces, counts, out) {
-        Writing::Written(n) => n,
-        Writing::NotClosed => write_refused(out, 0, 30),
-        Writing::OverCeilings => write_refused(out, 0, 2),
-        Writing::TooShort => write_refused(out, 0, 4),
+    match write_listing(t, counts, out) {
+        Ok(n) => n,
+        Err(WritingRefusal::NotClosed) => write_refused(out, 0, 30),
+        Err(WritingRefusal::OverCeilings) => write_refused(out, 0, 2),
+        Err(WritingRefusal::TooShort) => write_refused(out, 0, 4),
     }
 }
 
 // Writes the output after a step, by its answer and the tables that it left.
-pub fn write_handed(
-    out: &mut [u8],
-    positions: &[f64],
-    points: &[u32],
-    edges: &[u32],
-    intervals: &[f64],
-    faces: &[u32],
-    answer: Stepped,
-) -> usize
+pub fn write_handed(out: &mut [u8], t: &MeshTables, answer: Result<Counts, StepRefusal>) -> usize
     requires { output_bytes ≤ length out.old }
     ensures { Written out.old 0
         (stepped_bytes answer
-        (mesh_of positions.now points.now edges.now intervals.now faces.now)
+        (tables_of t.now)
         out.old)
         result out.new }
 {
     match answer {
-        Stepped::Refined(counts) => write_listed(
-            out, positions, points, edges, intervals, faces, counts,
-        ),
-        Stepped::NotClosed => write_refused(out, 0, 30),
-        Stepped::NotEachFaceOnce => write_refused(out, 0, 31),
-        Stepped::NoRoom => write_refused(out, 0, 32),
-        Stepped::NotFinite => write_refused(out, 0, 33),
+        Ok(counts) => write_listed(out, t, counts),
+        Err(refusal) => write_refused(out, 0, u64::from(refusal.number())),
     }
 }

@@ -15,16 +15,15 @@ use lib.Ieee.{Float}
 use lib.ListN.{length, get_or, take, replicate, length-replicate, get_or-append}
 use lib.Seq.{length-take-le}
 use borrow.Author.Tests.{eqb-true}
+use Rattle.std.specs.Prelude.{Result, Ok, Err, ⊤}
 use Rattle.built_meshes.specs.Lists.{Lists, points_of, faces_of, size, offset, general_limits, counts_fit, listed_fit}
 use Rattle.built_meshes.specs.declared.Version.TheVariants.{Two}
-use Rattle.built_meshes.specs.declared.Verdict.{Verdict}
-use Rattle.built_meshes.specs.declared.Verdict.TheVariants.{Fit, Unfit}
 use Rattle.built_meshes.specs.declared.Ground.{Ground}
 use Rattle.built_meshes.specs.declared.Ground.TheVariants.{OverCounts, UnfitNumber, MissingFace}
 use Rattle.built_meshes.proofs.Begin.{Counted, counts-is, sides-listed}
 use Rattle.building_tests.specs.Lent.{lists, lists_in}
-use Rattle.mended_lists.specs.declared.Mending.{Mending}
-use Rattle.mended_lists.specs.declared.Mending.TheVariants.{Mended, Refused, Twisted}
+use Rattle.mended_lists.specs.declared.Unmended.{Unmended}
+use Rattle.mended_lists.specs.declared.Unmended.TheVariants.{Refused, Twisted}
 use Rattle.mended_lists.specs.Edges.{FacePlace, places_of, place_at, same_edge, mate}
 use Rattle.mended_lists.specs.Parts.{parts_to, parts_of, faces_turned, twisted}
 use Rattle.mended_lists.specs.Mending.{faces_mend, whole_mends, edges_shared, mending_if, mending}
@@ -156,58 +155,58 @@ module _ (cs : List Float) (ss fs ls : List ℕ) (is : List Float) where
 
 -- ---- the answer
 
-refused-pairs : (v : Verdict) (s t : Bool) (g : Ground) → Unfit g ≡ then_shared v s → Refused g ≡ whole_mends v s t
-refused-pairs (Unfit h) s t g e = let q : g ≡ h = cc in ap Refused q
-refused-pairs Fit true t g e = absurd (unfit g e)
-refused-pairs Fit false t g e = let q : g ≡ MissingFace = cc in ap Refused q
+refused-pairs : (v : Result ⊤ Ground) (s t : Bool) (g : Ground) → Err g ≡ then_shared v s → Err (Refused g) ≡ whole_mends v s t
+refused-pairs (Err h) s t g e = let q : g ≡ h = cc in ap (λ (x : Ground). Err (Refused x)) q
+refused-pairs (Ok tt) true t g e = absurd (unfit g e)
+refused-pairs (Ok tt) false t g e = let q : g ≡ MissingFace = cc in ap (λ (x : Ground). Err (Refused x)) q
 
-fit-pairs : (v : Verdict) (s : Bool) → Fit ≡ then_shared v s → (v ≡ Fit) × (s ≡ true)
-fit-pairs (Unfit h) s e = absurd (unfit h (sym e))
-fit-pairs Fit true e = (refl, refl)
-fit-pairs Fit false e = absurd (unfit MissingFace (sym e))
+fit-pairs : (v : Result ⊤ Ground) (s : Bool) → Ok tt ≡ then_shared v s → (v ≡ Ok tt) × (s ≡ true)
+fit-pairs (Err h) s e = absurd (unfit h (sym e))
+fit-pairs (Ok tt) true e = (refl, refl)
+fit-pairs (Ok tt) false e = absurd (unfit MissingFace (sym e))
 
-twisted-pairs : (v : Verdict) (s t : Bool) → Fit ≡ then_shared v s → t ≡ true → Twisted ≡ whole_mends v s t
+twisted-pairs : (v : Result ⊤ Ground) (s t : Bool) → Ok tt ≡ then_shared v s → t ≡ true → Err Twisted ≡ whole_mends v s t
 twisted-pairs v s t e h = let z = fit-pairs v s e in rw (z.0, z.1, h)
 
-mended-pairs : (v : Verdict) (s t : Bool) → Fit ≡ then_shared v s → t ≡ false → Mended ≡ whole_mends v s t
+mended-pairs : (v : Result ⊤ Ground) (s t : Bool) → Ok tt ≡ then_shared v s → t ≡ false → Ok tt ≡ whole_mends v s t
 mended-pairs v s t e h = let z = fit-pairs v s e in rw (z.0, z.1, h)
 
-refused-not-mended : (g : Ground) → Refused g ≡ Mended → ⊥
+refused-not-mended : (g : Ground) → ◌≡◌ {A = Result ⊤ Unmended} (Err (Refused g)) (Ok tt) → ⊥
 refused-not-mended g h = let z : ◌≡◌ {A = ℕ} 0 1 = cc in omega arith
 
-twisted-not-mended : Twisted ≡ Mended → ⊥
+twisted-not-mended : ◌≡◌ {A = Result ⊤ Unmended} (Err Twisted) (Ok tt) → ⊥
 twisted-not-mended h = let z : ◌≡◌ {A = ℕ} 0 1 = cc in omega arith
 
 -- the verdict on the pairs, as it is promised of any coordinates
-abbrev pub Told : List Float → List ℕ → List ℕ → List ℕ → List Float → Verdict → Type 0
+abbrev pub Told : List Float → List ℕ → List ℕ → List ℕ → List Float → Result ⊤ Ground → Type 0
 Told cs ss fs ls is v =
     (cs' : List Float) → length cs' / 3 ≡ length cs / 3 →
     v ≡ then_shared (faces_mend (lists_in Two cs' ss fs ls is) (places_of (lists [] ss ls [])) (length ss / 4)) (edges_shared (places_of (lists [] ss ls [])))
 
 -- the verdict on the faces, and whether their edges are shared
-abbrev faces_on : Lists → Verdict
+abbrev faces_on : Lists → Result ⊤ Ground
 faces_on l = faces_mend l (places_of l) (faces_of l)
 
 abbrev shared_on : Lists → Bool
 shared_on l = edges_shared (places_of l)
 
-module _ (cs : List Float) (ss fs ls : List ℕ) (is : List Float) (v : Verdict) (told : Told cs ss fs ls is v) where
+module _ (cs : List Float) (ss fs ls : List ℕ) (is : List Float) (v : Result ⊤ Ground) (told : Told cs ss fs ls is v) where
   verdict-is : v ≡ then_shared (faces_on (lists_in Two cs ss fs ls is)) (shared_on (lists_in Two cs ss fs ls is))
   verdict-is = rw (← same-places cs ss fs ls is) (told cs refl)
 
-  refused-whole : (g : Ground) → v ≡ Unfit g → Refused g ≡ mending_if true true (lists_in Two cs ss fs ls is)
+  refused-whole : (g : Ground) → v ≡ Err g → Err (Refused g) ≡ mending_if true true (lists_in Two cs ss fs ls is)
   unfolding mending_if
   refused-whole g e =
       refused-pairs (faces_on (lists_in Two cs ss fs ls is)) (shared_on (lists_in Two cs ss fs ls is)) (twisted (lists_in Two cs ss fs ls is)) g
       (sym e ∙ verdict-is)
 
-  twisted-whole : v ≡ Fit → twisted (lists_in Two cs ss fs ls is) ≡ true → Twisted ≡ mending_if true true (lists_in Two cs ss fs ls is)
+  twisted-whole : v ≡ Ok tt → twisted (lists_in Two cs ss fs ls is) ≡ true → Err Twisted ≡ mending_if true true (lists_in Two cs ss fs ls is)
   unfolding mending_if
   twisted-whole e t =
       twisted-pairs (faces_on (lists_in Two cs ss fs ls is)) (shared_on (lists_in Two cs ss fs ls is)) (twisted (lists_in Two cs ss fs ls is))
       (sym e ∙ verdict-is) t
 
-  mended-whole : v ≡ Fit → twisted (lists_in Two cs ss fs ls is) ≡ false → Mended ≡ mending_if true true (lists_in Two cs ss fs ls is)
+  mended-whole : v ≡ Ok tt → twisted (lists_in Two cs ss fs ls is) ≡ false → Ok tt ≡ mending_if true true (lists_in Two cs ss fs ls is)
   unfolding mending_if
   mended-whole e t =
       mended-pairs (faces_on (lists_in Two cs ss fs ls is)) (shared_on (lists_in Two cs ss fs ls is)) (twisted (lists_in Two cs ss fs ls is))
@@ -216,14 +215,14 @@ module _ (cs : List Float) (ss fs ls : List ℕ) (is : List Float) (v : Verdict)
 -- ---- the ends of `mend_places`
 
 pub refused_end :
-    (cs : List Float) (ss fs ls : List ℕ) (is : List Float) (v : Verdict) → Told cs ss fs ls is v → (turned : List Bool) (g : Ground) →
-    v ≡ Unfit g →
-    (Refused g ≡ mending_if true true (lists_in Two cs ss fs ls is)) × TurnsIf (lists_in Two cs ss fs ls is) turned (Refused g)
+    (cs : List Float) (ss fs ls : List ℕ) (is : List Float) (v : Result ⊤ Ground) → Told cs ss fs ls is v → (turned : List Bool) (g : Ground) →
+    v ≡ Err g →
+    (Err (Refused g) ≡ mending_if true true (lists_in Two cs ss fs ls is)) × TurnsIf (lists_in Two cs ss fs ls is) turned (Err (Refused g))
 refused_end cs ss fs ls is v told turned g e = (refused-whole cs ss fs ls is v told g e, λ m. absurd (refused-not-mended g m))
 
 module _ (cs : List Float) (ss fs ls : List ℕ) (is : List Float) (fit : Fitted cs ss fs ls is) (ts faces ms : List ℕ)
-    (like : length ms ≡ length ls) (spread : Spread (lists [] ss ls []) ts faces (length ls)) (v : Verdict) (told : Told cs ss fs ls is v)
-    (e : v ≡ Fit) (paired : MatesIf (places_of (lists [] ss ls [])) ms v) where
+    (like : length ms ≡ length ls) (spread : Spread (lists [] ss ls []) ts faces (length ls)) (v : Result ⊤ Ground) (told : Told cs ss fs ls is v)
+    (e : v ≡ Ok tt) (paired : MatesIf (places_of (lists [] ss ls [])) ms v) where
   pub mates-ready : (nf : ℕ) → nf ≡ length ss / 4 → length ls ≤ length faces → MatesFit ls faces ms nf
   mates-ready = mates-fit cs ss fs ls is fit ts faces ms like spread (paired e)
 
@@ -232,12 +231,12 @@ module _ (cs : List Float) (ss fs ls : List ℕ) (is : List Float) (fit : Fitted
     twist = twisted-is cs ss fs ls is fit ts faces ms like spread (paired e) turned r chosen
 
     pub twisted-end :
-        r ≡ true → (Twisted ≡ mending_if true true (lists_in Two cs ss fs ls is)) × TurnsIf (lists_in Two cs ss fs ls is) turned Twisted
+        r ≡ true → (Err Twisted ≡ mending_if true true (lists_in Two cs ss fs ls is)) × TurnsIf (lists_in Two cs ss fs ls is) turned (Err Twisted)
     twisted-end h = (twisted-whole cs ss fs ls is v told e (twist ∙ h), λ m. absurd (twisted-not-mended m))
 
     pub mended-end :
         r ≡ false → length turned ≡ length ss / 4 →
-        (Mended ≡ mending_if true true (lists_in Two cs ss fs ls is)) × TurnsIf (lists_in Two cs ss fs ls is) turned Mended
+        (Ok tt ≡ mending_if true true (lists_in Two cs ss fs ls is)) × TurnsIf (lists_in Two cs ss fs ls is) turned (Ok tt)
     mended-end h all = (
       mended-whole cs ss fs ls is v told e (twist ∙ h),
       λ m. turns-are cs ss fs ls is fit ts faces ms like spread (paired e) turned r chosen all,
@@ -246,23 +245,23 @@ module _ (cs : List Float) (ss fs ls : List ℕ) (is : List Float) (fit : Fitted
 -- ---- the faces to turn, put back before the rest
 
 pub turns-back :
-    (l : Lists) (part whole : List Bool) (r : Mending) → length part ≡ faces_of l → TurnsIf l part r → TurnsIf l (part ++ whole) r
+    (l : Lists) (part whole : List Bool) (r : Result ⊤ Unmended) → length part ≡ faces_of l → TurnsIf l part r → TurnsIf l (part ++ whole) r
 turns-back l part whole r e h m f b = get_or-append part whole false f (omega arith) ∙ h m f b
 
 -- ---- the tests before the faces, with the list of faces as it was handed in
 
 module _ (l : Lists) (turned : List Bool) where
-  pub refused-counts : counts_fit general_limits l ≡ false → (Refused OverCounts ≡ mending general_limits l) × TurnsIf l turned (Refused OverCounts)
+  pub refused-counts : counts_fit general_limits l ≡ false → (Err (Refused OverCounts) ≡ mending general_limits l) × TurnsIf l turned (Err (Refused OverCounts))
   unfolding mending mending_if
   refused-counts h = (rw h, λ m. absurd (refused-not-mended OverCounts m))
 
   pub refused-numbers :
       counts_fit general_limits l ≡ true → listed_fit l ≡ false →
-      (Refused UnfitNumber ≡ mending general_limits l) × TurnsIf l turned (Refused UnfitNumber)
+      (Err (Refused UnfitNumber) ≡ mending general_limits l) × TurnsIf l turned (Err (Refused UnfitNumber))
   unfolding mending mending_if
   refused-numbers h k = (rw (h, k), λ m. absurd (refused-not-mended UnfitNumber m))
 
-pub begun-mending : (l : Lists) (r : Mending) → counts_fit general_limits l ≡ true → listed_fit l ≡ true → r ≡ mending_if true true l → r ≡ mending general_limits l
+pub begun-mending : (l : Lists) (r : Result ⊤ Unmended) → counts_fit general_limits l ≡ true → listed_fit l ≡ true → r ≡ mending_if true true l → r ≡ mending general_limits l
 unfolding mending
 begun-mending l r h k e = rw (h, k) e
 

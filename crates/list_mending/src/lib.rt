@@ -14,11 +14,11 @@ ghost use Rattle.list_mending.specs.Turning.{TurningRoom, TurnsIf};
 
 use building_lists::counts_fit;
 use building_tests::{Bounds, MOST_FACES, MOST_LISTED};
-use built_meshes::{Ground, Verdict, Version};
+use built_meshes::{Ground, LentLists, Version};
 use face_choices::choose_faces;
 use face_places::spread;
 use list_numbers::numbers_fit;
-use mended_lists::Mending;
+use mended_lists::Unmended;
 use mending::pair_faces;
 use tables::POSITION_WIDTH;
 
@@ -52,7 +52,7 @@ fn mend_places(
     faces: &mut [u32],
     mates: &mut [u32],
     turned: &mut [bool],
-) -> Mending
+) -> Result<(), Unmended>
     requires beside_value { counts_fit general_limits (lists_in Two coordinates.now sides.now firsts.now listed.now beside.now) ≡ true }
     requires turning_room { TurningRoom sides.now listed.now tos.old faces.old mates.old turned.old }
     ensures value { result ≡ mending_if true true
@@ -64,12 +64,12 @@ fn mend_places(
     let np = coordinates.len() / POSITION_WIDTH;
     spread(sides, listed, tos, faces);
     match pair_faces(sides, firsts, listed, beside, tos, mates, np) {
-        Verdict::Unfit(g) => Mending::Refused(g),
-        Verdict::Fit => {
+        Err(g) => Err(Unmended::Refused(g)),
+        Ok(()) => {
             if choose_turns(listed, faces, mates, turned) {
-                return Mending::Twisted;
+                return Err(Unmended::Twisted);
             }
-            Mending::Mended
+            Ok(())
         }
     }
 }
@@ -82,7 +82,7 @@ fn mend_counted(
     listed: &[u32],
     beside: &[f64],
     turned: &mut [bool],
-) -> Mending
+) -> Result<(), Unmended>
     requires turned_len { length turned.old ≡ general_limits.faces }
     requires beside_value { counts_fit general_limits (lists_in Two coordinates.now sides.now firsts.now listed.now beside.now) ≡ true }
     ensures value { result ≡ mending_if true true
@@ -118,7 +118,7 @@ pub fn find_turns(
     listed: &[u32],
     beside: &[f64],
     turned: &mut [bool],
-) -> Mending
+) -> Result<(), Unmended>
     requires { length turned.old ≡ general_limits.faces }
     ensures value { result ≡ mending general_limits
         (lists_in Two coordinates.now sides.now firsts.now listed.now beside.now) }
@@ -126,19 +126,19 @@ pub fn find_turns(
         (lists_in Two coordinates.now sides.now firsts.now listed.now beside.now)
         turned.new result }
 {
-    if !counts_fit(
-        Version::Two,
+    let lists = LentLists {
+        version: Version::Two,
         coordinates,
         sides,
         firsts,
         listed,
         beside,
-        Bounds::General,
-    ) {
-        return Mending::Refused(Ground::OverCounts);
+    };
+    if !counts_fit(&lists, Bounds::General) {
+        return Err(Unmended::Refused(Ground::OverCounts));
     }
     if !numbers_fit(coordinates, beside) {
-        return Mending::Refused(Ground::UnfitNumber);
+        return Err(Unmended::Refused(Ground::UnfitNumber));
     }
     mend_counted(coordinates, sides, firsts, listed, beside, turned)
 }

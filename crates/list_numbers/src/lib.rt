@@ -3,10 +3,9 @@
 // Contract: `numbers_fit`. Definitions: `Lists` of `built_meshes`.
 #![tactic(auto)]
 
-ghost use Rattle.std.specs.Prelude.{◌≡◌, [], length, get_or};
-ghost use Rattle.std.specs.Float.{nan};
+ghost use Rattle.std.specs.Prelude.{◌≡◌, []};
+ghost use Rattle.std.specs.List.{list_all};
 ghost use Rattle.std.specs.Float.Ieee.Scale.{finite};
-ghost use Rattle.audited_meshes.specs.Folds.{every};
 ghost use Rattle.audited_meshes.specs.Audit.{interval_fit};
 ghost use Rattle.built_meshes.specs.Lists.{listed_fit};
 ghost use Rattle.listed_points.specs.Lent.{lists};
@@ -16,38 +15,21 @@ use positions::is_finite;
 
 // Whether all coordinates are finite.
 fn all_finite(coordinates: &[f64]) -> bool
-    ensures { result ≡ every (length coordinates.now) (λ k. finite (get_or coordinates.now k nan)) }
+    ensures { result ≡ list_all finite coordinates.now }
 {
-    let mut k = 0;
-    while k < coordinates.len() {
-        if !is_finite(coordinates[k]) {
-            return false;
-        }
-        k += 1;
-    }
-    true
+    coordinates.iter().all(|x| is_finite(*x))
 }
 
 // Whether all intervals are finite with their sign bit clear.
 fn all_fit(beside: &[f64]) -> bool
-    ensures { result ≡ every (length beside.now) (λ k. interval_fit (get_or beside.now k nan)) }
+    ensures { result ≡ list_all interval_fit beside.now }
 {
-    let mut k = 0;
-    while k < beside.len() {
-        if !interval_fits(beside[k]) {
-            return false;
-        }
-        k += 1;
-    }
-    true
+    beside.iter().all(|x| interval_fits(*x))
 }
 
 // Whether all numbers are fit.
 pub fn numbers_fit(coordinates: &[f64], beside: &[f64]) -> bool
     ensures { result ≡ listed_fit (lists coordinates.now [] [] beside.now) }
 {
-    if all_finite(coordinates) {
-        return all_fit(beside);
-    }
-    false
+    all_finite(coordinates) && all_fit(beside)
 }

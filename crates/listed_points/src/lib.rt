@@ -15,12 +15,10 @@ pub fn are_points(listed: &[u32], np: usize, a: usize, n: usize) -> bool
     requires { a + n ≤ length listed.now }
     ensures { result ≡ listed_in_range (lists [] [] listed.now []) np a n }
 {
-    let mut i = 0;
-    while i < n {
+    for i in 0..n {
         if np <= index(listed[a + i]) {
             return false;
         }
-        i += 1;
     }
     true
 }
@@ -31,12 +29,10 @@ fn is_new(listed: &[u32], a: usize, i: usize) -> bool
     ensures { result ≡ every i (λ j. not (eqb (get_or listed.now (a + i) 0) (get_or listed.now (a + j) 0))) }
 {
     let p = listed[a + i];
-    let mut j = 0;
-    while j < i {
+    for j in 0..i {
         if p == listed[a + j] {
             return false;
         }
-        j += 1;
     }
     true
 }
@@ -46,12 +42,10 @@ pub fn no_point_twice(listed: &[u32], a: usize, n: usize) -> bool
     requires { a + n ≤ length listed.now }
     ensures { result ≡ no_point_twice (lists [] [] listed.now []) a n }
 {
-    let mut i = 0;
-    while i < n {
+    for i in 0..n {
         if !is_new(listed, a, i) {
             return false;
         }
-        i += 1;
     }
     true
 }

@@ -8,55 +8,49 @@ ghost use Rattle.std.specs.Prelude.{◌≡◌};
 ghost use Rattle.listings.specs.Handing.{writing_number, reading_number};
 ghost use Rattle.listing_answers.specs.Answers.{length_after, counts_read};
 
-use listings::{ListingReading, Writing};
+use listings::{ListingRefusal, WritingRefusal};
 use station_answers::store_counts;
+use tables::Counts;
 
 // The number of an answer to writing.
-pub fn writing_number(answer: Writing) -> u32
+pub fn writing_number(answer: Result<usize, WritingRefusal>) -> u32
     ensures { result ≡ writing_number answer }
 {
     match answer {
-        Writing::Written(_) => 0,
-        Writing::NotClosed => 30,
-        Writing::OverCeilings => 2,
-        Writing::TooShort => 4,
+        Ok(_written) => 0,
+        Err(WritingRefusal::NotClosed) => 30,
+        Err(WritingRefusal::OverCeilings) => 2,
+        Err(WritingRefusal::TooShort) => 4,
     }
 }
 
 // Stores how many bytes were written, if any were.
-pub fn store_length(length: &mut usize, answer: Writing)
+pub fn store_length(length: &mut usize, answer: Result<usize, WritingRefusal>)
     ensures { length.new ≡ length_after length.old answer }
 {
-    match answer {
-        Writing::Written(n) => *length = n,
-        Writing::NotClosed => {}
-        Writing::OverCeilings => {}
-        Writing::TooShort => {}
+    if let Ok(n) = answer {
+        *length = n;
     }
 }
 
 // The number of an answer to reading.
-pub fn reading_number(answer: ListingReading) -> u32
+pub fn reading_number(answer: Result<Counts, ListingRefusal>) -> u32
     ensures { result ≡ reading_number answer }
 {
     match answer {
-        ListingReading::Read(_) => 0,
-        ListingReading::NotListing => 40,
-        ListingReading::OverCeilings => 2,
-        ListingReading::NoRoom => 4,
-        ListingReading::NotClosed => 30,
+        Ok(_read) => 0,
+        Err(ListingRefusal::NotListing) => 40,
+        Err(ListingRefusal::OverCeilings) => 2,
+        Err(ListingRefusal::NoRoom) => 4,
+        Err(ListingRefusal::NotClosed) => 30,
     }
 }
 
 // Stores the counts of a listing that was read.
-pub fn store_read(counts: &mut [usize; 3], answer: ListingReading)
+pub fn store_read(counts: &mut [usize; 3], answer: Result<Counts, ListingRefusal>)
     ensures { counts.new ≡ counts_read counts.old answer }
 {
-    match answer {
-        ListingReading::Read(c) => store_counts(counts, c),
-        ListingReading::NotListing => {}
-        ListingReading::OverCeilings => {}
-        ListingReading::NoRoom => {}
-        ListingReading::NotClosed => {}
+    if let Ok(c) = answer {
+        store_counts(counts, c);
     }
 }

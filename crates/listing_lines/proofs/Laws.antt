@@ -2,30 +2,28 @@
 --     takes-word takes-point takes-edge takes-face
 --     word_below fits-point fits-edge fits-face
 --     last-is last_none last-next         what an answer of `words` says
-use mathlib.Core.Path.{◌≡◌, refl, sym, ap, ◌∙◌}
-use mathlib.Core.List.{List, [], ◌∷◌}
-use mathlib.Core.Bool.{Bool, true, false}
-use Prim.Native.Nat.{ℕ, ◌+◌, ◌≤◌, ◌<◌}
+use mathlib.Core.Path.{◌≡◌, refl}
+use mathlib.Core.List.{List, ◌∷◌}
+use Prim.Native.Nat.{ℕ, ◌<◌}
 use native.Mathlib.Omega.{arith}
-use lib.ListN.{length}
 use lib.Dec.{ltb}
-use Rattle.text_numbers.specs.Form.{bytes, Parsed, parsed, unparsed, Form, onward, pure, choose, times, literal}
-use Rattle.text_numbers.specs.Numbers.{decimal}
-use Rattle.text_numbers.specs.declared.Number.TheVariants as Number
-use Rattle.text_numbers.proofs.Laws.{onward-found, length-times, Takes, total, length-total, takes_none, takes-pure, takes-bind, takes-choose, takes-times, takes-literal, takes-decimal}
+use Rattle.std.specs.Prelude.{Some, None}
+use Rattle.std.proofs.lemmas.Option.{some_pair_parts}
+use Rattle.text_numbers.specs.Form.{bytes, Parsed, parsed, unparsed, onward, pure, choose, times, literal}
+use Rattle.text_numbers.proofs.Laws.{length-times, Takes, length-total, takes_none, takes-pure, takes-bind, takes-choose, takes-times, takes-literal, takes-decimal}
 use Rattle.mesh_lines.specs.Grammar.{coordinate_form}
 use Rattle.mesh_lines.proofs.Laws.{takes-coordinate}
 use Rattle.listings.specs.Printing.{ListedRow, last, Fits}
 use Rattle.listings.specs.Grammar.{word_form, point_row_form, edge_row_form, face_row_form}
-use Rattle.listings.proofs.Exact.{Exact, exact_word}
+use Rattle.listings.proofs.Exact.{exact_word}
 use Rattle.listings.proofs.Lines.{exact-point, exact-edge, exact-face}
 use Rattle.listing_lines.specs.Parts.{last_word}
 
-pub last-is : (x : Parsed (List ℕ)) {v b n : ℕ} → last_word v x ≡ Number.Is b n → (ws : List ℕ) × (x ≡ parsed ws n) × (last v ws ≡ b)
-last-is (parsed ws m) e = (ws, cc, cc)
+pub last-is : (x : Parsed (List ℕ)) {v b n : ℕ} → last_word v x ≡ Some (b, n) → (ws : List ℕ) × (x ≡ parsed ws n) × (last v ws ≡ b)
+last-is (parsed ws m) e = let p = some_pair_parts _ _ _ _ e in (ws, cc, p.0)
 last-is unparsed e = let z : ◌≡◌ {A = ℕ} 0 1 = cc in absurd (omega arith)
 
-pub last_none : (v : ℕ) (x : Parsed (List ℕ)) → last_word v x ≡ Number.None → x ≡ unparsed
+pub last_none : (v : ℕ) (x : Parsed (List ℕ)) → last_word v x ≡ None → x ≡ unparsed
 last_none v (parsed ws n) e = cc
 last_none v unparsed e = refl
 

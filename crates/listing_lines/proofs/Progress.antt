@@ -3,7 +3,7 @@
 --     Progress              where the loop stands
 --     Table                 what is stored in one table: w elements a row
 use mathlib.Core.Path.{◌≡◌, refl, sym, ap, ◌∙◌, subst}
-use mathlib.Core.List.{List, ◌∷◌}
+use mathlib.Core.List.{List}
 use mathlib.Core.Bool.{true, false}
 use Prim.Native.Nat.{ℕ, suc, ◌+◌, ◌-◌, ◌*◌, ◌≤◌}
 use native.Mathlib.Nat.{add-zero, suc-mul}
@@ -11,14 +11,12 @@ use native.Mathlib.Numerals.{add-one}
 use native.Mathlib.Omega.{arith}
 use lib.ListN.{length}
 use lib.Seq.{sets}
-use Rattle.text_numbers.specs.Form.{Parsed, parsed, Form, many, stands}
+use Rattle.std.specs.Prelude.{Option, Some, None, OnSome}
+use Rattle.text_numbers.specs.Form.{parsed, Form, many, stands}
 use Rattle.text_numbers.proofs.Laws.{Takes, solid, stands-inside}
 use Rattle.text_numbers.proofs.Turns.{many-found, many-none, many-stop}
 use Rattle.mesh_lines.specs.Grammar.{flat}
-use Rattle.mesh_lines.specs.Parts.{place_answer, run_answer, stored, AtPlace}
-use Rattle.mesh_lines.specs.declared.LinePlace.{LinePlace}
-use Rattle.mesh_lines.specs.declared.LinePlace.TheVariants as LinePlace
-use Rattle.mesh_lines.specs.declared.Run.TheVariants as Run
+use Rattle.mesh_lines.specs.Parts.{place_answer, run_answer, stored}
 use Rattle.mesh_lines.proofs.Answers.{place_at, place_none, run_from, run-next, run-start, stored_next}
 use Rattle.listings.specs.Printing.{ListedRow}
 
@@ -45,8 +43,8 @@ module _ (s t : List ℕ) (p : Form ListedRow) (c at : ℕ) where
       record { list = rw (e, z) refl }
 
   module _ {i k : ℕ} (e : stands s i t ≡ false) where
-    pub end : Progress i k → Run.Of k i ≡ run_answer length (many s t p (length s) at)
-    end inv = ap (λ v. Run.Of v i) (sym (add-zero k)) ∙ (rw (many-stop s t p i (length s - k) e) at inv.run)
+    pub end : Progress i k → Some (k, i) ≡ run_answer length (many s t p (length s) at)
+    end inv = ap (λ v. Some (v, i)) (sym (add-zero k)) ∙ (rw (many-stop s t p i (length s - k) e) at inv.run)
 
     pub table-end : {B : Type 0} (G : ListedRow → List B) (w : ℕ) {xs₀ xs : List B} → Table G w xs₀ xs i k → xs ≡ stored (flat G) xs₀ 0 (many s t p (length s) at)
     unfolding flat
@@ -59,10 +57,10 @@ module _ (s t : List ℕ) (p : Form ListedRow) (c at : ℕ) where
     fuel : length s - k ≡ suc (length s - (k + 1))
     fuel = let h = head-inside in let q = inv.counted in omega arith
 
-    pub stop : {r : LinePlace} → r ≡ place_answer (p (i + length t)) → r ≡ LinePlace.None → Run.None ≡ run_answer length (many s t p (length s) at)
+    pub stop : {r : Option ℕ} → r ≡ place_answer (p (i + length t)) → r ≡ None → None ≡ run_answer length (many s t p (length s) at)
     stop {r} er en = rw (fuel, many-none s t p i (length s - (k + 1)) e (place_none (p (i + length t)) (sym er ∙ en))) at inv.run
 
-    module _ {r : LinePlace} {j : ℕ} (er : r ≡ place_answer (p (i + length t))) (ej : r ≡ LinePlace.At j) where
+    module _ {r : Option ℕ} {j : ℕ} (er : r ≡ place_answer (p (i + length t))) (ej : r ≡ Some j) where
       line : (a : ListedRow) × (p (i + length t) ≡ parsed a j)
       line = place_at (p (i + length t)) (sym er ∙ ej)
 
@@ -86,7 +84,7 @@ module _ (s t : List ℕ) (p : Form ListedRow) (c at : ℕ) where
           }
 
       pub table-turn : {B : Type 0} (G : ListedRow → List B) (w : ℕ) → ((a : ListedRow) (n : ℕ) → p (i + length t) ≡ parsed a n → length (G a) ≡ w)
-          → {xs₀ xs ys : List B} → Table G w xs₀ xs i k → AtPlace r (ys ≡ stored G xs (k * w) (p (i + length t))) → Table G w xs₀ ys j (k + 1)
+          → {xs₀ xs ys : List B} → Table G w xs₀ xs i k → OnSome r (ys ≡ stored G xs (k * w) (p (i + length t))) → Table G w xs₀ ys j (k + 1)
       unfolding flat
       table-turn {B} G w lw {xs₀} {xs} {ys} tb el =
           let a = line.0 in
@@ -105,7 +103,7 @@ module _ (s t : List ℕ) (p : Form ListedRow) (c at : ℕ) where
 
       -- the same for one element a row
       pub table-turn-one : {B : Type 0} (G : ListedRow → List B) → ((a : ListedRow) (n : ℕ) → p (i + length t) ≡ parsed a n → length (G a) ≡ 1)
-          → {xs₀ xs ys : List B} → Table G 1 xs₀ xs i k → AtPlace r (ys ≡ stored G xs k (p (i + length t))) → Table G 1 xs₀ ys j (k + 1)
+          → {xs₀ xs ys : List B} → Table G 1 xs₀ xs i k → OnSome r (ys ≡ stored G xs k (p (i + length t))) → Table G 1 xs₀ ys j (k + 1)
       table-turn-one {B} G lw {xs₀} {xs} {ys} tb el =
           let one : k ≡ k * 1 = omega arith in
-          table-turn G 1 lw tb (subst (λ (q : ℕ). AtPlace r (ys ≡ stored G xs q (p (i + length t)))) one el)
+          table-turn G 1 lw tb (subst (λ (q : ℕ). OnSome r (ys ≡ stored G xs q (p (i + length t)))) one el)

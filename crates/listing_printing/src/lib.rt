@@ -33,11 +33,9 @@ fn write_words(out: &mut [u8], at: usize, words: &[u32], b: usize, k: usize) -> 
     ensures { Written out.old at (word_fields words.now b k) result out.new }
 {
     let mut i = at;
-    let mut j: usize = 0;
-    while j < k {
+    for j in 0..k {
         let v = wide(words[b + j]);
         i = write_number(out, i, v);
-        j += 1;
     }
     i
 }
@@ -50,11 +48,9 @@ fn write_numbers(out: &mut [u8], at: usize, numbers: &[f64], b: usize, k: usize)
     ensures { Written out.old at (number_fields numbers.now b k) result out.new }
 {
     let mut i = at;
-    let mut j: usize = 0;
-    while j < k {
+    for j in 0..k {
         let v = f64::to_bits(numbers[b + j]);
         i = write_bits(out, i, v);
-        j += 1;
     }
     i
 }
@@ -110,10 +106,8 @@ pub fn write_points(out: &mut [u8], at: usize, positions: &[f64], points: &[u32]
     ensures { Written out.old at (flat point_line (up_to n (point_line_row (mesh_of positions.now points.now [] [] [])))) result out.new }
 {
     let mut i = at;
-    let mut p: usize = 0;
-    while p < n {
+    for p in 0..n {
         i = write_point(out, i, positions, points, p);
-        p += 1;
     }
     i
 }
@@ -127,10 +121,8 @@ pub fn write_edges(out: &mut [u8], at: usize, edges: &[u32], intervals: &[f64], 
     ensures { Written out.old at (flat edge_line (up_to n (edge_line_row (mesh_of [] [] edges.now intervals.now [])))) result out.new }
 {
     let mut i = at;
-    let mut e: usize = 0;
-    while e < n {
+    for e in 0..n {
         i = write_edge(out, i, edges, intervals, e);
-        e += 1;
     }
     i
 }
@@ -142,10 +134,8 @@ pub fn write_faces(out: &mut [u8], at: usize, faces: &[u32], n: usize) -> usize
     ensures { Written out.old at (flat face_line (up_to n (face_line_row (mesh_of [] [] [] [] faces.now)))) result out.new }
 {
     let mut i = at;
-    let mut f: usize = 0;
-    while f < n {
+    for f in 0..n {
         i = write_face(out, i, faces, f);
-        f += 1;
     }
     i
 }
@@ -170,11 +160,9 @@ pub fn words_length(words: &[u32], n: usize) -> usize
     ensures { result ≡ length (word_fields words.now 0 n) }
 {
     let mut r: usize = 0;
-    let mut i: usize = 0;
-    while i < n {
+    for i in 0..n {
         let v = wide(words[i]);
         r = r + 1 + digits_length(v, 20);
-        i += 1;
     }
     r
 }

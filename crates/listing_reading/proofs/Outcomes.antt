@@ -1,4 +1,4 @@
--- Reading a listing into tables m: r is the answer for its sizes np, ne and nf; the tables xs, ps, es, ds and fs are what the
+-- Reading a listing into tables m: r is the answer for its counts c; the tables xs, ps, es, ds and fs are what the
 -- second scan leaves.
 use mathlib.Core.List.{List, [], ◌∷◌, ◌++◌, map}
 use mathlib.Core.Path.{◌≡◌, refl, sym, ap, ◌∙◌}
@@ -8,6 +8,7 @@ use native.Mathlib.Omega.{arith}
 use lib.ListN.{length, set, drop, replicate}
 use lib.Seq.{sets, drop-set-lt}
 use lib.Ieee.{Float, binary64, of_bits}
+use Rattle.std.specs.Prelude.{Option, Some, None, Result, Ok, Err}
 use Rattle.text_numbers.specs.Form.{Parsed, parsed, unparsed}
 use Rattle.tables.specs.Mesh.{Mesh, mesh_of}
 use Rattle.tables.specs.Rows.{zeroed}
@@ -16,28 +17,21 @@ use Rattle.tables.specs.declared.Counts.{Counts}
 use Rattle.tables.specs.Counted.{rows_for, zeroed_rows}
 use Rattle.steps.specs.Step.{within_ceilings}
 use Rattle.mesh_lines.specs.Parts.{stored}
-use Rattle.mesh_lines.specs.Grammar.{flat}
 use Rattle.listings.specs.Printing.{ListedRow, ListedRows, FitPoint, FitEdge, FitFace, FitRows}
 use Rattle.listings.proofs.Parts.{all-to, numbers-count, length-flat}
 use Rattle.listings.proofs.Theorem.{accepted}
 use Rattle.listings.proofs.Whole.{printed-of-listing}
 use Rattle.listings.specs.Grammar.{listing}
-use Rattle.listings.specs.Handing.{listed_counts, with_listing as stored_rows, passes_audit, ReadingOutcome, read_rows, read_found, read_listing}
-use Rattle.listings.specs.declared.ListingReading.TheVariants as ListingReading
+use Rattle.listings.specs.Handing.{listed_counts, with_listing as stored_rows, passes_audit, read_rows, read_found, read_listing}
+use Rattle.listings.specs.declared.ListingRefusal.{ListingRefusal}
+use Rattle.listings.specs.declared.ListingRefusal.TheVariants as ListingRefusal
 use Rattle.listing_lines.specs.Parts.{rows_total, Listing, positions_listed, points_listed, edges_listed, intervals_listed, faces_listed}
-use Rattle.listing_lines.specs.declared.ListingTotal.{ListingTotal}
-use Rattle.listing_lines.specs.declared.ListingTotal.TheVariants as ListingTotal
 
-total-of : (x : Parsed ListedRows) {p e f : ℕ} → rows_total x ≡ ListingTotal.Of p e f
-    → (t : ListedRows) × (n : ℕ) × (x ≡ parsed t n) × (listed_counts t ≡ record { points = p; edges = e; faces = f })
-total-of (parsed t n) {p} {e} {f} g =
-    let ep : length t.points ≡ p = cc in
-    let ee : length t.edges ≡ e = cc in
-    let ef : length t.faces ≡ f = cc in
-    (t, n, refl, λ i. record { points = ep i; edges = ee i; faces = ef i })
+total-of : (x : Parsed ListedRows) {c : Counts} → rows_total x ≡ Some c → (t : ListedRows) × (n : ℕ) × (x ≡ parsed t n) × (listed_counts t ≡ c)
+total-of (parsed t n) g = (t, n, refl, cc)
 total-of unparsed g = let z : ◌≡◌ {A = ℕ} 0 1 = cc in absurd (omega arith)
 
-total-none : (x : Parsed ListedRows) → rows_total x ≡ ListingTotal.None → x ≡ unparsed
+total-none : (x : Parsed ListedRows) → rows_total x ≡ None → x ≡ unparsed
 total-none (parsed t n) e = cc
 total-none unparsed e = refl
 
@@ -74,30 +68,30 @@ zeroed-stored t m f =
 
 -- rows that fail the audit are zeroed
 refused : (a b d : Bool) (t : ListedRows) (m : Mesh) → a ≡ true → b ≡ true → d ≡ false
-    → read_rows a b d t m ≡ record { answer = ListingReading.NotClosed; tables = zeroed_rows (listed_counts t) m }
+    → read_rows a b d t m ≡ record { answer = Err ListingRefusal.NotClosed; tables = zeroed_rows (listed_counts t) m }
 refused a b d t m ea eb ed = rw (ea, eb, ed)
 
-module _ (s : List ℕ) (m : Mesh) {r : ListingTotal} (er : r ≡ rows_total (listing s)) where
-  pub not-listing : r ≡ ListingTotal.None → record { answer = ListingReading.NotListing; tables = m } ≡ read_listing s m
+module _ (s : List ℕ) (m : Mesh) {r : Option Counts} (er : r ≡ rows_total (listing s)) where
+  pub not-listing : r ≡ None → {a : Result Counts ListingRefusal} → a ≡ Err ListingRefusal.NotListing → record { answer = a; tables = m } ≡ read_listing s m
   unfolding read_found
-  not-listing en = rw (total-none (listing s) (sym er ∙ en))
+  not-listing en ea = rw (total-none (listing s) (sym er ∙ en), ea)
 
-  module _ {p e f : ℕ} (ep : r ≡ ListingTotal.Of p e f) where
+  module _ {c : Counts} (ep : r ≡ Some c) where
     pub is-listing : Listing s
     is-listing = let (t, n, et, ec) = total-of (listing s) (sym er ∙ ep) in (t, n, et)
 
-    pub over : within_ceilings (record { points = p; edges = e; faces = f }) ≡ false
-        → record { answer = ListingReading.OverCeilings; tables = m } ≡ read_listing s m
+    pub over : within_ceilings c ≡ false
+        → record { answer = Err ListingRefusal.OverCeilings; tables = m } ≡ read_listing s m
     unfolding read_found
     over ew = let (t, n, et, ec) = total-of (listing s) (sym er ∙ ep) in rw (et, ec, ew)
 
-    module _ (ew : within_ceilings (record { points = p; edges = e; faces = f }) ≡ true) where
-      pub no_room : rows_for (record { points = p; edges = e; faces = f }) m ≡ false
-          → record { answer = ListingReading.NoRoom; tables = m } ≡ read_listing s m
+    module _ (ew : within_ceilings c ≡ true) where
+      pub no_room : rows_for c m ≡ false
+          → record { answer = Err ListingRefusal.NoRoom; tables = m } ≡ read_listing s m
       unfolding read_found
       no_room em = let (t, n, et, ec) = total-of (listing s) (sym er ∙ ep) in rw (et, ec, ew, em)
 
-      module _ (em : rows_for (record { points = p; edges = e; faces = f }) m ≡ true)
+      module _ (em : rows_for c m ≡ true)
           (xs : List Float) (ps es : List ℕ) (ds : List Float) (fs : List ℕ)
           (ex : xs ≡ stored positions_listed m.positions 0 (listing s)) (epp : ps ≡ stored points_listed m.points 0 (listing s))
           (ee : es ≡ stored edges_listed m.edges 0 (listing s)) (ed : ds ≡ stored intervals_listed m.intervals 0 (listing s))
@@ -112,31 +106,31 @@ module _ (s : List ℕ) (m : Mesh) {r : ListingTotal} (er : r ≡ rows_total (li
             let af : fs ≡ sets m.faces 0 (faces_listed t) = rw et at ef in
             λ i. record { positions = ax i; points = ap' i; edges = ae i; intervals = ad i; faces = af i }
 
-        pub read : passes_audit (mesh_of xs ps es ds fs) (record { points = p; edges = e; faces = f }) ≡ true
-            → record { answer = ListingReading.Read (record { points = p; edges = e; faces = f }); tables = mesh_of xs ps es ds fs } ≡ read_listing s m
+        pub read : passes_audit (mesh_of xs ps es ds fs) c ≡ true
+            → record { answer = Ok c; tables = mesh_of xs ps es ds fs } ≡ read_listing s m
         unfolding read_found
         read ea =
             let (t, n, et, ec) = total-of (listing s) (sym er ∙ ep) in
             let es' = scanned t n et in
-            let ea' : passes_audit (stored_rows t m) (record { points = p; edges = e; faces = f }) ≡ true = rw es' at ea in
+            let ea' : passes_audit (stored_rows t m) c ≡ true = rw es' at ea in
             sym (ap (λ (x : Parsed ListedRows). read_found x m) et
             ∙ accepted (within_ceilings (listed_counts t)) (rows_for (listed_counts t) m) (passes_audit (stored_rows t m) (listed_counts t)) t m
             (ap within_ceilings ec ∙ ew) (ap (λ (k : Counts). rows_for k m) ec ∙ em) (ap (passes_audit (stored_rows t m)) ec ∙ ea')
-            ∙ (λ i. record { answer = ListingReading.Read (ec i); tables = sym es' i }))
+            ∙ (λ i. record { answer = Ok (ec i); tables = sym es' i }))
 
-        pub zeroes : passes_audit (mesh_of xs ps es ds fs) (record { points = p; edges = e; faces = f }) ≡ false
-            → (m' : Mesh) → m' ≡ zeroed_rows (record { points = p; edges = e; faces = f }) (mesh_of xs ps es ds fs)
-            → record { answer = ListingReading.NotClosed; tables = m' } ≡ read_listing s m
+        pub zeroes : passes_audit (mesh_of xs ps es ds fs) c ≡ false
+            → (m' : Mesh) → m' ≡ zeroed_rows c (mesh_of xs ps es ds fs)
+            → record { answer = Err ListingRefusal.NotClosed; tables = m' } ≡ read_listing s m
         unfolding read_found
         zeroes ea m' e' =
             let (t, n, et, ec) = total-of (listing s) (sym er ∙ ep) in
             let es' = scanned t n et in
-            let ea' : passes_audit (stored_rows t m) (record { points = p; edges = e; faces = f }) ≡ false = rw es' at ea in
+            let ea' : passes_audit (stored_rows t m) c ≡ false = rw es' at ea in
             let fit = (printed-of-listing s t n et).0 in
             let z : m' ≡ zeroed_rows (listed_counts t) m =
-            e' ∙ ap (zeroed_rows (record { points = p; edges = e; faces = f })) es' ∙ ap (λ (c : Counts). zeroed_rows c (stored_rows t m)) (sym ec)
+            e' ∙ ap (zeroed_rows c) es' ∙ ap (λ (k : Counts). zeroed_rows k (stored_rows t m)) (sym ec)
             ∙ zeroed-stored t m fit in
             sym (ap (λ (x : Parsed ListedRows). read_found x m) et
             ∙ refused (within_ceilings (listed_counts t)) (rows_for (listed_counts t) m) (passes_audit (stored_rows t m) (listed_counts t)) t m
             (ap within_ceilings ec ∙ ew) (ap (λ (k : Counts). rows_for k m) ec ∙ em) (ap (passes_audit (stored_rows t m)) ec ∙ ea')
-            ∙ (λ i. record { answer = ListingReading.NotClosed; tables = sym z i }))
+            ∙ (λ i. record { answer = Err ListingRefusal.NotClosed; tables = sym z i }))

@@ -10,10 +10,10 @@ ghost use Rattle.listings.specs.Handing.{ReadingOutcome, read_listing};
 
 use audit::audit;
 use counted_rows::{rows_for, zero_rows};
-use listing_lines::{ListingTotal, listing_sizes, store_rows};
-use listings::ListingReading;
+use listing_lines::{listing_sizes, store_rows};
+use listings::ListingRefusal;
 use scratch_rows::within_ceilings;
-use tables::Counts;
+use tables::{Counts, MeshTables};
 
 // Reads a listing into the front rows of the tables, and answers how many points, edges and faces it lists; or the first ground that
 // holds. 40, 2 and 4 leave the tables as they are, 30 zeroes as many rows as are listed.
@@ -24,7 +24,7 @@ pub fn read_listing(
     edges: &mut [u32],
     intervals: &mut [f64],
     faces: &mut [u32],
-) -> ListingReading
+) -> Result<Counts, ListingRefusal>
     ensures { ◌≡◌ {A = ReadingOutcome}
         (record {
           answer = result;
@@ -34,24 +34,31 @@ pub fn read_listing(
         text.now
         (mesh_of positions.old points.old edges.old intervals.old faces.old)) }
 {
-    let ListingTotal::Of(np, ne, nf) = listing_sizes(text) else {
-        return ListingReading::NotListing;
-    };
-    let c = Counts {
-        points: np,
-        edges: ne,
-        faces: nf,
-    };
+    let c = listing_sizes(text).ok_or(ListingRefusal::NotListing)?;
     if !within_ceilings(c) {
-        return ListingReading::OverCeilings;
+        return Err(ListingRefusal::OverCeilings);
     }
-    if !rows_for(c, positions, points, edges, intervals, faces) {
-        return ListingReading::NoRoom;
+    let tables = MeshTables {
+        positions,
+        points,
+        edges,
+        intervals,
+        faces,
+    };
+    if !rows_for(c, &tables) {
+        return Err(ListingRefusal::NoRoom);
     }
     store_rows(text, positions, points, edges, intervals, faces);
-    if audit(positions, points, edges, intervals, faces, c) {
-        return ListingReading::Read(c);
+    let stored = MeshTables {
+        positions,
+        points,
+        edges,
+        intervals,
+        faces,
+    };
+    if audit(&stored, c) {
+        return Ok(c);
     }
     zero_rows(c, positions, points, edges, intervals, faces);
-    ListingReading::NotClosed
+    Err(ListingRefusal::NotClosed)
 }

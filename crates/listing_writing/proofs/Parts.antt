@@ -15,6 +15,7 @@ use lib.Seq.{sets}
 use lib.Ieee.{nan}
 use lib.Ieee.Scale.{finite}
 use borrow.Author.Tests.{leb-true, le-leb, lt-leb}
+use Rattle.std.specs.Prelude.{Ok, Err}
 use Rattle.text_numbers.specs.Form.{bytes}
 use Rattle.text_numbers.proofs.Laws.{and_both}
 use Rattle.tables.specs.Mesh.{Mesh, mesh_of}
@@ -30,8 +31,8 @@ use Rattle.mesh_answers.specs.Writing.{Written}
 use Rattle.mesh_answers.proofs.Laws.{written-append}
 use Rattle.listings.specs.Printing.{point_line, edge_line, face_line, printed}
 use Rattle.listings.specs.Handing.{up_to, point_line_row, edge_line_row, face_line_row, listing_rows, listing_of, passes_audit, WritingOutcome, written, write_listing}
-use Rattle.listings.specs.declared.Writing.{Writing}
-use Rattle.listings.specs.declared.Writing.TheVariants as Writing
+use Rattle.listings.specs.declared.WritingRefusal.{WritingRefusal}
+use Rattle.listings.specs.declared.WritingRefusal.TheVariants as WritingRefusal
 use Rattle.listings.proofs.ReadBack.{finite-fit}
 use Rattle.listing_printing.specs.Fields.{word_fields}
 use Rattle.listing_printing.proofs.Laws.{written_same}
@@ -112,25 +113,25 @@ whole {out} {o1} {o2} {o3} {o4} {o5} {i} {j} {k} {l} {n} {ps} {es} {fs} h p e f 
 
 -- the answers in turn
 module _ (m : Mesh) (c : Counts) (out : List ℕ) where
-  pub not-closed : passes_audit m c ≡ false → record { answer = Writing.NotClosed; text = out } ≡ write_listing m c out
+  pub not-closed : passes_audit m c ≡ false → record { answer = Err WritingRefusal.NotClosed; text = out } ≡ write_listing m c out
   unfolding write_listing
   not-closed e = rw e
 
-  pub over : passes_audit m c ≡ true → within_ceilings c ≡ false → record { answer = Writing.OverCeilings; text = out } ≡ write_listing m c out
+  pub over : passes_audit m c ≡ true → within_ceilings c ≡ false → record { answer = Err WritingRefusal.OverCeilings; text = out } ≡ write_listing m c out
   unfolding write_listing
   over e w = rw (e, w)
 
   pub short : passes_audit m c ≡ true → within_ceilings c ≡ true → (n : ℕ) → n ≡ length_by c m.points m.edges m.faces → length out < n
-      → record { answer = Writing.TooShort; text = out } ≡ write_listing m c out
+      → record { answer = Err WritingRefusal.TooShort; text = out } ≡ write_listing m c out
   unfolding write_listing
   short e w n en l =
       let lo = length-of c m (ready_of c m e).room in
       rw (e, w, lt-leb (length (listing_of m c)) (length out) (omega arith))
 
   pub all : passes_audit m c ≡ true → within_ceilings c ≡ true → (n : ℕ) → n ≡ length_by c m.points m.edges m.faces → n ≤ length out
-      → (out' : List ℕ) → out' ≡ sets out 0 (listing_of m c) → record { answer = Writing.Written n; text = out' } ≡ write_listing m c out
+      → (out' : List ℕ) → out' ≡ sets out 0 (listing_of m c) → record { answer = Ok n; text = out' } ≡ write_listing m c out
   unfolding write_listing
   all e w n en l out' eo =
       let lo = length-of c m (ready_of c m e).room in
       let nl : n ≡ length (listing_of m c) = en ∙ sym lo in
-      rw (e, w, le-leb (length (listing_of m c)) (length out) (omega arith)) (λ i. record { answer = Writing.Written (nl i); text = eo i })
+      rw (e, w, le-leb (length (listing_of m c)) (length out) (omega arith)) (λ i. record { answer = Ok (nl i); text = eo i })

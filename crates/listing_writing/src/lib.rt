@@ -9,17 +9,17 @@ ghost use Rattle.std.specs.Prelude.{◌≡◌, true, ℕ, ◌*◌, ◌≤◌, �
 ghost use Rattle.std.proofs.lemmas.List.Edits.{sets};
 ghost use Rattle.std.specs.Float.{nan};
 ghost use Rattle.std.specs.Float.Ieee.Scale.{finite};
-ghost use Rattle.tables.specs.Mesh.{mesh_of};
+ghost use Rattle.tables.specs.Lent.{tables_of};
 ghost use Rattle.steps.specs.Step.{within_ceilings};
 ghost use Rattle.listings.specs.Handing.{WritingOutcome, listing_of, write_listing};
 ghost use Rattle.listing_writing.specs.Parts.{WordRows, length_by, RowsReady};
 
 use audit::audit;
 use listing_printing::{words_length, write_edges, write_faces, write_points};
-use listings::Writing;
+use listings::WritingRefusal;
 use mesh_answers::write;
 use scratch_rows::within_ceilings;
-use tables::{Counts, EDGE_WIDTH, FACE_WIDTH, POINT_WIDTH};
+use tables::{Counts, EDGE_WIDTH, FACE_WIDTH, MeshTables, POINT_WIDTH};
 
 // How many bytes the listing has, of counts within the ceilings.
 fn listing_length(points: &[u32], edges: &[u32], faces: &[u32], counts: Counts) -> usize
@@ -36,56 +36,44 @@ fn listing_length(points: &[u32], edges: &[u32], faces: &[u32], counts: Counts) 
 }
 
 // Writes the listing at the front of the output.
-fn write_rows(
-    positions: &[f64],
-    points: &[u32],
-    edges: &[u32],
-    intervals: &[f64],
-    faces: &[u32],
-    counts: Counts,
-    text: &mut [u8],
-)
-    requires rows_ready { RowsReady counts (mesh_of positions.now points.now edges.now intervals.now faces.now) }
-    requires counts_in_bounds { length (listing_of (mesh_of positions.now points.now edges.now intervals.now faces.now) counts) ≤ length text.old }
+fn write_rows(t: &MeshTables, counts: Counts, text: &mut [u8])
+    requires rows_ready { RowsReady counts (tables_of t.now) }
+    requires counts_in_bounds { length (listing_of (tables_of t.now) counts) ≤ length text.old }
     ensures { text.new
         ≡ sets text.old 0
-        (listing_of (mesh_of positions.now points.now edges.now intervals.now faces.now) counts) }
+        (listing_of (tables_of t.now) counts) }
 {
     let i = write(text, 0, b"[mesh 3]\n");
-    let j = write_points(text, i, positions, points, counts.points);
-    let k = write_edges(text, j, edges, intervals, counts.edges);
-    let l = write_faces(text, k, faces, counts.faces);
+    let j = write_points(text, i, t.positions, t.points, counts.points);
+    let k = write_edges(text, j, t.edges, t.intervals, counts.edges);
+    let l = write_faces(text, k, t.faces, counts.faces);
     write(text, l, b"[end]\n");
 }
 
 // Writes the listing of a mesh at the front of the output, and answers how many bytes it has; or the first ground that holds,
 // and then nothing is written.
 pub fn write_listing(
-    positions: &[f64],
-    points: &[u32],
-    edges: &[u32],
-    intervals: &[f64],
-    faces: &[u32],
+    t: &MeshTables,
     counts: Counts,
     text: &mut [u8],
-) -> Writing
+) -> Result<usize, WritingRefusal>
     ensures { ◌≡◌ {A = WritingOutcome}
         (record { answer = result; text = text.new })
         (write_listing
-        (mesh_of positions.now points.now edges.now intervals.now faces.now)
+        (tables_of t.now)
         counts
         text.old) }
 {
-    if !audit(positions, points, edges, intervals, faces, counts) {
-        return Writing::NotClosed;
+    if !audit(t, counts) {
+        return Err(WritingRefusal::NotClosed);
     }
     if !within_ceilings(counts) {
-        return Writing::OverCeilings;
+        return Err(WritingRefusal::OverCeilings);
     }
-    let n = listing_length(points, edges, faces, counts);
+    let n = listing_length(t.points, t.edges, t.faces, counts);
     if text.len() < n {
-        return Writing::TooShort;
+        return Err(WritingRefusal::TooShort);
     }
-    write_rows(positions, points, edges, intervals, faces, counts, text);
-    Writing::Written(n)
+    write_rows(t, counts, text);
+    Ok(n)
 }

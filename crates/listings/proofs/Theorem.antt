@@ -5,6 +5,7 @@ use mathlib.Core.List.{List}
 use Prim.Native.Nat.{ℕ}
 use native.Mathlib.Omega.{arith}
 use lib.ListN.{length}
+use Rattle.std.specs.Prelude.{Ok, Err}
 use Rattle.tables.specs.Mesh.{Mesh}
 use Rattle.tables.specs.declared.Counts.{Counts}
 use Rattle.audited_meshes.proofs.Audited.{audit-is-audited}
@@ -16,8 +17,8 @@ use Rattle.listings.specs.Printing.{ListedRows, FitRows, printed}
 use Rattle.listings.specs.Grammar.{listing}
 use Rattle.listings.specs.Handing.{listing_rows, listing_of, listed_counts, with_listing, passes_audit, ReadingOutcome, read_rows, read_found, read_listing}
 use Rattle.listings.specs.Claims.{ListingExactly, NotListingExactly, ReadsRows, RefusalsLeave, ReadBack, WrittenBack}
-use Rattle.listings.specs.declared.ListingReading.{ListingReading}
-use Rattle.listings.specs.declared.ListingReading.TheVariants as ListingReading
+use Rattle.listings.specs.declared.ListingRefusal.{ListingRefusal}
+use Rattle.listings.specs.declared.ListingRefusal.TheVariants as ListingRefusal
 use Rattle.listings.proofs.ReadBack.{rows_fit, counts-rows, stored-rows, audited-again, room_of}
 use Rattle.listings.proofs.WrittenBack.{rows-again}
 use Rattle.listings.proofs.Whole.{printed-of-listing, listing-at}
@@ -26,20 +27,20 @@ pub listing-exactly : ListingExactly
 listing-exactly s t = (λ h. printed-of-listing s t h.0 h.1, λ h. listing-at s t h.0 h.1)
 
 -- rows that were found are never answered by 40
-found-is-read : (a b c : Bool) (t : ListedRows) (m : Mesh) → (read_rows a b c t m).answer ≡ ListingReading.NotListing → ⊥
+found-is-read : (a b c : Bool) (t : ListedRows) (m : Mesh) → (read_rows a b c t m).answer ≡ Err ListingRefusal.NotListing → ⊥
 found-is-read false b c t m e = let z : ◌≡◌ {A = ℕ} 0 1 = cc in omega arith
 found-is-read true false c t m e = let z : ◌≡◌ {A = ℕ} 0 1 = cc in omega arith
 found-is-read true true false t m e = let z : ◌≡◌ {A = ℕ} 0 1 = cc in omega arith
 found-is-read true true true t m e = let z : ◌≡◌ {A = ℕ} 0 1 = cc in omega arith
 
 -- nothing was found where 40 is answered
-none-of-answer : (x : Parsed ListedRows) (m : Mesh) → (read_found x m).answer ≡ ListingReading.NotListing → x ≡ unparsed
+none-of-answer : (x : Parsed ListedRows) (m : Mesh) → (read_found x m).answer ≡ Err ListingRefusal.NotListing → x ≡ unparsed
 unfolding read_found
 none-of-answer (parsed t n) m e =
     absurd (found-is-read (within_ceilings (listed_counts t)) (rows_for (listed_counts t) m) (passes_audit (with_listing t m) (listed_counts t)) t m e)
 none-of-answer unparsed m e = refl
 
-answer-of-none : (x : Parsed ListedRows) (m : Mesh) → x ≡ unparsed → (read_found x m).answer ≡ ListingReading.NotListing
+answer-of-none : (x : Parsed ListedRows) (m : Mesh) → x ≡ unparsed → (read_found x m).answer ≡ Err ListingRefusal.NotListing
 unfolding read_found
 answer-of-none x m e = rw e
 
@@ -63,22 +64,22 @@ reads-rows t m f = let (n, e) = listing-at (printed t) t f refl in rw e
 
 -- what the answers leave
 module _ (m : Mesh) where
-  over-leaves : (a b c : Bool) (t : ListedRows) → (read_rows a b c t m).answer ≡ ListingReading.OverCeilings → (read_rows a b c t m).tables ≡ m
+  over-leaves : (a b c : Bool) (t : ListedRows) → (read_rows a b c t m).answer ≡ Err ListingRefusal.OverCeilings → (read_rows a b c t m).tables ≡ m
   over-leaves false b c t e = refl
   over-leaves true false c t e = refl
   over-leaves true true false t e = absurd (let z : ◌≡◌ {A = ℕ} 0 1 = cc in omega arith)
   over-leaves true true true t e = absurd (let z : ◌≡◌ {A = ℕ} 0 1 = cc in omega arith)
 
-  room-leaves : (a b c : Bool) (t : ListedRows) → (read_rows a b c t m).answer ≡ ListingReading.NoRoom → (read_rows a b c t m).tables ≡ m
+  room-leaves : (a b c : Bool) (t : ListedRows) → (read_rows a b c t m).answer ≡ Err ListingRefusal.NoRoom → (read_rows a b c t m).tables ≡ m
   room-leaves false b c t e = refl
   room-leaves true false c t e = refl
   room-leaves true true false t e = absurd (let z : ◌≡◌ {A = ℕ} 0 1 = cc in omega arith)
   room-leaves true true true t e = absurd (let z : ◌≡◌ {A = ℕ} 0 1 = cc in omega arith)
 
   leaves : (x : Parsed ListedRows)
-      → (((read_found x m).answer ≡ ListingReading.NotListing) → (read_found x m).tables ≡ m)
-      × (((read_found x m).answer ≡ ListingReading.OverCeilings) → (read_found x m).tables ≡ m)
-      × (((read_found x m).answer ≡ ListingReading.NoRoom) → (read_found x m).tables ≡ m)
+      → (((read_found x m).answer ≡ Err ListingRefusal.NotListing) → (read_found x m).tables ≡ m)
+      × (((read_found x m).answer ≡ Err ListingRefusal.OverCeilings) → (read_found x m).tables ≡ m)
+      × (((read_found x m).answer ≡ Err ListingRefusal.NoRoom) → (read_found x m).tables ≡ m)
   unfolding read_found
   leaves unparsed = (λ e. refl, λ e. refl, λ e. refl)
   leaves (parsed t n) =
@@ -92,7 +93,7 @@ refusals-leave s m = leaves m (listing s)
 
 -- rows that pass the three tests are read
 pub accepted : (a b d : Bool) (t : ListedRows) (m : Mesh) → a ≡ true → b ≡ true → d ≡ true
-    → read_rows a b d t m ≡ record { answer = ListingReading.Read (listed_counts t); tables = with_listing t m }
+    → read_rows a b d t m ≡ record { answer = Ok (listed_counts t); tables = with_listing t m }
 accepted a b d t m ea eb ed = rw (ea, eb, ed)
 
 pub read_back : ReadBack
@@ -107,11 +108,11 @@ read_back m m' c h ea ew er =
     ∙ accepted (within_ceilings (listed_counts t)) (rows_for (listed_counts t) m') (passes_audit (with_listing t m') (listed_counts t)) t m'
     (ap within_ceilings ec ∙ ew) (ap (λ (k : Counts). rows_for k m') ec ∙ er)
     (ap (passes_audit (with_listing t m')) ec ∙ ap (λ (n : Mesh). passes_audit n c) st ∙ ea')
-    ∙ (λ i. record { answer = ListingReading.Read (ec i); tables = st i })
+    ∙ (λ i. record { answer = Ok (ec i); tables = st i })
 
 -- rows that were read, by the three tests
 read-written : (s : List ℕ) (t : ListedRows) (m : Mesh) (c : Counts) (n : ℕ) → listing s ≡ parsed t n → (a b d : Bool)
-    → rows_for (listed_counts t) m ≡ b → passes_audit (with_listing t m) (listed_counts t) ≡ d → (read_rows a b d t m).answer ≡ ListingReading.Read c
+    → rows_for (listed_counts t) m ≡ b → passes_audit (with_listing t m) (listed_counts t) ≡ d → (read_rows a b d t m).answer ≡ Ok c
     → listing_of (read_rows a b d t m).tables c ≡ s
 read-written s t m c n es false b d eb ed e = absurd (let z : ◌≡◌ {A = ℕ} 0 1 = cc in omega arith)
 read-written s t m c n es true false d eb ed e = absurd (let z : ◌≡◌ {A = ℕ} 0 1 = cc in omega arith)
@@ -126,7 +127,7 @@ pub written_back : WrittenBack
 unfolding read_found
 written_back s m c e = go (listing s) refl e
   where
-    go : (x : Parsed ListedRows) → listing s ≡ x → (read_found x m).answer ≡ ListingReading.Read c → listing_of (read_found x m).tables c ≡ s
+    go : (x : Parsed ListedRows) → listing s ≡ x → (read_found x m).answer ≡ Ok c → listing_of (read_found x m).tables c ≡ s
     go (parsed t n) es g =
         read-written s t m c n es (within_ceilings (listed_counts t)) (rows_for (listed_counts t) m) (passes_audit (with_listing t m) (listed_counts t)) refl refl g
     go unparsed es g = absurd (let z : ◌≡◌ {A = ℕ} 0 1 = cc in omega arith)

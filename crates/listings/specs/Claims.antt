@@ -6,7 +6,7 @@
 --     Held m                 the words of the tables are below 2^32, and the numbers are binary64 numbers
 --     ReadBack              reading the listing of a mesh gives its rows and counts, every bit, and touches no further row
 --     WrittenBack           writing a mesh that was read gives the bytes that were read
-use Rattle.std.specs.Prelude.{◌≡◌, true, List, ◌↔◌, ℕ, ◌<◌, T, get_or}
+use Rattle.std.specs.Prelude.{◌≡◌, true, List, ◌↔◌, ℕ, ◌<◌, T, get_or, Ok, Err}
 use Rattle.std.specs.Float.{nan, binary64}
 use Rattle.std.specs.Float.Ieee.{fits}
 use Rattle.tables.specs.Mesh.{Mesh}
@@ -17,14 +17,14 @@ use Rattle.text_numbers.specs.Form.{parsed}
 use Rattle.listings.specs.Printing.{ListedRows, FitRows, printed}
 use Rattle.listings.specs.Grammar.{listing}
 use Rattle.listings.specs.Handing.{listing_of, listed_counts, with_listing, passes_audit, read_rows, read_listing}
-use Rattle.listings.specs.declared.ListingReading.TheVariants as ListingReading
+use Rattle.listings.specs.declared.ListingRefusal.TheVariants as ListingRefusal
 
 abbrev pub ListingExactly : Type 0
 ListingExactly = (s : List ℕ) (t : ListedRows) → ((n : ℕ) × (listing s ≡ parsed t n)) ↔ (FitRows t × (s ≡ printed t))
 
 abbrev pub NotListingExactly : Type 0
 NotListingExactly =
-    (s : List ℕ) (m : Mesh) → ((read_listing s m).answer ≡ ListingReading.NotListing) ↔ ((t : ListedRows) → FitRows t → s ≡ printed t → ⊥)
+    (s : List ℕ) (m : Mesh) → ((read_listing s m).answer ≡ Err ListingRefusal.NotListing) ↔ ((t : ListedRows) → FitRows t → s ≡ printed t → ⊥)
 
 abbrev pub ReadsRows : Type 0
 ReadsRows =
@@ -35,9 +35,9 @@ ReadsRows =
 abbrev pub RefusalsLeave : Type 0
 RefusalsLeave =
     (s : List ℕ) (m : Mesh) →
-    (((read_listing s m).answer ≡ ListingReading.NotListing) → (read_listing s m).tables ≡ m)
-    × (((read_listing s m).answer ≡ ListingReading.OverCeilings) → (read_listing s m).tables ≡ m)
-    × (((read_listing s m).answer ≡ ListingReading.NoRoom) → (read_listing s m).tables ≡ m)
+    (((read_listing s m).answer ≡ Err ListingRefusal.NotListing) → (read_listing s m).tables ≡ m)
+    × (((read_listing s m).answer ≡ Err ListingRefusal.OverCeilings) → (read_listing s m).tables ≡ m)
+    × (((read_listing s m).answer ≡ Err ListingRefusal.NoRoom) → (read_listing s m).tables ≡ m)
 
 -- what the elements of lent slices are
 pub record Held (m : Mesh) : Type 0 where
@@ -50,7 +50,7 @@ pub record Held (m : Mesh) : Type 0 where
 abbrev pub ReadBack : Type 0
 ReadBack =
     (m m' : Mesh) (c : Counts) → Held m → passes_audit m c ≡ true → within_ceilings c ≡ true → rows_for c m' ≡ true →
-    read_listing (listing_of m c) m' ≡ record { answer = ListingReading.Read c; tables = over_rows c (first_rows c m) m' }
+    read_listing (listing_of m c) m' ≡ record { answer = Ok c; tables = over_rows c (first_rows c m) m' }
 
 abbrev pub WrittenBack : Type 0
-WrittenBack = (s : List ℕ) (m : Mesh) (c : Counts) → (read_listing s m).answer ≡ ListingReading.Read c → listing_of (read_listing s m).tables c ≡ s
+WrittenBack = (s : List ℕ) (m : Mesh) (c : Counts) → (read_listing s m).answer ≡ Ok c → listing_of (read_listing s m).tables c ≡ s

@@ -8,7 +8,7 @@
 --     write_listing m c out            the answer, and the output after it
 --     read_listing s m                 the answer, and the tables after it
 --     writing_number reading_number a   the number of the ground, 0 if there is none
-use Rattle.std.specs.Prelude.{List, [], ◌∷◌, ◌++◌, map, Bool, true, false, ℕ, zero, suc, leb, length, Float}
+use Rattle.std.specs.Prelude.{List, [], ◌∷◌, ◌++◌, map, Bool, true, false, ℕ, zero, suc, leb, length, Float, Result, Ok, Err}
 use Rattle.std.proofs.lemmas.List.Edits.{sets}
 use Rattle.std.specs.Float.{binary64}
 use Rattle.std.specs.Float.Ieee.{to_bits}
@@ -20,10 +20,10 @@ use Rattle.steps.specs.Step.{within_ceilings}
 use Rattle.text_numbers.specs.Form.{Parsed, if_parsed}
 use Rattle.text_numbers.specs.Numbers.{float}
 use Rattle.mesh_lines.specs.Grammar.{flat}
-use Rattle.listings.specs.declared.Writing.{Writing}
-use Rattle.listings.specs.declared.Writing.TheVariants as Writing
-use Rattle.listings.specs.declared.ListingReading.{ListingReading}
-use Rattle.listings.specs.declared.ListingReading.TheVariants as ListingReading
+use Rattle.listings.specs.declared.WritingRefusal.{WritingRefusal}
+use Rattle.listings.specs.declared.WritingRefusal.TheVariants as WritingRefusal
+use Rattle.listings.specs.declared.ListingRefusal.{ListingRefusal}
+use Rattle.listings.specs.declared.ListingRefusal.TheVariants as ListingRefusal
 use Rattle.listings.specs.Printing.{ListedRow, ListedRows, printed}
 use Rattle.listings.specs.Grammar.{listing}
 
@@ -87,50 +87,50 @@ abbrev pub passes_audit : Mesh → Counts → Bool
 passes_audit m c = audit m c.points c.edges c.faces
 
 pub record WritingOutcome : Type 0 where
-  pub answer : Writing
+  pub answer : Result ℕ WritingRefusal
   pub text : List ℕ
 
 -- by whether the mesh passes the audit, whether it is within the ceilings, and whether its listing fits the output
 abbrev pub written : Bool → Bool → Bool → List ℕ → List ℕ → WritingOutcome
-written false within fits l out = record { answer = Writing.NotClosed; text = out }
-written true false fits l out = record { answer = Writing.OverCeilings; text = out }
-written true true false l out = record { answer = Writing.TooShort; text = out }
-written true true true l out = record { answer = Writing.Written (length l); text = sets out 0 l }
+written false within fits l out = record { answer = Err WritingRefusal.NotClosed; text = out }
+written true false fits l out = record { answer = Err WritingRefusal.OverCeilings; text = out }
+written true true false l out = record { answer = Err WritingRefusal.TooShort; text = out }
+written true true true l out = record { answer = Ok (length l); text = sets out 0 l }
 
 unfoldable pub write_listing : Mesh → Counts → List ℕ → WritingOutcome
 write_listing m c out =
     written (passes_audit m c) (within_ceilings c) (leb (length (listing_of m c)) (length out)) (listing_of m c) out
 
 pub record ReadingOutcome : Type 0 where
-  pub answer : ListingReading
+  pub answer : Result Counts ListingRefusal
   pub tables : Mesh
 
 -- by whether the rows are within the ceilings, whether the tables have room for them, and whether they pass the audit there
 abbrev pub read_rows : Bool → Bool → Bool → ListedRows → Mesh → ReadingOutcome
-read_rows false room closed t m = record { answer = ListingReading.OverCeilings; tables = m }
-read_rows true false closed t m = record { answer = ListingReading.NoRoom; tables = m }
-read_rows true true false t m = record { answer = ListingReading.NotClosed; tables = zeroed_rows (listed_counts t) m }
-read_rows true true true t m = record { answer = ListingReading.Read (listed_counts t); tables = with_listing t m }
+read_rows false room closed t m = record { answer = Err ListingRefusal.OverCeilings; tables = m }
+read_rows true false closed t m = record { answer = Err ListingRefusal.NoRoom; tables = m }
+read_rows true true false t m = record { answer = Err ListingRefusal.NotClosed; tables = zeroed_rows (listed_counts t) m }
+read_rows true true true t m = record { answer = Ok (listed_counts t); tables = with_listing t m }
 
 -- the form of the whole text is tested before anything is counted
 unfoldable pub read_found : Parsed ListedRows → Mesh → ReadingOutcome
 read_found x m =
     if_parsed (λ t n. read_rows (within_ceilings (listed_counts t)) (rows_for (listed_counts t) m) (passes_audit (with_listing t m) (listed_counts t)) t m)
-    (record { answer = ListingReading.NotListing; tables = m })
+    (record { answer = Err ListingRefusal.NotListing; tables = m })
     x
 
 abbrev pub read_listing : List ℕ → Mesh → ReadingOutcome
 read_listing s m = read_found (listing s) m
 
-abbrev pub writing_number : Writing → ℕ
-writing_number (Writing.Written n) = 0
-writing_number Writing.NotClosed = 30
-writing_number Writing.OverCeilings = 2
-writing_number Writing.TooShort = 4
+abbrev pub writing_number : Result ℕ WritingRefusal → ℕ
+writing_number (Ok n) = 0
+writing_number (Err WritingRefusal.NotClosed) = 30
+writing_number (Err WritingRefusal.OverCeilings) = 2
+writing_number (Err WritingRefusal.TooShort) = 4
 
-abbrev pub reading_number : ListingReading → ℕ
-reading_number (ListingReading.Read c) = 0
-reading_number ListingReading.NotListing = 40
-reading_number ListingReading.OverCeilings = 2
-reading_number ListingReading.NoRoom = 4
-reading_number ListingReading.NotClosed = 30
+abbrev pub reading_number : Result Counts ListingRefusal → ℕ
+reading_number (Ok c) = 0
+reading_number (Err ListingRefusal.NotListing) = 40
+reading_number (Err ListingRefusal.OverCeilings) = 2
+reading_number (Err ListingRefusal.NoRoom) = 4
+reading_number (Err ListingRefusal.NotClosed) = 30

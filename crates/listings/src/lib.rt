@@ -6,12 +6,9 @@
 // exactly what is printed).
 #![tactic(auto)]
 
-use tables::Counts;
-
-// What writing a listing answers: how many bytes it has, or the ground. The number of document 02 stands beside each.
-#[derive(Clone, Copy)]
-pub enum Writing {
-    Written(usize),
+// Why no listing is written. The number of document 02 stands beside each.
+#[derive(Clone, Copy, Debug, PartialEq, Eq)]
+pub enum WritingRefusal {
     // 30: the audit fails
     NotClosed,
     // 2: the mesh is over the ceilings
@@ -20,10 +17,9 @@ pub enum Writing {
     TooShort,
 }
 
-// What reading a listing answers: how many points, edges and faces it lists, or the ground.
-#[derive(Clone, Copy)]
-pub enum ListingReading {
-    Read(Counts),
+// Why no listing is read.
+#[derive(Clone, Copy, Debug, PartialEq, Eq)]
+pub enum ListingRefusal {
     // 40: not of the form
     NotListing,
     // 2: it lists more than the ceilings

@@ -10,17 +10,18 @@ use mend_outputs::{MEND_BYTES, mend};
 use std::io;
 use streams::{read_input, write_output};
 
-// Reads a text into the buffer, mends it there, and writes the output.
+// Reads a text into the buffer, mends it there, and writes the output. It is no part of `main`: what is proved here is of a buffer of any
+// length, and not of a million zeros.
 fn mend_input(rt: HostRuntime, buffer: &mut [u8]) -> io::Result<()>
     requires { 31 ≤ length buffer.old }
 {
-    let n = read_input(rt, b"mend", buffer)?;
+    let n = read_input(rt, "mend", buffer)?;
     let k = mend(buffer, n);
-    write_output(rt, b"mend", &buffer[..k])
+    write_output(rt, "mend", &buffer[..k])
 }
 
 fn main(rt: HostRuntime) -> io::Result<()> {
     // One byte more than the limit. More need not be read: the output for every longer text is the same (`LongText` of `mend_outputs`).
-    let mut text = [0u8; MEND_BYTES + 1];
+    let mut text = [0; MEND_BYTES + 1];
     mend_input(rt, &mut text)
 }

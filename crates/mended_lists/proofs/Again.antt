@@ -2,20 +2,19 @@
 -- nothing.
 use mathlib.Core.Path.{◌≡◌, refl, sym, ◌∙◌, ap}
 use mathlib.Core.Bool.{Bool, true, false, cond, false≢true}
-use mathlib.Core.Logic.{◌⊎◌, inl, inr, ◌≢◌}
+use mathlib.Core.Logic.{inl, inr}
 use mathlib.Core.List.{List}
-use Prim.Native.Nat.{ℕ, zero, suc, ◌+◌, ◌-◌, ◌*◌, ◌≤◌, ◌<◌}
+use Prim.Native.Nat.{ℕ, ◌+◌, ◌-◌, ◌*◌, ◌<◌}
 use native.Mathlib.Omega.{arith}
 use lib.ListN.{length, get_or}
 use lib.Ieee.{Float, nan}
-use Rattle.closed_meshes.specs.Renumbering.{sum_to}
 use Rattle.tables.specs.declared.Sizes.{Sizes}
 use Rattle.tables.specs.Mesh.{Mesh}
 use Rattle.built_meshes.specs.Lists.{Lists, faces_of, side_length, size, offset}
 use Rattle.built_meshes.specs.Faces.{first_at}
 use Rattle.built_meshes.specs.declared.Version.{Version}
-use Rattle.built_meshes.specs.Places.{point_of, next_of, beside_of, IsPlace, Runs, Between, Differ, Earlier}
-use Rattle.built_meshes.specs.Grounds.{Holds, Met, Where, triple-face, same_way, missing-face}
+use Rattle.built_meshes.specs.Places.{point_of, beside_of, IsPlace, Runs, Between, Differ, Earlier}
+use Rattle.built_meshes.specs.Grounds.{Met, Where, triple-face, same_way, missing-face}
 use Rattle.built_meshes.specs.declared.Ground.TheVariants.{EdgeTripleFace, SameWay, MissingFace}
 use Rattle.mended_lists.specs.InTurn.{in_turn}
 use Rattle.mended_lists.specs.Reversal.{turned_point, turned_interval, turned_side, turned_first, Choice, reversed}

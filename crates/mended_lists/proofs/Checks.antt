@@ -4,25 +4,24 @@
 --     lone-met, lone-not             a place is alone on its edge somewhere exactly if 20 is met
 use mathlib.Core.Path.{◌≡◌, refl, sym, ◌∙◌, ap}
 use mathlib.Core.Bool.{Bool, true, false, not, false≢true}
-use mathlib.Core.Logic.{◌⊎◌, inl, inr, ◌≢◌}
+use mathlib.Core.Logic.{inl, inr}
 use mathlib.Core.List.{List}
 use Prim.Native.Nat.{ℕ, zero, suc, ◌+◌, ◌≤◌, ◌<◌}
 use native.Mathlib.Omega.{arith}
 use native.Mathlib.Decide.{ℕ_discrete, dec_lt}
 use lib.Dec.{eqb}
 use lib.ListN.{length}
-use borrow.Author.Tests.{eqb-true, eq-eqb}
+use borrow.Author.Tests.{eq-eqb}
 use Rattle.closed_meshes.proofs.Sums.{place-below}
-use Rattle.audited_meshes.specs.Folds.{every}
 use Rattle.audited_meshes.proofs.Tests.{and_is, eqb_is}
-use Rattle.built_meshes.specs.Lists.{Lists, faces_of, size, offset}
-use Rattle.built_meshes.specs.Places.{point_of, next_of, IsPlace, Runs, Between, Differ, Earlier}
+use Rattle.built_meshes.specs.Lists.{Lists, size, offset}
+use Rattle.built_meshes.specs.Places.{point_of, next_of, IsPlace, Runs, Between, Earlier}
 use Rattle.built_meshes.proofs.Versions.{every-false}
 use Rattle.built_meshes.proofs.Before.{Triple}
-use Rattle.mended_lists.specs.Edges.{FacePlace, places_of, place_at, same_edge, mate, has_mate, third, follower, lone}
+use Rattle.mended_lists.specs.Edges.{FacePlace, places_of, mate, has_mate, third, follower, lone}
 use Rattle.mended_lists.specs.Mending.{edges_shared}
 use Rattle.mended_lists.specs.Grounds.{LoneEdge}
-use Rattle.mended_lists.proofs.Edges.{latest-none, mate-last, mate-found, number-below, number-face, number-place, Numbered, numbered}
+use Rattle.mended_lists.proofs.Edges.{latest-none, mate-last, mate-found, number-face, number-place, Numbered, numbered}
 use Rattle.mended_lists.proofs.Choices.{between-place}
 use Rattle.mended_lists.proofs.Passed.{OnEdge, on_below, on_same, on-mate, three, passed-paired}
 

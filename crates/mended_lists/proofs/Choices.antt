@@ -1,20 +1,20 @@
 -- A choice works exactly if each place and its mate run opposite ways in it. Assumes nothing.
 use mathlib.Core.Path.{◌≡◌, refl, sym, ◌∙◌, ap}
-use mathlib.Core.Bool.{Bool, true, false, cond, false≢true}
-use mathlib.Core.Logic.{◌⊎◌, inl, inr, ◌≢◌, ◌↔◌}
-use Prim.Native.Nat.{ℕ, zero, suc, ◌+◌, ◌≤◌, ◌<◌}
+use mathlib.Core.Bool.{Bool, true, false, false≢true}
+use mathlib.Core.Logic.{◌⊎◌, inl, inr, ◌≢◌}
+use Prim.Native.Nat.{ℕ, suc, ◌+◌, ◌≤◌, ◌<◌}
 use native.Mathlib.Omega.{arith}
 use native.Mathlib.Decide.{ℕ_discrete, dec_lt}
 use lib.Dec.{eqb}
 use lib.ListN.{length}
 use borrow.Author.Tests.{eqb-true, eq-eqb}
-use Rattle.built_meshes.specs.Lists.{Lists, faces_of, size, offset}
+use Rattle.built_meshes.specs.Lists.{Lists, size, offset}
 use Rattle.built_meshes.specs.Places.{point_of, next_of, IsPlace, Runs, Between, Differ}
-use Rattle.mended_lists.specs.Reversal.{Choice, reversed}
-use Rattle.mended_lists.specs.Edges.{FacePlace, listed_place, places_of, place_at, same_way, same_edge, mate}
+use Rattle.mended_lists.specs.Reversal.{Choice}
+use Rattle.mended_lists.specs.Edges.{listed_place, places_of, place_at, same_way, same_edge, mate}
 use Rattle.mended_lists.specs.Parts.{differ}
-use Rattle.mended_lists.specs.Claims.{Sound, Opposite, Works}
-use Rattle.mended_lists.proofs.Parts.{differ_self, differ-swap, OppositeAt}
+use Rattle.mended_lists.specs.Claims.{Sound, Works}
+use Rattle.mended_lists.proofs.Parts.{differ-swap, OppositeAt}
 use Rattle.mended_lists.proofs.Edges.{edge-is, mate-last, mate-found, places-at, number-below, number-face, number-place, Numbered, numbered}
 use Rattle.mended_lists.proofs.Reversal.{mirrored, mirrored-mirrored, eqb-false, is-place-before, runs-before-kept, runs-before-turned, runs-kept, runs-turned}
 

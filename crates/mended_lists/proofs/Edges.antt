@@ -1,21 +1,18 @@
 -- The laws of the places of all faces, and of mates. Assumes nothing.
 use mathlib.Core.Path.{◌≡◌, refl, sym, ◌∙◌, ap}
-use mathlib.Core.Bool.{Bool, true, false, cond, ◌&&◌, ◌||◌, false≢true}
-use mathlib.Core.Logic.{◌⊎◌, inl, inr, ◌≢◌, ◌↔◌}
+use mathlib.Core.Bool.{Bool, true, false, false≢true}
+use mathlib.Core.Logic.{◌⊎◌}
 use mathlib.Core.List.{List}
 use Prim.Native.Nat.{ℕ, zero, suc, ◌+◌, ◌≤◌, ◌<◌}
 use native.Mathlib.Omega.{arith}
 use native.Mathlib.Decide.{ℕ_discrete, dec_lt}
-use lib.Dec.{eqb}
-use lib.ListN.{length, get_or}
-use borrow.Author.Tests.{eqb-true, eq-eqb}
+use lib.ListN.{length}
 use Rattle.closed_meshes.specs.Renumbering.{sum_to}
 use Rattle.closed_meshes.proofs.Sums.{place-below, place-unique, place_found}
 use Rattle.audited_meshes.proofs.Tests.{Is, and_is, or_is, eqb_is}
 use Rattle.built_meshes.specs.Lists.{Lists, faces_of, size, offset}
-use Rattle.built_meshes.specs.Places.{point_of, next_of, IsPlace, Runs, Between}
-use Rattle.mended_lists.specs.InTurn.{in_turn}
-use Rattle.mended_lists.specs.Edges.{FacePlace, listed_place, places_of, place_at, same_way, same_edge, latest, mate}
+use Rattle.built_meshes.specs.Places.{IsPlace}
+use Rattle.mended_lists.specs.Edges.{FacePlace, listed_place, places_of, place_at, same_edge, latest, mate}
 use Rattle.mended_lists.proofs.InTurn.{length-in_turn, get_or-in_turn}
 
 -- ---- the last number that passes a test

@@ -6,32 +6,30 @@
 --     none-answer, answer-none  no ground is met exactly if the lists are mended or the answer is 44
 use mathlib.Core.Path.{◌≡◌, refl, sym, ◌∙◌, ap, subst}
 use mathlib.Core.Bool.{Bool, true, false, not, cond, false≢true}
-use mathlib.Core.Logic.{◌⊎◌, inl, inr, ◌≢◌, ◌↔◌}
+use mathlib.Core.Logic.{◌⊎◌, inl, inr}
 use mathlib.Core.List.{List, [], ◌∷◌}
 use Prim.Native.Nat.{ℕ, zero, suc, ◌+◌, ◌≤◌, ◌<◌}
 use native.Mathlib.Omega.{arith}
-use native.Mathlib.Decide.{ℕ_discrete, dec_lt}
+use native.Mathlib.Decide.{ℕ_discrete}
+use Rattle.std.specs.Prelude.{Result, Ok, Err, ⊤}
 use Rattle.tables.specs.declared.Sizes.{Sizes}
 use Rattle.tables.specs.Mesh.{Mesh, mesh_of}
 use Rattle.audited_meshes.specs.Folds.{every}
 use Rattle.audited_meshes.proofs.Tests.{self-is, every-is}
 use Rattle.built_meshes.specs.Lists.{Lists, points_of, faces_of, size, offset, counts_fit, listed_fit}
 use Rattle.built_meshes.specs.Faces.{face_verdict}
-use Rattle.built_meshes.specs.Places.{point_of, IsPlace, Runs, Between, Differ, Earlier}
+use Rattle.built_meshes.specs.Places.{IsPlace, Earlier}
 use Rattle.built_meshes.specs.Grounds.{IsOverCounts, HasUnfitNumber, Where, lists, face, edge, whole, Met, over-counts, unfit-number, few-rows}
 use Rattle.built_meshes.specs.Grounds.{face-size, out_of_range, point-twice, first-point, non-rectangular, triple-face}
 use Rattle.built_meshes.specs.Grounds.{same_way, missing-face, no_edge, missed-edge, Less, rank, turn_of}
-use Rattle.built_meshes.specs.declared.Verdict.{Verdict}
-use Rattle.built_meshes.specs.declared.Verdict.TheVariants.{Fit, Unfit}
 use Rattle.built_meshes.specs.declared.Ground.{Ground}
-use Rattle.built_meshes.specs.declared.Ground.TheVariants.{OverCounts, UnfitNumber, FewRows, FaceSize, OutOfRange, PointTwice}
-use Rattle.built_meshes.specs.declared.Ground.TheVariants.{FirstPoint, NonRectangularFace, EdgeTripleFace, SameWay, MissingFace, NoEdge, MissedEdge}
+use Rattle.built_meshes.specs.declared.Ground.TheVariants.{EdgeTripleFace}
 use Rattle.built_meshes.proofs.Begin.{counts-is, counts-fail, counted-fits, numbers-is, numbers-fail, numbered-fits}
 use Rattle.built_meshes.proofs.Versions.{firsts-agree}
 use Rattle.built_meshes.proofs.Before.{Tests, tests-of, tests-fewer, Triple, same-ground}
 use Rattle.built_meshes.proofs.Faces as built
-use Rattle.mended_lists.specs.declared.Mending.{Mending}
-use Rattle.mended_lists.specs.declared.Mending.TheVariants.{Mended, Refused, Twisted}
+use Rattle.mended_lists.specs.declared.Unmended.{Unmended}
+use Rattle.mended_lists.specs.declared.Unmended.TheVariants.{Refused, Twisted}
 use Rattle.mended_lists.specs.Edges.{places_of, third}
 use Rattle.mended_lists.specs.Parts.{faces_turned, twisted}
 use Rattle.mended_lists.specs.Reversal.{Choice}
@@ -74,19 +72,19 @@ module _ (c : Sizes) (l : Lists) where
     pub tests : Tests l f 13
     pub edges : (i : ℕ) → i < n → i < size l f → ¬ Triple l f i
 
-  data FaceCame (f : ℕ) : Verdict → Type 0 where
-    passes : Passes f (size l f) → FaceCame f Fit
-    by-test : {g : Ground} → is_shared g ≡ true → Met c l no_tables (face f) g → Tests l f (rank g) → rank g ≤ 13 → FaceCame f (Unfit g)
-    by-edge : (i : ℕ) → i < size l f → Triple l f i → Passes f i → FaceCame f (Unfit EdgeTripleFace)
+  data FaceCame (f : ℕ) : Result ⊤ Ground → Type 0 where
+    passes : Passes f (size l f) → FaceCame f (Ok tt)
+    by-test : {g : Ground} → is_shared g ≡ true → Met c l no_tables (face f) g → Tests l f (rank g) → rank g ≤ 13 → FaceCame f (Err g)
+    by-edge : (i : ℕ) → i < size l f → Triple l f i → Passes f i → FaceCame f (Err EdgeTripleFace)
 
-  edges-came : (f : ℕ) → f < faces_of l → Tests l f 13 → FaceCame f (then_edges Fit (edges_mend (places_of l) (offset l f) (size l f)))
+  edges-came : (f : ℕ) → f < faces_of l → Tests l f 13 → FaceCame f (then_edges (Ok tt) (edges_mend (places_of l) (offset l f) (size l f)))
   unfolding edges_mend
   edges-came f b t = go (every (size l f) (λ i. not (third (places_of l) (offset l f + i)))) refl
     where
       none : (i : ℕ) → not (third (places_of l) (offset l f + i)) ≡ true → ¬ Triple l f i
       none i e m = false≢true (sym (not-true (third (places_of l) (offset l f + i)) e) ∙ triple-third l f i m)
 
-      go : (e : Bool) → every (size l f) (λ i. not (third (places_of l) (offset l f + i))) ≡ e → FaceCame f (then_edges Fit e)
+      go : (e : Bool) → every (size l f) (λ i. not (third (places_of l) (offset l f + i))) ≡ e → FaceCame f (then_edges (Ok tt) e)
       go true e =
           passes
           (record {
@@ -101,7 +99,7 @@ module _ (c : Sizes) (l : Lists) where
   -- what is left of building's verdict
   test-came :
       (f : ℕ) → f < faces_of l → {g : Ground} → Met c l no_tables (face f) g → Tests l f (rank g) →
-      FaceCame f (then_edges (forgiven (Unfit g)) (edges_mend (places_of l) (offset l f) (size l f)))
+      FaceCame f (then_edges (forgiven (Err g)) (edges_mend (places_of l) (offset l f) (size l f)))
   test-came f b (face-size x is h) t = by-test refl (face-size x is h) t (omega arith)
   test-came f b (out_of_range x i is h) t = by-test refl (out_of_range x i is h) t (omega arith)
   test-came f b (point-twice x i j is less same) t = by-test refl (point-twice x i j is less same) t (omega arith)
@@ -113,16 +111,16 @@ module _ (c : Sizes) (l : Lists) where
   face-came f b = go (face_verdict l (points_of l) f (offset l f)) (built.verdict-is c l no_tables f b)
     where
       go :
-          (v : Verdict) → built.FaceVerdict c l no_tables f v →
+          (v : Result ⊤ Ground) → built.FaceVerdict c l no_tables f v →
           FaceCame f (then_edges (forgiven v) (edges_mend (places_of l) (offset l f) (size l f)))
       go v (built.fit sound agrees) = edges-came f b (tests-of l f 13 sound agrees)
       go v (built.unfit met tests n) = test-came f b met tests
 
   -- ---- all faces
 
-  data FacesCame (k : ℕ) : Verdict → Type 0 where
-    all : ((f : ℕ) → f < k → Passes f (size l f)) → FacesCame k Fit
-    stopped : {g : Ground} (f : ℕ) → f < k → ((e : ℕ) → e < f → Passes e (size l e)) → FaceCame f (Unfit g) → FacesCame k (Unfit g)
+  data FacesCame (k : ℕ) : Result ⊤ Ground → Type 0 where
+    all : ((f : ℕ) → f < k → Passes f (size l f)) → FacesCame k (Ok tt)
+    stopped : {g : Ground} (f : ℕ) → f < k → ((e : ℕ) → e < f → Passes e (size l e)) → FaceCame f (Err g) → FacesCame k (Err g)
 
   faces-came : (k : ℕ) → k ≤ faces_of l → FacesCame k (faces_mend l (places_of l) k)
   unfolding faces_mend
@@ -132,7 +130,7 @@ module _ (c : Sizes) (l : Lists) where
       never f h = omega arith
   faces-came (suc k) b = go (faces_mend l (places_of l) k) (faces-came k (omega arith))
     where
-      this : (v : Verdict) → ((f : ℕ) → f < k → Passes f (size l f)) → FaceCame k v → FacesCame (suc k) v
+      this : (v : Result ⊤ Ground) → ((f : ℕ) → f < k → Passes f (size l f)) → FaceCame k v → FacesCame (suc k) v
       this v before (passes p) = all (λ f h. at f h (ℕ_discrete f k))
         where
           at : (f : ℕ) → f < suc k → Dec (f ≡ k) → Passes f (size l f)
@@ -141,14 +139,14 @@ module _ (c : Sizes) (l : Lists) where
       this v before (by-test s m t r) = stopped k (omega arith) before (by-test s m t r)
       this v before (by-edge i h m p) = stopped k (omega arith) before (by-edge i h m p)
 
-      go : (v : Verdict) → FacesCame k v → FacesCame (suc k) (then_face v (face_mends l (places_of l) k))
+      go : (v : Result ⊤ Ground) → FacesCame k v → FacesCame (suc k) (then_face v (face_mends l (places_of l) k))
       go v (all before) = this (face_mends l (places_of l) k) before (face-came k (omega arith))
       go v (stopped f h before came) = stopped f (omega arith) before came
 
-  pub faces-pass : faces_mend l (places_of l) (faces_of l) ≡ Fit → (f : ℕ) → f < faces_of l → Passes f (size l f)
+  pub faces-pass : faces_mend l (places_of l) (faces_of l) ≡ Ok tt → (f : ℕ) → f < faces_of l → Passes f (size l f)
   faces-pass e f b = go (faces_mend l (places_of l) (faces_of l)) (faces-came (faces_of l) (omega arith)) e
     where
-      go : (v : Verdict) → FacesCame (faces_of l) v → v ≡ Fit → Passes f (size l f)
+      go : (v : Result ⊤ Ground) → FacesCame (faces_of l) v → v ≡ Ok tt → Passes f (size l f)
       go v (all pass) e = pass f b
       go v (stopped {g = g} f' h before at) e = absurd (unfit g e)
 
@@ -316,13 +314,13 @@ module _ (c : Sizes) (l : Lists) where
 
   -- ---- the answer
 
-  data Came : Mending → Type 0 where
-    refuses : {g : Ground} (w : Where) → MeetsFirst c l w g → Came (Refused g)
-    passes-all : MeetsNone c l → Came (cond (twisted l) Twisted Mended)
+  data Came : Result ⊤ Unmended → Type 0 where
+    refuses : {g : Ground} (w : Where) → MeetsFirst c l w g → Came (Err (Refused g))
+    passes-all : MeetsNone c l → Came (cond (twisted l) (Err Twisted) (Ok tt))
 
   face-first :
-      ¬ IsOverCounts c l → ¬ HasUnfitNumber l → (F : ℕ) → F < faces_of l → ((f : ℕ) → f < F → Passes f (size l f)) → (v : Verdict) →
-      FaceCame F v → (g : Ground) → v ≡ Unfit g → (w : Where) × MeetsFirst c l w g
+      ¬ IsOverCounts c l → ¬ HasUnfitNumber l → (F : ℕ) → F < faces_of l → ((f : ℕ) → f < F → Passes f (size l f)) → (v : Result ⊤ Ground) →
+      FaceCame F v → (g : Ground) → v ≡ Err g → (w : Where) × MeetsFirst c l w g
   face-first nc nn F b below v (passes p) g e = absurd (unfit g (sym e))
   face-first nc nn F b below v (by-test {g = h} s m t r) g e =
       let q : h ≡ g = cc in
@@ -343,10 +341,10 @@ module _ (c : Sizes) (l : Lists) where
   came = counts (counts_fit c l) refl
     where
       faces :
-          ¬ IsOverCounts c l → ¬ HasUnfitNumber l → (v : Verdict) → FacesCame (faces_of l) v → (s : Bool) → edges_shared (places_of l) ≡ s →
+          ¬ IsOverCounts c l → ¬ HasUnfitNumber l → (v : Result ⊤ Ground) → FacesCame (faces_of l) v → (s : Bool) → edges_shared (places_of l) ≡ s →
           Came (whole_mends v s (twisted l))
       faces nc nn v (stopped {g = g} f b below at) s e =
-          let z = face-first nc nn f b below (Unfit g) at g refl in refuses z.0 z.1
+          let z = face-first nc nn f b below (Err g) at g refl in refuses z.0 z.1
       faces nc nn v (all pass) false e =
           refuses whole
           (record {
@@ -355,9 +353,9 @@ module _ (c : Sizes) (l : Lists) where
           })
       faces nc nn v (all pass) true e = answer (twisted l) refl
         where
-          answer : (t : Bool) → twisted l ≡ t → Came (whole_mends Fit true t)
-          answer true t = subst Came (ap (λ (x : Bool). cond x Twisted Mended) t) (passes-all (none-met nc nn pass (lone-not l e)))
-          answer false t = subst Came (ap (λ (x : Bool). cond x Twisted Mended) t) (passes-all (none-met nc nn pass (lone-not l e)))
+          answer : (t : Bool) → twisted l ≡ t → Came (whole_mends (Ok tt) true t)
+          answer true t = subst Came (ap (λ (x : Bool). cond x (Err Twisted) (Ok tt)) t) (passes-all (none-met nc nn pass (lone-not l e)))
+          answer false t = subst Came (ap (λ (x : Bool). cond x (Err Twisted) (Ok tt)) t) (passes-all (none-met nc nn pass (lone-not l e)))
 
       numbers : ¬ IsOverCounts c l → (b : Bool) → listed_fit l ≡ b → Came (mending_if true b l)
       numbers nc true e =
@@ -381,38 +379,38 @@ module _ (c : Sizes) (l : Lists) where
 
 -- ---- the claims
 
-clash : {A : Type 0} (g : Ground) (t : Bool) → Refused g ≡ cond t Twisted Mended → A
+clash : {A : Type 0} (g : Ground) (t : Bool) → ◌≡◌ {A = Result ⊤ Unmended} (Err (Refused g)) (cond t (Err Twisted) (Ok tt)) → A
 clash g true e = let z : ◌≡◌ {A = ℕ} 0 1 = cc in absurd (omega arith)
 clash g false e = let z : ◌≡◌ {A = ℕ} 0 1 = cc in absurd (omega arith)
 
 pub first-ground : FirstGround
 first-ground c l g = (to (mending c l) (came c l), λ w. from (mending c l) (came c l) w.0 w.1)
   where
-    to : (r : Mending) → Came c l r → r ≡ Refused g → (w : Where) × MeetsFirst c l w g
+    to : (r : Result ⊤ Unmended) → Came c l r → r ≡ Err (Refused g) → (w : Where) × MeetsFirst c l w g
     to r (refuses {g = h} w m) e = let same : h ≡ g = cc in (w, subst (λ g. MeetsFirst c l w g) same m)
     to r (passes-all none) e = clash g (twisted l) (sym e)
 
-    from : (r : Mending) → Came c l r → (w : Where) → MeetsFirst c l w g → r ≡ Refused g
+    from : (r : Result ⊤ Unmended) → Came c l r → (w : Where) → MeetsFirst c l w g → r ≡ Err (Refused g)
     from r (refuses {g = h} w' m) w f =
-        ap Refused (same-ground w' h w g (λ z. f.none_before w' h z m.met) (λ z. m.none_before w g z f.met))
+        ap (λ (x : Ground). Err (Refused x)) (same-ground w' h w g (λ z. f.none_before w' h z m.met) (λ z. m.none_before w g z f.met))
     from r (passes-all none) w f = absurd (none w g f.met)
 
 -- where no ground is met, the answer is 44 or the lists are mended
-pub none-answer : (c : Sizes) (l : Lists) → MeetsNone c l → (mending c l ≡ Mended) ⊎ (mending c l ≡ Twisted)
+pub none-answer : (c : Sizes) (l : Lists) → MeetsNone c l → (mending c l ≡ Ok tt) ⊎ (mending c l ≡ Err Twisted)
 none-answer c l none = go (mending c l) (came c l)
   where
-    go : (r : Mending) → Came c l r → (r ≡ Mended) ⊎ (r ≡ Twisted)
+    go : (r : Result ⊤ Unmended) → Came c l r → (r ≡ Ok tt) ⊎ (r ≡ Err Twisted)
     go r (refuses {g = g} w m) = absurd (none w g m.met)
     go r (passes-all n) = this (twisted l)
       where
-        this : (t : Bool) → (cond t Twisted Mended ≡ Mended) ⊎ (cond t Twisted Mended ≡ Twisted)
+        this : (t : Bool) → ◌≡◌ {A = Result ⊤ Unmended} (cond t (Err Twisted) (Ok tt)) (Ok tt) ⊎ ◌≡◌ {A = Result ⊤ Unmended} (cond t (Err Twisted) (Ok tt)) (Err Twisted)
         this true = inr refl
         this false = inl refl
 
-pub answer-none : (c : Sizes) (l : Lists) → (mending c l ≡ Mended) ⊎ (mending c l ≡ Twisted) → MeetsNone c l
+pub answer-none : (c : Sizes) (l : Lists) → (mending c l ≡ Ok tt) ⊎ (mending c l ≡ Err Twisted) → MeetsNone c l
 answer-none c l e = go (mending c l) (came c l) e
   where
-    go : (r : Mending) → Came c l r → (r ≡ Mended) ⊎ (r ≡ Twisted) → MeetsNone c l
+    go : (r : Result ⊤ Unmended) → Came c l r → (r ≡ Ok tt) ⊎ (r ≡ Err Twisted) → MeetsNone c l
     go r (refuses {g = g} w m) (inl e) = clash g false e
     go r (refuses {g = g} w m) (inr e) = clash g true e
     go r (passes-all none) e = none
@@ -427,6 +425,6 @@ else-mended c l = (
   λ h. go (none-answer c l h.0) h.1.0 h.1.1,
 )
   where
-    go : (mending c l ≡ Mended) ⊎ (mending c l ≡ Twisted) → (t : Choice) → Works l t → mending c l ≡ Mended
+    go : (mending c l ≡ Ok tt) ⊎ (mending c l ≡ Err Twisted) → (t : Choice) → Works l t → mending c l ≡ Ok tt
     go (inl e) t works = e
     go (inr e) t works = absurd ((mended-exactly c l (inr e)).0.0 e t works)

@@ -11,7 +11,7 @@ use lib.Dec.{eqb}
 use borrow.Author.Tests.{eqb-true, eq-eqb}
 use Rattle.mended_lists.specs.Edges.{FacePlace, place_at, same_way, mate}
 use Rattle.mended_lists.specs.declared.Part.{Part}
-use Rattle.mended_lists.specs.Parts.{Parts, differ, lone_part, moved_if, part_moved, apart, joined_if, parts_joined, parts_met, parts_to}
+use Rattle.mended_lists.specs.Parts.{Parts, differ, lone_part, part_moved, apart, joined_if, parts_joined, parts_met, parts_to}
 
 -- ---- truth values that differ
 

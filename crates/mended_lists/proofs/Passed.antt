@@ -1,6 +1,6 @@
 -- Lists that pass the mender's grounds before 44 are sound, and each place shares its edge. Assumes nothing.
 use mathlib.Core.Path.{◌≡◌, refl, sym, ◌∙◌, ap}
-use mathlib.Core.Bool.{Bool, true, false, not, cond, ◌&&◌, false≢true}
+use mathlib.Core.Bool.{Bool, true, false, not, cond, false≢true}
 use mathlib.Core.Logic.{◌⊎◌, inl, inr, ◌≢◌, ◌↔◌}
 use mathlib.Core.List.{List}
 use Prim.Native.Nat.{ℕ, zero, suc, ◌+◌, ◌≤◌, ◌<◌}
@@ -8,30 +8,28 @@ use native.Mathlib.Omega.{arith}
 use native.Mathlib.Decide.{ℕ_discrete, dec_lt}
 use lib.Dec.{eqb}
 use lib.ListN.{length}
-use borrow.Author.Tests.{eqb-true, eq-eqb}
+use borrow.Author.Tests.{eqb-true}
+use Rattle.std.specs.Prelude.{Result, Ok, Err, ⊤}
 use Rattle.perimeters.specs.Places.{next_place}
 use Rattle.perimeters.proofs.Laws.{next-below, next-differs}
 use Rattle.tables.specs.declared.Sizes.{Sizes}
 use Rattle.tables.specs.Layout.{longest_perimeter}
 use Rattle.audited_meshes.specs.Folds.{every}
-use Rattle.audited_meshes.proofs.Tests.{Is, self-is, not_is, and_is, leb-is, eqb_is, every-is}
+use Rattle.audited_meshes.proofs.Tests.{self-is, not_is, and_is, leb-is, eqb_is, every-is}
 use Rattle.built_meshes.specs.Lists.{Lists, points_of, faces_of, size, offset, counts_fit, listed_fit}
 use Rattle.built_meshes.specs.Faces.{size_fit, listed_in_range, no_point_twice, firsts_fit, sums_fit, face_verdict}
-use Rattle.built_meshes.specs.Answers.{ground_number}
-use Rattle.built_meshes.specs.Places.{point_of, next_of, IsPlace, Runs, Between, Differ}
-use Rattle.built_meshes.specs.declared.Verdict.{Verdict}
-use Rattle.built_meshes.specs.declared.Verdict.TheVariants.{Fit, Unfit}
+use Rattle.built_meshes.specs.Places.{point_of, IsPlace, Runs, Between, Differ}
 use Rattle.built_meshes.specs.declared.Ground.{Ground}
 use Rattle.built_meshes.specs.declared.Ground.TheVariants.{OverCounts, UnfitNumber, FaceSize, OutOfRange, PointTwice, FirstPoint, NonRectangularFace, EdgeTripleFace, MissingFace}
-use Rattle.mended_lists.specs.declared.Mending.{Mending}
-use Rattle.mended_lists.specs.declared.Mending.TheVariants.{Mended, Refused, Twisted}
+use Rattle.mended_lists.specs.declared.Unmended.{Unmended}
+use Rattle.mended_lists.specs.declared.Unmended.TheVariants.{Refused, Twisted}
 use Rattle.mended_lists.specs.Reversal.{Choice}
-use Rattle.mended_lists.specs.Edges.{FacePlace, listed_place, places_of, place_at, same_edge, latest, mate, has_mate, third, follower, lone}
+use Rattle.mended_lists.specs.Edges.{FacePlace, listed_place, places_of, place_at, same_edge, mate, third, follower, lone}
 use Rattle.mended_lists.specs.Parts.{faces_turned, twisted}
 use Rattle.mended_lists.specs.Mending.{forgiven, edges_mend, then_edges, face_mends, then_face, faces_mend, whole_mends, edges_shared, mending_if, mending}
 use Rattle.mended_lists.specs.Claims.{Sound, Paired, Works, PassedSound, MendedExactly}
 use Rattle.mended_lists.proofs.Reversal.{eqb-false}
-use Rattle.mended_lists.proofs.Edges.{edge-is, latest-last, mate-last, mate-found, places-at, places-length, number-below, number-face, number-place, Numbered, numbered}
+use Rattle.mended_lists.proofs.Edges.{edge-is, latest-last, mate-last, mate-found, places-at, number-below, number-face, number-place, Numbered, numbered}
 use Rattle.mended_lists.proofs.Choices.{between-edge, edge-between, between-place}
 use Rattle.mended_lists.proofs.Theorem.{twisted-exactly, found}
 
@@ -48,23 +46,23 @@ same_back a b e = (edge-is b a).1 (go ((edge-is a b).0 e))
 
 -- ---- one face
 
-pub unfit : (g : Ground) → Unfit g ≡ Fit → ⊥
+pub unfit : (g : Ground) → ◌≡◌ {A = Result ⊤ Ground} (Err g) (Ok tt) → ⊥
 unfit g h = let z : ◌≡◌ {A = ℕ} 0 1 = cc in omega arith
 
-pub fit_edges : (v : Verdict) (e : Bool) → then_edges v e ≡ Fit → (v ≡ Fit) × (e ≡ true)
-fit_edges Fit true h = (refl, refl)
-fit_edges Fit false h = absurd (unfit EdgeTripleFace h)
-fit_edges (Unfit g) true h = let z : ◌≡◌ {A = ℕ} 0 1 = cc in absurd (omega arith)
-fit_edges (Unfit g) false h = let z : ◌≡◌ {A = ℕ} 0 1 = cc in absurd (omega arith)
+pub fit_edges : (v : Result ⊤ Ground) (e : Bool) → then_edges v e ≡ Ok tt → (v ≡ Ok tt) × (e ≡ true)
+fit_edges (Ok tt) true h = (refl, refl)
+fit_edges (Ok tt) false h = absurd (unfit EdgeTripleFace h)
+fit_edges (Err g) true h = let z : ◌≡◌ {A = ℕ} 0 1 = cc in absurd (omega arith)
+fit_edges (Err g) false h = let z : ◌≡◌ {A = ℕ} 0 1 = cc in absurd (omega arith)
 
-fit-face : (v w : Verdict) → then_face v w ≡ Fit → (v ≡ Fit) × (w ≡ Fit)
-fit-face Fit w h = (refl, h)
-fit-face (Unfit g) w h = absurd (unfit g h)
+fit-face : (v w : Result ⊤ Ground) → then_face v w ≡ Ok tt → (v ≡ Ok tt) × (w ≡ Ok tt)
+fit-face (Ok tt) w h = (refl, h)
+fit-face (Err g) w h = absurd (unfit g h)
 
 -- the tests that a face has passed
 first-tests :
-    (a b c : Bool) (rest : Verdict) →
-    forgiven (cond (not a) (Unfit FaceSize) (cond (not b) (Unfit OutOfRange) (cond (not c) (Unfit PointTwice) rest))) ≡ Fit →
+    (a b c : Bool) (rest : Result ⊤ Ground) →
+    forgiven (cond (not a) (Err FaceSize) (cond (not b) (Err OutOfRange) (cond (not c) (Err PointTwice) rest))) ≡ Ok tt →
     (a ≡ true) × (c ≡ true)
 first-tests true true true rest h = (refl, refl)
 first-tests true true false rest h = absurd (unfit PointTwice h)
@@ -73,16 +71,16 @@ first-tests false b c rest h = absurd (unfit FaceSize h)
 
 module _ (l : Lists) where
   face-tests :
-      (f : ℕ) → forgiven (face_verdict l (points_of l) f (offset l f)) ≡ Fit →
+      (f : ℕ) → forgiven (face_verdict l (points_of l) f (offset l f)) ≡ Ok tt →
       (size_fit (size l f) ≡ true) × (no_point_twice l (offset l f) (size l f) ≡ true)
   unfolding face_verdict
   face-tests f h =
       first-tests (size_fit (size l f)) (listed_in_range l (points_of l) (offset l f) (size l f)) (no_point_twice l (offset l f) (size l f))
-      (cond (not (firsts_fit l.version l f (offset l f))) (Unfit FirstPoint)
-      (cond (not (sums_fit l.version l f (offset l f))) (Unfit NonRectangularFace) Fit))
+      (cond (not (firsts_fit l.version l f (offset l f))) (Err FirstPoint)
+      (cond (not (sums_fit l.version l f (offset l f))) (Err NonRectangularFace) (Ok tt)))
       h
 
-  faces-passed : (k : ℕ) → faces_mend l (places_of l) k ≡ Fit → (f : ℕ) → f < k → face_mends l (places_of l) f ≡ Fit
+  faces-passed : (k : ℕ) → faces_mend l (places_of l) k ≡ Ok tt → (f : ℕ) → f < k → face_mends l (places_of l) f ≡ Ok tt
   unfolding faces_mend
   faces-passed zero h f b = absurd (never b)
     where
@@ -90,17 +88,17 @@ module _ (l : Lists) where
       never b = omega arith
   faces-passed (suc k) h f b = go (ℕ_discrete f k) (λ q. faces-passed k both.0 f q)
     where
-      both : (faces_mend l (places_of l) k ≡ Fit) × (face_mends l (places_of l) k ≡ Fit)
+      both : (faces_mend l (places_of l) k ≡ Ok tt) × (face_mends l (places_of l) k ≡ Ok tt)
       both = fit-face (faces_mend l (places_of l) k) (face_mends l (places_of l) k) h
 
-      go : Dec (f ≡ k) → (f < k → face_mends l (places_of l) f ≡ Fit) → face_mends l (places_of l) f ≡ Fit
+      go : Dec (f ≡ k) → (f < k → face_mends l (places_of l) f ≡ Ok tt) → face_mends l (places_of l) f ≡ Ok tt
       go (yes e) before = rw e both.1
       go (no e) before = before (omega arith)
 
-  module _ (passed : faces_mend l (places_of l) (faces_of l) ≡ Fit) where
+  module _ (passed : faces_mend l (places_of l) (faces_of l) ≡ Ok tt) where
     pub face-passed :
         (f : ℕ) → f < faces_of l →
-        (forgiven (face_verdict l (points_of l) f (offset l f)) ≡ Fit) × (edges_mend (places_of l) (offset l f) (size l f) ≡ true)
+        (forgiven (face_verdict l (points_of l) f (offset l f)) ≡ Ok tt) × (edges_mend (places_of l) (offset l f) (size l f) ≡ true)
     unfolding face_mends
     face-passed f b =
         fit_edges (forgiven (face_verdict l (points_of l) f (offset l f))) (edges_mend (places_of l) (offset l f) (size l f))
@@ -192,7 +190,7 @@ module _ (l : Lists) (p q : ℕ) where
 
 -- ---- the whole
 
-module _ (l : Lists) (passed : faces_mend l (places_of l) (faces_of l) ≡ Fit) where
+module _ (l : Lists) (passed : faces_mend l (places_of l) (faces_of l) ≡ Ok tt) where
   not_three : (p q i j k : ℕ) → i < j → j < k → OnEdge l p q i → OnEdge l p q j → OnEdge l p q k → ⊥
   not_three p q i j k x y a b c =
       false≢true
@@ -300,26 +298,26 @@ module _ (l : Lists) (shared : edges_shared (places_of l) ≡ true) where
 
 module _ (c : Sizes) (l : Lists) where
   pub mended-parts :
-      (mending c l ≡ Mended) ⊎ (mending c l ≡ Twisted) →
-      (faces_mend l (places_of l) (faces_of l) ≡ Fit) × (edges_shared (places_of l) ≡ true) × (mending c l ≡ cond (twisted l) Twisted Mended)
+      (mending c l ≡ Ok tt) ⊎ (mending c l ≡ Err Twisted) →
+      (faces_mend l (places_of l) (faces_of l) ≡ Ok tt) × (edges_shared (places_of l) ≡ true) × (mending c l ≡ cond (twisted l) (Err Twisted) (Ok tt))
   unfolding mending mending_if
   mended-parts = counts (counts_fit c l) (listed_fit l)
     where
-      refused : (g : Ground) → (Refused g ≡ Mended) ⊎ (Refused g ≡ Twisted) → ⊥
+      refused : (g : Ground) → ◌≡◌ {A = Result ⊤ Unmended} (Err (Refused g)) (Ok tt) ⊎ ◌≡◌ {A = Result ⊤ Unmended} (Err (Refused g)) (Err Twisted) → ⊥
       refused g (inl h) = let z : ◌≡◌ {A = ℕ} 0 1 = cc in omega arith
       refused g (inr h) = let z : ◌≡◌ {A = ℕ} 0 1 = cc in omega arith
 
       whole :
-          (v : Verdict) (s t : Bool) → (whole_mends v s t ≡ Mended) ⊎ (whole_mends v s t ≡ Twisted) →
-          (v ≡ Fit) × (s ≡ true) × (whole_mends v s t ≡ cond t Twisted Mended)
-      whole (Unfit g) s t h = absurd (refused g h)
-      whole Fit false t h = absurd (refused MissingFace h)
-      whole Fit true true h = (refl, refl, refl)
-      whole Fit true false h = (refl, refl, refl)
+          (v : Result ⊤ Ground) (s t : Bool) → (whole_mends v s t ≡ Ok tt) ⊎ (whole_mends v s t ≡ Err Twisted) →
+          (v ≡ Ok tt) × (s ≡ true) × (whole_mends v s t ≡ cond t (Err Twisted) (Ok tt))
+      whole (Err g) s t h = absurd (refused g h)
+      whole (Ok tt) false t h = absurd (refused MissingFace h)
+      whole (Ok tt) true true h = (refl, refl, refl)
+      whole (Ok tt) true false h = (refl, refl, refl)
 
       counts :
-          (a b : Bool) → (mending_if a b l ≡ Mended) ⊎ (mending_if a b l ≡ Twisted) →
-          (faces_mend l (places_of l) (faces_of l) ≡ Fit) × (edges_shared (places_of l) ≡ true) × (mending_if a b l ≡ cond (twisted l) Twisted Mended)
+          (a b : Bool) → (mending_if a b l ≡ Ok tt) ⊎ (mending_if a b l ≡ Err Twisted) →
+          (faces_mend l (places_of l) (faces_of l) ≡ Ok tt) × (edges_shared (places_of l) ≡ true) × (mending_if a b l ≡ cond (twisted l) (Err Twisted) (Ok tt))
       counts false b h = absurd (refused OverCounts h)
       counts true false h = absurd (refused UnfitNumber h)
       counts true true h = whole (faces_mend l (places_of l) (faces_of l)) (edges_shared (places_of l)) (twisted l) h
@@ -334,20 +332,20 @@ mended-exactly c l h = go (twisted l) refl
     sound : Sound l
     sound = (passed c l h).0
 
-    answer : mending c l ≡ cond (twisted l) Twisted Mended
+    answer : mending c l ≡ cond (twisted l) (Err Twisted) (Ok tt)
     answer = (mended-parts c l h).2
 
-    clash : Mended ≡ Twisted → ⊥
+    clash : ◌≡◌ {A = Result ⊤ Unmended} (Ok tt) (Err Twisted) → ⊥
     clash e = let z : ◌≡◌ {A = ℕ} 0 1 = cc in omega arith
 
     go :
         (t : Bool) → twisted l ≡ t →
-        ((mending c l ≡ Twisted) ↔ ((t : Choice) → ¬ Works l t)) × ((mending c l ≡ Mended) ↔ Works l (faces_turned l))
+        ((mending c l ≡ Err Twisted) ↔ ((t : Choice) → ¬ Works l t)) × ((mending c l ≡ Ok tt) ↔ Works l (faces_turned l))
     go true e =
-        let r : mending c l ≡ Twisted = answer ∙ rw e in (
+        let r : mending c l ≡ Err Twisted = answer ∙ rw e in (
           (λ x. (twisted-exactly l sound).0 e, λ x. r),
           (λ x. absurd (clash (sym x ∙ r)), λ x. absurd ((twisted-exactly l sound).0 e (faces_turned l) x)),
         )
     go false e =
-        let r : mending c l ≡ Mended = answer ∙ rw e in
+        let r : mending c l ≡ Ok tt = answer ∙ rw e in
         ((λ x. absurd (clash (sym r ∙ x)), λ x. absurd (x (faces_turned l) (found l sound e).0)), (λ x. (found l sound e).0, λ x. r))

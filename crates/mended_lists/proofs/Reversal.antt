@@ -1,25 +1,21 @@
 -- The laws of faces turned round: a turned face has the same edges and runs them the other way. Assumes nothing.
 use mathlib.Core.Path.{◌≡◌, refl, sym, ◌∙◌, ap}
-use mathlib.Core.Bool.{Bool, true, false, cond, false≢true}
-use mathlib.Core.Logic.{◌⊎◌, inl, inr, ◌≢◌, ◌↔◌}
-use mathlib.Core.List.{List}
-use Prim.Native.Nat.{ℕ, zero, suc, ◌+◌, ◌-◌, ◌*◌, ◌/◌, ◌≤◌, ◌<◌}
+use mathlib.Core.Bool.{Bool, true, false, cond}
+use mathlib.Core.Logic.{◌≢◌}
+use Prim.Native.Nat.{ℕ, suc, ◌+◌, ◌-◌, ◌/◌, ◌≤◌, ◌<◌}
 use native.Mathlib.Omega.{arith}
 use native.Mathlib.Nat.{mul-div_cancel}
-use native.Mathlib.Decide.{ℕ_discrete, dec_lt}
+use native.Mathlib.Decide.{ℕ_discrete}
 use lib.Dec.{eqb}
-use lib.ListN.{length, get_or}
-use lib.Ieee.{Float, nan}
+use lib.ListN.{get_or}
 use borrow.Author.Tests.{eqb-true, eq-eqb}
 use Rattle.perimeters.specs.Places.{next_place}
 use Rattle.perimeters.proofs.Laws.{next-below, next_more, next_last}
-use Rattle.closed_meshes.specs.Renumbering.{sum_to}
 use Rattle.built_meshes.specs.Lists.{Lists, faces_of, side_length, size, offset}
 use Rattle.built_meshes.specs.Faces.{first_at}
-use Rattle.built_meshes.specs.Places.{point_of, next_of, IsPlace, Runs, Between}
-use Rattle.mended_lists.specs.InTurn.{in_turn}
-use Rattle.mended_lists.specs.Reversal.{turned_point, turned_interval, turned_side, turned_first, Choice, reversed}
-use Rattle.mended_lists.proofs.InTurn.{sum_to-same, sum_to-four, length-in_turn, get_or-in_turn, in_turn-is}
+use Rattle.built_meshes.specs.Places.{point_of, next_of, IsPlace, Runs}
+use Rattle.mended_lists.specs.Reversal.{turned_point, turned_side, turned_first, Choice, reversed}
+use Rattle.mended_lists.proofs.InTurn.{sum_to-same, sum_to-four, length-in_turn, get_or-in_turn}
 
 -- ---- numbers
 

@@ -1,24 +1,21 @@
 -- A turned face keeps each interval on its pair of points, and its first points agree if they did before. Assumes nothing.
 use mathlib.Core.Path.{◌≡◌, refl, sym, ◌∙◌, ap}
 use mathlib.Core.Bool.{Bool, true, false, cond}
-use mathlib.Core.Logic.{◌⊎◌, inl, inr, ◌≢◌}
+use mathlib.Core.Logic.{inl, inr}
 use Prim.Native.Nat.{ℕ, zero, suc, ◌+◌, ◌-◌, ◌≤◌, ◌<◌}
 use native.Mathlib.Omega.{arith}
 use native.Mathlib.Decide.{ℕ_discrete}
-use lib.Dec.{eqb}
 use lib.ListN.{get_or}
 use lib.Ieee.{nan}
 use Rattle.perimeters.specs.Places.{next_place}
 use Rattle.perimeters.proofs.Laws.{next-below, next_more, next_last}
-use Rattle.audited_meshes.specs.Folds.{every}
 use Rattle.audited_meshes.proofs.Tests.{eqb_is, every-is}
-use Rattle.built_meshes.specs.Lists.{Lists, faces_of, side_length, size, offset}
+use Rattle.built_meshes.specs.Lists.{Lists, faces_of, side_length, size}
 use Rattle.built_meshes.specs.Faces.{side_from, last_before, first_at, firsts_fit}
-use Rattle.built_meshes.specs.Places.{point_of, beside_of, IsPlace, Runs, Between}
-use Rattle.built_meshes.specs.declared.Version.TheVariants.{Two}
-use Rattle.mended_lists.specs.Reversal.{turned_point, turned_interval, turned_side, turned_first, Choice, reversed}
+use Rattle.built_meshes.specs.Places.{point_of, beside_of, IsPlace, Between}
+use Rattle.mended_lists.specs.Reversal.{turned_point, turned_interval, turned_first, Choice, reversed}
 use Rattle.mended_lists.specs.Claims.{IntervalsStay, FirstsAgree}
-use Rattle.mended_lists.proofs.Reversal.{mirrored, mirrored-mirrored, mirrored-below, turned-last, turned-other, turned-turned, first-other}
+use Rattle.mended_lists.proofs.Reversal.{mirrored, mirrored-below, turned-last, turned-other, turned-turned, first-other}
 use Rattle.mended_lists.proofs.Reversal.{reversed-size, reversed-offset, reversed-point, side-reversed, first-reversed, runs-kept, runs-turned}
 use Rattle.mended_lists.proofs.Again.{interval-at}
 

@@ -1,19 +1,18 @@
 -- The claims of `specs/Claims.antt`. Assumes nothing.
 use mathlib.Core.Path.{◌≡◌, refl, sym, ◌∙◌, ap}
-use mathlib.Core.Bool.{Bool, true, false, cond, false≢true}
-use mathlib.Core.Logic.{◌⊎◌, inl, inr, ◌≢◌, ◌↔◌}
-use Prim.Native.Nat.{ℕ, zero, suc, ◌+◌, ◌*◌, ◌≤◌, ◌<◌}
+use mathlib.Core.Bool.{Bool, true, false, false≢true}
+use mathlib.Core.Logic.{inl}
+use Prim.Native.Nat.{ℕ, suc, ◌+◌, ◌≤◌, ◌<◌}
 use native.Mathlib.Omega.{arith}
-use native.Mathlib.Decide.{ℕ_discrete, dec_lt}
-use lib.Dec.{eqb}
+use native.Mathlib.Decide.{dec_lt}
 use lib.ListN.{length}
-use Rattle.built_meshes.specs.Lists.{Lists, faces_of, size, offset}
-use Rattle.built_meshes.specs.Places.{point_of, next_of, IsPlace, Runs, Between, Differ}
-use Rattle.mended_lists.specs.Reversal.{Choice, reversed}
-use Rattle.mended_lists.specs.Edges.{FacePlace, listed_place, places_of, place_at, same_way, same_edge, mate}
+use Rattle.built_meshes.specs.Lists.{Lists, offset}
+use Rattle.built_meshes.specs.Places.{point_of, next_of, IsPlace, Between}
+use Rattle.mended_lists.specs.Reversal.{Choice}
+use Rattle.mended_lists.specs.Edges.{places_of, place_at, mate}
 use Rattle.mended_lists.specs.declared.Part.{Part}
-use Rattle.mended_lists.specs.Parts.{differ, lone_part, parts_to, parts_of, faces_turned, twisted}
-use Rattle.mended_lists.specs.Claims.{Sound, Opposite, Works, Share, InPart, itself, beside, LowestStay, TwistedExactly, ChoiceFound, OnlyOne}
+use Rattle.mended_lists.specs.Parts.{differ, lone_part, parts_of, faces_turned, twisted}
+use Rattle.mended_lists.specs.Claims.{Sound, Works, Share, InPart, itself, beside, LowestStay, TwistedExactly, ChoiceFound, OnlyOne}
 use Rattle.mended_lists.proofs.Parts.{parts-rooted, parts-follow, parts-agree, parts_within, Follows}
 use Rattle.mended_lists.proofs.Edges.{mate-last, places-at, number-below, number-face, Numbered, numbered}
 use Rattle.mended_lists.proofs.Choices.{works-opposite, opposite-works, only-mate, between-place, edge-between}

@@ -7,16 +7,17 @@
 use mathlib.Core.Path.{◌≡◌, refl, sym, ◌∙◌, ap}
 use mathlib.Core.Bool.{Bool, true, false, cond}
 use mathlib.Core.Logic.{◌⊎◌, inl, inr}
-use Prim.Native.Nat.{ℕ, zero, suc, ◌+◌, ◌*◌, ◌%◌, ◌≤◌, ◌<◌}
+use Prim.Native.Nat.{ℕ, ◌+◌, ◌*◌, ◌%◌, ◌≤◌, ◌<◌}
 use native.Mathlib.Omega.{arith}
 use lib.ListN.{length, get_or}
 use lib.Ieee.{nan}
 use borrow.Author.Tests.{eq-eqb}
+use Rattle.std.specs.Prelude.{Ok, Err}
 use Rattle.tables.specs.declared.Sizes.{Sizes}
 use Rattle.closed_meshes.specs.Renumbering.{sum_to}
 use Rattle.closed_meshes.proofs.Sums.{place-below, place_found}
 use Rattle.audited_meshes.specs.Audit.{interval_fit}
-use Rattle.built_meshes.specs.Lists.{Lists, faces_of, side_length, size, offset, firsts_counted, counts_fit, listed_fit}
+use Rattle.built_meshes.specs.Lists.{Lists, faces_of, size, offset, firsts_counted, counts_fit, listed_fit}
 use Rattle.built_meshes.specs.Faces.{firsts_fit}
 use Rattle.built_meshes.specs.Places.{point_of, beside_of, Differ, Earlier}
 use Rattle.built_meshes.specs.Grounds.{lists, over-counts, unfit-number}
@@ -26,7 +27,7 @@ use Rattle.built_meshes.specs.declared.Ground.TheVariants.{OverCounts, UnfitNumb
 use Rattle.built_meshes.proofs.Begin.{Counted, counts-is, counts-fail, counted-fits, Numbered, numbers-is, numbers-fail, numbered-fits}
 use Rattle.built_meshes.proofs.Begin.{sum_to-fours, sides-listed}
 use Rattle.built_meshes.proofs.Before.{Tests, Triple}
-use Rattle.mended_lists.specs.declared.Mending.TheVariants.{Mended, Twisted}
+use Rattle.mended_lists.specs.declared.Unmended.TheVariants.{Twisted}
 use Rattle.mended_lists.specs.Reversal.{turned_point, turned_interval, Choice, reversed}
 use Rattle.mended_lists.specs.Mending.{mending}
 use Rattle.mended_lists.specs.Claims.{Sound, Paired}
@@ -220,7 +221,7 @@ turned-meets-none c l t none =
     })
     (paired-lone (reversed t l) (reversed-paired t l (passed c l past).1))
   where
-    past : (mending c l ≡ Mended) ⊎ (mending c l ≡ Twisted)
+    past : (mending c l ≡ Ok tt) ⊎ (mending c l ≡ Err Twisted)
     past = none-answer c l none
 
 pub mends-again : MendsAgain

@@ -18,7 +18,7 @@
 --     PassedSound          the claim: lists that pass the grounds before 44 are sound, and each place shares its edge
 --     MendedExactly        the claim: past those grounds, the answer is 44 exactly if no choice works, and else the lists are mended
 --     ThenBuilt            the claim: building does not meet 14, 15 or 20 in mended lists
-use Rattle.std.specs.Prelude.{◌≡◌, true, false, ◌↔◌, ◌⊎◌, ℕ, ◌*◌, ◌≤◌, ◌<◌, length}
+use Rattle.std.specs.Prelude.{◌≡◌, true, false, ◌↔◌, ◌⊎◌, ℕ, ◌*◌, ◌≤◌, ◌<◌, length, Ok, Err}
 use Rattle.tables.specs.declared.Sizes.{Sizes}
 use Rattle.tables.specs.Mesh.{Mesh}
 use Rattle.perimeters.specs.Places.{next_place}
@@ -28,7 +28,7 @@ use Rattle.built_meshes.specs.declared.Version.TheVariants.{Two}
 use Rattle.built_meshes.specs.Places.{beside_of, Runs, Between, Differ}
 use Rattle.built_meshes.specs.Grounds.{Holds}
 use Rattle.built_meshes.specs.declared.Ground.TheVariants.{EdgeTripleFace, SameWay, MissingFace}
-use Rattle.mended_lists.specs.declared.Mending.TheVariants.{Mended, Twisted}
+use Rattle.mended_lists.specs.declared.Unmended.TheVariants.{Twisted}
 use Rattle.mended_lists.specs.Reversal.{Choice, reversed}
 use Rattle.mended_lists.specs.Parts.{faces_turned, twisted}
 use Rattle.mended_lists.specs.Mending.{mending}
@@ -106,9 +106,9 @@ ThenBuilt =
     × ¬ Holds c (reversed (faces_turned l) l) m MissingFace
 
 abbrev pub PassedSound : Type 0
-PassedSound = (c : Sizes) (l : Lists) → (mending c l ≡ Mended) ⊎ (mending c l ≡ Twisted) → Sound l × Paired l
+PassedSound = (c : Sizes) (l : Lists) → (mending c l ≡ Ok tt) ⊎ (mending c l ≡ Err Twisted) → Sound l × Paired l
 
 abbrev pub MendedExactly : Type 0
 MendedExactly =
-    (c : Sizes) (l : Lists) → (mending c l ≡ Mended) ⊎ (mending c l ≡ Twisted) →
-    ((mending c l ≡ Twisted) ↔ ((t : Choice) → ¬ Works l t)) × ((mending c l ≡ Mended) ↔ Works l (faces_turned l))
+    (c : Sizes) (l : Lists) → (mending c l ≡ Ok tt) ⊎ (mending c l ≡ Err Twisted) →
+    ((mending c l ≡ Err Twisted) ↔ ((t : Choice) → ¬ Works l t)) × ((mending c l ≡ Ok tt) ↔ Works l (faces_turned l))

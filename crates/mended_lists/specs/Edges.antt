@@ -10,8 +10,7 @@
 --     third ps k            two places before place k are on its edge: ground 14
 --     follower ps n k       1 more than the last of n places whose mate is place k, or 0
 --     lone ps k             no other place is on its edge: ground 20
-use Rattle.std.specs.Prelude.{Bool, true, false, not, cond, ◌&&◌, ◌||◌, List, ℕ, zero, suc, eqb, length, get_or}
-use Rattle.closed_meshes.specs.Renumbering.{sum_to}
+use Rattle.std.specs.Prelude.{Bool, false, not, cond, ◌&&◌, ◌||◌, List, ℕ, zero, suc, eqb, length, get_or}
 use Rattle.built_meshes.specs.Lists.{Lists, faces_of, size, offset}
 use Rattle.built_meshes.specs.Places.{point_of, next_of}
 use Rattle.mended_lists.specs.InTurn.{in_turn}

@@ -9,7 +9,7 @@
 --     ElseMended            the claim: it mends exactly if no ground is met and a choice works
 --     TurnedMeetsNone      the claim: where no ground is met, none is with the faces of any choice turned
 --     MendsAgain            the claim: so lists whose faces are turned by a choice that works are mended too
-use Rattle.std.specs.Prelude.{◌≡◌, Bool, true, false, ◌↔◌, ℕ}
+use Rattle.std.specs.Prelude.{◌≡◌, Bool, true, false, ◌↔◌, ℕ, Ok, Err}
 use Rattle.tables.specs.declared.Sizes.{Sizes}
 use Rattle.tables.specs.Mesh.{Mesh}
 use Rattle.built_meshes.specs.Lists.{Lists}
@@ -18,7 +18,7 @@ use Rattle.built_meshes.specs.Grounds.{Where, whole, Met, Before}
 use Rattle.built_meshes.specs.declared.Ground.{Ground}
 use Rattle.built_meshes.specs.declared.Ground.TheVariants.{OverCounts, UnfitNumber, FewRows, FaceSize, OutOfRange, PointTwice}
 use Rattle.built_meshes.specs.declared.Ground.TheVariants.{FirstPoint, NonRectangularFace, EdgeTripleFace, SameWay, MissingFace, NoEdge, MissedEdge}
-use Rattle.mended_lists.specs.declared.Mending.TheVariants.{Mended, Refused, Twisted}
+use Rattle.mended_lists.specs.declared.Unmended.TheVariants.{Refused, Twisted}
 use Rattle.mended_lists.specs.Reversal.{Choice, reversed}
 use Rattle.mended_lists.specs.Mending.{mending}
 use Rattle.mended_lists.specs.Claims.{Works}
@@ -56,19 +56,19 @@ pub record MeetsFirst (c : Sizes) (l : Lists) (w : Where) (g : Ground) : Type 0 
   pub none_before : (w' : Where) (g' : Ground) → Before w' g' w g → ¬ Meets c l w' g'
 
 abbrev pub FirstGround : Type 0
-FirstGround = (c : Sizes) (l : Lists) (g : Ground) → (mending c l ≡ Refused g) ↔ ((w : Where) × MeetsFirst c l w g)
+FirstGround = (c : Sizes) (l : Lists) (g : Ground) → (mending c l ≡ Err (Refused g)) ↔ ((w : Where) × MeetsFirst c l w g)
 
 abbrev pub MeetsNone : Sizes → Lists → Type 0
 MeetsNone c l = (w : Where) (g : Ground) → ¬ Meets c l w g
 
 abbrev pub TwistedLast : Type 0
-TwistedLast = (c : Sizes) (l : Lists) → (mending c l ≡ Twisted) ↔ (MeetsNone c l × ((t : Choice) → ¬ Works l t))
+TwistedLast = (c : Sizes) (l : Lists) → (mending c l ≡ Err Twisted) ↔ (MeetsNone c l × ((t : Choice) → ¬ Works l t))
 
 abbrev pub ElseMended : Type 0
-ElseMended = (c : Sizes) (l : Lists) → (mending c l ≡ Mended) ↔ (MeetsNone c l × ((t : Choice) × Works l t))
+ElseMended = (c : Sizes) (l : Lists) → (mending c l ≡ Ok tt) ↔ (MeetsNone c l × ((t : Choice) × Works l t))
 
 abbrev pub TurnedMeetsNone : Type 0
 TurnedMeetsNone = (c : Sizes) (l : Lists) (t : Choice) → MeetsNone c l → MeetsNone c (reversed t l)
 
 abbrev pub MendsAgain : Type 0
-MendsAgain = (c : Sizes) (l : Lists) (t : Choice) → MeetsNone c l → Works l t → mending c (reversed t l) ≡ Mended
+MendsAgain = (c : Sizes) (l : Lists) (t : Choice) → MeetsNone c l → Works l t → mending c (reversed t l) ≡ Ok tt

@@ -7,7 +7,6 @@
 --     Choice                which faces are turned
 --     reversed c l          the lists l with the faces of the choice c turned
 use Rattle.std.specs.Prelude.{Bool, cond, ℕ, suc, ◌-◌, eqb}
-use Rattle.closed_meshes.specs.Renumbering.{sum_to}
 use Rattle.built_meshes.specs.Lists.{Lists, faces_of, side_length, size, offset}
 use Rattle.built_meshes.specs.Faces.{first_at}
 use Rattle.built_meshes.specs.Places.{point_of, beside_of}

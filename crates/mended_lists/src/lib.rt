@@ -16,10 +16,9 @@ pub struct Part {
     pub odd: bool,
 }
 
-// The mender's answer. The number stands beside each ground that building does not have.
+// Why lists are not mended. The number stands beside the ground that building does not have.
 #[derive(Clone, Copy)]
-pub enum Mending {
-    Mended,
+pub enum Unmended {
     Refused(Ground),
     // 44: no choice of faces makes all neighbours run opposite ways
     Twisted,

@@ -14,6 +14,7 @@ use native.Mathlib.Omega.{arith}
 use lib.ListN.{length, get_or}
 use lib.Ieee.{Float, nan, inf, fin}
 use lib.Ieee.Scale.{finite}
+use Rattle.std.specs.Prelude.{Result, Ok, Err, ⊤}
 use Rattle.tables.specs.declared.Sizes.{Sizes}
 use Rattle.audited_meshes.specs.Folds.{every}
 use Rattle.audited_meshes.specs.Audit.{interval_fit}
@@ -24,14 +25,12 @@ use Rattle.built_meshes.specs.Lists.{Lists, points_of, faces_of, size, offset, c
 use Rattle.built_meshes.specs.Faces.{size_fit, listed_in_range, no_point_twice, firsts_fit, sums_fit, face_verdict}
 use Rattle.built_meshes.specs.declared.Version.{Version}
 use Rattle.built_meshes.specs.declared.Version.TheVariants.{Two}
-use Rattle.built_meshes.specs.declared.Verdict.{Verdict}
-use Rattle.built_meshes.specs.declared.Verdict.TheVariants.{Fit, Unfit}
 use Rattle.built_meshes.specs.declared.Ground.{Ground}
 use Rattle.built_meshes.specs.declared.Ground.TheVariants.{OverCounts, UnfitNumber, FaceSize, OutOfRange, PointTwice, FirstPoint, NonRectangularFace}
 use Rattle.text_meshes.specs.TextBuilding.{lists_of}
 use Rattle.mesh_printing.specs.Printing.{FitText}
-use Rattle.mended_lists.specs.declared.Mending.{Mending}
-use Rattle.mended_lists.specs.declared.Mending.TheVariants.{Mended, Refused, Twisted}
+use Rattle.mended_lists.specs.declared.Unmended.{Unmended}
+use Rattle.mended_lists.specs.declared.Unmended.TheVariants.{Refused, Twisted}
 use Rattle.mended_lists.specs.Reversal.{Choice, reversed}
 use Rattle.mended_lists.specs.Mending.{forgiven, mending_if, mending}
 use Rattle.mended_lists.specs.Claims.{Fitting}
@@ -44,7 +43,7 @@ use Rattle.mended_texts.proofs.Printed.{four-of-fit}
 use Rattle.mended_texts.proofs.Faces.{Round}
 
 abbrev pub Past : Sizes → Lists → Type 0
-Past c l = (mending c l ≡ Mended) ⊎ (mending c l ≡ Twisted)
+Past c l = (mending c l ≡ Ok tt) ⊎ (mending c l ≡ Err Twisted)
 
 -- ---- the tests passed
 
@@ -52,11 +51,11 @@ pub past-numbers : (c : Sizes) (l : Lists) → Past c l → (counts_fit c l ≡ 
 unfolding mending mending_if
 past-numbers c l = go (counts_fit c l) (listed_fit l)
   where
-    refused : (g : Ground) → (Refused g ≡ Mended) ⊎ (Refused g ≡ Twisted) → ⊥
+    refused : (g : Ground) → ◌≡◌ {A = Result ⊤ Unmended} (Err (Refused g)) (Ok tt) ⊎ ◌≡◌ {A = Result ⊤ Unmended} (Err (Refused g)) (Err Twisted) → ⊥
     refused g (inl h) = let z : ◌≡◌ {A = ℕ} 0 1 = cc in omega arith
     refused g (inr h) = let z : ◌≡◌ {A = ℕ} 0 1 = cc in omega arith
 
-    go : (a b : Bool) → (mending_if a b l ≡ Mended) ⊎ (mending_if a b l ≡ Twisted) → (a ≡ true) × (b ≡ true)
+    go : (a b : Bool) → (mending_if a b l ≡ Ok tt) ⊎ (mending_if a b l ≡ Err Twisted) → (a ≡ true) × (b ≡ true)
     go true true h = (refl, refl)
     go true false h = absurd (refused UnfitNumber h)
     go false b h = absurd (refused OverCounts h)
@@ -72,15 +71,15 @@ pub past-face : (c : Sizes) (l : Lists) → Past c l → (f : ℕ) → f < faces
 unfolding face_verdict
 past-face c l past f h =
     tests (size_fit (size l f)) (listed_in_range l (points_of l) (offset l f) (size l f)) (no_point_twice l (offset l f) (size l f))
-    (firsts_fit l.version l f (offset l f)) (cond (not (sums_fit l.version l f (offset l f))) (Unfit NonRectangularFace) Fit) refl refl refl refl
+    (firsts_fit l.version l f (offset l f)) (cond (not (sums_fit l.version l f (offset l f))) (Err NonRectangularFace) (Ok tt)) refl refl refl refl
     (face-passed l (mended-parts c l past).0 f h).0
   where
     tests :
-        (a b c d : Bool) (rest : Verdict) → size_fit (size l f) ≡ a → listed_in_range l (points_of l) (offset l f) (size l f) ≡ b →
+        (a b c d : Bool) (rest : Result ⊤ Ground) → size_fit (size l f) ≡ a → listed_in_range l (points_of l) (offset l f) (size l f) ≡ b →
         no_point_twice l (offset l f) (size l f) ≡ c → firsts_fit l.version l f (offset l f) ≡ d →
         forgiven
-        (cond (not a) (Unfit FaceSize)
-        (cond (not b) (Unfit OutOfRange) (cond (not c) (Unfit PointTwice) (cond (not d) (Unfit FirstPoint) rest)))) ≡ Fit →
+        (cond (not a) (Err FaceSize)
+        (cond (not b) (Err OutOfRange) (cond (not c) (Err PointTwice) (cond (not d) (Err FirstPoint) rest)))) ≡ Ok tt →
         FacePast l f
     tests true true true true rest ea eb ec ed h = record { size-fit = ea; in-range = eb; none-twice = ec; firsts-fit = ed }
     tests true true true false rest ea eb ec ed h = absurd (unfit FirstPoint h)

@@ -11,6 +11,7 @@ use mathlib.Core.List.{List, [], ◌∷◌}
 use Prim.Native.Nat.{ℕ, suc, ◌<◌}
 use native.Mathlib.Omega.{arith}
 use lib.ListN.{length}
+use Rattle.std.specs.Prelude.{Result, Ok, Err, ⊤}
 use Rattle.tables.specs.Mesh.{Mesh}
 use Rattle.text_numbers.specs.Form.{Parsed, parsed, unparsed}
 use Rattle.mesh_lines.specs.Grammar.{Side}
@@ -26,15 +27,15 @@ use Rattle.built_meshes.proofs.Theorem.{refusals-hold}
 use Rattle.building_tests.specs.Lent.{limits_of}
 use Rattle.building_tests.specs.declared.Bounds.{Bounds}
 use Rattle.text_meshes.specs.TextBuilding.{is_too_long, lists_of, TextOutcome, build_text_if, build_text}
-use Rattle.text_meshes.specs.declared.TextBuilt.TheVariants as Built
+use Rattle.text_meshes.specs.declared.TextRefusal.TheVariants as Text
 use Rattle.text_meshes.proofs.Theorem.{few-faces, told-refused, of-lists as built-of-lists}
 use Rattle.mesh_printing.specs.Printing.{printed_text, FitText}
 use Rattle.mesh_printing.proofs.Theorem.{text-exactly}
 use Rattle.mended_lists.specs.Reversal.{Choice, reversed}
 use Rattle.mended_lists.specs.Parts.{faces_turned, twisted}
 use Rattle.mended_lists.specs.Mending.{mending}
-use Rattle.mended_lists.specs.declared.Mending.{Mending}
-use Rattle.mended_lists.specs.declared.Mending.TheVariants as Lists
+use Rattle.mended_lists.specs.declared.Unmended.{Unmended}
+use Rattle.mended_lists.specs.declared.Unmended.TheVariants as Lists
 use Rattle.mended_lists.specs.Claims.{Fitting, Sound, Opposite, Works}
 use Rattle.mended_lists.specs.Grounds.{MeetsFirst, MeetsNone}
 use Rattle.mended_lists.proofs.Theorem.{lowest-stay, only_one}
@@ -91,35 +92,35 @@ by-lists : (s : List ℕ) (t : TextMesh) → SaysTwo s t → mend_text s ≡ men
 by-lists s t ((n, e), two) = of-lists s t n e two
 
 module _ (s : List ℕ) (t : TextMesh) where
-  told-mended : (r : Mending) → (mending_of r s t).answer ≡ Mended → r ≡ Lists.Mended
-  told-mended Lists.Mended e = refl
-  told-mended (Lists.Refused g) e = let z : ◌≡◌ {A = ℕ} 0 1 = cc in absurd (omega arith)
-  told-mended Lists.Twisted e = let z : ◌≡◌ {A = ℕ} 0 1 = cc in absurd (omega arith)
+  told-mended : (r : Result ⊤ Unmended) → (mending_of r s t).answer ≡ Mended → r ≡ Ok tt
+  told-mended (Ok tt) e = refl
+  told-mended (Err (Lists.Refused g)) e = let z : ◌≡◌ {A = ℕ} 0 1 = cc in absurd (omega arith)
+  told-mended (Err Lists.Twisted) e = let z : ◌≡◌ {A = ℕ} 0 1 = cc in absurd (omega arith)
 
-  told-refused-by : (r : Mending) (g : Ground) → (mending_of r s t).answer ≡ Refused g → r ≡ Lists.Refused g
-  told-refused-by Lists.Mended g e = let z : ◌≡◌ {A = ℕ} 0 1 = cc in absurd (omega arith)
-  told-refused-by (Lists.Refused h) g e = let z : h ≡ g = cc in ap Lists.Refused z
-  told-refused-by Lists.Twisted g e = let z : ◌≡◌ {A = ℕ} 0 1 = cc in absurd (omega arith)
+  told-refused-by : (r : Result ⊤ Unmended) (g : Ground) → (mending_of r s t).answer ≡ Refused g → r ≡ Err (Lists.Refused g)
+  told-refused-by (Ok tt) g e = let z : ◌≡◌ {A = ℕ} 0 1 = cc in absurd (omega arith)
+  told-refused-by (Err (Lists.Refused h)) g e = let z : h ≡ g = cc in ap (λ (x : Ground). Err (Lists.Refused x)) z
+  told-refused-by (Err Lists.Twisted) g e = let z : ◌≡◌ {A = ℕ} 0 1 = cc in absurd (omega arith)
 
-  told-twisted : (r : Mending) → (mending_of r s t).answer ≡ Twisted → r ≡ Lists.Twisted
-  told-twisted Lists.Mended e = let z : ◌≡◌ {A = ℕ} 0 1 = cc in absurd (omega arith)
-  told-twisted (Lists.Refused g) e = let z : ◌≡◌ {A = ℕ} 0 1 = cc in absurd (omega arith)
-  told-twisted Lists.Twisted e = refl
+  told-twisted : (r : Result ⊤ Unmended) → (mending_of r s t).answer ≡ Twisted → r ≡ Err Lists.Twisted
+  told-twisted (Ok tt) e = let z : ◌≡◌ {A = ℕ} 0 1 = cc in absurd (omega arith)
+  told-twisted (Err (Lists.Refused g)) e = let z : ◌≡◌ {A = ℕ} 0 1 = cc in absurd (omega arith)
+  told-twisted (Err Lists.Twisted) e = refl
 
-  told_text : (r : Mending) → (mending_of r s t).answer ≡ NotText → ⊥
-  told_text Lists.Mended e = let z : ◌≡◌ {A = ℕ} 0 1 = cc in omega arith
-  told_text (Lists.Refused g) e = let z : ◌≡◌ {A = ℕ} 0 1 = cc in omega arith
-  told_text Lists.Twisted e = let z : ◌≡◌ {A = ℕ} 0 1 = cc in omega arith
+  told_text : (r : Result ⊤ Unmended) → (mending_of r s t).answer ≡ NotText → ⊥
+  told_text (Ok tt) e = let z : ◌≡◌ {A = ℕ} 0 1 = cc in omega arith
+  told_text (Err (Lists.Refused g)) e = let z : ◌≡◌ {A = ℕ} 0 1 = cc in omega arith
+  told_text (Err Lists.Twisted) e = let z : ◌≡◌ {A = ℕ} 0 1 = cc in omega arith
 
-  told-left : (r : Mending) → (mending_of r s t).answer ≢ Mended → (mending_of r s t).text ≡ s
-  told-left Lists.Mended d = absurd (d refl)
-  told-left (Lists.Refused g) d = refl
-  told-left Lists.Twisted d = refl
+  told-left : (r : Result ⊤ Unmended) → (mending_of r s t).answer ≢ Mended → (mending_of r s t).text ≡ s
+  told-left (Ok tt) d = absurd (d refl)
+  told-left (Err (Lists.Refused g)) d = refl
+  told-left (Err Lists.Twisted) d = refl
 
-  told-length : s ≡ printed_text t → (r : Mending) → length (mending_of r s t).text ≡ length s
-  told-length e Lists.Mended = length-turned (faces_turned (lists_of t)) t ∙ ap length (sym e)
-  told-length e (Lists.Refused g) = refl
-  told-length e Lists.Twisted = refl
+  told-length : s ≡ printed_text t → (r : Result ⊤ Unmended) → length (mending_of r s t).text ≡ length s
+  told-length e (Ok tt) = length-turned (faces_turned (lists_of t)) t ∙ ap length (sym e)
+  told-length e (Err (Lists.Refused g)) = refl
+  told-length e (Err Lists.Twisted) = refl
 
 -- ---- claims of every text
 
@@ -165,7 +166,7 @@ two-of s d = go (mend_text s) (came s) d
     go o (of_one t says one) d = absurd (d refl)
     go o (of_two t says) d = (t, says)
 
-mended-two : (s : List ℕ) → (mend_text s).answer ≡ Mended → (t : TextMesh) × SaysTwo s t × (mending general_limits (lists_of t) ≡ Lists.Mended)
+mended-two : (s : List ℕ) → (mend_text s).answer ≡ Mended → (t : TextMesh) × SaysTwo s t × (mending general_limits (lists_of t) ≡ Ok tt)
 mended-two s a =
     let (t, says) = two-of s (λ e. clash (sym a ∙ e)) in
     (t, says, told-mended s t (mending general_limits (lists_of t)) (sym (ap answer_of (by-lists s t says)) ∙ a))
@@ -191,7 +192,7 @@ grounds-in-order s g = (to, from)
     from : (t : TextMesh) × SaysTwo s t × ((w : Where) × MeetsFirst general_limits (lists_of t) w g) → (mend_text s).answer ≡ Refused g
     from (t, says, first) =
         ap answer_of (by-lists s t says)
-        ∙ ap (λ (r : Mending). (mending_of r s t).answer) ((first-ground general_limits (lists_of t) g).1 first)
+        ∙ ap (λ (r : Result ⊤ Unmended). (mending_of r s t).answer) ((first-ground general_limits (lists_of t) g).1 first)
 
 -- the lists of the text with the faces of a choice turned, where no ground is met
 turned-lists :
@@ -228,7 +229,7 @@ twisted-text s = (to, from)
         (t : TextMesh) × SaysTwo s t × MeetsNone general_limits (lists_of t) × ((c : Choice) → ¬ TurnedRight t c) → (mend_text s).answer ≡ Twisted
     from (t, says, none, not) =
         ap answer_of (by-lists s t says)
-        ∙ ap (λ (r : Mending). (mending_of r s t).answer)
+        ∙ ap (λ (r : Result ⊤ Unmended). (mending_of r s t).answer)
         ((twisted-last general_limits (lists_of t)).1 (none, λ c works. not c (works-right s t says none c works)))
 
 pub mended-text : TextMended
@@ -245,12 +246,12 @@ mended-text s = (to, from)
         (t : TextMesh) × SaysTwo s t × MeetsNone general_limits (lists_of t) × ((c : Choice) × TurnedRight t c) → (mend_text s).answer ≡ Mended
     from (t, says, none, (c, right)) =
         ap answer_of (by-lists s t says)
-        ∙ ap (λ (r : Mending). (mending_of r s t).answer)
+        ∙ ap (λ (r : Result ⊤ Unmended). (mending_of r s t).answer)
         ((else-mended general_limits (lists_of t)).1 (none, (c, right-works s t says none c right)))
 
 -- ---- a mended text
 
-module _ (s : List ℕ) (t : TextMesh) (says : SaysTwo s t) (e : mending general_limits (lists_of t) ≡ Lists.Mended) where
+module _ (s : List ℕ) (t : TextMesh) (says : SaysTwo s t) (e : mending general_limits (lists_of t) ≡ Ok tt) where
   past : Past general_limits (lists_of t)
   past = inl e
 
@@ -259,7 +260,7 @@ module _ (s : List ℕ) (t : TextMesh) (says : SaysTwo s t) (e : mending general
 
   -- the text that is left
   left : mend_text s ≡ record { answer = Mended; text = printed_text (turned_text (faces_turned (lists_of t)) t) }
-  left = by-lists s t says ∙ ap (λ (r : Mending). mending_of r s t) e
+  left = by-lists s t says ∙ ap (λ (r : Result ⊤ Unmended). mending_of r s t) e
 
   fit : FitText (turned_text (faces_turned (lists_of t)) t)
   fit = fit-turned (faces_turned (lists_of t)) t (whole s t says.0).0
@@ -312,7 +313,7 @@ module _ (s : List ℕ) (t : TextMesh) (says : SaysTwo s t) (none : MeetsNone ge
   fit-text : FitText t
   fit-text = (whole s t says.0).0
 
-  answer : mending general_limits (lists_of t) ≡ Lists.Mended
+  answer : mending general_limits (lists_of t) ≡ Ok tt
   answer =
       (else-mended general_limits (lists_of t)).1 (
         none,
@@ -345,16 +346,16 @@ twice s = go (mend_text s) (came s) refl
     again : (o : MendOutcome) → mend_text s ≡ o → mend_text o.text ≡ o → mend_text (mend_text s).text ≡ mend_text s
     again o e h = rw e h
 
-    by : (t : TextMesh) → SaysTwo s t → (r : Mending) → mending general_limits (lists_of t) ≡ r → mend_text (mend_text s).text ≡ mend_text s
-    by t says Lists.Mended e =
+    by : (t : TextMesh) → SaysTwo s t → (r : Result ⊤ Unmended) → mending general_limits (lists_of t) ≡ r → mend_text (mend_text s).text ≡ mend_text s
+    by t says (Ok tt) e =
         again (record { answer = Mended; text = printed_text (turned_text (faces_turned (lists_of t)) t) }) (left s t says e)
         (stays (printed_text (turned_text (faces_turned (lists_of t)) t)) (turned_text (faces_turned (lists_of t)) t) (left-says s t says e) (left-none s t says e)
         (left-opposite s t says e))
-    by t says (Lists.Refused g) e =
-        let h : mend_text s ≡ record { answer = Refused g; text = s } = by-lists s t says ∙ ap (λ (r : Mending). mending_of r s t) e in
+    by t says (Err (Lists.Refused g)) e =
+        let h : mend_text s ≡ record { answer = Refused g; text = s } = by-lists s t says ∙ ap (λ (r : Result ⊤ Unmended). mending_of r s t) e in
         again (record { answer = Refused g; text = s }) h h
-    by t says Lists.Twisted e =
-        let h : mend_text s ≡ record { answer = Twisted; text = s } = by-lists s t says ∙ ap (λ (r : Mending). mending_of r s t) e in
+    by t says (Err Lists.Twisted) e =
+        let h : mend_text s ≡ record { answer = Twisted; text = s } = by-lists s t says ∙ ap (λ (r : Result ⊤ Unmended). mending_of r s t) e in
         again (record { answer = Twisted; text = s }) h h
 
     go : (o : MendOutcome) → Came s o → mend_text s ≡ o → mend_text (mend_text s).text ≡ mend_text s
@@ -365,14 +366,14 @@ twice s = go (mend_text s) (came s) refl
 -- ---- what building then makes of it
 
 module _ (b : Bounds) (s : List ℕ) (m : Mesh) (t : TextMesh) (says : Says s t) where
-  refused-holds : (g : Ground) → (build_text b s m).answer ≡ Built.Refused g → (g ≡ OverCounts) ⊎ Holds (limits_of b) (lists_of t) m g
+  refused-holds : (g : Ground) → (build_text b s m).answer ≡ Err (Text.Refused g) → (g ≡ OverCounts) ⊎ Holds (limits_of b) (lists_of t) m g
   unfolding build_text build_text_if
   refused-holds g = go (is_too_long b (length s)) refl
     where
       go :
-          (x : Bool) → is_too_long b (length s) ≡ x → (build_text b s m).answer ≡ Built.Refused g →
+          (x : Bool) → is_too_long b (length s) ≡ x → (build_text b s m).answer ≡ Err (Text.Refused g) →
           (g ≡ OverCounts) ⊎ Holds (limits_of b) (lists_of t) m g
-      go true e a = let z : Built.Refused OverCounts ≡ Built.Refused g = rw e at a in let y : g ≡ OverCounts = cc in inl y
+      go true e a = let z : Err (Text.Refused OverCounts) ≡ Err (Text.Refused g) = rw e at a in let y : g ≡ OverCounts = cc in inl y
       go false e a =
           inr
           (refusals-hold (limits_of b) (lists_of t) m (few-faces b) g
@@ -380,17 +381,17 @@ module _ (b : Bounds) (s : List ℕ) (m : Mesh) (t : TextMesh) (says : Says s t)
           (sym (ap (λ (o : TextOutcome). o.answer) (built-of-lists b s m (record { short = e; place = says.0; form = says.1 }))) ∙ a))
           ).holds
 
-module _ (s : List ℕ) (t : TextMesh) (says : SaysTwo s t) (e : mending general_limits (lists_of t) ≡ Lists.Mended) (b : Bounds) (m : Mesh) where
+module _ (s : List ℕ) (t : TextMesh) (says : SaysTwo s t) (e : mending general_limits (lists_of t) ≡ Ok tt) (b : Bounds) (m : Mesh) where
   straight : twisted (lists_of t) ≡ false
   straight = which (twisted (lists_of t)) (sym e ∙ (mended-parts general_limits (lists_of t) (inl e)).2)
     where
-      which : (x : Bool) → Lists.Mended ≡ cond x Lists.Twisted Lists.Mended → x ≡ false
+      which : (x : Bool) → ◌≡◌ {A = Result ⊤ Unmended} (Ok tt) (cond x (Err Lists.Twisted) (Ok tt)) → x ≡ false
       which true h = let z : ◌≡◌ {A = ℕ} 0 1 = cc in absurd (omega arith)
       which false h = refl
 
   not-refused :
       (g : Ground) → g ≢ OverCounts → ¬ Holds (limits_of b) (reversed (faces_turned (lists_of t)) (lists_of t)) m g →
-      (build_text b (mend_text s).text m).answer ≢ Built.Refused g
+      (build_text b (mend_text s).text m).answer ≢ Err (Text.Refused g)
   not-refused g other not h =
       go (refused-holds b (mend_text s).text m (turned_text (faces_turned (lists_of t)) t) (mended s t says e).says.0 g h)
     where
@@ -399,9 +400,9 @@ module _ (s : List ℕ) (t : TextMesh) (says : SaysTwo s t) (e : mending general
       go (inr holds) = not (subst (λ (l : Lists). Holds (limits_of b) l m g) (mended s t says e).lists holds)
 
   none-refused :
-      ((build_text b (mend_text s).text m).answer ≢ Built.Refused EdgeTripleFace)
-      × ((build_text b (mend_text s).text m).answer ≢ Built.Refused SameWay)
-      × ((build_text b (mend_text s).text m).answer ≢ Built.Refused MissingFace)
+      ((build_text b (mend_text s).text m).answer ≢ Err (Text.Refused EdgeTripleFace))
+      × ((build_text b (mend_text s).text m).answer ≢ Err (Text.Refused SameWay))
+      × ((build_text b (mend_text s).text m).answer ≢ Err (Text.Refused MissingFace))
   none-refused =
       let (sound, paired) = passed general_limits (lists_of t) (inl e) in
       let (third, same, missing) = lists-then-built (lists_of t) sound paired straight (limits_of b) m in (

@@ -13,7 +13,7 @@
 --     Unchanged               a text that needs nothing comes back unchanged
 --     Twice                   mending twice is mending once
 --     ThenBuilt              building does not refuse a mended text by 14, 15 or 20
-use Rattle.std.specs.Prelude.{◌≡◌, ◌↔◌, ◌⊎◌, ◌≢◌, List, ℕ, ◌<◌, length}
+use Rattle.std.specs.Prelude.{◌≡◌, ◌↔◌, ◌⊎◌, ◌≢◌, List, ℕ, ◌<◌, length, Err}
 use Rattle.tables.specs.Mesh.{Mesh}
 use Rattle.text_numbers.specs.Form.{parsed, unparsed}
 use Rattle.mesh_text.specs.Text.{TextMesh, text}
@@ -24,7 +24,7 @@ use Rattle.built_meshes.specs.declared.Ground.{Ground}
 use Rattle.built_meshes.specs.declared.Ground.TheVariants.{EdgeTripleFace, SameWay, MissingFace}
 use Rattle.building_tests.specs.declared.Bounds.{Bounds}
 use Rattle.text_meshes.specs.TextBuilding.{lists_of, build_text}
-use Rattle.text_meshes.specs.declared.TextBuilt.TheVariants as Built
+use Rattle.text_meshes.specs.declared.TextRefusal.TheVariants as Text
 use Rattle.mended_lists.specs.Reversal.{Choice, reversed}
 use Rattle.mended_lists.specs.Claims.{Opposite, LowestStay}
 use Rattle.mended_lists.specs.Grounds.{MeetsFirst, MeetsNone}
@@ -89,6 +89,6 @@ Twice = (s : List ℕ) → mend_text (mend_text s).text ≡ mend_text s
 abbrev pub ThenBuilt : Type 0
 ThenBuilt =
     (s : List ℕ) → (mend_text s).answer ≡ Mended → (b : Bounds) (m : Mesh) →
-    ((build_text b (mend_text s).text m).answer ≢ Built.Refused EdgeTripleFace)
-    × ((build_text b (mend_text s).text m).answer ≢ Built.Refused SameWay)
-    × ((build_text b (mend_text s).text m).answer ≢ Built.Refused MissingFace)
+    ((build_text b (mend_text s).text m).answer ≢ Err (Text.Refused EdgeTripleFace))
+    × ((build_text b (mend_text s).text m).answer ≢ Err (Text.Refused SameWay))
+    × ((build_text b (mend_text s).text m).answer ≢ Err (Text.Refused MissingFace))

@@ -6,7 +6,7 @@
 --     mend_form s x            that for a text which was read as x
 --     mend_text s              the mending of the text s
 -- Every refusal leaves the text as it is.
-use Rattle.std.specs.Prelude.{List, ℕ}
+use Rattle.std.specs.Prelude.{List, ℕ, Result, Ok, Err, ⊤}
 use Rattle.text_numbers.specs.Form.{Parsed, parsed, unparsed}
 use Rattle.mesh_text.specs.Text.{text, TextMesh}
 use Rattle.built_meshes.specs.Lists.{general_limits}
@@ -17,8 +17,8 @@ use Rattle.text_meshes.specs.TextBuilding.{lists_of}
 use Rattle.mesh_printing.specs.Printing.{printed_text}
 use Rattle.mended_lists.specs.Parts.{faces_turned}
 use Rattle.mended_lists.specs.Mending.{mending}
-use Rattle.mended_lists.specs.declared.Mending.{Mending}
-use Rattle.mended_lists.specs.declared.Mending.TheVariants as Lists
+use Rattle.mended_lists.specs.declared.Unmended.{Unmended}
+use Rattle.mended_lists.specs.declared.Unmended.TheVariants as Lists
 use Rattle.mended_texts.specs.Turning.{turned_text}
 use Rattle.mended_texts.specs.declared.TextMending.{TextMending}
 use Rattle.mended_texts.specs.declared.TextMending.TheVariants.{Mended, NotText, Refused, Twisted}
@@ -33,10 +33,10 @@ pub record MendOutcome : Type 0 where
   pub answer : TextMending
   pub text : List ℕ
 
-abbrev pub mending_of : Mending → List ℕ → TextMesh → MendOutcome
-mending_of Lists.Mended s t = record { answer = Mended; text = printed_text (turned_text (faces_turned (lists_of t)) t) }
-mending_of (Lists.Refused g) s t = record { answer = Refused g; text = s }
-mending_of Lists.Twisted s t = record { answer = Twisted; text = s }
+abbrev pub mending_of : Result ⊤ Unmended → List ℕ → TextMesh → MendOutcome
+mending_of (Ok tt) s t = record { answer = Mended; text = printed_text (turned_text (faces_turned (lists_of t)) t) }
+mending_of (Err (Lists.Refused g)) s t = record { answer = Refused g; text = s }
+mending_of (Err Lists.Twisted) s t = record { answer = Twisted; text = s }
 
 abbrev pub mend_version : Version → List ℕ → TextMesh → MendOutcome
 mend_version One s t = record { answer = NotText; text = s }

@@ -7,10 +7,9 @@ use native.Mathlib.Omega.{arith}
 use lib.Dec.{eqb}
 use lib.Ieee.{Float}
 use lib.ListN.{length, get_or, replicate, get_or-replicate, length-replicate}
+use Rattle.std.specs.Prelude.{Result, Ok, Err, ⊤}
 use Rattle.audited_meshes.specs.Folds.{every}
 use Rattle.built_meshes.specs.Lists.{offset}
-use Rattle.built_meshes.specs.declared.Verdict.{Verdict}
-use Rattle.built_meshes.specs.declared.Verdict.TheVariants.{Fit, Unfit}
 use Rattle.built_meshes.specs.declared.Ground.{Ground}
 use Rattle.built_meshes.specs.declared.Ground.TheVariants.{MissingFace}
 use Rattle.building_tests.specs.Lent.{lists}
@@ -24,13 +23,13 @@ use Rattle.face_mending.specs.Shown.{FacesRoom, TosShown}
 use Rattle.face_mending.proofs.Laws.{every-same, mate-shown}
 use Rattle.mending.specs.Shared.{PairingRoom, then_shared, MatesIf}
 
-pub unfit-shared : (v : Verdict) (s : Bool) (g : Ground) → v ≡ Unfit g → Unfit g ≡ then_shared v s
+pub unfit-shared : (v : Result ⊤ Ground) (s : Bool) (g : Ground) → v ≡ Err g → Err g ≡ then_shared v s
 unfit-shared v s g e = rw e
 
-pub fit-shared : (v : Verdict) (s : Bool) → v ≡ Fit → s ≡ true → Fit ≡ then_shared v s
+pub fit-shared : (v : Result ⊤ Ground) (s : Bool) → v ≡ Ok tt → s ≡ true → Ok tt ≡ then_shared v s
 fit-shared v s e h = rw (e, h)
 
-pub not-shared : (v : Verdict) (s : Bool) → v ≡ Fit → s ≡ false → Unfit MissingFace ≡ then_shared v s
+pub not-shared : (v : Result ⊤ Ground) (s : Bool) → v ≡ Ok tt → s ≡ false → Err MissingFace ≡ then_shared v s
 not-shared v s e h = rw (e, h)
 
 -- ---- lists of zeros hold no place

@@ -14,7 +14,7 @@ ghost use Rattle.face_mending.specs.Shown.{TosShown};
 ghost use Rattle.mending.specs.Shared.{PairingRoom, then_shared, MatesIf};
 
 use building_tests::{MOST_LISTED, MOST_POINTS};
-use built_meshes::{Ground, Verdict};
+use built_meshes::Ground;
 use face_mending::mend_faces;
 use shared_edges::are_shared;
 
@@ -27,7 +27,7 @@ pub fn pair_faces(
     tos: &[u32],
     mates: &mut [u32],
     np: usize,
-) -> Verdict
+) -> Result<(), Ground>
     requires pairing_room { PairingRoom sides.now firsts.now listed.now beside.now tos.now mates.old np }
     requires tos_shown { TosShown sides.now listed.now tos.now }
     ensures value { (cs : List Float) → length cs / position_width ≡ np → result ≡ then_shared (faces_mend (lists_in Two cs sides.now
@@ -38,7 +38,7 @@ pub fn pair_faces(
     let mut heads = [0u32; MOST_POINTS];
     let mut links = [0u32; MOST_LISTED];
     let mut seconds = [0u32; MOST_LISTED];
-    match mend_faces(
+    mend_faces(
         sides,
         firsts,
         listed,
@@ -49,13 +49,9 @@ pub fn pair_faces(
         mates,
         &mut seconds,
         np,
-    ) {
-        Verdict::Unfit(g) => Verdict::Unfit(g),
-        Verdict::Fit => {
-            if are_shared(mates, &seconds) {
-                return Verdict::Fit;
-            }
-            Verdict::Unfit(Ground::MissingFace)
-        }
+    )?;
+    if are_shared(mates, &seconds) {
+        return Ok(());
     }
+    Err(Ground::MissingFace)
 }

@@ -10,7 +10,7 @@ use native.Mathlib.Omega.{arith}
 use lib.ListN.{length, get_or}
 use lib.Dec.{ltb, eqb}
 use borrow.Author.Tests.{lt-ltb, le-ltb, eqb-true, ltb-true, ltb-false, eq-eqb, eqb-false}
-use Rattle.text_numbers.specs.Form.{Parsed, parsed, unparsed, onward, pure, choose, times, stands}
+use Rattle.text_numbers.specs.Form.{parsed, unparsed, onward, pure, choose, times, stands}
 use Rattle.text_numbers.specs.Numbers.{digit_value, value, digit, bits, digits_from, decimal_from, decimal}
 use Rattle.text_numbers.proofs.Laws.{onward-found, decimal-below}
 use Rattle.text_numbers.proofs.Turns.{digit-found}

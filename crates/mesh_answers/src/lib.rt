@@ -13,12 +13,9 @@ pub fn write(out: &mut [u8], at: usize, t: &[u8]) -> usize
     requires { at + length t.now ≤ length out.old }
     ensures { Written out.old at t.now result out.new }
 {
-    let mut i = 0;
-    while i < t.len() {
-        out[at + i] = t[i];
-        i += 1;
-    }
-    at + i
+    let end = at + t.len();
+    out[at..end].copy_from_slice(t);
+    end
 }
 
 // A byte of a number below 256.

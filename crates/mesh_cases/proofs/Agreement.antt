@@ -5,6 +5,7 @@
 --     first-listed, second-listed  what the two steps leave, as the oracle lists it
 --     rows-differ                  the face point of face 0 stands in row 3 in the one, in row 7 in the other
 --     agreed                       what the theorem says of them
+use Rattle.std.specs.Prelude.{Ok}
 use mathlib.Core.Path.{◌≡◌, refl}
 use mathlib.Core.Bool.{true}
 use mathlib.Core.List.{List, [], ◌∷◌, ◌++◌}
@@ -31,7 +32,6 @@ use Rattle.position_rules.specs.Intervals.{acw_about, cw_about, three_terms}
 use Rattle.position_rules.specs.FacePoint.{six_terms, window_weight, window_sum, face_point_over, face_point_about, face_point_in}
 use Rattle.position_rules.specs.EdgePoint.{shares, edge_middle, edge_point}
 use Rattle.position_rules.specs.OldPoint.{radial_edge, edge_weight, face_weight, radial_terms, radial_sum, old_point}
-use Rattle.steps.specs.declared.Stepped.TheVariants.{Refined}
 use Rattle.steps.specs.Step.{each_face_once, step}
 use Rattle.runs.proofs.Lengths.{lengths-refl}
 use Rattle.runs.specs.Runs.{Handed, outcome, lent}
@@ -73,8 +73,8 @@ abbrev handed : List ℕ → Handed
 handed order = record { edition = Second; order = order; scratch = used }
 
 both-accepted :
-    ((outcome (lent triangles counts) (handed (0 ∷ 1 ∷ []))).answer ≡ Refined (record { points = 8; edges = 12; faces = 6 }))
-    × ((outcome (lent triangles counts) (handed (1 ∷ 0 ∷ []))).answer ≡ Refined (record { points = 8; edges = 12; faces = 6 }))
+    ((outcome (lent triangles counts) (handed (0 ∷ 1 ∷ []))).answer ≡ Ok (record { points = 8; edges = 12; faces = 6 }))
+    × ((outcome (lent triangles counts) (handed (1 ∷ 0 ∷ []))).answer ≡ Ok (record { points = 8; edges = 12; faces = 6 }))
 unfolding step over zeroed settled_rows settled settled_intervals settled_side settled_starts starts_put refined_rows copied visits visit face_walk turns filled
     visit_along split_all split_whole split_edge ring_of put_ring put_join put_first put_second put_new_face put_face_point put_edge put_point put_start put_face
     face_point_in face_point_about face_point_over window_sum window_weight six_terms three_terms acw_about cw_about again edge_point

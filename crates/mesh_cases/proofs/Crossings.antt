@@ -10,11 +10,12 @@ use native.Mathlib.Omega.{arith}
 use lib.IntN.{pos, negsuc}
 use lib.ListN.{replicate}
 use lib.Ieee.{Float, nan, inf, fin, le}
+use Rattle.std.specs.Prelude.{Ok, Err}
+use Rattle.crossings.specs.declared.NoCrossing.TheVariants.{NotFiniteDepth, NotClosed, Nowhere}
 use Rattle.tables.specs.Mesh.{Mesh, none}
 use Rattle.tables.specs.declared.Counts.{Counts}
 use Rattle.audited_meshes.specs.Audit.{audit}
 use Rattle.mesh_cases.proofs.Meshes.{unit, two_triangles, with_positions}
-use Rattle.crossings.specs.declared.Crossing.TheVariants.{At, NotFiniteDepth, NotClosed, Nowhere}
 use Rattle.crossings.specs.Crossings.{crosses, first_from, find}
 use Rattle.crossings.specs.Claims.{AllJoined, there, along}
 use Rattle.crossings.proofs.Theorem.{joined-found}
@@ -91,16 +92,16 @@ abbrev counted : ℕ → ℕ → ℕ → Counts
 counted np ne nf = record { points = np; edges = ne; faces = nf }
 
 -- the lowest-numbered of the edges 1, 2, 3 and 4, which all cross
-lowest-found : find (tetrahedron (d0 ∷ unit ∷ d2 ∷ d3 ∷ [])) (counted 4 6 4) (fin false 3 (negsuc 0)) ≡ At 1
+lowest-found : find (tetrahedron (d0 ∷ unit ∷ d2 ∷ d3 ∷ [])) (counted 4 6 4) (fin false 3 (negsuc 0)) ≡ Ok 1
 unfolding audit le first_from
 lowest-found = refl
 
 -- both parts are found at their depths, and nothing between them, though the mesh passes the audit
-upper-part : find two_parts (counted 6 6 4) d2 ≡ At 3
+upper-part : find two_parts (counted 6 6 4) d2 ≡ Ok 3
 unfolding audit le first_from
 upper-part = refl
 
-between-two-parts : (audit two_parts 6 6 4 ≡ true) × (find two_parts (counted 6 6 4) unit ≡ Nowhere)
+between-two-parts : (audit two_parts 6 6 4 ≡ true) × (find two_parts (counted 6 6 4) unit ≡ Err Nowhere)
 unfolding audit le first_from
 between-two-parts = (refl, refl)
 
@@ -112,7 +113,7 @@ two-parts-not-joined joined =
     let (e, found) = joined-found two_parts (counted 6 6 4) unit (refl, passes) joined 0 3 (omega arith) (omega arith) refl refl in
     differ e (sym found ∙ nowhere)
   where
-    differ : (e : ℕ) → At e ≡ Nowhere → ⊥
+    differ : (e : ℕ) → Ok e ≡ Err Nowhere → ⊥
     differ e h = let z : ◌≡◌ {A = ℕ} 0 1 = cc in omega arith
 
 not-below-3 : {A : Type 0} (k : ℕ) → suc (suc (suc k)) < 3 → A
@@ -138,19 +139,19 @@ triangles-joined (suc (suc zero)) (suc (suc (suc q))) l k = not-below-3 q k
 triangles-joined (suc (suc (suc p))) q l k = not-below-3 p l
 
 -- one face fewer than the edges name; a depth that is not finite comes first
-not-closed : find two_parts (counted 6 6 3) unit ≡ NotClosed
+not-closed : find two_parts (counted 6 6 3) unit ≡ Err NotClosed
 unfolding audit le first_from
 not-closed = refl
 
-infinite-first : find two_parts (counted 6 6 3) (inf true) ≡ NotFiniteDepth
+infinite-first : find two_parts (counted 6 6 3) (inf true) ≡ Err NotFiniteDepth
 unfolding audit le first_from
 infinite-first = refl
 
-no-number-first : find two_parts (counted 6 6 3) nan ≡ NotFiniteDepth
+no-number-first : find two_parts (counted 6 6 3) nan ≡ Err NotFiniteDepth
 unfolding audit le first_from
 no-number-first = refl
 
 -- no mesh at all
-empty-nowhere : find two_parts (counted 0 0 0) d0 ≡ Nowhere
+empty-nowhere : find two_parts (counted 0 0 0) d0 ≡ Err Nowhere
 unfolding audit le first_from
 empty-nowhere = refl

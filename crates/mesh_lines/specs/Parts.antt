@@ -5,21 +5,13 @@
 --     Parses x                     something was found
 --     place_after x                 the place after what was found
 --     stored f l i x               the list that is left where something was found
---     AtPlace AtRun AtSide AtLines      what is promised where something was found
-use Rattle.std.specs.Prelude.{◌≡◌, List, [], ℕ, ◌%◌, length}
+use Rattle.std.specs.Prelude.{◌≡◌, List, [], ℕ, ◌%◌, length, Option, Some, None}
 use Rattle.std.proofs.lemmas.List.Edits.{sets}
 use Rattle.text_numbers.specs.Form.{Parsed, parsed, if_parsed}
 use Rattle.mesh_lines.specs.Grammar.{Listed, Side, flat, side_count, side_points}
-use Rattle.mesh_lines.specs.declared.LinePlace.{LinePlace}
-use Rattle.mesh_lines.specs.declared.LinePlace.TheVariants as LinePlace
-use Rattle.mesh_lines.specs.declared.Run.{Run}
-use Rattle.mesh_lines.specs.declared.Run.TheVariants as Run
 use Rattle.mesh_lines.specs.declared.ListedPoint.{ListedPoint}
-use Rattle.mesh_lines.specs.declared.ListedPoint.TheVariants as ListedPoint
 use Rattle.mesh_lines.specs.declared.SideRead.{SideRead}
-use Rattle.mesh_lines.specs.declared.SideRead.TheVariants as SideRead
 use Rattle.mesh_lines.specs.declared.Lines.{Lines}
-use Rattle.mesh_lines.specs.declared.Lines.TheVariants as Lines
 
 -- a side of a text within the limits lists fewer points than a word can count
 abbrev pub length_word : Side → ℕ
@@ -28,20 +20,20 @@ length_word p = side_count p % 4294967296
 abbrev pub listed_in : List Side → ℕ
 listed_in sides = length (flat side_points sides)
 
-abbrev pub place_answer : {A : Type 0} → Parsed A → LinePlace
-place_answer x = if_parsed (λ a n. LinePlace.At n) LinePlace.None x
+abbrev pub place_answer : {A : Type 0} → Parsed A → Option ℕ
+place_answer x = if_parsed (λ a n. Some n) None x
 
-abbrev pub run_answer : {A : Type 0} → (A → ℕ) → Parsed A → Run
-run_answer f x = if_parsed (λ a n. Run.Of (f a) n) Run.None x
+abbrev pub run_answer : {A : Type 0} → (A → ℕ) → Parsed A → Option (ℕ × ℕ)
+run_answer f x = if_parsed (λ a n. Some (f a, n)) None x
 
-abbrev pub listed_answer : Parsed Listed → ListedPoint
-listed_answer x = if_parsed (λ p n. ListedPoint.Is p.point p.interval n) ListedPoint.None x
+abbrev pub listed_answer : Parsed Listed → Option ListedPoint
+listed_answer x = if_parsed (λ p n. Some (record { point = p.point; interval = p.interval; after = n })) None x
 
-abbrev pub side_answer : Parsed Side → SideRead
-side_answer x = if_parsed (λ p n. SideRead.Of p.first (side_count p) n) SideRead.None x
+abbrev pub side_answer : Parsed Side → Option SideRead
+side_answer x = if_parsed (λ p n. Some (record { first = p.first; listed = side_count p; after = n })) None x
 
-abbrev pub lines_answer : Parsed (List (List Side)) → Lines
-lines_answer x = if_parsed (λ fs n. Lines.Are (length fs) (length (flat (flat side_points) fs)) n) Lines.None x
+abbrev pub lines_answer : Parsed (List (List Side)) → Option Lines
+lines_answer x = if_parsed (λ fs n. Some (record { faces = length fs; listed = length (flat (flat side_points) fs); after = n })) None x
 
 abbrev pub Parses : {A : Type 0} → Parsed A → Type 0
 Parses {A} x = (a : A) × (n : ℕ) × (x ≡ parsed a n)
@@ -52,19 +44,3 @@ place_after x = if_parsed (λ a n. n) 0 x
 -- the list l with the numbers f of what was found stored in it from i on
 abbrev pub stored : {A B : Type 0} → (A → List B) → List B → ℕ → Parsed A → List B
 stored f l i x = if_parsed (λ a n. sets l i (f a)) [] x
-
-abbrev pub AtPlace : LinePlace → Type 0 → Type 0
-AtPlace (LinePlace.At n) P = P
-AtPlace LinePlace.None P = Unit {0}
-
-abbrev pub AtRun : Run → Type 0 → Type 0
-AtRun (Run.Of c n) P = P
-AtRun Run.None P = Unit {0}
-
-abbrev pub AtSide : SideRead → Type 0 → Type 0
-AtSide (SideRead.Of p c n) P = P
-AtSide SideRead.None P = Unit {0}
-
-abbrev pub AtLines : Lines → Type 0 → Type 0
-AtLines (Lines.Are f c n) P = P
-AtLines Lines.None P = Unit {0}

@@ -11,7 +11,8 @@ use Rattle.mesh_text.specs.Text.{head_form, ends, mesh, text}
 use Rattle.mesh_text.specs.Reading.{TextLists, within, read_into}
 use Rattle.mesh_text.specs.Lists.{listed_points}
 use Rattle.built_meshes.specs.declared.Version.TheVariants.{Two}
-use Rattle.mesh_text.specs.declared.Reading.TheVariants as Reading
+use Rattle.std.specs.Prelude.{Err}
+use Rattle.mesh_text.specs.declared.ReadingGround.TheVariants.{NotText, OverLimits}
 
 -- how many points, faces and listed points a text has; nothing for a text that is not of the form
 sizes_of : List ℕ → List ℕ
@@ -110,13 +111,13 @@ nowhere = record { coordinates = []; lengths = []; firsts = []; listed = []; int
 abbrev one : List ℕ
 one = bytes "[mesh 1]\n[face [0] [0] [0] [0]]\n[end]\n"
 
-too_many : (read_into one (record { points = 1; faces = 0; listed = 1 }) nowhere).reading ≡ Reading.OverLimits
+too_many : (read_into one (record { points = 1; faces = 0; listed = 1 }) nowhere).reading ≡ Err OverLimits
 unfolding within read_into digit_value value stands literal digit bits digits_from decimal_from decimal many
     coordinate_form point_form listed_form side_form face_form head_form ends mesh text times flat
 too_many = refl
 
 -- the same with a byte after its end: the form comes first
-form-first : (read_into (one ++ (10 ∷ [])) (record { points = 1; faces = 0; listed = 1 }) nowhere).reading ≡ Reading.NotText
+form-first : (read_into (one ++ (10 ∷ [])) (record { points = 1; faces = 0; listed = 1 }) nowhere).reading ≡ Err NotText
 unfolding within read_into digit_value value stands literal digit bits digits_from decimal_from decimal many
     coordinate_form point_form listed_form side_form face_form head_form ends mesh text times flat
 form-first = refl

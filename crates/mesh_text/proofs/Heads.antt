@@ -7,6 +7,7 @@ use mathlib.Core.Bool.{Bool, true, false}
 use Prim.Native.Nat.{ℕ, ◌≤◌}
 use native.Mathlib.Omega.{arith}
 use lib.ListN.{length}
+use Rattle.std.specs.Prelude.{Some, None}
 use Rattle.text_numbers.specs.Form.{bytes, Parsed, parsed, unparsed, stands}
 use Rattle.text_numbers.proofs.Laws.{stands-inside}
 use Rattle.text_numbers.proofs.Turns.{literal-found, literal-none}
@@ -14,23 +15,22 @@ use Rattle.mesh_text.specs.Text.{head_form}
 use Rattle.mesh_text.specs.Parts.{head_of}
 use Rattle.built_meshes.specs.declared.Version.{Version}
 use Rattle.built_meshes.specs.declared.Version.TheVariants.{One, Two}
-use Rattle.mesh_text.specs.declared.Head.TheVariants as Head
 
 module _ (s : List ℕ) where
-  pub head-one : stands s 0 (bytes "[mesh 1]\n") ≡ true → Head.Is One ≡ head_of (head_form s 0)
+  pub head-one : stands s 0 (bytes "[mesh 1]\n") ≡ true → Some One ≡ head_of (head_form s 0)
   unfolding head_form
   head-one e = rw (e, literal-found s (bytes "[mesh 1]\n") 0 e)
 
-  pub head-two : stands s 0 (bytes "[mesh 1]\n") ≡ false → stands s 0 (bytes "[mesh 2]\n") ≡ true → Head.Is Two ≡ head_of (head_form s 0)
+  pub head-two : stands s 0 (bytes "[mesh 1]\n") ≡ false → stands s 0 (bytes "[mesh 2]\n") ≡ true → Some Two ≡ head_of (head_form s 0)
   unfolding head_form
   head-two n e = rw (n, literal-found s (bytes "[mesh 2]\n") 0 e)
 
-  pub head-missing : stands s 0 (bytes "[mesh 1]\n") ≡ false → stands s 0 (bytes "[mesh 2]\n") ≡ false → Head.None ≡ head_of (head_form s 0)
+  pub head-missing : stands s 0 (bytes "[mesh 1]\n") ≡ false → stands s 0 (bytes "[mesh 2]\n") ≡ false → None ≡ head_of (head_form s 0)
   unfolding head_form
   head-missing n e = rw (n, literal-none s (bytes "[mesh 2]\n") 0 e)
 
 -- a head is nine bytes long
-pub head_read : (s : List ℕ) (v : Version) → head_of (head_form s 0) ≡ Head.Is v → (head_form s 0 ≡ parsed v 9) × (9 ≤ length s)
+pub head_read : (s : List ℕ) (v : Version) → head_of (head_form s 0) ≡ Some v → (head_form s 0 ≡ parsed v 9) × (9 ≤ length s)
 unfolding head_form
 head_read s v e = go (stands s 0 (bytes "[mesh 1]\n")) refl
   where
@@ -54,6 +54,6 @@ head_read s v e = go (stands s 0 (bytes "[mesh 1]\n")) refl
         (rw (h, l, w), stands-inside s (bytes "[mesh 1]\n") 0 refl (omega arith) h)
     go false h = second (stands s 0 (bytes "[mesh 2]\n")) h refl
 
-pub head-none : (x : Parsed Version) → head_of x ≡ Head.None → x ≡ unparsed
+pub head-none : (x : Parsed Version) → head_of x ≡ None → x ≡ unparsed
 head-none (parsed v n) e = cc
 head-none unparsed e = refl

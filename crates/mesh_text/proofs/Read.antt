@@ -20,8 +20,7 @@ use Rattle.mesh_text.specs.Reading.{counts, TextLists, with_text, within, read_i
 use Rattle.mesh_text.specs.Lists.{coordinates, lengths, firsts, listed_points, intervals}
 use Rattle.tables.specs.declared.Sizes.{Sizes}
 use Rattle.built_meshes.specs.declared.Version.{Version}
-use Rattle.mesh_text.specs.declared.Reading.{Reading}
-use Rattle.mesh_text.specs.declared.Reading.TheVariants as Reading
+use Rattle.std.specs.Prelude.{Ok}
 use Rattle.mesh_lines.proofs.Laws.{same_count, length-point, length-face}
 
 pub record ReadText (s : List ℕ) (limits : Sizes) (l : TextLists) (v : Version) (c : Sizes) : Type 0 where
@@ -33,7 +32,7 @@ pub record ReadText (s : List ℕ) (limits : Sizes) (l : TextLists) (v : Version
   pub fits : within c limits (length l.coordinates) (length l.lengths) (length l.listed) (length l.intervals) (length l.firsts) ≡ true
   pub lists : (read_into s limits l).lists ≡ with_text what l
 
-pub read-means : (s : List ℕ) (limits : Sizes) (l : TextLists) (v : Version) (c : Sizes) → (read_into s limits l).reading ≡ Reading.Read v c → ReadText s limits l v c
+pub read-means : (s : List ℕ) (limits : Sizes) (l : TextLists) (v : Version) (c : Sizes) → (read_into s limits l).reading ≡ Ok (v, c) → ReadText s limits l v c
 unfolding read_into
 read-means s limits l v c e = go (text s) refl
   where
@@ -43,8 +42,9 @@ read-means s limits l v c e = go (text s) refl
     test : (m : TextMesh) (n : ℕ) → text s ≡ parsed m n → (b : Bool) → room m ≡ b → ReadText s limits l v c
     test m n et true eb =
         let e' = rw (et, eb) at e in
-        let ev : m.version ≡ v = cc in
-        let ec : counts m ≡ c = cc in
+        let p : ◌≡◌ {A = Version × Sizes} (m.version, counts m) (v, c) = cc in
+        let ev : m.version ≡ v = ap (λ (q : Version × Sizes). q.0) p in
+        let ec : counts m ≡ c = ap (λ (q : Version × Sizes). q.1) p in
         record { what = m; place = n; form = et; versioned = ev; counted = ec; fits = rw ec at eb; lists = rw (et, eb) }
     test m n et false eb =
         let e' = rw (et, eb) at e in

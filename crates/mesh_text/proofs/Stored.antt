@@ -10,7 +10,8 @@ use Prim.Native.Nat.{ℕ, ◌≤◌}
 use native.Mathlib.Omega.{arith}
 use lib.ListN.{length}
 use lib.Ieee.{Float}
-use Rattle.text_numbers.specs.Form.{bytes, Parsed, parsed, unparsed, Form, pure, choose, many}
+use Rattle.std.specs.Prelude.{Some}
+use Rattle.text_numbers.specs.Form.{bytes, parsed, unparsed, Form, pure, choose, many}
 use Rattle.text_numbers.specs.Numbers.{float}
 use Rattle.text_numbers.proofs.Laws.{takes-many, onward-found}
 use Rattle.mesh_lines.specs.Grammar.{Side, point_form, face_form, flat}
@@ -19,7 +20,6 @@ use Rattle.mesh_lines.proofs.Laws.{takes-point}
 use Rattle.mesh_text.specs.Text.{TextMesh, head_form, ends, mesh, text}
 use Rattle.mesh_text.specs.Lists.{coordinates}
 use Rattle.mesh_text.specs.Parts.{head_of}
-use Rattle.mesh_text.specs.declared.Head.TheVariants as Head
 use Rattle.built_meshes.specs.declared.Version.{Version}
 use Rattle.mesh_text.proofs.Heads.{head_read}
 
@@ -44,7 +44,7 @@ parts-of : (s : List ℕ) → Parses (text s) → TextParts s
 unfolding mesh text
 parts-of s (m, n, e) =
     let (v, k, eh, e1) = onward-found _ (head_form s 0) e in
-    let named : head_of (head_form s 0) ≡ Head.Is v = ap head_of eh in
+    let named : head_of (head_form s 0) ≡ Some v = ap head_of eh in
     let (h9, inside) = head_read s v named in
     let k9 : k ≡ 9 = cc in
     let (ps, i, ep, e2) = onward-found _ (point_lines s k) e1 in

@@ -4,7 +4,7 @@
 --     firsts m             of each side, its first point
 --     listed_points m       the listed points of all sides, in their order
 --     intervals m          the interval beside each
-use Rattle.std.specs.Prelude.{List, map, ℕ, length, Float}
+use Rattle.std.specs.Prelude.{List, map, ℕ, Float}
 use Rattle.text_numbers.specs.Numbers.{float}
 use Rattle.mesh_lines.specs.Grammar.{flat, side_first, side_count, side_points, side_intervals}
 use Rattle.mesh_text.specs.Text.{TextMesh}

@@ -4,14 +4,15 @@
 --     within c limits xs ls ps ds qs  the counts are within the limits and the rooms of the lists
 --     read_into s limits l          the answer, and the lists after it
 --     reading_numbers a             the numbers of an answer: points, faces and listed points, or that of the ground
-use Rattle.std.specs.Prelude.{List, [], ◌∷◌, Bool, ◌&&◌, cond, ℕ, ◌*◌, length, leb, Float}
+use Rattle.std.specs.Prelude.{List, [], ◌∷◌, Bool, ◌&&◌, cond, ℕ, ◌*◌, length, leb, Float, Result, Ok, Err}
 use Rattle.std.proofs.lemmas.List.Edits.{sets}
 use Rattle.text_numbers.specs.Form.{if_parsed}
 use Rattle.mesh_text.specs.Text.{TextMesh, text}
 use Rattle.mesh_text.specs.Lists.{coordinates, lengths, firsts, listed_points, intervals}
 use Rattle.tables.specs.declared.Sizes.{Sizes}
-use Rattle.mesh_text.specs.declared.Reading.{Reading}
-use Rattle.mesh_text.specs.declared.Reading.TheVariants as Reading
+use Rattle.built_meshes.specs.declared.Version.{Version}
+use Rattle.mesh_text.specs.declared.ReadingGround.{ReadingGround}
+use Rattle.mesh_text.specs.declared.ReadingGround.TheVariants.{NotText, OverLimits}
 
 abbrev pub counts : TextMesh → Sizes
 counts m = record { points = length m.points; faces = length m.faces; listed = length (listed_points m) }
@@ -40,20 +41,20 @@ within c limits xs ls ps ds qs =
     && (leb (3 * c.points) xs && (leb (4 * c.faces) ls && (leb c.listed ps && (leb c.listed ds && leb (4 * c.faces) qs)))))))
 
 pub record ReadOutcome : Type 0 where
-  pub reading : Reading
+  pub reading : Result (Version × Sizes) ReadingGround
   pub lists : TextLists
 
-abbrev pub reading_numbers : Reading → List ℕ
-reading_numbers (Reading.Read v c) = c.points ∷ c.faces ∷ c.listed ∷ []
-reading_numbers Reading.NotText = 1 ∷ []
-reading_numbers Reading.OverLimits = 2 ∷ []
+abbrev pub reading_numbers : Result (Version × Sizes) ReadingGround → List ℕ
+reading_numbers (Ok (v, c)) = c.points ∷ c.faces ∷ c.listed ∷ []
+reading_numbers (Err NotText) = 1 ∷ []
+reading_numbers (Err OverLimits) = 2 ∷ []
 
 -- the form of the whole text is tested before anything is counted; a text that is not read leaves the lists as they are
 unfoldable pub read_into : List ℕ → Sizes → TextLists → ReadOutcome
 read_into s limits l =
     if_parsed (λ m n.
     cond (within (counts m) limits (length l.coordinates) (length l.lengths) (length l.listed) (length l.intervals) (length l.firsts))
-    (record { reading = Reading.Read m.version (counts m); lists = with_text m l })
-    (record { reading = Reading.OverLimits; lists = l }))
-    (record { reading = Reading.NotText; lists = l })
+    (record { reading = Ok (m.version, counts m); lists = with_text m l })
+    (record { reading = Err OverLimits; lists = l }))
+    (record { reading = Err NotText; lists = l })
     (text s)

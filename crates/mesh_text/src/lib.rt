@@ -6,27 +6,11 @@
 // Laws for callers: `proofs/Read.antt`; for the reader: `proofs/Heads.antt`, `proofs/Stored.antt`.
 #![tactic(auto)]
 
-use built_meshes::Version;
-use tables::Sizes;
-
-// What reading a text answers: its version and its sizes. Not of the form is ground 1, over the limits ground 2.
-#[derive(Clone, Copy)]
-pub enum Reading {
-    Read(Version, Sizes),
+// Why a text is not read.
+#[derive(Clone, Copy, Debug, PartialEq, Eq)]
+pub enum ReadingGround {
+    // 1: not of the form
     NotText,
+    // 2: over the limits
     OverLimits,
-}
-
-// The version that the head of a text names.
-#[derive(Clone, Copy)]
-pub enum Head {
-    Is(Version),
-    None,
-}
-
-// The version of a whole text, and how many points, faces and listed points it has.
-#[derive(Clone, Copy)]
-pub enum Total {
-    Of(Version, usize, usize, usize),
-    None,
 }

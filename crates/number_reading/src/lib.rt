@@ -8,57 +8,45 @@ ghost use Rattle.std.specs.Prelude.{◌≡◌, ◌≤◌, ◌<◌, length};
 ghost use Rattle.text_numbers.specs.Numbers.{bits, decimal_from, decimal, float};
 ghost use Rattle.text_numbers.specs.Answers.{number};
 
-use text_numbers::{Number, byte, digit_value};
+use text_numbers::{byte, digit_value};
 
 // 16 hexadecimal digits: the bits of a binary64.
-pub fn bits(s: &[u8], at: usize) -> Number
+pub fn bits(s: &[u8], at: usize) -> Option<(u64, usize)>
     requires { at ≤ length s.now }
     ensures { result ≡ number (bits s.now at) }
 {
     let mut v: u64 = 0;
-    let mut i = at;
-    let mut k: usize = 0;
-    while k < 16 {
-        let d = digit_value(byte(s, i));
-        if 16 <= d {
-            return Number::None;
-        }
-        v = v * 16 + d;
-        i += 1;
-        k += 1;
+    for k in 0..16 {
+        v = v * 16 + digit_value(byte(s, at + k), 16)?;
     }
-    Number::Is(v, i)
+    Some((v, at + 16))
 }
 
 // The digits from a place on, after a first digit.
-fn decimal_from(s: &[u8], at: usize, first: u64) -> Number
+fn decimal_from(s: &[u8], at: usize, first: u64) -> Option<(u64, usize)>
     requires { (at ≤ length s.now) × (first < 10) }
     ensures { result ≡ number (decimal_from s.now first at) }
 {
     let mut v = first;
     let mut i = at;
     while v < 4294967296 {
-        let d = digit_value(byte(s, i));
-        if 10 <= d {
-            return Number::Is(v, i);
-        }
+        let Some(d) = digit_value(byte(s, i), 10) else {
+            return Some((v, i));
+        };
         v = v * 10 + d;
         i += 1;
     }
-    Number::None
+    None
 }
 
 // A decimal number below 4,294,967,296 with no leading zero.
-pub fn decimal(s: &[u8], at: usize) -> Number
+pub fn decimal(s: &[u8], at: usize) -> Option<(u64, usize)>
     requires { at ≤ length s.now }
     ensures { result ≡ number (decimal s.now at) }
 {
-    let first = digit_value(byte(s, at));
-    if 10 <= first {
-        return Number::None;
-    }
+    let first = digit_value(byte(s, at), 10)?;
     if first == 0 {
-        return Number::Is(0, at + 1);
+        return Some((0, at + 1));
     }
     decimal_from(s, at + 1, first)
 }

@@ -17,7 +17,7 @@ use building_tests::REFINE_FACES;
 use refine_parts::number_faces;
 use refined_meshes::Edition;
 use refining::step;
-use steps::Stepped;
+use steps::StepRefusal;
 use tables::{Counts, EDGE_WIDTH, FACE_WIDTH, POINT_WIDTH, POSITION_WIDTH};
 
 // The rows of the tables that are lent to building and to the step.
@@ -36,7 +36,7 @@ fn step_by_zeros(
     faces: &mut [u32],
     counts: Counts,
     order: &[u32],
-) -> Stepped
+) -> Result<Counts, StepRefusal>
     ensures { SteppedTo result (mesh_of positions.new points.new edges.new intervals.new faces.new)
         (step First (mesh_of positions.old points.old edges.old intervals.old faces.old)
         counts order.now zero_tables) }
@@ -71,7 +71,7 @@ pub fn numbered_step(
     intervals: &mut [f64],
     faces: &mut [u32],
     counts: Counts,
-) -> Stepped
+) -> Result<Counts, StepRefusal>
     requires { counts.faces ≤ refine_limits.faces }
     ensures { SteppedTo result (mesh_of positions.new points.new edges.new intervals.new faces.new)
         (numbered_step counts

@@ -5,9 +5,7 @@
 // Contract: `old_point`. Definitions: `position_rules`, specs/OldPoint.antt.
 #![tactic(auto)]
 
-ghost use Rattle.std.specs.Prelude.{◌≡◌, ◌+◌, ◌*◌, ◌≤◌, pos, length};
-ghost use Rattle.std.specs.Float.Ieee.{of_int};
-ghost use Rattle.std.specs.Float.{binary64};
+ghost use Rattle.std.specs.Prelude.{◌≡◌, ◌+◌, ◌*◌, ◌≤◌, length};
 ghost use Rattle.positions.specs.Position.{placed_at};
 ghost use Rattle.t_spline.specs.Edge.{none, common_face};
 ghost use Rattle.tables.specs.Layout.{edge_width};
@@ -22,7 +20,7 @@ use old_places::moved;
 use position_rules::WeightedSum;
 use position_rules::intervals::{a1, acw_about, c1, c2};
 use position_rules::places::{load_edge_point, load_face_point};
-use positions::{Placed, Position};
+use positions::Position;
 use records::load_point;
 use tables::index;
 
@@ -107,8 +105,7 @@ fn radial_sum(
     let mut r = start;
     let mut next = acw_about(edges, p, start);
     let mut fan = fan_about(edges, intervals, p, start);
-    let mut i = 0;
-    while i < n {
+    for i in 0..n {
         let after = acw_about(edges, p, next);
         let a2 = intervals[after];
         s = radial_terms(
@@ -132,16 +129,8 @@ fn radial_sum(
         fan = ahead;
         r = next;
         next = after;
-        i += 1;
     }
     s
-}
-
-// A valence as a number.
-fn number(v: u32) -> f64
-    ensures { result ≡ of_int binary64 (pos v) }
-{
-    v as f64
 }
 
 // Where the point p goes, from the edge points and face points that stand in the new table of positions.
@@ -154,7 +143,7 @@ pub fn old_point(
     newedges: &[u32],
     newfaces: &[u32],
     p: usize,
-) -> Placed
+) -> Option<Position>
     requires { OldPointFits positions.now points.now edges.now intervals.now newpositions.now newedges.now newfaces.now p }
     ensures { result ≡ placed_at (old_point positions.now points.now edges.now intervals.now
         (edge_point_at newpositions.now newedges.now) (face_point_at newpositions.now
@@ -172,5 +161,5 @@ pub fn old_point(
         start,
         index(point.valence),
     );
-    moved(point.point, number(point.valence), s).placed()
+    moved(point.point, f64::from(point.valence), s).placed()
 }

@@ -6,7 +6,7 @@
 // Not here: what is told of one record (`telling.rt`).
 #![tactic(auto)]
 
-ghost use Rattle.std.specs.Prelude.{◌≡◌, ◌≤◌, IfOk, length};
+ghost use Rattle.std.specs.Prelude.{◌≡◌, ◌≤◌, IfOk, IfSome, length};
 
 use crate::telling::{HEAD_BYTES, record_bytes, tell};
 use std::io;
@@ -19,23 +19,23 @@ mod telling;
 // Room for one record: the longest has a text of 16,385 bytes.
 const RECORD_BYTES: usize = 16640;
 
-// Reads the next record, and gives how many bytes it has: 0 where no head is left, or where there is no room for it.
-fn read_record<R: Read>(input: &mut R, bytes: &mut [u8]) -> io::Result<usize>
-    ensures in_bounds { IfOk result (λ n. n ≤ length bytes.new) }
+// Reads the next record, and gives how many bytes it has, where a head is left and there is room for the record.
+fn read_record<R: Read>(input: &mut R, bytes: &mut [u8]) -> io::Result<Option<usize>>
+    ensures in_bounds { IfOk result (λ o. IfSome o (λ n. (209 ≤ n) × (n ≤ length bytes.new))) }
     ensures len { length bytes.new ≡ length bytes.old }
 {
     if bytes.len() < HEAD_BYTES {
-        return Ok(0);
+        return Ok(None);
     }
     if read_full(input, &mut bytes[..HEAD_BYTES])? < HEAD_BYTES {
-        return Ok(0);
+        return Ok(None);
     }
     let whole = record_bytes(bytes);
     if bytes.len() < whole {
-        return Ok(0);
+        return Ok(None);
     }
     let rest = read_full(input, &mut bytes[HEAD_BYTES..whole])?;
-    Ok(HEAD_BYTES + rest)
+    Ok(Some(HEAD_BYTES + rest))
 }
 
 // Tells of the records one after the other, in room for one of them.
@@ -43,10 +43,9 @@ fn tell_all(rt: HostRuntime, bytes: &mut [u8]) -> io::Result<()>
     requires { length bytes.old ≤ 8388608 }
 {
     for _ in 0..4096 {
-        let n = read_record(&mut rt.stdin(), bytes)?;
-        if n < HEAD_BYTES {
+        let Some(n) = read_record(&mut rt.stdin(), bytes)? else {
             break;
-        }
+        };
         tell(&rt, &bytes[..n])?;
     }
     Ok(())

@@ -16,60 +16,48 @@
 ghost use Rattle.std.specs.Prelude.{◌≡◌, ◌≤◌, ◌+◌, length};
 
 use crate::heads::{bounds, change};
-use oracle_builds::{Answer, Start, build_bytes, build_changed, put_listed_word};
+use answer_numbers::ground_number;
+use oracle_builds::{Start, build_bytes, build_changed, put_listed_word};
 use oracle_steps::{StepStage, tell_steps};
-use oracle_tables::fields::{at_most, field, word};
+use oracle_tables::fields::{field, word};
 use oracle_tables::held::{Tables, lent_by};
-use oracle_tables::listing::{tell_mesh, tell_refused, tell_stage};
+use oracle_tables::kinds::{Kind, kind_of};
+use oracle_tables::listing::tell_mesh;
 use oracle_tables::rows::{no_counts, tell_rows};
 use oracle_trials::{count_changes, count_cuts, tell_tried, tell_zeros};
 use std::io;
 use tables::Counts;
+use text_meshes::TextRefusal;
 
 // The bytes of a label; those of a label, the 16 numbers of the head and byte 10.
 const LABEL_BYTES: usize = 32;
 
 pub const HEAD_BYTES: usize = 209;
 
-// The tables with a word of the points, edges or faces changed.
-fn spoilt(t: Tables, table: usize, place: usize, word: u32) -> Tables {
-    let mut points = t.points;
-    let mut edges = t.edges;
-    let mut faces = t.faces;
-    if table == 1 {
-        put_listed_word(&mut points, place, word);
-    }
-    if table == 2 {
-        put_listed_word(&mut edges, place, word);
-    }
-    if table == 3 {
-        put_listed_word(&mut faces, place, word);
-    }
-    let positions = t.positions;
-    let intervals = t.intervals;
-    Tables {
-        positions,
-        points,
-        edges,
-        intervals,
-        faces,
+// Changes a word of the points, edges or faces.
+fn spoil(t: &mut Tables, table: usize, place: usize, word: u32) {
+    match table {
+        1 => put_listed_word(&mut t.points, place, word),
+        2 => put_listed_word(&mut t.edges, place, word),
+        3 => put_listed_word(&mut t.faces, place, word),
+        _ => {}
     }
 }
 
 // The tables in which the steps of a record begin: changed if it is of kind 6.
-fn begun(bytes: &[u8], head: usize, more: usize, t: Tables) -> Tables
+fn begun(bytes: &[u8], head: usize, more: usize, mut t: Tables) -> Tables
     requires head_bound { head ≤ 16777216 }
     requires more_bound { more ≤ 8388608 }
 {
-    if field(bytes, head, 0) != 6 {
-        return t;
+    if matches!(kind_of(bytes, head), Kind::Spoilt) {
+        spoil(
+            &mut t,
+            field(bytes, more, 0),
+            field(bytes, more, 1),
+            word(bytes, more, 2),
+        );
     }
-    spoilt(
-        t,
-        field(bytes, more, 0),
-        field(bytes, more, 1),
-        word(bytes, more, 2),
-    )
+    t
 }
 
 // Builds a text, its lists changed if the record is of kind 1.
@@ -77,10 +65,11 @@ fn build_kind(bytes: &[u8], head: usize, text: &[u8], more: usize) -> Start
     requires head_bound { head ≤ 16777216 }
     requires more_bound { more ≤ 8388608 }
 {
-    if field(bytes, head, 0) == 1 {
-        return build_changed(text, bounds(bytes, head), change(bytes, more));
+    if matches!(kind_of(bytes, head), Kind::Changed) {
+        build_changed(text, bounds(bytes, head), change(bytes, more))
+    } else {
+        build_bytes(text, bounds(bytes, head), lent_by(bytes, head, 6))
     }
-    build_bytes(text, bounds(bytes, head), lent_by(bytes, head, 6))
 }
 
 // Writes the mesh that was built, and makes the steps of the record.
@@ -96,15 +85,15 @@ fn tell_built(
     requires more_bound { more ≤ 8388608 }
 {
     tell_mesh(rt, t, counts, 0 < field(bytes, head, 5))?;
-    tell_rows(rt, b"[zero", t, counts)?;
+    tell_rows(rt, "zero", t, counts)?;
     let tables = begun(bytes, head, more, t);
     tell_steps(rt, bytes, head, more, StepStage { counts, tables })
 }
 
 // Writes the ground on which building refused.
 fn tell_ground(rt: &impl Print, t: Tables, n: u32) -> io::Result<()> {
-    tell_refused(rt, n)?;
-    tell_rows(rt, b"[zero", t, no_counts())
+    println!(rt; "[refused {n}]")?;
+    tell_rows(rt, "zero", t, no_counts())
 }
 
 // Kinds 0, 1, 5 and 6: builds a text, and makes the steps of the record if that is accepted.
@@ -114,11 +103,11 @@ fn tell_text(rt: &impl Print, bytes: &[u8], head: usize, text: &[u8], more: usiz
 {
     let start = build_kind(bytes, head, text, more);
     let t = start.tables;
-    let answer = start.answer;
-    tell_stage(rt, 0)?;
-    match answer {
-        Answer::Accepted(counts) => tell_built(rt, bytes, head, more, t, counts),
-        Answer::Refused(n) => tell_ground(rt, t, n),
+    println!(rt; "[stage 0]")?;
+    match start.answer {
+        Ok(counts) => tell_built(rt, bytes, head, more, t, counts),
+        Err(TextRefusal::NotText) => tell_ground(rt, t, 1),
+        Err(TextRefusal::Refused(g)) => tell_ground(rt, t, ground_number(g)),
     }
 }
 
@@ -127,20 +116,22 @@ fn tell_kind(rt: &impl Print, bytes: &[u8], head: usize, text: &[u8], more: usiz
     requires head_bound { head ≤ 16777216 }
     requires more_bound { more ≤ 8388608 }
 {
-    match field(bytes, head, 0) {
-        2 => tell_tried(rt, text.len(), count_cuts(text)),
-        3 => tell_tried(
+    match kind_of(bytes, head) {
+        Kind::CutShort => tell_tried(rt, text.len(), count_cuts(text)),
+        Kind::OtherByte => tell_tried(
             rt,
             text.len(),
             count_changes(text, (field(bytes, more, 0) % 256) as u8),
         ),
-        4 => tell_zeros(
+        Kind::Zeros => tell_zeros(
             rt,
             field(bytes, more, 0),
             field(bytes, more, 1),
             word(bytes, more, 2),
         ),
-        _ => tell_text(rt, bytes, head, text, more),
+        Kind::Whole | Kind::Changed | Kind::Listed | Kind::Spoilt => {
+            tell_text(rt, bytes, head, text, more)
+        }
     }
 }
 
@@ -158,8 +149,8 @@ pub fn tell(rt: &impl Print, bytes: &[u8]) -> io::Result<()>
 {
     let head = LABEL_BYTES;
     rt.write_all(&bytes[..head])?;
-    rt.println("")?;
-    let n = at_most(field(bytes, head, 1), bytes.len() - HEAD_BYTES);
+    println!(rt)?;
+    let n = field(bytes, head, 1).min(bytes.len() - HEAD_BYTES);
     let more = HEAD_BYTES + n;
     tell_kind(rt, bytes, head, &bytes[HEAD_BYTES..more], more)
 }

@@ -5,21 +5,21 @@
 
 ghost use Rattle.std.specs.Prelude.{◌≡◌, ◌+◌, ◌≤◌, length};
 
-use answer_numbers::step_number;
-use oracle_tables::fields::{at_most, cut, field, word};
+use oracle_tables::fields::{cut, field, word};
 use oracle_tables::held::{LentTables, Tables, filled_tables, lent_by};
-use oracle_tables::listing::{tell_mesh, tell_refused, tell_stage};
+use oracle_tables::kinds::{Kind, kind_of};
+use oracle_tables::listing::tell_mesh;
 use oracle_tables::rows::{no_counts, tell_rows};
 use refined_meshes::Edition;
 use refining::step;
 use std::io;
-use steps::Stepped;
+use steps::StepRefusal;
 use tables::Counts;
 
 // What a step answered, and the tables and the scratch tables after it.
 #[derive(Clone, Copy)]
 pub struct MadeStep {
-    pub answer: Stepped,
+    pub answer: Result<Counts, StepRefusal>,
     pub tables: Tables,
     pub scratch: Tables,
 }
@@ -31,44 +31,20 @@ pub struct StepStage {
     pub tables: Tables,
 }
 
-// Fills an order: the faces in numbered order.
-fn fill_numbered(order: &mut [u32])
-    requires { length order.old ≤ 65536 }
-    ensures { length order.new ≡ length order.old }
-{
-    let n = order.len();
-    let mut i = 0;
-    while i < n {
-        order[i] = i as u32;
-        i += 1;
-    }
-}
-
-// Fills an order from the numbers at a place, of which the first two are the edition and its length.
-fn fill_listed(bytes: &[u8], at: usize, order: &mut [u32])
-    requires at_bound { at ≤ 16777216 }
-    requires order_len_bound { length order.old ≤ 65535 }
-    ensures { length order.new ≡ length order.old }
-{
-    let n = order.len();
-    let mut i = 0;
-    while i < n {
-        order[i] = word(bytes, at, i + 2);
-        i += 1;
-    }
-}
-
-// Fills an order with the faces in numbered order, or, if it is listed, from the numbers at a place.
+// Fills an order with the faces in numbered order, or, if it is listed, from the numbers at a place, of which the first two are the edition
+// and its length.
 fn fill_order(bytes: &[u8], listed: bool, at: usize, order: &mut [u32])
     requires at_bound { at ≤ 16777216 }
     requires order_len_bound { length order.old ≤ 65535 }
     ensures { length order.new ≡ length order.old }
 {
-    if listed {
-        fill_listed(bytes, at, order);
-        return;
+    for (i, f) in order.iter_mut().enumerate() {
+        *f = if listed {
+            word(bytes, at, i + 2)
+        } else {
+            i as u32
+        };
     }
-    fill_numbered(order);
 }
 
 // Makes a step in as much of the tables and of the scratch tables as is lent.
@@ -88,17 +64,17 @@ fn step_lent(
     newedges: &mut [u32],
     newintervals: &mut [f64],
     newfaces: &mut [u32],
-) -> Stepped {
-    let a = at_most(held.positions, positions.len());
-    let b = at_most(held.points, points.len());
-    let c = at_most(held.edges, edges.len());
-    let d = at_most(held.intervals, intervals.len());
-    let e = at_most(held.faces, faces.len());
-    let f = at_most(scratch.positions, newpositions.len());
-    let g = at_most(scratch.points, newpoints.len());
-    let h = at_most(scratch.edges, newedges.len());
-    let i = at_most(scratch.intervals, newintervals.len());
-    let j = at_most(scratch.faces, newfaces.len());
+) -> Result<Counts, StepRefusal> {
+    let a = held.positions.min(positions.len());
+    let b = held.points.min(points.len());
+    let c = held.edges.min(edges.len());
+    let d = held.intervals.min(intervals.len());
+    let e = held.faces.min(faces.len());
+    let f = scratch.positions.min(newpositions.len());
+    let g = scratch.points.min(newpoints.len());
+    let h = scratch.edges.min(newedges.len());
+    let i = scratch.intervals.min(newintervals.len());
+    let j = scratch.faces.min(newfaces.len());
     step(
         &mut positions[..a],
         &mut points[..b],
@@ -118,84 +94,55 @@ fn step_lent(
 
 // Makes a step in the tables t with the scratch tables s, in as much of them as is lent.
 fn make(
-    t: Tables,
-    s: Tables,
+    mut t: Tables,
+    mut s: Tables,
     counts: Counts,
     order: &[u32],
     edition: Edition,
     held: LentTables,
     scratch: LentTables,
 ) -> MadeStep {
-    let mut positions = t.positions;
-    let mut points = t.points;
-    let mut edges = t.edges;
-    let mut intervals = t.intervals;
-    let mut faces = t.faces;
-    let mut newpositions = s.positions;
-    let mut newpoints = s.points;
-    let mut newedges = s.edges;
-    let mut newintervals = s.intervals;
-    let mut newfaces = s.faces;
     let answer = step_lent(
         held,
         scratch,
         counts,
         order,
         edition,
-        &mut positions,
-        &mut points,
-        &mut edges,
-        &mut intervals,
-        &mut faces,
-        &mut newpositions,
-        &mut newpoints,
-        &mut newedges,
-        &mut newintervals,
-        &mut newfaces,
+        &mut t.positions,
+        &mut t.points,
+        &mut t.edges,
+        &mut t.intervals,
+        &mut t.faces,
+        &mut s.positions,
+        &mut s.points,
+        &mut s.edges,
+        &mut s.intervals,
+        &mut s.faces,
     );
-    let tables = Tables {
-        positions,
-        points,
-        edges,
-        intervals,
-        faces,
-    };
-    let scratch = Tables {
-        positions: newpositions,
-        points: newpoints,
-        edges: newedges,
-        intervals: newintervals,
-        faces: newfaces,
-    };
     MadeStep {
         answer,
-        tables,
-        scratch,
+        tables: t,
+        scratch: s,
     }
 }
 
 // Writes what a step answered, the mesh, and what stands in the rows that hold no mesh; gives the mesh.
 fn tell_made(rt: &impl Print, made: MadeStep, told: bool, counts: Counts) -> io::Result<StepStage> {
     let t = made.tables;
-    let answer = made.answer;
-    match answer {
-        Stepped::Refined(c) => {
+    let counts = match made.answer {
+        Ok(c) => {
             tell_mesh(rt, t, c, told)?;
-            tell_rows(rt, b"[zero", t, c)?;
-            tell_rows(rt, b"[scratch", made.scratch, no_counts())?;
-            Ok(StepStage {
-                counts: c,
-                tables: t,
-            })
+            c
         }
-        _ => {
-            tell_refused(rt, step_number(answer))?;
+        Err(refusal) => {
+            println!(rt; "[refused {}]", refusal.number())?;
             tell_mesh(rt, t, counts, false)?;
-            tell_rows(rt, b"[zero", t, counts)?;
-            tell_rows(rt, b"[scratch", made.scratch, no_counts())?;
-            Ok(StepStage { counts, tables: t })
+            counts
         }
-    }
+    };
+    tell_rows(rt, "zero", t, counts)?;
+    tell_rows(rt, "scratch", made.scratch, no_counts())?;
+    Ok(StepStage { counts, tables: t })
 }
 
 // How many faces the order of the next step names: those of the mesh, or, if orders are listed, the number at a place.
@@ -204,21 +151,21 @@ fn order_length(bytes: &[u8], listed: bool, at: usize, faces: usize) -> usize
     ensures { result ≤ 400 }
 {
     if listed {
-        return cut(bytes, at, 1, 400);
+        cut(bytes, at, 1, 400)
+    } else {
+        faces.min(400)
     }
-    at_most(faces, 400)
 }
 
 // The edition of the next step: the first, or, if orders are listed, the one that the number at a place says.
 fn edition_at(bytes: &[u8], listed: bool, at: usize) -> Edition
     requires { at ≤ 16777216 }
 {
-    if listed {
-        if field(bytes, at, 0) == 1 {
-            return Edition::Second;
-        }
+    if listed && field(bytes, at, 0) == 1 {
+        Edition::Second
+    } else {
+        Edition::First
     }
-    Edition::First
 }
 
 // Makes a step in numbered order, or in the edition and the order that are listed at a place, and writes what it answered and left.
@@ -233,10 +180,10 @@ fn tell_step(
     requires head_bound { head ≤ 16777216 }
     requires at_bound { at ≤ 16777216 }
 {
-    let listed = field(bytes, head, 0) == 5;
+    let listed = matches!(kind_of(bytes, head), Kind::Listed);
     let c = stage.counts;
     let n = order_length(bytes, listed, at, c.faces);
-    let mut order = [0u32; 400];
+    let mut order = [0; 400];
     fill_order(bytes, listed, at, &mut order);
     let made = make(
         stage.tables,
@@ -273,10 +220,8 @@ pub fn tell_steps(
     let told = field(bytes, head, 5);
     let mut stage = first;
     let mut at = more;
-    let mut k = 0;
-    while k < steps {
-        k += 1;
-        tell_stage(rt, k)?;
+    for k in 1..=steps {
+        println!(rt; "[stage {k}]")?;
         stage = tell_step(rt, bytes, head, at, k < told, stage)?;
         at = after_order(bytes, at);
     }

@@ -1,35 +1,14 @@
 // The numbers in the head of a record, each of ten decimal digits at a fixed place.
-ghost use Rattle.std.specs.Prelude.{◌≡◌, ◌≤◌, ◌<◌};
-
-// A number, or the most that is allowed if it is over that.
-pub fn at_most(n: usize, most: usize) -> usize
-    ensures { (result ≤ n) × (result ≤ most) }
-{
-    if n < most { n } else { most }
-}
-
-// A byte as a number.
-pub fn wide_byte(b: u8) -> u64
-    ensures { result < 256 }
-{
-    b as u64
-}
+ghost use Rattle.std.specs.Prelude.{◌≤◌, ◌<◌};
 
 // The decimal digit at a place; 0 where none stands there.
 fn digit(bytes: &[u8], at: usize) -> u64
     ensures { result < 10 }
 {
-    if bytes.len() <= at {
-        return 0;
+    match bytes.get(at) {
+        Some(&b @ b'0'..=b'9') => u64::from(b - b'0'),
+        _ => 0,
     }
-    let b = wide_byte(bytes[at]);
-    if b < 48 {
-        return 0;
-    }
-    if 57 < b {
-        return 0;
-    }
-    b - 48
 }
 
 // The number of ten digits at a place.
@@ -37,11 +16,9 @@ pub fn number_at(bytes: &[u8], at: usize) -> u64
     requires { at ≤ 4294967296 }
     ensures { result < 10000000000 }
 {
-    let mut n: u64 = 0;
-    let mut i: usize = 0;
-    while i < 10 {
+    let mut n = 0;
+    for i in 0..10 {
         n = n % 1000000000 * 10 + digit(bytes, at + i);
-        i += 1;
     }
     n
 }
@@ -60,11 +37,7 @@ pub fn word(bytes: &[u8], at: usize, k: usize) -> u32
     requires at_bound { at ≤ 2147483648 }
     requires k_bound { k ≤ 65536 }
 {
-    let n = field(bytes, at, k);
-    if 4294967295 < n {
-        return 4294967295;
-    }
-    n as u32
+    u32::try_from(field(bytes, at, k)).unwrap_or(u32::MAX)
 }
 
 // The same, at most so much.
@@ -73,5 +46,5 @@ pub fn cut(bytes: &[u8], at: usize, k: usize, most: usize) -> usize
     requires k_bound { k ≤ 65536 }
     ensures { result ≤ most }
 {
-    at_most(field(bytes, at, k), most)
+    field(bytes, at, k).min(most)
 }

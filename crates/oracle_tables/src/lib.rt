@@ -6,5 +6,6 @@
 
 pub mod fields;
 pub mod held;
+pub mod kinds;
 pub mod listing;
 pub mod rows;

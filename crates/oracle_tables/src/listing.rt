@@ -1,8 +1,7 @@
 // The text `[mesh 3]` of a mesh in tables (document 02, section 1), as the oracle writes it.
 // It goes to the output, or its bytes are read as the digits of a number and only a remainder of that is written.
-ghost use Rattle.std.specs.Prelude.{◌≡◌, ◌≤◌, ◌<◌};
+ghost use Rattle.std.specs.Prelude.{◌≤◌};
 
-use crate::fields::{at_most, wide_byte};
 use crate::held::Tables;
 use positions::is_finite;
 use std::io;
@@ -12,33 +11,27 @@ use tables::{Counts, EDGE_WIDTH, FACE_WIDTH, POINT_WIDTH, POSITION_WIDTH, Y_NUMB
 // What is left of a listing whose bytes are read as digits: 2^55 - 55, a prime.
 const PRIME: u64 = 36028797018963913;
 
-// Where bytes go: to an output, if they are told, and else into the remainder of all bytes so far.
+// How many points, edges or faces are listed at most.
+pub const MOST_LINES: usize = 65536;
+
+// Where bytes go: to an output, or into the remainder of all bytes so far.
 #[derive(Drop)]
-pub struct Sink<'a, P: Print> {
-    pub output: &'a P,
-    pub told: bool,
-    pub remainder: u64,
+enum Sink<'a, P: Print> {
+    Output(&'a P),
+    Remainder(u64),
 }
 
 // The remainder with one more byte: the bytes, each one more, are digits in base 257.
 fn mixed(remainder: u64, b: u8) -> u64 {
-    remainder % PRIME * 257 + wide_byte(b) + 1
-}
-
-// Writes bytes, or takes them into the remainder.
-fn put<P: Print>(s: &mut Sink<'_, P>, t: &[u8]) -> io::Result<()> {
-    if s.told {
-        return s.output.write_all(t);
-    }
-    for b in t {
-        s.remainder = mixed(s.remainder, *b);
-    }
-    Ok(())
+    remainder % PRIME * 257 + u64::from(b) + 1
 }
 
 impl<P: Print> Write for Sink<'_, P> {
     fn write(&mut self, t: &[u8]) -> io::Result<usize> {
-        put(self, t)?;
+        match self {
+            Sink::Output(output) => output.write_all(t)?,
+            Sink::Remainder(left) => *left = t.iter().fold(*left, |r, &b| mixed(r, b)),
+        }
         Ok(t.len())
     }
 
@@ -47,42 +40,29 @@ impl<P: Print> Write for Sink<'_, P> {
     }
 }
 
-// A space and a number.
-fn put_number<P: Print>(s: &mut Sink<'_, P>, n: u64) -> io::Result<()> {
-    write!(s, " {n}")
-}
-
 // The bits of a number that is finite; the pattern of a NaN for any other.
 pub fn bits_of(x: f64) -> u64 {
-    if !is_finite(x) {
-        return 0x7ff8000000000000;
+    if is_finite(x) {
+        f64::to_bits(x)
+    } else {
+        0x7ff8000000000000
     }
-    f64::to_bits(x)
 }
 
-// A space and the bits of a number.
-fn put_bits<P: Print>(s: &mut Sink<'_, P>, x: f64) -> io::Result<()> {
-    let bits = bits_of(x);
+// A space and the bits of the number at a place; those of 0 past the end.
+fn put_bits<P: Print>(s: &mut Sink<'_, P>, numbers: &[f64], at: usize) -> io::Result<()> {
+    let bits = numbers.get(at).map_or(0, |&x| bits_of(x));
     write!(s, " {bits:016x}")
 }
 
-// The word at a place; 0 past the end.
-fn word(words: &[u32], i: usize) -> u64 {
-    if i < words.len() { words[i] as u64 } else { 0 }
-}
-
-// The number at a place; 0 past the end.
-fn entry_at(numbers: &[f64], i: usize) -> f64 {
-    if i < numbers.len() { numbers[i] } else { 0.0 }
-}
-
-// So many words from a place on.
+// So many words from a place on, each after a space; 0 past the end.
 fn put_words<P: Print>(s: &mut Sink<'_, P>, words: &[u32], from: usize, n: usize) -> io::Result<()>
     requires from_bound { from ≤ 4294967296 }
     requires n_bound { n ≤ 8 }
 {
-    for i in 0..n {
-        put_number(s, word(words, from + i))?;
+    for i in from..from + n {
+        let word = words.get(i).copied().unwrap_or(0);
+        write!(s, " {word}")?;
     }
     Ok(())
 }
@@ -97,12 +77,12 @@ fn put_point<P: Print>(
     requires { p ≤ 65536 }
 {
     let b = p * POSITION_WIDTH;
-    put(s, b"[point")?;
-    put_bits(s, entry_at(positions, b))?;
-    put_bits(s, entry_at(positions, b + Y_NUMBER))?;
-    put_bits(s, entry_at(positions, b + Z_NUMBER))?;
+    write!(s, "[point")?;
+    put_bits(s, positions, b)?;
+    put_bits(s, positions, b + Y_NUMBER)?;
+    put_bits(s, positions, b + Z_NUMBER)?;
     put_words(s, points, p * POINT_WIDTH, POINT_WIDTH)?;
-    put(s, b"]\n")
+    writeln!(s, "]")
 }
 
 // The line of an edge.
@@ -114,53 +94,19 @@ fn put_edge<P: Print>(
 ) -> io::Result<()>
     requires { e ≤ 65536 }
 {
-    put(s, b"[edge")?;
+    write!(s, "[edge")?;
     put_words(s, edges, e * EDGE_WIDTH, EDGE_WIDTH)?;
-    put_bits(s, entry_at(intervals, e))?;
-    put(s, b"]\n")
+    put_bits(s, intervals, e)?;
+    writeln!(s, "]")
 }
 
 // The line of a face.
 fn put_face<P: Print>(s: &mut Sink<'_, P>, faces: &[u32], f: usize) -> io::Result<()>
     requires { f ≤ 65536 }
 {
-    put(s, b"[face")?;
+    write!(s, "[face")?;
     put_words(s, faces, f * FACE_WIDTH, FACE_WIDTH)?;
-    put(s, b"]\n")
-}
-
-// The lines of so many points.
-fn put_points<P: Print>(
-    s: &mut Sink<'_, P>,
-    positions: &[f64],
-    points: &[u32],
-    n: usize,
-) -> io::Result<()> {
-    for p in 0..at_most(n, 65536) {
-        put_point(s, positions, points, p)?;
-    }
-    Ok(())
-}
-
-// The lines of so many edges.
-fn put_edges<P: Print>(
-    s: &mut Sink<'_, P>,
-    edges: &[u32],
-    intervals: &[f64],
-    n: usize,
-) -> io::Result<()> {
-    for e in 0..at_most(n, 65536) {
-        put_edge(s, edges, intervals, e)?;
-    }
-    Ok(())
-}
-
-// The lines of so many faces.
-fn put_faces<P: Print>(s: &mut Sink<'_, P>, faces: &[u32], n: usize) -> io::Result<()> {
-    for f in 0..at_most(n, 65536) {
-        put_face(s, faces, f)?;
-    }
-    Ok(())
+    writeln!(s, "]")
 }
 
 // The whole listing.
@@ -173,49 +119,41 @@ fn put_mesh<P: Print>(
     faces: &[u32],
     counts: Counts,
 ) -> io::Result<()> {
-    put(s, b"[mesh 3]\n")?;
-    put_points(s, positions, points, counts.points)?;
-    put_edges(s, edges, intervals, counts.edges)?;
-    put_faces(s, faces, counts.faces)?;
-    put(s, b"[end]\n")
+    writeln!(s, "[mesh 3]")?;
+    for p in 0..counts.points.min(MOST_LINES) {
+        put_point(s, positions, points, p)?;
+    }
+    for e in 0..counts.edges.min(MOST_LINES) {
+        put_edge(s, edges, intervals, e)?;
+    }
+    for f in 0..counts.faces.min(MOST_LINES) {
+        put_face(s, faces, f)?;
+    }
+    writeln!(s, "[end]")
 }
 
-// The line before a stage.
-pub fn tell_stage(rt: &impl Print, k: usize) -> io::Result<()> {
-    println!(rt; "[stage {k}]")
-}
-
-// The line of a refusal.
-pub fn tell_refused(rt: &impl Print, n: u32) -> io::Result<()> {
-    println!(rt; "[refused {n}]")
-}
-
-// The line of a mesh that is not listed: how many points, edges and faces it has, and the remainder of its listing.
-fn tell_remainder(rt: &impl Print, counts: Counts, remainder: u64) -> io::Result<()> {
-    let points = counts.points;
-    let edges = counts.edges;
-    let faces = counts.faces;
-    let left = remainder % PRIME;
-    println!(rt; "[listing {points} {edges} {faces} {left}]")
-}
-
-// Writes the listing of a mesh, or its remainder.
+// Writes the listing of a mesh, or, of a mesh that is not listed, how many points, edges and faces it has, and the remainder of its listing.
 pub fn tell_mesh(rt: &impl Print, t: Tables, counts: Counts, told: bool) -> io::Result<()> {
-    let positions = t.positions;
-    let points = t.points;
-    let edges = t.edges;
-    let intervals = t.intervals;
-    let faces = t.faces;
-    let mut s = Sink {
-        output: rt,
-        told,
-        remainder: 0,
+    let mut s = if told {
+        Sink::Output(rt)
+    } else {
+        Sink::Remainder(0)
     };
     put_mesh(
-        &mut s, &positions, &points, &edges, &intervals, &faces, counts,
+        &mut s,
+        &t.positions,
+        &t.points,
+        &t.edges,
+        &t.intervals,
+        &t.faces,
+        counts,
     )?;
-    if told {
+    let Sink::Remainder(r) = s else {
         return Ok(());
-    }
-    tell_remainder(rt, counts, s.remainder)
+    };
+    let left = r % PRIME;
+    println!(rt;
+        "[listing {} {} {} {left}]",
+        counts.points, counts.edges, counts.faces
+    )
 }

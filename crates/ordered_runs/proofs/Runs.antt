@@ -2,6 +2,7 @@
 -- tables and counts are l, the scratch tables t, k steps were accepted, and the orders begin at `at`. Assumes nothing.
 --     run-start, run-turn, run_end          the invariant `Running`
 --     going_start, going-turn, going_end    the same with the lengths of the tables
+use Rattle.std.specs.Prelude.{Result, Ok, Err}
 use mathlib.Core.Path.{◌≡◌, refl, sym, ap, ap₂, ◌∙◌}
 use mathlib.Core.List.{List, [], ◌∷◌}
 use Prim.Native.Nat.{ℕ, zero, suc, ◌+◌, ◌-◌, ◌≤◌, ◌<◌, min}
@@ -13,8 +14,7 @@ use lib.Seq.{drop-drop, drop-cons, take_all}
 use Rattle.tables.specs.Mesh.{Mesh}
 use Rattle.tables.specs.declared.Counts.{Counts}
 use Rattle.refined_meshes.specs.declared.Edition.{Edition}
-use Rattle.steps.specs.declared.Stepped.{Stepped}
-use Rattle.steps.specs.declared.Stepped.TheVariants.{Refined, NotClosed, NotEachFaceOnce, NoRoom, NotFinite}
+use Rattle.steps.specs.declared.StepRefusal.{StepRefusal}
 use Rattle.steps.specs.Step.{StepOutcome, step}
 use Rattle.runs.specs.Lengths.{SameLengths}
 use Rattle.runs.proofs.Lengths.{lengths-refl, lengths-trans}
@@ -70,22 +70,16 @@ end-within os at n h e = omega (arith, e)
 -- ---- the loop
 
 -- an accepted step is one more
-pub one_more : (g : Stepped) (k : ℕ) {c : Counts} → g ≡ Refined c → k + 1 ≡ one_more_if g k
+pub one_more : (g : Result Counts StepRefusal) (k : ℕ) {c : Counts} → g ≡ Ok c → k + 1 ≡ one_more_if g k
 one_more g k e = rw e (omega arith)
 
-add-one_more_if : (g : Stepped) (k x : ℕ) → one_more_if g k + x ≡ k + one_more_if g x
-add-one_more_if (Refined c) k x = omega arith
-add-one_more_if NotClosed k x = refl
-add-one_more_if NotEachFaceOnce k x = refl
-add-one_more_if NoRoom k x = refl
-add-one_more_if NotFinite k x = refl
+add-one_more_if : (g : Result Counts StepRefusal) (k x : ℕ) → one_more_if g k + x ≡ k + one_more_if g x
+add-one_more_if (Ok c) k x = omega arith
+add-one_more_if (Err g) k x = refl
 
-one_more_if-few : (g : Stepped) (k i : ℕ) → k ≤ i → one_more_if g k ≤ i + 1
-one_more_if-few (Refined c) k i h = omega arith
-one_more_if-few NotClosed k i h = omega arith
-one_more_if-few NotEachFaceOnce k i h = omega arith
-one_more_if-few NoRoom k i h = omega arith
-one_more_if-few NotFinite k i h = omega arith
+one_more_if-few : (g : Result Counts StepRefusal) (k i : ℕ) → k ≤ i → one_more_if g k ≤ i + 1
+one_more_if-few (Ok c) k i h = omega arith
+one_more_if-few (Err g) k i h = omega arith
 
 module _ (ed : Edition) (l₀ : Lent) (t₀ : Mesh) (os ns : List ℕ) where
   abbrev rest : ℕ → ℕ → List (List ℕ)
@@ -172,7 +166,7 @@ module _ (ed : Edition) (m₀ : Mesh) (c₀ : Counts) (t₀ : Mesh) (os ns : Lis
       }
 
   module _ {m : Mesh} {c : Counts} {t : Mesh} {k at i : ℕ} (h : Going m c t k at i) where
-    pub going-turn : i < length ns → {n r : ℕ} → n ≡ get_or ns i 0 → r ≡ min n (length os - at) → {a : Stepped} {m' t' : Mesh}
+    pub going-turn : i < length ns → {n r : ℕ} → n ≡ get_or ns i 0 → r ≡ min n (length os - at) → {a : Result Counts StepRefusal} {m' t' : Mesh}
         → record { answer = a; tables = m'; scratch = t' } ≡ step ed m c (take (at + r - at) (drop at os)) t → SameLengths m' m → SameLengths t' t
         → {c' : Counts} → c' ≡ counts_after a c → {k' : ℕ} → k' ≡ one_more_if a k → Going m' c' t' k' (at + r) (i + 1)
     going-turn more {n} {r} en er {a} {m'} {t'} eo sm st {c'} ec {k'} ek =

@@ -7,31 +7,29 @@ use Prim.Native.Nat.{ℕ, zero, suc, ◌+◌, ◌-◌, ◌*◌, ◌/◌, ◌≤�
 use native.Mathlib.Omega.{arith}
 use native.Mathlib.Decide.{dec_lt, ℕ_discrete}
 use native.Mathlib.Nat.{not-suc-le-zero}
-use native.Mathlib.Numerals.{add-one}
-use borrow.Author.Tests.{lt-ltb, le-ltb, eqb-true, eqb-false}
+use borrow.Author.Tests.{lt-ltb, le-ltb, not-true, not-false}
 use lib.ListN.{length, get_or, set, replicate, length-set, length-replicate}
 use lib.Seq.{get_or-set_same, get_or-set_other}
-use Rattle.audited_meshes.specs.Folds.{every, distinct, Distinct}
+use Rattle.audited_meshes.specs.Folds.{distinct, Distinct}
 use Rattle.audited_meshes.proofs.Folds.{below_suc}
-use Rattle.audited_meshes.proofs.Tests.{every-is, self-is}
 use Rattle.audited_meshes.proofs.Audited.{distinct-is}
 use Rattle.orders.specs.Orders.{window, fresh, noted, Apart, ApartAbove, Marks}
 
 -- a place past the end is not marked
-get_or-replicate-zero : (k v : ℕ) → ◌≡◌ {A = ℕ} (get_or (replicate k 0) v 0) 0
-get_or-replicate-zero zero v = refl
-get_or-replicate-zero (suc k) zero = refl
-get_or-replicate-zero (suc k) (suc v) = get_or-replicate-zero k v
+get_or-replicate-false : (k v : ℕ) → get_or (replicate k false) v false ≡ false
+get_or-replicate-false zero v = refl
+get_or-replicate-false (suc k) zero = refl
+get_or-replicate-false (suc k) (suc v) = get_or-replicate-false k v
 
-pub marks-none : (base : ℕ) (ks : List ℕ) → Marks base ks 0 (replicate window 0)
+pub marks-none : (base : ℕ) (ks : List ℕ) → Marks base ks 0 (replicate window false)
 marks-none base ks =
     record {
-      size = length-replicate {A = ℕ} window 0;
-      marked-there = λ v h. absurd (h (get_or-replicate-zero window v));
+      size = length-replicate {A = Bool} window false;
+      marked-there = λ v h. absurd (false≢true (sym (get_or-replicate-false window v) ∙ h));
       there-marked = λ j l. absurd (not-suc-le-zero l);
     }
 
-module _ (base : ℕ) (ks : List ℕ) (n : ℕ) (seen : List ℕ) (marks : Marks base ks n seen) where
+module _ (base : ℕ) (ks : List ℕ) (n : ℕ) (seen : List Bool) (marks : Marks base ks n seen) where
   -- an entry out of the window leaves the marks as they are
   outside : (base ≤ get_or ks n 0 → get_or ks n 0 < base + window → ⊥) → Marks base ks (suc n) seen
   outside out =
@@ -39,17 +37,17 @@ module _ (base : ℕ) (ks : List ℕ) (n : ℕ) (seen : List ℕ) (marks : Marks
         size = marks.size;
         marked-there = λ v h. let (j, l, e) = marks.marked-there v h in (j, omega arith, e);
         there-marked = λ j l.
-            below_suc {A = base ≤ get_or ks j 0 → get_or ks j 0 < base + window → get_or seen (get_or ks j 0 - base) 0 ≢ 0} j n l
+            below_suc {A = base ≤ get_or ks j 0 → get_or ks j 0 < base + window → get_or seen (get_or ks j 0 - base) false ≡ true} j n l
             (marks.there-marked j)
-            (λ e. subst (λ (i : ℕ). base ≤ get_or ks i 0 → get_or ks i 0 < base + window → get_or seen (get_or ks i 0 - base) 0 ≢ 0) (sym e)
+            (λ e. subst (λ (i : ℕ). base ≤ get_or ks i 0 → get_or ks i 0 < base + window → get_or seen (get_or ks i 0 - base) false ≡ true) (sym e)
             (λ lo hi. absurd (out lo hi)));
       }
 
   -- an entry in the window is marked
-  inside : base ≤ get_or ks n 0 → get_or ks n 0 - base < window → Marks base ks (suc n) (set seen (get_or ks n 0 - base) 1)
+  inside : base ≤ get_or ks n 0 → get_or ks n 0 - base < window → Marks base ks (suc n) (set seen (get_or ks n 0 - base) true)
   inside lo hi =
       record {
-        size = length-set seen at 1 ∙ marks.size;
+        size = length-set seen at true ∙ marks.size;
         marked-there = λ v h. found v h (ℕ_discrete v at);
         there-marked = λ j l low high. kept j l low high (ℕ_discrete (get_or ks j 0 - base) at);
       }
@@ -60,22 +58,20 @@ module _ (base : ℕ) (ks : List ℕ) (n : ℕ) (seen : List ℕ) (marks : Marks
       fits : at < length seen
       fits = rw marks.size hi
 
-      found : (v : ℕ) → get_or (set seen at 1) v 0 ≢ 0 → Dec (v ≡ at) → (j : ℕ) × (j < suc n) × (get_or ks j 0 ≡ base + v)
+      found : (v : ℕ) → get_or (set seen at true) v false ≡ true → Dec (v ≡ at) → (j : ℕ) × (j < suc n) × (get_or ks j 0 ≡ base + v)
       found v h (yes e) = (n, omega arith, omega arith)
       found v h (no d) =
-          let (j, l, e) = marks.marked-there v (λ z. h (get_or-set_other seen at v 1 0 d ∙ z)) in
+          let (j, l, e) = marks.marked-there v (sym (get_or-set_other seen at v true false d) ∙ h) in
           (j, omega arith, e)
 
       kept : (j : ℕ) → j < suc n → base ≤ get_or ks j 0 → get_or ks j 0 < base + window → Dec (get_or ks j 0 - base ≡ at)
-          → get_or (set seen at 1) (get_or ks j 0 - base) 0 ≢ 0
-      kept j l low high (yes e) z = one≢zero (sym (get_or-set_same seen at 1 0 fits) ∙ ap (λ (i : ℕ). get_or (set seen at 1) i 0) (sym e) ∙ z)
-        where
-          one≢zero : ◌≡◌ {A = ℕ} 1 0 → ⊥
-          one≢zero p = omega arith
-      kept j l low high (no d) z =
-          below_suc j n l
-          (λ lt. marks.there-marked j lt low high (sym (get_or-set_other seen at (get_or ks j 0 - base) 1 0 d) ∙ z))
-          (λ e. d (ap (λ (i : ℕ). get_or ks i 0 - base) e))
+          → get_or (set seen at true) (get_or ks j 0 - base) false ≡ true
+      kept j l low high (yes e) = ap (λ (i : ℕ). get_or (set seen at true) i false) e ∙ get_or-set_same seen at true false fits
+      kept j l low high (no d) =
+          get_or-set_other seen at (get_or ks j 0 - base) true false d
+          ∙ below_suc {A = get_or seen (get_or ks j 0 - base) false ≡ true} j n l
+          (λ lt. marks.there-marked j lt low high)
+          (λ e. absurd (d (ap (λ (i : ℕ). get_or ks i 0 - base) e)))
 
   -- the marks after one entry more
   pub marks-more : Marks base ks (suc n) (noted base seen (get_or ks n 0))
@@ -94,16 +90,16 @@ module _ (base : ℕ) (ks : List ℕ) (n : ℕ) (seen : List ℕ) (marks : Marks
       last : i ≡ n → get_or ks i 0 ≢ get_or ks j 0
       last e same =
           let o : get_or ks i 0 ≡ get_or ks n 0 = ap (λ (a : ℕ). get_or ks a 0) e in
-          let unmarked : get_or seen (get_or ks n 0 - base) 0 ≡ 0 =
-          eqb-true _ _ (rw (le-ltb (get_or ks n 0) base (omega arith), lt-ltb (get_or ks n 0 - base) window (omega arith)) at new) in
-          marks.there-marked j (omega arith) (omega arith) (omega arith)
-          (ap (λ (a : ℕ). get_or seen (a - base) 0) (sym same ∙ o) ∙ unmarked)
+          let unmarked : get_or seen (get_or ks n 0 - base) false ≡ false =
+          not-true _ (rw (le-ltb (get_or ks n 0) base (omega arith), lt-ltb (get_or ks n 0 - base) window (omega arith)) at new) in
+          false≢true (sym unmarked ∙ ap (λ (a : ℕ). get_or seen (a - base) false) (sym o ∙ same)
+          ∙ marks.there-marked j (omega arith) (omega arith) (omega arith))
 
   -- an entry that is not fresh stands there already
   pub not-apart : fresh base seen (get_or ks n 0) ≡ false → Apart base ks (suc n) → ⊥
   not-apart old apart = go (dec_lt (get_or ks n 0) base) (dec_lt (get_or ks n 0 - base) window)
     where
-      again : base ≤ get_or ks n 0 → get_or ks n 0 - base < window → get_or seen (get_or ks n 0 - base) 0 ≢ 0 → ⊥
+      again : base ≤ get_or ks n 0 → get_or ks n 0 - base < window → get_or seen (get_or ks n 0 - base) false ≡ true → ⊥
       again lo hi h =
           let (j, l, e) = marks.marked-there (get_or ks n 0 - base) h in
           apart n j (omega arith) l lo (omega arith) (omega arith)
@@ -111,7 +107,7 @@ module _ (base : ℕ) (ks : List ℕ) (n : ℕ) (seen : List ℕ) (marks : Marks
       go : Dec (get_or ks n 0 < base) → Dec (get_or ks n 0 - base < window) → ⊥
       go (yes l) d = false≢true (sym old ∙ rw (lt-ltb _ _ l) refl)
       go (no g) (yes h) =
-          again (omega arith) h (eqb-false _ _ (rw (le-ltb (get_or ks n 0) base (omega arith), lt-ltb _ _ h) at old))
+          again (omega arith) h (not-false _ (rw (le-ltb (get_or ks n 0) base (omega arith), lt-ltb _ _ h) at old))
       go (no g) (no h) =
           false≢true (sym old ∙ rw (le-ltb (get_or ks n 0) base (omega arith), le-ltb (get_or ks n 0 - base) window (omega arith)) refl)
 

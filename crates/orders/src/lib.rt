@@ -32,12 +32,10 @@ fn all_below(order: &[u32], nf: usize) -> bool
     requires { nf ≤ length order.now }
     ensures { result ≡ every nf (λ i. ltb (get_or order.now i 0) nf) }
 {
-    let mut i = 0;
-    while i < nf {
+    for i in 0..nf {
         if nf <= index(order[i]) {
             return false;
         }
-        i += 1;
     }
     true
 }
@@ -48,12 +46,10 @@ fn all_apart(order: &[u32]) -> bool
     ensures { result ≡ distinct order.now }
 {
     let passes = order.len() / WINDOW + 1;
-    let mut k = 0;
-    while k < passes {
+    for k in 0..passes {
         if !apart_above(order, k * WINDOW) {
             return false;
         }
-        k += 1;
     }
     true
 }
@@ -62,19 +58,17 @@ fn all_apart(order: &[u32]) -> bool
 fn apart_above(order: &[u32], base: usize) -> bool
     ensures { (result ≡ true) ↔ ApartAbove base order.now }
 {
-    let mut seen = [0u8; WINDOW];
-    let mut i = 0;
-    while i < order.len() {
-        if !mark(&mut seen, base, index(order[i])) {
+    let mut seen = [false; WINDOW];
+    for face in order {
+        if !mark(&mut seen, base, index(*face)) {
             return false;
         }
-        i += 1;
     }
     true
 }
 
 // Marks a face of the window from base on, and says whether it was not marked yet; a face out of the window is passed over.
-fn mark(seen: &mut [u8; WINDOW], base: usize, o: usize) -> bool
+fn mark(seen: &mut [bool; WINDOW], base: usize, o: usize) -> bool
     ensures value { result ≡ fresh base seen.old o }
     ensures seen_after { seen.new ≡ noted base seen.old o }
 {
@@ -86,6 +80,6 @@ fn mark(seen: &mut [u8; WINDOW], base: usize, o: usize) -> bool
         return true;
     }
     let was = seen[k];
-    seen[k] = 1;
-    was == 0
+    seen[k] = true;
+    !was
 }

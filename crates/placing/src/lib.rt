@@ -19,7 +19,6 @@ ghost use Rattle.placing.specs.Placing.{came, FacePointsFit, EdgePointsFit, OldP
 use edge_points::weighted_point;
 use face_points::face_point;
 use old_points::old_point;
-use positions::{Placed, Position};
 use records::store_position;
 use refined_meshes::Edition;
 use tables::{
@@ -46,9 +45,8 @@ pub fn place_face_points(
 {
     let mut perimeter = [0u32; LONGEST_PERIMETER];
     let mut points = [0u32; LONGEST_BORDER];
-    let mut f = 0;
-    while f < nf {
-        let Placed::At(x, y, z) = face_point(
+    for f in 0..nf {
+        let Some(place) = face_point(
             positions,
             edges,
             intervals,
@@ -63,9 +61,8 @@ pub fn place_face_points(
         store_position(
             newpositions,
             index(newfaces[f * FACE_WIDTH + FIRST_CORNER_WORD]),
-            Position { x, y, z },
+            place,
         );
-        f += 1;
     }
     true
 }
@@ -89,9 +86,8 @@ pub fn place_weighted_points(
         (so_far newpositions.old)
         ≡ came result newpositions.new }
 {
-    let mut e = 0;
-    while e < ne {
-        let Placed::At(x, y, z) = weighted_point(
+    for e in 0..ne {
+        let Some(place) = weighted_point(
             positions,
             edges,
             intervals,
@@ -105,9 +101,8 @@ pub fn place_weighted_points(
         store_position(
             newpositions,
             index(newedges[e * EDGE_WIDTH + DEST_WORD]),
-            Position { x, y, z },
+            place,
         );
-        e += 1;
     }
     true
 }
@@ -130,9 +125,8 @@ pub fn place_old_points(
         (so_far newpositions.old)
         ≡ came result newpositions.new }
 {
-    let mut p = 0;
-    while p < np {
-        let Placed::At(x, y, z) = old_point(
+    for p in 0..np {
+        let Some(place) = old_point(
             positions,
             points,
             edges,
@@ -144,8 +138,7 @@ pub fn place_old_points(
         ) else {
             return false;
         };
-        store_position(newpositions, p, Position { x, y, z });
-        p += 1;
+        store_position(newpositions, p, place);
     }
     true
 }

@@ -11,6 +11,7 @@ use native.Mathlib.Decide.{dec_lt}
 use lib.Dec.{eqb}
 use lib.ListN.{get_or, length}
 use lib.Ieee.{Float}
+use Rattle.std.specs.Prelude.{Some, None}
 use Rattle.perimeters.specs.Places.{around}
 use Rattle.tables.specs.Mesh.{Mesh, left_face}
 use Rattle.audited_meshes.specs.Walks.{back, edges_of, face_walk, first_point}
@@ -18,7 +19,6 @@ use Rattle.tables.specs.Parts.{face_tables, without_points}
 use Rattle.walks.specs.Border.{padded, border_of, border}
 use Rattle.audited_meshes.specs.Folds.{again}
 use Rattle.walks.specs.declared.FaceBorder.{FaceBorder}
-use Rattle.walks.specs.declared.Passed.TheVariants as Passed
 use Rattle.walks.proofs.Laws.{get_or-padded, border-walk, border-point, border-point-again}
 use Rattle.position_rules.specs.declared.WeightedSum.{WeightedSum}
 use Rattle.position_rules.specs.FacePoint.{window_sum, over_weight, face_point_over, face_point_about, face_point_in}
@@ -33,22 +33,22 @@ border-back m ne f es w = border-walk m ne f ∙ ap (border_of m f) w
 
 module _ (ps : List Float) (es : List ℕ) (is : List Float) (fs : List ℕ) (ne f : ℕ) (h : FacePointFits ps es is fs ne f) where
   -- the walk comes back
-  passed_is : (b : FaceBorder) → b ≡ border (face_tables es fs) ne f → Passed.Back (length h.border) ≡ b.passed
+  passed_is : (b : FaceBorder) → b ≡ border (face_tables es fs) ne f → Some (length h.border) ≡ b.passed
   passed_is b e = sym (ap (λ (x : FaceBorder). x.passed) (e ∙ border-back (face_tables es fs) ne f h.border h.walked))
 
-  pub never-lost : (b : FaceBorder) → b ≡ border (face_tables es fs) ne f → b.passed ≡ Passed.Lost → ⊥
+  pub never-lost : (b : FaceBorder) → b ≡ border (face_tables es fs) ne f → b.passed ≡ None → ⊥
   never-lost b e l = back-or-lost (passed_is b e ∙ l)
     where
-      back-or-lost : {k : ℕ} → Passed.Back k ≡ Passed.Lost → ⊥
+      back-or-lost : {k : ℕ} → Some k ≡ None → ⊥
       back-or-lost q = let z : ◌≡◌ {A = ℕ} 0 1 = cc in omega arith
 
-  count : (b : FaceBorder) → b ≡ border (face_tables es fs) ne f → {n : ℕ} → b.passed ≡ Passed.Back n → n ≡ length h.border
+  count : (b : FaceBorder) → b ≡ border (face_tables es fs) ne f → {n : ℕ} → b.passed ≡ Some n → n ≡ length h.border
   count b e came = same (passed_is b e ∙ came)
     where
-      same : {k n : ℕ} → Passed.Back k ≡ Passed.Back n → n ≡ k
+      same : {k n : ℕ} → Some k ≡ Some n → n ≡ k
       same q = cc
 
-  pub border-edges-fit : (b : FaceBorder) → b ≡ border (face_tables es fs) ne f → {n : ℕ} → b.passed ≡ Passed.Back n → BorderFits es is b.edges n
+  pub border-edges-fit : (b : FaceBorder) → b ≡ border (face_tables es fs) ne f → {n : ℕ} → b.passed ≡ Some n → BorderFits es is b.edges n
   border-edges-fit b e came = rw (count b e came, e, border-back (face_tables es fs) ne f h.border h.walked)
       (record {
         rows = ne;
@@ -76,7 +76,7 @@ module _ (ps : List Float) (es : List ℕ) (is : List Float) (fs : List ℕ) (ne
           (rw (border-point-again (face_tables es fs) f h.border 0 (omega (arith, h.at-least-3)) (omega arith))
           (point-there 0 (omega (arith, h.at-least-3))))
 
-  pub border-points-fit : (b : FaceBorder) → b ≡ border (face_tables es fs) ne f → {n : ℕ} → b.passed ≡ Passed.Back n → PointsFit ps b.points n
+  pub border-points-fit : (b : FaceBorder) → b ≡ border (face_tables es fs) ne f → {n : ℕ} → b.passed ≡ Some n → PointsFit ps b.points n
   border-points-fit b e came = rw (count b e came, e, border-back (face_tables es fs) ne f h.border h.walked)
       (record { points-there = λ j l. there j l (dec_lt j (length h.border)) })
     where
@@ -109,7 +109,7 @@ module _ (ps : List Float) (es : List ℕ) (is : List Float) (fs : List ℕ) (ne
       ap₂ (λ (pt ed : ℕ → ℕ). window_sum ps es is pt ed (length h.border))
       (fun_ext (λ j. get_or-padded 68 bp j)) (fun_ext (λ j. get_or-padded 64 h.border (around (length h.border) j)))
 
-  pub face_point-of-border : (b : FaceBorder) (s : WeightedSum) → b ≡ border (face_tables es fs) ne f → {n : ℕ} → b.passed ≡ Passed.Back n
+  pub face_point-of-border : (b : FaceBorder) (s : WeightedSum) → b ≡ border (face_tables es fs) ne f → {n : ℕ} → b.passed ≡ Some n
       → s ≡ window_sum ps es is (λ j. get_or b.points j 0) (λ j. get_or b.edges (around n j) 0) n
       → over_weight s ≡ face_point_in (without_points ps es is fs) ne f
   unfolding face_point_about face_point_over

@@ -1,4 +1,5 @@
-// The intervals about the ends of an edge.
+// The intervals about the ends of an edge, under the names that equations 13 to 19 give them. `c1` and `c2` stand beside `a1` and `a2`: the
+// pairs differ in the step alone, and one function with the step handed in would be no shorter at any place that calls it.
 ghost use Rattle.std.specs.Prelude.{◌≡◌, ◌+◌, ◌*◌, ◌≤◌, length};
 ghost use Rattle.tables.specs.Layout.{edge_width};
 ghost use Rattle.position_rules.specs.Intervals.{acw_about, cw_about, A1, A2, C1, C2, three_terms};

@@ -13,13 +13,6 @@ pub struct Position {
     pub z: f64,
 }
 
-// What a position rule answers: three finite coordinates, or the word that one is not finite.
-#[derive(Clone, Copy)]
-pub enum Placed {
-    At(f64, f64, f64),
-    NotFinite,
-}
-
 impl Position {
     // The position whose coordinates are all +0.
     pub fn origin() -> Self
@@ -66,26 +59,14 @@ impl Position {
     pub fn is_finite(self) -> bool
         ensures { result ≡ finite_position self }
     {
-        if is_finite(self.x) {
-            if is_finite(self.y) {
-                is_finite(self.z)
-            } else {
-                false
-            }
-        } else {
-            false
-        }
+        is_finite(self.x) && is_finite(self.y) && is_finite(self.z)
     }
 
-    // What a position rule answers where this is the position that it found.
-    pub fn placed(self) -> Placed
+    // What a position rule answers where this is the position that it found: itself, where it is finite.
+    pub fn placed(self) -> Option<Position>
         ensures { result ≡ placed_at self }
     {
-        if self.is_finite() {
-            Placed::At(self.x, self.y, self.z)
-        } else {
-            Placed::NotFinite
-        }
+        self.is_finite().then_some(self)
     }
 }
 
@@ -100,5 +81,5 @@ pub fn is_finite(v: f64) -> bool
 pub fn is_small(v: f64) -> bool
     ensures { result ≡ small v }
 {
-    if -0.000001 <= v { v <= 0.000001 } else { false }
+    -0.000001 <= v && v <= 0.000001
 }

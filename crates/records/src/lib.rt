@@ -1,5 +1,5 @@
 // The rows of the tables of a mesh, loaded and stored as records by value.
-// Not here: rows zeroed, copied and counted (`tables`).
+// Not here: rows counted, and the first elements of a table filled and copied (`tables`).
 // Definitions: `specs/Rows.antt` and `specs/Records.antt` of `tables`, with their laws in its `proofs/Laws.antt`.
 #![tactic(auto)]
 

@@ -11,11 +11,13 @@ use text_answers::REFINE_BYTES;
 
 mod refine_text;
 
+// `handover` has a main of the same four calls: one function for both would take two buffers, the name and a closure with a clause on how many
+// bytes it puts, and be no plainer.
 fn main(rt: HostRuntime) -> io::Result<()> {
     // One byte more than the limit. More need not be read: the output for every longer text is the same (`LongText` of `refine_outputs`).
-    let mut text = [0u8; REFINE_BYTES + 1];
-    let n = read_input(rt, b"refine", &mut text)?;
-    let mut out = [0u8; OUTPUT_BYTES];
+    let mut text = [0; REFINE_BYTES + 1];
+    let n = read_input(rt, "refine", &mut text)?;
+    let mut out = [0; OUTPUT_BYTES];
     let k = refine(&text[..n], &mut out);
-    write_output(rt, b"refine", &out[..k])
+    write_output(rt, "refine", &out[..k])
 }

@@ -17,7 +17,7 @@ use numbered_steps::{LENT_EDGES, LENT_FACES, LENT_POINTS, numbered_step};
 use refine_parts::write_stepped;
 use tables::{Counts, EDGE_WIDTH, FACE_WIDTH, POINT_WIDTH, POSITION_WIDTH};
 use text_building::build_text;
-use text_meshes::TextBuilt;
+use text_meshes::TextRefusal;
 
 // The bytes that are lent for an output: they hold every one (`OutputFits` of `refine_outputs`).
 pub const OUTPUT_BYTES: usize = 256;
@@ -77,11 +77,9 @@ fn write_output(
         intervals,
         faces,
     ) {
-        TextBuilt::Accepted(counts) => {
-            write_built(out, positions, points, edges, intervals, faces, counts)
-        }
-        TextBuilt::NotText => write_refused(out, 0, 1),
-        TextBuilt::Refused(g) => write_refused(out, 0, ground_number(g) as u64),
+        Ok(counts) => { write_built(out, positions, points, edges, intervals, faces, counts) }
+        Err(TextRefusal::NotText) => write_refused(out, 0, 1),
+        Err(TextRefusal::Refused(g)) => write_refused(out, 0, ground_number(g) as u64),
     }
 }
 

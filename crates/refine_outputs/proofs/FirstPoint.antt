@@ -1,6 +1,7 @@
 -- Point 0 of a mesh that has been refined: it is there, and its coordinates are finite. Assumes nothing.
 --     point-there             of a step that was accepted, of a mesh with points
 --     point-ready             of a step with any answer
+use Rattle.std.specs.Prelude.{Result, Ok, Err}
 use mathlib.Core.Path.{◌≡◌, refl, sym, ap, ◌∙◌}
 use mathlib.Core.Bool.{true}
 use mathlib.Core.List.{List}
@@ -20,8 +21,7 @@ use Rattle.refined_meshes.specs.State.{State}
 use Rattle.steps.specs.Positions.{so_far, placed_by, placed_all, face_point_row, edge_point_row, face_point_rule, weighted_rule, old_point_rule}
 use Rattle.steps.specs.Step.{refined_counts, step}
 use Rattle.tables.specs.Counted.{first_rows, over_rows}
-use Rattle.steps.specs.declared.Stepped.{Stepped}
-use Rattle.steps.specs.declared.Stepped.TheVariants.{Refined, NotClosed, NotEachFaceOnce, NoRoom, NotFinite}
+use Rattle.steps.specs.declared.StepRefusal.{StepRefusal}
 use Rattle.steps.proofs.Rows.{exact-first_rows}
 use Rattle.steps.proofs.Grounds.{taken, made-is}
 use Rattle.steps.proofs.Placing.{placed-begun, length-placed, placed-at}
@@ -57,7 +57,7 @@ position-over n new xs e h =
     rw (get_d_over n 0 new xs e (omega arith), get_d_over n 1 new xs e (omega arith), get_d_over n 2 new xs e (omega arith))
 
 module _ (m : Mesh) (c : Counts) (order : List ℕ) (t : Mesh) where
-  pub point-there : (c' : Counts) → (step First m c order t).answer ≡ Refined c' → 0 < c.points → PointThere (step First m c order t).tables.positions
+  pub point-there : (c' : Counts) → (step First m c order t).answer ≡ Ok c' → 0 < c.points → PointThere (step First m c order t).tables.positions
   unfolding over_rows first_rows
   point-there c' e some =
       let k = taken First m c order t c' e in
@@ -79,9 +79,6 @@ module _ (m : Mesh) (c : Counts) (order : List ℕ) (t : Mesh) where
   pub point-ready : PointReady c (step First m c order t).answer (step First m c order t).tables.positions
   point-ready = go (step First m c order t).answer refl
     where
-      go : (a : Stepped) → (step First m c order t).answer ≡ a → PointReady c a (step First m c order t).tables.positions
-      go (Refined c') e = point-there c' e
-      go NotClosed e = tt
-      go NotEachFaceOnce e = tt
-      go NoRoom e = tt
-      go NotFinite e = tt
+      go : (a : Result Counts StepRefusal) → (step First m c order t).answer ≡ a → PointReady c a (step First m c order t).tables.positions
+      go (Ok c') e = point-there c' e
+      go (Err g) e = tt

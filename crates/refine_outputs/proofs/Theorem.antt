@@ -1,6 +1,7 @@
 -- The claims of the output. Assumes nothing.
 --     long-text, two-answers, fits     the claims of `specs/Claims.antt`
 --     answer-fits                      no more bytes are answered than the output that is left has
+use Rattle.std.specs.Prelude.{Result, Ok, Err}
 use mathlib.Core.Path.{◌≡◌, refl, sym, ap, ◌∙◌}
 use mathlib.Core.Bool.{true}
 use mathlib.Core.List.{List}
@@ -22,14 +23,14 @@ use Rattle.built_meshes.specs.Answers.{ground_number}
 use Rattle.building_tests.specs.declared.Bounds.TheVariants.{Refine}
 use Rattle.text_meshes.specs.TextBuilding.{build_text}
 use Rattle.text_meshes.specs.Within.{AsLong, WithinLimits}
-use Rattle.text_meshes.specs.declared.TextBuilt.{TextBuilt}
-use Rattle.text_meshes.specs.declared.TextBuilt.TheVariants.{Accepted, NotText, Refused}
+use Rattle.text_meshes.specs.declared.TextRefusal.{TextRefusal}
+use Rattle.text_meshes.specs.declared.TextRefusal.TheVariants.{NotText, Refused}
 use Rattle.text_meshes.proofs.Theorem.{accepted-within}
 use Rattle.refined_meshes.specs.declared.Edition.TheVariants.{First}
-use Rattle.steps.specs.Step.{refined_counts, within_ceilings, room_for, Made, whole, not_finite_made, made, ended, step_by}
+use Rattle.steps.specs.Step.{refusal_number, refined_counts, within_ceilings, room_for, Made, whole, not_finite_made, made, ended, step_by}
 use Rattle.tables.specs.Counted.{rows_for, first_rows}
-use Rattle.steps.specs.declared.Stepped.{Stepped}
-use Rattle.steps.specs.declared.Stepped.TheVariants.{Refined, NotClosed, NotEachFaceOnce, NoRoom, NotFinite}
+use Rattle.steps.specs.declared.StepRefusal.{StepRefusal}
+use Rattle.steps.specs.declared.StepRefusal.TheVariants.{NotClosed, NotEachFaceOnce, NoRoom, NotFinite}
 use Rattle.steps.proofs.Grounds.{step_is}
 use Rattle.runs.specs.Runs.{numbered}
 use Rattle.refine_outputs.specs.Output.{zero_tables, point_lines, step_lines, lines_of, numbered_step, output_if, output, OutputWritten, refine}
@@ -69,13 +70,13 @@ room-there c m hp he hf h =
     (and_is (and_is (leb-is c.points 65536) (leb-is c.edges 131072)) (leb-is c.faces 65536))).1
     ((rows-there c m hp he hf h, rows-there c zero_tables hp he hf all), ((omega arith, omega arith), omega arith))
 
-ended-answer : (m : Mesh) (c : Counts) (t : Mesh) (n : Made) → ((ended m c t n).answer ≡ Refined c) ⊎ ((ended m c t n).answer ≡ NotFinite)
+ended-answer : (m : Mesh) (c : Counts) (t : Mesh) (n : Made) → ((ended m c t n).answer ≡ Ok c) ⊎ ((ended m c t n).answer ≡ Err NotFinite)
 unfolding ended
 ended-answer m c t (whole n) = inl refl
 ended-answer m c t not_finite_made = inr refl
 
 step-answer : (m : Mesh) (c : Counts) → WithinLimits Refine zero_tables m c
-    → ((numbered_step c m).answer ≡ Refined (refined_counts c)) ⊎ ((numbered_step c m).answer ≡ NotFinite)
+    → ((numbered_step c m).answer ≡ Ok (refined_counts c)) ⊎ ((numbered_step c m).answer ≡ Err NotFinite)
 unfolding numbered_step step_by
 step-answer m c w =
     let hp = w.few-points in
@@ -98,26 +99,23 @@ length-point (suc n) ps =
     let h = length_at (to_bits binary64 p.x) (to_bits binary64 p.y) (to_bits binary64 p.z) in
     omega arith
 
-length-step : (c : Counts) (a : Stepped) (ps : List Float) → length (step_lines c a ps) ≤ 128
-length-step c (Refined c') ps =
+length-step : (c : Counts) (a : Result Counts StepRefusal) (ps : List Float) → length (step_lines c a ps) ≤ 128
+length-step c (Ok c') ps =
     let a = length-append (step_line c'.points c'.edges c'.faces) (point_lines c.points ps) in
     let h = length-counts (bytes "[step") c'.points c'.edges c'.faces refl in
     let k = length-point c.points ps in
     omega arith
-length-step c NotClosed ps = let h = length-refused 30 in omega arith
-length-step c NotEachFaceOnce ps = let h = length-refused 31 in omega arith
-length-step c NoRoom ps = let h = length-refused 32 in omega arith
-length-step c NotFinite ps = let h = length-refused 33 in omega arith
+length-step c (Err g) ps = let h = length-refused (refusal_number g) in omega arith
 
-length-output : (a : TextBuilt) (m : Mesh) → length (output_if a m) ≤ 256
+length-output : (a : Result Counts TextRefusal) (m : Mesh) → length (output_if a m) ≤ 256
 unfolding output_if
-length-output (Accepted c) m =
+length-output (Ok c) m =
     let a = length-append (mesh_line c.points c.edges c.faces) (lines_of c (numbered_step c m)) in
     let h = length-counts (bytes "[mesh") c.points c.edges c.faces refl in
     let k = length-step c (numbered_step c m).answer (numbered_step c m).tables.positions in
     omega arith
-length-output NotText m = let h = length-refused 1 in omega arith
-length-output (Refused g) m = let h = length-refused (ground_number g) in omega arith
+length-output (Err NotText) m = let h = length-refused 1 in omega arith
+length-output (Err (Refused g)) m = let h = length-refused (ground_number g) in omega arith
 
 pub fits : OutputFits
 unfolding output

@@ -8,7 +8,7 @@
 --     output s                the whole output
 --     OutputWritten           how many bytes are written, and the lent bytes afterwards
 --     refine s out            the output at the front of the bytes out that are lent
-use Rattle.std.specs.Prelude.{List, [], ◌∷◌, ◌++◌, ℕ, zero, suc, ◌*◌, length, replicate, Float}
+use Rattle.std.specs.Prelude.{List, [], ◌∷◌, ◌++◌, ℕ, zero, suc, ◌*◌, length, replicate, Float, Result, Ok, Err}
 use Rattle.std.proofs.lemmas.List.Edits.{sets}
 use Rattle.std.specs.Float.Ieee.{of_bits, to_bits}
 use Rattle.std.specs.Float.{binary64}
@@ -19,13 +19,12 @@ use Rattle.tables.specs.declared.Counts.{Counts}
 use Rattle.building_tests.specs.declared.Bounds.TheVariants.{Refine}
 use Rattle.text_meshes.specs.TextBuilding.{build_text}
 use Rattle.text_meshes.specs.TextBuilding as text
-use Rattle.text_meshes.specs.declared.TextBuilt.{TextBuilt}
-use Rattle.text_meshes.specs.declared.TextBuilt.TheVariants.{Accepted, NotText, Refused}
+use Rattle.text_meshes.specs.declared.TextRefusal.{TextRefusal}
+use Rattle.text_meshes.specs.declared.TextRefusal.TheVariants.{NotText, Refused}
 use Rattle.refined_meshes.specs.declared.Edition.TheVariants.{First}
 use Rattle.steps.specs.Step.{step, StepOutcome}
 use Rattle.steps.specs.Step as steps
-use Rattle.steps.specs.declared.Stepped.{Stepped}
-use Rattle.steps.specs.declared.Stepped.TheVariants.{Refined, NotClosed, NotEachFaceOnce, NoRoom, NotFinite}
+use Rattle.steps.specs.declared.StepRefusal.{StepRefusal}
 use Rattle.runs.specs.Runs.{numbered}
 use Rattle.mesh_answers.specs.Lines.{mesh_line, step_line, at_line, refused_line}
 
@@ -50,12 +49,9 @@ abbrev pub ground_line : List ℕ → List ℕ
 ground_line [] = []
 ground_line (g ∷ ns) = refused_line g
 
-abbrev pub step_lines : Counts → Stepped → List Float → List ℕ
-step_lines c (Refined c') ps = step_line c'.points c'.edges c'.faces ++ point_lines c.points ps
-step_lines c NotClosed ps = ground_line (steps.step_numbers NotClosed)
-step_lines c NotEachFaceOnce ps = ground_line (steps.step_numbers NotEachFaceOnce)
-step_lines c NoRoom ps = ground_line (steps.step_numbers NoRoom)
-step_lines c NotFinite ps = ground_line (steps.step_numbers NotFinite)
+abbrev pub step_lines : Counts → Result Counts StepRefusal → List Float → List ℕ
+step_lines c (Ok c') ps = step_line c'.points c'.edges c'.faces ++ point_lines c.points ps
+step_lines c (Err g) ps = ground_line (steps.step_numbers (Err g))
 
 abbrev pub lines_of : Counts → StepOutcome → List ℕ
 lines_of c o = step_lines c o.answer o.tables.positions
@@ -65,11 +61,11 @@ unfolding step numbered zero_tables
 numbered_step c m = step First m c (numbered c.faces) zero_tables
 
 -- by the answer of building, and the tables m that it left
-unfoldable pub output_if : TextBuilt → Mesh → List ℕ
+unfoldable pub output_if : Result Counts TextRefusal → Mesh → List ℕ
 unfolding numbered_step
-output_if (Accepted c) m = mesh_line c.points c.edges c.faces ++ lines_of c (numbered_step c m)
-output_if NotText m = ground_line (text.text_numbers NotText)
-output_if (Refused g) m = ground_line (text.text_numbers (Refused g))
+output_if (Ok c) m = mesh_line c.points c.edges c.faces ++ lines_of c (numbered_step c m)
+output_if (Err NotText) m = ground_line (text.text_numbers (Err NotText))
+output_if (Err (Refused g)) m = ground_line (text.text_numbers (Err (Refused g)))
 
 -- by the tables m
 unfoldable pub output_from : List ℕ → Mesh → List ℕ

@@ -3,6 +3,7 @@
 --     written-point           both lines
 --     point-room              room for the line of point 0
 --     point-of-ready          point 0 is there where its line is written
+use Rattle.std.specs.Prelude.{Result, Ok}
 use mathlib.Core.Path.{◌≡◌, refl}
 use mathlib.Core.Bool.{true}
 use mathlib.Core.List.{List, append-nil}
@@ -14,8 +15,7 @@ use lib.Ieee.Scale.{finite}
 use Rattle.positions.specs.declared.Position.{Position}
 use Rattle.positions.specs.Position.{finite_position}
 use Rattle.tables.specs.declared.Counts.{Counts}
-use Rattle.steps.specs.declared.Stepped.{Stepped}
-use Rattle.steps.specs.declared.Stepped.TheVariants.{Refined}
+use Rattle.steps.specs.declared.StepRefusal.{StepRefusal}
 use Rattle.text_numbers.specs.Form.{bytes}
 use Rattle.text_numbers.proofs.Laws.{and_both}
 use Rattle.mesh_answers.specs.Lines.{step_line}
@@ -35,7 +35,7 @@ point-lines : (n : ℕ) (ps : List Float) → (n ≡ 0 → ⊥) → point_lines 
 point-lines zero ps h = absurd (h refl)
 point-lines (suc n) ps h = refl
 
-module _ (c : Counts) (a : Stepped) (ps : List Float) (c' : Counts) (e : a ≡ Refined c') {out : List ℕ} {at i : ℕ} {o1 : List ℕ}
+module _ (c : Counts) (a : Result Counts StepRefusal) (ps : List Float) (c' : Counts) (e : a ≡ Ok c') {out : List ℕ} {at i : ℕ} {o1 : List ℕ}
     (w : Written out at (step_line c'.points c'.edges c'.faces) i o1) where
   pub written-counts : c.points ≡ 0 → Written out at (step_lines c a ps) i o1
   written-counts z = rw (e, z, append-nil (step_line c'.points c'.edges c'.faces)) w

@@ -13,7 +13,7 @@ ghost use Rattle.refine_outputs.specs.Output.{place_line, step_lines};
 ghost use Rattle.refine_outputs.specs.FirstPoint.{PointThere, PointReady};
 
 use answer_lines::{write_at, write_refused, write_step};
-use steps::Stepped;
+use steps::StepRefusal;
 use tables::Counts;
 
 // Writes where point 0 is.
@@ -33,7 +33,7 @@ pub fn write_stepped(
     out: &mut [u8],
     at: usize,
     counts: Counts,
-    answer: Stepped,
+    answer: Result<Counts, StepRefusal>,
     positions: &[f64],
 ) -> usize
     requires at_in_bounds { at + 128 ≤ length out.old }
@@ -41,17 +41,14 @@ pub fn write_stepped(
     ensures { Written out.old at (step_lines counts answer positions.now) result out.new }
 {
     match answer {
-        Stepped::Refined(c) => {
+        Ok(c) => {
             let i = write_step(out, at, c.points as u64, c.edges as u64, c.faces as u64);
             if counts.points == 0 {
                 return i;
             }
             write_point(out, i, positions)
         }
-        Stepped::NotClosed => write_refused(out, at, 30),
-        Stepped::NotEachFaceOnce => write_refused(out, at, 31),
-        Stepped::NoRoom => write_refused(out, at, 32),
-        Stepped::NotFinite => write_refused(out, at, 33),
+        Err(refusal) => write_refused(out, at, u64::from(refusal.number())),
     }
 }
 
@@ -60,10 +57,7 @@ pub fn number_faces(order: &mut [u32])
     requires { length order.old ≤ face_ceiling }
     ensures { order.new ≡ numbered (length order.old) }
 {
-    let n = order.len();
-    let mut i = 0;
-    while i < n {
+    for i in 0..order.len() {
         order[i] = i as u32;
-        i += 1;
     }
 }

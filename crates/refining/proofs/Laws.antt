@@ -1,6 +1,7 @@
 -- The laws of a step: from its tests to the step. Assumes nothing.
 --     passed     where the tests answer counts, none of the grounds 30, 31 and 32 holds
---     refused    a ground that is not the counts is answered with everything untouched
+--     refused    a ground that holds is answered with everything untouched
+use Rattle.std.specs.Prelude.{Result, Ok, Err}
 use mathlib.Core.Path.{◌≡◌, refl, sym, ◌∙◌, ap, subst}
 use mathlib.Core.Logic.{◌≢◌}
 use mathlib.Core.Bool.{Bool, true, false}
@@ -12,9 +13,9 @@ use Rattle.tables.specs.Counted.{first_rows}
 use Rattle.tables.specs.declared.Counts.{Counts}
 use Rattle.audited_meshes.specs.Audit.{audit}
 use Rattle.refined_meshes.specs.declared.Edition.{Edition}
-use Rattle.steps.specs.declared.Stepped.TheVariants.{Refined, NotClosed, NotEachFaceOnce, NoRoom, NotFinite}
+use Rattle.steps.specs.declared.StepRefusal.TheVariants.{NotClosed, NotEachFaceOnce, NoRoom}
 use Rattle.steps.specs.Step.{step_refusal, refined_counts, each_face_once, room_for, tested_if, tested, step_by, step}
-use Rattle.steps.specs.declared.Stepped.{Stepped}
+use Rattle.steps.specs.declared.StepRefusal.{StepRefusal}
 use Rattle.steps.proofs.Rows.{room-of-holds, holds-first_rows, room-first_rows, points-fit, edges_fit, faces-fit}
 use Rattle.steps.proofs.Grounds.{each_face_once-is, rooms-of-test, step_is}
 use Rattle.audited_meshes.proofs.Holds.{audit-is-closed}
@@ -48,31 +49,27 @@ module _ (ed : Edition) (m : Mesh) (c : Counts) (order : List ℕ) (t : Mesh) wh
         stepped = step_is ed m c order t ha ho hr;
       }
 
-  pub passed : (c' : Counts) → Refined c' ≡ tested m c order t → TestsPassed ed m c order t c'
+  pub passed : (c' : Counts) → Ok c' ≡ tested m c order t → TestsPassed ed m c order t c'
   passed c' e = go _ refl _ refl _ refl
     where
       go :
           (a : Bool) → audit m c.points c.edges c.faces ≡ a → (o : Bool) → each_face_once c.faces order ≡ o → (r : Bool) →
           room_for (refined_counts c) m t ≡ r → TestsPassed ed m c order t c'
       go false ha o ho r hr =
-          let k : Refined c' ≡ NotClosed = e ∙ tested-is ha ho hr in
+          let k : ◌≡◌ {A = Result Counts StepRefusal} (Ok c') (Err NotClosed) = e ∙ tested-is ha ho hr in
           absurd (let z : ◌≡◌ {A = ℕ} 0 1 = cc in omega arith)
       go true ha false ho r hr =
-          let k : Refined c' ≡ NotEachFaceOnce = e ∙ tested-is ha ho hr in
+          let k : ◌≡◌ {A = Result Counts StepRefusal} (Ok c') (Err NotEachFaceOnce) = e ∙ tested-is ha ho hr in
           absurd (let z : ◌≡◌ {A = ℕ} 0 1 = cc in omega arith)
       go true ha true ho false hr =
-          let k : Refined c' ≡ NoRoom = e ∙ tested-is ha ho hr in
+          let k : ◌≡◌ {A = Result Counts StepRefusal} (Ok c') (Err NoRoom) = e ∙ tested-is ha ho hr in
           absurd (let z : ◌≡◌ {A = ℕ} 0 1 = cc in omega arith)
       go true ha true ho true hr =
-          let k : Refined c' ≡ Refined (refined_counts c) = e ∙ tested-is ha ho hr in
+          let k : ◌≡◌ {A = Result Counts StepRefusal} (Ok c') (Ok (refined_counts c)) = e ∙ tested-is ha ho hr in
           let q : refined_counts c ≡ c' = cc in
           subst (λ x. TestsPassed ed m c order t x) q (all-passed ha ho hr)
 
-  -- A ground that is not the counts is answered with everything untouched.
-  pub refused : (g : Stepped) → g ≡ tested m c order t → ((c' : Counts) → g ≢ Refined c') → step_refusal g m t ≡ step ed m c order t
+  -- A ground that holds is answered with everything untouched.
+  pub refused : (g : StepRefusal) → Err g ≡ tested m c order t → step_refusal g m t ≡ step ed m c order t
   unfolding step step_by
-  refused (Refined c') e n = absurd (n c' refl)
-  refused NotClosed e n = ap (λ x. step_by ed x m c order t) e
-  refused NotEachFaceOnce e n = ap (λ x. step_by ed x m c order t) e
-  refused NoRoom e n = ap (λ x. step_by ed x m c order t) e
-  refused NotFinite e n = ap (λ x. step_by ed x m c order t) e
+  refused g e = ap (λ x. step_by ed x m c order t) e

@@ -13,8 +13,8 @@ ghost use Rattle.steps.specs.OneStep.{Binary64};
 use finishing::finish;
 use refined_meshes::Edition;
 use step_grounds::first_ground;
-use steps::Stepped;
-use tables::Counts;
+use steps::StepRefusal;
+use tables::{Counts, MeshTables};
 
 // One step of refining in the edition that the caller chooses: the refined mesh, in the order handed in, or the first ground that holds.
 // `told` says it in document 01's numbers.
@@ -33,7 +33,7 @@ pub fn step(
     newintervals: &mut [f64],
     newfaces: &mut [u32],
     edition: Edition,
-) -> Stepped
+) -> Result<Counts, StepRefusal>
     ensures outcome { ◌≡◌ {A = StepOutcome}
         (record {
           answer = result;
@@ -52,23 +52,21 @@ pub fn step(
         (mesh_of newpositions.old newpoints.old newedges.old newintervals.old newfaces.old)
         ).answer }
 {
-    let ground = first_ground(
+    let mesh = MeshTables {
         positions,
         points,
         edges,
         intervals,
         faces,
-        counts,
-        order,
-        newpositions,
-        newpoints,
-        newedges,
-        newintervals,
-        newfaces,
-    );
-    let Stepped::Refined(c) = ground else {
-        return ground;
     };
+    let scratch = MeshTables {
+        positions: newpositions,
+        points: newpoints,
+        edges: newedges,
+        intervals: newintervals,
+        faces: newfaces,
+    };
+    let c = first_ground(&mesh, counts, order, &scratch)?;
     finish(
         positions,
         points,

@@ -8,6 +8,7 @@ use mathlib.Core.Logic.{◌⊎◌, inl, inr, ◌≢◌}
 use Prim.Native.Nat.{ℕ, zero, suc, ◌+◌, ◌≤◌, ◌<◌}
 use native.Mathlib.Omega.{arith}
 use native.Mathlib.Decide.{ℕ_discrete}
+use Rattle.std.specs.Prelude.{Result, Ok, Err, ⊤}
 use Rattle.tables.specs.declared.Sizes.{Sizes}
 use Rattle.tables.specs.Mesh.{Mesh, none}
 use Rattle.audited_meshes.proofs.Folds.{below_suc}
@@ -21,9 +22,6 @@ use Rattle.built_meshes.specs.Grounds.{face-size, out_of_range, point-twice, fir
 use Rattle.built_meshes.specs.Grounds.{same_way, missing-face, no_edge, missed-edge, FirstMet, rank}
 use Rattle.built_meshes.specs.declared.Ground.{Ground}
 use Rattle.built_meshes.specs.declared.Ground.TheVariants.{OverCounts, UnfitNumber, FewRows, EdgeTripleFace, SameWay}
-use Rattle.built_meshes.specs.declared.Verdict.{Verdict}
-use Rattle.built_meshes.specs.declared.Verdict.TheVariants.{Fit, Unfit}
-use Rattle.built_meshes.specs.declared.Built.TheVariants.{Refused}
 use Rattle.built_meshes.proofs.Versions.{firsts-agree, sums-agree}
 use Rattle.built_meshes.proofs.Before.{Tests, tests-of, Triple, Same, ClearLists, first-face, first_edge, first-once}
 use Rattle.built_meshes.proofs.Faces.{FaceVerdict, fit, unfit, verdict-is}
@@ -31,20 +29,18 @@ use Rattle.built_meshes.proofs.Begin.{counts-is, counts-fail, counted-fits, numb
 use Rattle.built_meshes.proofs.Theorem.{first-ground}
 use Rattle.mended_lists.specs.Edges.{places_of, third}
 use Rattle.refusal_places.specs.declared.Spot.{Spot}
-use Rattle.refusal_places.specs.declared.Spot.TheVariants.{Clear, Face, Edge}
+use Rattle.refusal_places.specs.declared.Spot.TheVariants.{Face, Edge}
 use Rattle.refusal_places.specs.Spots.{then_spot, runs_with_mate, spot_at, edge_spot, edges_spot, verdict_spot, face_spot, faces_spot, first_spot}
 use Rattle.refusal_places.specs.Spots.{spot_if, spotted, where_of}
 use Rattle.refusal_places.specs.Claims.{SpotIsFirst, SpotRefuses, SpotInFaces}
 use Rattle.refusal_places.proofs.Edges.{triple-of, no-triple, same_of, no_same}
 
 -- something is met there
-pub data Stops : Spot → Type 0 where
-  face-stops : (f : ℕ) (g : Ground) → Stops (Face f g)
-  edge-stops : (f i : ℕ) (g : Ground) → Stops (Edge f i g)
+pub data Stops : Result ⊤ Spot → Type 0 where
+  stops : (x : Spot) → Stops (Err x)
 
-pub not-clear : (s : Spot) → Stops s → s ≡ Clear → ⊥
-not-clear s (face-stops f g) h = let z : ◌≡◌ {A = ℕ} 0 1 = cc in omega arith
-not-clear s (edge-stops f i g) h = let z : ◌≡◌ {A = ℕ} 0 1 = cc in omega arith
+pub not-clear : (s : Result ⊤ Spot) → Stops s → s ≡ Ok tt → ⊥
+not-clear s (stops x) h = let z : ◌≡◌ {A = ℕ} 0 1 = cc in omega arith
 
 module _ (c : Sizes) (l : Lists) (m : Mesh) (clear : ClearLists c l m) where
   -- nothing is met in the faces below k
@@ -52,12 +48,12 @@ module _ (c : Sizes) (l : Lists) (m : Mesh) (clear : ClearLists c l m) where
     pub tested : (f : ℕ) → f < k → (n : ℕ) → Tests l f n
     pub entered : (f i : ℕ) → IsPlace l f i → f < k → (¬ Triple l f i) × (¬ Same l f i)
 
-  pub data Came (Passed : Type 0) : Spot → Type 0 where
-    passed : Passed → Came Passed Clear
-    at-face : {f : ℕ} {g : Ground} → FirstMet c l m (face f) g → Came Passed (Face f g)
-    at_edge : {f i : ℕ} {g : Ground} → FirstMet c l m (edge f i) g → Came Passed (Edge f i g)
+  pub data Came (Passed : Type 0) : Result ⊤ Spot → Type 0 where
+    passed : Passed → Came Passed (Ok tt)
+    at-face : {f : ℕ} {g : Ground} → FirstMet c l m (face f) g → Came Passed (Err (Face f g))
+    at_edge : {f i : ℕ} {g : Ground} → FirstMet c l m (edge f i) g → Came Passed (Err (Edge f i g))
 
-  then-came : {A B : Type 0} (s t : Spot) → Came A s → (A → Came B t) → Came B (then_spot s t)
+  then-came : {A B : Type 0} (s t : Result ⊤ Spot) → Came A s → (A → Came B t) → Came B (then_spot s t)
   then-came s t (passed a) go = go a
   then-came s t (at-face h) go = at-face h
   then-came s t (at_edge h) go = at_edge h
@@ -133,13 +129,13 @@ module _ (c : Sizes) (l : Lists) (m : Mesh) (clear : ClearLists c l m) where
   face-came F b far = go (face_verdict l (points_of l) F (offset l F)) (verdict-is c l m F b)
     where
       go :
-          (v : Verdict) → FaceVerdict c l m F v →
+          (v : Result ⊤ Ground) → FaceVerdict c l m F v →
           Came (SoFar (suc F)) (then_spot (verdict_spot F v) (edges_spot (places_of l) F (offset l F) (size l F)))
       go v (fit sound agrees) =
           let own : (n : ℕ) → Tests l F n = λ n. tests-of l F n sound agrees in
           turn own (edges_spot (places_of l) F (offset l F) (size l F)) (edges-came F b far own (size l F) (omega arith))
         where
-          turn : (own : (n : ℕ) → Tests l F n) (s : Spot) → Came (Edges-far F b far own (size l F)) s → Came (SoFar (suc F)) s
+          turn : (own : (n : ℕ) → Tests l F n) (s : Result ⊤ Spot) → Came (Edges-far F b far own (size l F)) s → Came (SoFar (suc F)) s
           turn own s (passed e) = passed (face-passed F b far own e)
           turn own s (at-face h) = at-face h
           turn own s (at_edge h) = at_edge h
@@ -228,7 +224,7 @@ module _ (c : Sizes) (l : Lists) (m : Mesh) where
 -- ---- the lists pass 2 and 3
 
 -- there is a place only where the counts and the numbers are fit
-spot_of : (a b : Bool) (s t : Spot) → Stops t → spot_if a b s ≡ t → (a ≡ true) × (b ≡ true) × (s ≡ t)
+spot_of : (a b : Bool) (s t : Result ⊤ Spot) → Stops t → spot_if a b s ≡ t → (a ≡ true) × (b ≡ true) × (s ≡ t)
 spot_of true true s t h e = (refl, refl, e)
 spot_of true false s t h e = absurd (not-clear t h (sym e))
 spot_of false b s t h e = absurd (not-clear t h (sym e))
@@ -251,7 +247,7 @@ spot-is-first c l m few g n answer = go ((first-ground c l m few g).0 answer)
         clear : ClearLists c l m
         clear = lists-clear c l m w g n h
 
-        spot : (s : Spot) → Came c l m clear (SoFar c l m clear (faces_of l)) s → FirstMet c l m (where_of s) g
+        spot : (s : Result ⊤ Spot) → Came c l m clear (SoFar c l m clear (faces_of l)) s → FirstMet c l m (where_of s) g
         spot s (passed far) = turn (passed-met c l m clear far w g h.met)
           where
             turn : (w ≡ lists) ⊎ (w ≡ whole) → FirstMet c l m whole g
@@ -262,29 +258,29 @@ spot-is-first c l m few g n answer = go ((first-ground c l m few g).0 answer)
 
 pub spot-refuses : SpotRefuses
 unfolding spotted
-spot-refuses c l m few rows g f i (inl e) = go (spot_of (counts_fit c l) (listed_fit l) (first_spot l) (Face f g) (face-stops f g) e)
+spot-refuses c l m few rows g f i (inl e) = go (spot_of (counts_fit c l) (listed_fit l) (first_spot l) (Err (Face f g)) (stops (Face f g)) e)
   where
-    go : (counts_fit c l ≡ true) × (listed_fit l ≡ true) × (first_spot l ≡ Face f g) → (build c l m).answer ≡ Refused g
+    go : (counts_fit c l ≡ true) × (listed_fit l ≡ true) × (first_spot l ≡ Err (Face f g)) → (build c l m).answer ≡ Err g
     go (x, y, q) = came (first_spot l) q (first-came c l m clear)
       where
         clear : ClearLists c l m
         clear = record { counts = counted-fits c l (counts-is c l x); numbers = numbered-fits l (numbers-is l y); rows = rows }
 
-        came : (s : Spot) → s ≡ Face f g → Came c l m clear (SoFar c l m clear (faces_of l)) s → (build c l m).answer ≡ Refused g
-        came s q (passed far) = absurd (not-clear (Face f g) (face-stops f g) (sym q))
+        came : (s : Result ⊤ Spot) → s ≡ Err (Face f g) → Came c l m clear (SoFar c l m clear (faces_of l)) s → (build c l m).answer ≡ Err g
+        came s q (passed far) = absurd (not-clear (Err (Face f g)) (stops (Face f g)) (sym q))
         came s q (at-face {f = f'} {g = g'} h) =
             let y : g' ≡ g = cc in (first-ground c l m few g).1 (face f', subst (λ g. FirstMet c l m (face f') g) y h)
         came s q (at_edge {f = f'} {i = i'} {g = g'} h) = absurd (let z : ◌≡◌ {A = ℕ} 0 1 = cc in omega arith)
-spot-refuses c l m few rows g f i (inr e) = go (spot_of (counts_fit c l) (listed_fit l) (first_spot l) (Edge f i g) (edge-stops f i g) e)
+spot-refuses c l m few rows g f i (inr e) = go (spot_of (counts_fit c l) (listed_fit l) (first_spot l) (Err (Edge f i g)) (stops (Edge f i g)) e)
   where
-    go : (counts_fit c l ≡ true) × (listed_fit l ≡ true) × (first_spot l ≡ Edge f i g) → (build c l m).answer ≡ Refused g
+    go : (counts_fit c l ≡ true) × (listed_fit l ≡ true) × (first_spot l ≡ Err (Edge f i g)) → (build c l m).answer ≡ Err g
     go (x, y, q) = came (first_spot l) q (first-came c l m clear)
       where
         clear : ClearLists c l m
         clear = record { counts = counted-fits c l (counts-is c l x); numbers = numbered-fits l (numbers-is l y); rows = rows }
 
-        came : (s : Spot) → s ≡ Edge f i g → Came c l m clear (SoFar c l m clear (faces_of l)) s → (build c l m).answer ≡ Refused g
-        came s q (passed far) = absurd (not-clear (Edge f i g) (edge-stops f i g) (sym q))
+        came : (s : Result ⊤ Spot) → s ≡ Err (Edge f i g) → Came c l m clear (SoFar c l m clear (faces_of l)) s → (build c l m).answer ≡ Err g
+        came s q (passed far) = absurd (not-clear (Err (Edge f i g)) (stops (Edge f i g)) (sym q))
         came s q (at-face {f = f'} {g = g'} h) = absurd (let z : ◌≡◌ {A = ℕ} 0 1 = cc in omega arith)
         came s q (at_edge {f = f'} {i = i'} {g = g'} h) =
             let y : g' ≡ g = cc in (first-ground c l m few g).1 (edge f' i', subst (λ g. FirstMet c l m (edge f' i') g) y h)
@@ -292,12 +288,12 @@ spot-refuses c l m few rows g f i (inr e) = go (spot_of (counts_fit c l) (listed
 -- ---- the place is one of the faces
 
 -- the place is at face f, or nothing is met
-data AtFace (f : ℕ) : Spot → Type 0 where
-  nothing-at : AtFace f Clear
-  face-at : (g : Ground) → AtFace f (Face f g)
-  edge_at : (i : ℕ) (g : Ground) → AtFace f (Edge f i g)
+data AtFace (f : ℕ) : Result ⊤ Spot → Type 0 where
+  nothing-at : AtFace f (Ok tt)
+  face-at : (g : Ground) → AtFace f (Err (Face f g))
+  edge_at : (i : ℕ) (g : Ground) → AtFace f (Err (Edge f i g))
 
-at-then : (f : ℕ) (s t : Spot) → AtFace f s → AtFace f t → AtFace f (then_spot s t)
+at-then : (f : ℕ) (s t : Result ⊤ Spot) → AtFace f s → AtFace f t → AtFace f (then_spot s t)
 at-then f s t nothing-at h = h
 at-then f s t (face-at g) h = face-at g
 at-then f s t (edge_at i g) h = edge_at i g
@@ -320,17 +316,17 @@ face-spot-at l f =
     at-then f (verdict_spot f (face_verdict l (points_of l) f (offset l f))) (edges_spot (places_of l) f (offset l f) (size l f))
     (go (face_verdict l (points_of l) f (offset l f))) (edges_at l f (offset l f) (size l f))
   where
-    go : (v : Verdict) → AtFace f (verdict_spot f v)
-    go Fit = nothing-at
-    go (Unfit g) = face-at g
+    go : (v : Result ⊤ Ground) → AtFace f (verdict_spot f v)
+    go (Ok tt) = nothing-at
+    go (Err g) = face-at g
 
 -- the place of a spot is below k
-data Below (k : ℕ) : Spot → Type 0 where
-  nothing-below : Below k Clear
-  face-below : (f : ℕ) (g : Ground) → f < k → Below k (Face f g)
-  edge-below : (f i : ℕ) (g : Ground) → f < k → Below k (Edge f i g)
+data Below (k : ℕ) : Result ⊤ Spot → Type 0 where
+  nothing-below : Below k (Ok tt)
+  face-below : (f : ℕ) (g : Ground) → f < k → Below k (Err (Face f g))
+  edge-below : (f i : ℕ) (g : Ground) → f < k → Below k (Err (Edge f i g))
 
-below_then : (k : ℕ) (s t : Spot) → Below k s → AtFace k t → Below (suc k) (then_spot s t)
+below_then : (k : ℕ) (s t : Result ⊤ Spot) → Below k s → AtFace k t → Below (suc k) (then_spot s t)
 below_then k s t nothing-below nothing-at = nothing-below
 below_then k s t nothing-below (face-at g) = face-below k g (omega arith)
 below_then k s t nothing-below (edge_at i g) = edge-below k i g (omega arith)
@@ -346,17 +342,17 @@ pub spot-in-faces : SpotInFaces
 unfolding spotted first_spot
 spot-in-faces c l g f i (inl e) =
     go (faces_spot l (places_of l) (faces_of l)) (spots-below l (faces_of l))
-    (spot_of (counts_fit c l) (listed_fit l) (first_spot l) (Face f g) (face-stops f g) e).2
+    (spot_of (counts_fit c l) (listed_fit l) (first_spot l) (Err (Face f g)) (stops (Face f g)) e).2
   where
-    go : (s : Spot) → Below (faces_of l) s → s ≡ Face f g → f < faces_of l
-    go s nothing-below q = absurd (not-clear (Face f g) (face-stops f g) (sym q))
+    go : (s : Result ⊤ Spot) → Below (faces_of l) s → s ≡ Err (Face f g) → f < faces_of l
+    go s nothing-below q = absurd (not-clear (Err (Face f g)) (stops (Face f g)) (sym q))
     go s (face-below f' g' h) q = let y : f' ≡ f = cc in subst (λ f. f < faces_of l) y h
     go s (edge-below f' i' g' h) q = absurd (let z : ◌≡◌ {A = ℕ} 0 1 = cc in omega arith)
 spot-in-faces c l g f i (inr e) =
     go (faces_spot l (places_of l) (faces_of l)) (spots-below l (faces_of l))
-    (spot_of (counts_fit c l) (listed_fit l) (first_spot l) (Edge f i g) (edge-stops f i g) e).2
+    (spot_of (counts_fit c l) (listed_fit l) (first_spot l) (Err (Edge f i g)) (stops (Edge f i g)) e).2
   where
-    go : (s : Spot) → Below (faces_of l) s → s ≡ Edge f i g → f < faces_of l
-    go s nothing-below q = absurd (not-clear (Edge f i g) (edge-stops f i g) (sym q))
+    go : (s : Result ⊤ Spot) → Below (faces_of l) s → s ≡ Err (Edge f i g) → f < faces_of l
+    go s nothing-below q = absurd (not-clear (Err (Edge f i g)) (stops (Edge f i g)) (sym q))
     go s (face-below f' g' h) q = absurd (let z : ◌≡◌ {A = ℕ} 0 1 = cc in omega arith)
     go s (edge-below f' i' g' h) q = let y : f' ≡ f = cc in subst (λ f. f < faces_of l) y h

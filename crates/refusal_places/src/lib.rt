@@ -5,10 +5,9 @@
 
 use built_meshes::Ground;
 
-// The place of a ground: a face, or an edge of it by its place in the face, both from 0, with the ground; or nothing is met in the faces.
+// The place of a ground: a face, or an edge of it by its place in the face, both from 0, with the ground.
 #[derive(Clone, Copy)]
 pub enum Spot {
-    Clear,
     Face(usize, Ground),
     Edge(usize, usize, Ground),
 }

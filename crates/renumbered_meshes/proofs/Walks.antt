@@ -16,12 +16,11 @@ use lib.Dec.{eqb, ltb}
 use lib.ListN.{length, get_or, length-append, length-map, get_or-append}
 use lib.Seq.{get_or_at}
 use borrow.Author.Tests.{lt-ltb}
+use Rattle.std.specs.Prelude.{Option, Some}
 use Rattle.tables.specs.Mesh.{Mesh, start, face_start}
 use Rattle.audited_meshes.specs.Folds.{again}
 use Rattle.audited_meshes.specs.Walks.{Walk, back, lost, pass, walk, touches, borders, acw_of_point, acw_of_face, first_point, face_walk, point_walk}
 use Rattle.audited_meshes.specs.Audited.{Audited}
-use Rattle.walks.specs.declared.Passed.TheVariants as Passed
-use Rattle.walks.specs.declared.FoundEdge.{FoundEdge}
 use Rattle.walks.specs.Neighbour.{found_if, seek, edge_to_point}
 use Rattle.walks.specs.Border.{border_of, border}
 use Rattle.walks.proofs.Laws.{length-again, get_or-padded, get_d_map, border-walk}
@@ -34,7 +33,7 @@ pass-to : (g : ℕ → ℕ) (e : ℕ) (w : Walk) → pass (g e) (walk_to g w) �
 pass-to g e (back es) = refl
 pass-to g e lost = refl
 
-found_if-to : (g : ℕ → ℕ) (b : Bool) (e : ℕ) (w : FoundEdge) → found_if b (g e) (found_to g w) ≡ found_to g (found_if b e w)
+found_if-to : (g : ℕ → ℕ) (b : Bool) (e : ℕ) (w : Option ℕ) → found_if b (g e) (found_to g w) ≡ found_to g (found_if b e w)
 found_if-to g true e w = refl
 found_if-to g false e w = refl
 
@@ -183,17 +182,17 @@ module _ {m : Mesh} {np ne nf : ℕ} {m' : Mesh} {np' ne' nf' : ℕ} (a : Audite
     there : border m' ne' (r.face f) ≡ border_of m' (r.face f) (back (map r.edge (walked-round a f l).edges))
     there = border-walk m' ne' (r.face f) ∙ ap (border_of m' (r.face f)) (face_walk-to a r f l ∙ ap (walk_to r.edge) (walked-round a f l).came)
 
-    came-back : (border m ne f).passed ≡ Passed.Back (length (walked-round a f l).edges)
+    came-back : (border m ne f).passed ≡ Some (length (walked-round a f l).edges)
     came-back = ap (λ b. b.passed) here
 
-    size_is : (n : ℕ) → (border m ne f).passed ≡ Passed.Back n → n ≡ length (walked-round a f l).edges
-    size_is n e = let q : Passed.Back n ≡ Passed.Back (length (walked-round a f l).edges) = sym e ∙ came-back in cc
+    size_is : (n : ℕ) → (border m ne f).passed ≡ Some n → n ≡ length (walked-round a f l).edges
+    size_is n e = let q : Some n ≡ Some (length (walked-round a f l).edges) = sym e ∙ came-back in cc
 
     pub border-size-to : (border m' ne' (r.face f)).passed ≡ (border m ne f).passed
-    border-size-to = ap (λ b. b.passed) there ∙ ap Passed.Back (length-map (walked-round a f l).edges r.edge) ∙ sym came-back
+    border-size-to = ap (λ b. b.passed) there ∙ ap Some (length-map (walked-round a f l).edges r.edge) ∙ sym came-back
 
     pub border-edge-to :
-        (j n : ℕ) → (border m ne f).passed ≡ Passed.Back n → j < n →
+        (j n : ℕ) → (border m ne f).passed ≡ Some n → j < n →
         get_or (border m' ne' (r.face f)).edges j 0 ≡ r.edge (get_or (border m ne f).edges j 0)
     border-edge-to j n e h =
         let es : List ℕ = (walked-round a f l).edges in
@@ -203,7 +202,7 @@ module _ {m : Mesh} {np ne nf : ℕ} {m' : Mesh} {np' ne' nf' : ℕ} (a : Audite
         ∙ ap r.edge (sym (ap (λ b. get_or b.edges j 0) here ∙ get_or-padded 64 es j))
 
     pub border-point-to :
-        (j n : ℕ) → (border m ne f).passed ≡ Passed.Back n → j < n + 4 →
+        (j n : ℕ) → (border m ne f).passed ≡ Some n → j < n + 4 →
         get_or (border m' ne' (r.face f)).points j 0 ≡ r.point (get_or (border m ne f).points j 0)
     border-point-to j n e h =
         let w = walked-round a f l in

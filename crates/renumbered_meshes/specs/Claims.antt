@@ -6,7 +6,7 @@
 --     SameNew h h' i           the new positions of two closed meshes are the same under the isomorphism i
 --     SamePositions            the claim: under such an isomorphism all new positions are the same in both editions, finite in the one
 --                              mesh exactly if they are in the other
-use Rattle.std.specs.Prelude.{◌≡◌, ℕ, ◌+◌, ◌<◌, ◌≤◌, get_or}
+use Rattle.std.specs.Prelude.{◌≡◌, ℕ, ◌+◌, ◌<◌, ◌≤◌, get_or, Some}
 use Rattle.positions.specs.declared.Position.{Position}
 use Rattle.positions.specs.Position.{finite_position}
 use Rattle.t_spline.specs.Edge.{common_face}
@@ -16,7 +16,6 @@ use Rattle.tables.specs.Records.{edge_at}
 use Rattle.audited_meshes.specs.Walks.{acw_of_face, cw_of_face, first_point, face_walk, point_walk}
 use Rattle.audited_meshes.specs.Audited.{Audited}
 use Rattle.audited_meshes.specs.Rows.{HoldsClosed}
-use Rattle.walks.specs.declared.Passed.TheVariants as Passed
 use Rattle.walks.specs.Border.{border}
 use Rattle.walks.specs.Neighbour.{edge_to_point}
 use Rattle.refined_meshes.specs.declared.Edition.{Edition}
@@ -44,10 +43,10 @@ pub record Followed {m : Mesh} {np ne nf : ℕ} {m' : Mesh} {np' ne' nf' : ℕ} 
   -- Borders: as many edges, and the edges and points at each place.
   pub border-size : (f : ℕ) → f < nf → (border m' ne' (r.face f)).passed ≡ (border m ne f).passed
   pub border-edge :
-      (f j n : ℕ) → f < nf → (border m ne f).passed ≡ Passed.Back n → j < n →
+      (f j n : ℕ) → f < nf → (border m ne f).passed ≡ Some n → j < n →
       get_or (border m' ne' (r.face f)).edges j 0 ≡ r.edge (get_or (border m ne f).edges j 0)
   pub border-point :
-      (f j n : ℕ) → f < nf → (border m ne f).passed ≡ Passed.Back n → j < n + 4 →
+      (f j n : ℕ) → f < nf → (border m ne f).passed ≡ Some n → j < n + 4 →
       get_or (border m' ne' (r.face f)).points j 0 ≡ r.point (get_or (border m ne f).points j 0)
   -- The intervals about the ends of an edge are the same.
   pub a1 : (p e : ℕ) → p < np → e < ne → A1 m'.edges m'.intervals (r.point p) (r.edge e) ≡ A1 m.edges m.intervals p e

@@ -3,14 +3,12 @@
 --     Kept m m' i                            the isomorphism i of the meshes in m and m' keeps start edges, positions and intervals
 --     walk_to g w                             the walk w with its edges renumbered by g
 --     found_to g r                            the edge found, renumbered by g
-use Rattle.std.specs.Prelude.{◌≡◌, map, ℕ, ◌<◌}
+use Rattle.std.specs.Prelude.{◌≡◌, map, ℕ, ◌<◌, Option, Some, None}
 use Rattle.closed_meshes.specs.Mesh.{MeshOver}
 use Rattle.closed_meshes.specs.Renumbering.{Isomorphism, KeepsStarts, Row}
 use Rattle.tables.specs.Mesh.{Mesh, valence, start, origin, dest, left_face, right_face, left_cw, left_acw, right_cw, right_acw, interval, face_start}
 use Rattle.tables.specs.Records.{position_at}
 use Rattle.audited_meshes.specs.Walks.{Walk, back, lost}
-use Rattle.walks.specs.declared.FoundEdge.{FoundEdge}
-use Rattle.walks.specs.declared.FoundEdge.TheVariants.{At, Nowhere}
 
 -- Rows go to rows, no two to one; the tables m' may hold other rows besides. Marks and corners are free: no rule looks at them.
 pub record Renumbered (m : Mesh) (np ne nf : ℕ) (m' : Mesh) (np' ne' nf' : ℕ) : Type 0 where
@@ -52,6 +50,6 @@ abbrev pub walk_to : (ℕ → ℕ) → Walk → Walk
 walk_to g (back es) = back (map g es)
 walk_to g lost = lost
 
-abbrev pub found_to : (ℕ → ℕ) → FoundEdge → FoundEdge
-found_to g (At e) = At (g e)
-found_to g Nowhere = Nowhere
+abbrev pub found_to : (ℕ → ℕ) → Option ℕ → Option ℕ
+found_to g (Some e) = Some (g e)
+found_to g None = None

@@ -44,12 +44,9 @@ pub fn put_joins(
         (turns rows.size (put_join (ring rows es firsts.now seconds.now mids.now found.now))
         (tables_of ps edges.old intervals.old fs c)) }
 {
-    let n = rows.size;
-    let mut i = 0;
-    while i < n {
+    for i in 0..rows.size {
         let edge = join_edge(firsts, seconds, mids, found, rows, i);
         store_edge(edges, intervals, rows.joins + i, edge);
-        i += 1;
     }
 }
 
@@ -123,11 +120,8 @@ pub fn put_firsts(
         (put_first (face_tables edges.now []) (ring rows perimeter.now firsts.now seconds.now ms ds))
         (tables_of ps newedges.old is fs c)) }
 {
-    let n = rows.size;
-    let mut i = 0;
-    while i < n {
+    for i in 0..rows.size {
         put_first(edges, newedges, perimeter, firsts, seconds, rows, i);
-        i += 1;
     }
 }
 
@@ -164,7 +158,8 @@ fn put_second(
     );
 }
 
-// Stores the second halves on the side of the face.
+// Stores the second halves on the side of the face. What it has in common with `put_firsts` is the one line of its loop, so that a function
+// for both would be no shorter. They are two loops, since `put_ring` of `refined_meshes` stores all first halves before the second ones.
 pub fn put_seconds(
     edges: &[u32],
     newedges: &mut [u32],
@@ -183,10 +178,7 @@ pub fn put_seconds(
         (put_second (face_tables edges.now []) (ring rows perimeter.now firsts.now seconds.now ms ds))
         (tables_of ps newedges.old is fs c)) }
 {
-    let n = rows.size;
-    let mut i = 0;
-    while i < n {
+    for i in 0..rows.size {
         put_second(edges, newedges, perimeter, firsts, seconds, rows, i);
-        i += 1;
     }
 }

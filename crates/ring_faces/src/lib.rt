@@ -82,11 +82,8 @@ pub fn put_new_faces(
         (put_new_face (face_tables edges.now []) (ring rows perimeter.now firsts.now gs mids.now ds))
         (tables_of ps es is newfaces.old c)) }
 {
-    let n = rows.size;
-    let mut i = 0;
-    while i < n {
+    for i in 0..rows.size {
         put_new_face(edges, newfaces, perimeter, firsts, mids, rows, i);
-        i += 1;
     }
 }
 

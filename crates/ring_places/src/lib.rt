@@ -26,11 +26,9 @@ pub fn put_found(
     requires by_index { (i : ℕ) → i < n → get_or perimeter.now i 0 < length intervals.now }
     ensures { found.new ≡ filled n (λ i. get_or intervals.now (get_or perimeter.now i 0) nan) found.old }
 {
-    let mut i = 0;
-    while i < n {
+    for i in 0..n {
         let e = index(perimeter[i]);
         found[i] = intervals[e];
-        i += 1;
     }
 }
 
@@ -55,14 +53,12 @@ pub fn put_places(
         filled n (λ i. second_half_of edges.now newedges.now f (get_or perimeter.now i 0)) seconds.old }
     ensures mids_after { mids.new ≡ filled n (λ i. get_or newedges.now (get_or perimeter.now i 0 * edge_width + dest_word) 0) mids.old }
 {
-    let mut i = 0;
-    while i < n {
+    for i in 0..n {
         let e = perimeter[i];
         let row = index(e);
         let left = on_left(edges, f, row);
         firsts[i] = first_half(newedges, left, e);
         seconds[i] = second_half(newedges, left, e);
         mids[i] = newedges[row * EDGE_WIDTH + DEST_WORD];
-        i += 1;
     }
 }

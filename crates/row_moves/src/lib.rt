@@ -4,16 +4,14 @@
 #![tactic(auto)]
 
 ghost use Rattle.std.specs.Prelude.{◌≡◌, ◌*◌, ◌≤◌, ◌<◌, length};
-ghost use Rattle.std.specs.Float.Ieee.{of_bits};
-ghost use Rattle.std.specs.Float.{binary64};
 ghost use Rattle.tables.specs.Layout.{position_width, point_width, edge_width, face_width};
 ghost use Rattle.tables.specs.Mesh.{Mesh, mesh_of};
 ghost use Rattle.tables.specs.Rows.{over, zeroed};
 ghost use Rattle.tables.specs.Counted.{over_rows, zeroed_rows};
 
-use tables::{Counts, EDGE_WIDTH, FACE_WIDTH, POINT_WIDTH, POSITION_WIDTH};
+use tables::{Counts, EDGE_WIDTH, FACE_WIDTH, POINT_WIDTH, POSITION_WIDTH, fill_first};
 
-// How many words or numbers are moved at a time.
+// How many elements are moved at a time.
 const BLOCK: usize = 256;
 
 // Where the block from i on ends.
@@ -28,47 +26,20 @@ fn block_end(i: usize, n: usize) -> usize
     i + BLOCK
 }
 
-// Moves the first n words, a block at a time: what is copied is still at hand when it is made zero, and both are done to many at once.
-fn move_words(new: &mut [u32], words: &mut [u32], n: usize)
+// Moves the first n elements and leaves zeros, a block at a time: what is copied is still at hand when it is made zero, and both are done
+// to many at once.
+fn move_first<T: Copy>(new: &mut [T], elements: &mut [T], n: usize, zero: T)
     requires n_in_bounds { n ≤ length new.old }
-    requires n_in_bounds_2 { n ≤ length words.old }
-    ensures words_after { words.new ≡ over n new.old words.old }
-    ensures after { new.new ≡ zeroed n 0 new.old }
+    requires n_in_bounds_2 { n ≤ length elements.old }
+    ensures elements_after { elements.new ≡ over n new.old elements.old }
+    ensures after { new.new ≡ zeroed n zero new.old }
 {
     let mut i = 0;
     while i < n {
         let end = block_end(i, n);
-        let mut j = i;
-        while j < end {
-            words[j] = new[j];
-            j += 1;
-        }
-        while i < end {
-            new[i] = 0;
-            i += 1;
-        }
-    }
-}
-
-// Moves the first n numbers, a block at a time: what is copied is still at hand when it is made zero, and both are done to many at once.
-fn move_numbers(new: &mut [f64], numbers: &mut [f64], n: usize)
-    requires n_in_bounds { n ≤ length new.old }
-    requires n_in_bounds_2 { n ≤ length numbers.old }
-    ensures numbers_after { numbers.new ≡ over n new.old numbers.old }
-    ensures after { new.new ≡ zeroed n (of_bits binary64 0) new.old }
-{
-    let mut i = 0;
-    while i < n {
-        let end = block_end(i, n);
-        let mut j = i;
-        while j < end {
-            numbers[j] = new[j];
-            j += 1;
-        }
-        while i < end {
-            new[i] = 0.0;
-            i += 1;
-        }
+        elements[i..end].copy_from_slice(&new[i..end]);
+        fill_first(&mut new[i..end], end - i, zero);
+        i = end;
     }
 }
 
@@ -106,9 +77,9 @@ pub fn move_rows(
         (zeroed_rows c
         (mesh_of newpositions.old newpoints.old newedges.old newintervals.old newfaces.old)) }
 {
-    move_numbers(newpositions, positions, c.points * POSITION_WIDTH);
-    move_words(newpoints, points, c.points * POINT_WIDTH);
-    move_words(newedges, edges, c.edges * EDGE_WIDTH);
-    move_numbers(newintervals, intervals, c.edges);
-    move_words(newfaces, faces, c.faces * FACE_WIDTH);
+    move_first(newpositions, positions, c.points * POSITION_WIDTH, 0.0);
+    move_first(newpoints, points, c.points * POINT_WIDTH, 0);
+    move_first(newedges, edges, c.edges * EDGE_WIDTH, 0);
+    move_first(newintervals, intervals, c.edges, 0.0);
+    move_first(newfaces, faces, c.faces * FACE_WIDTH, 0);
 }

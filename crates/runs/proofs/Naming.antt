@@ -5,6 +5,7 @@
 --     reached                the names of a run are reached, in as many steps as it has accepted ones
 --     named                  there are names
 --     settled                there is one naming of a run
+use Rattle.std.specs.Prelude.{Result, Ok, Err}
 use mathlib.Core.Path.{◌≡◌, refl, sym, ◌∙◌, ap, ap₂, subst, path_j}
 use mathlib.Core.Bool.{true}
 use mathlib.Core.List.{List, [], ◌∷◌}
@@ -24,8 +25,7 @@ use Rattle.closed_meshes.proofs.Counting.{row-path}
 use Rattle.closed_meshes.proofs.Isomorphisms.{onto}
 use Rattle.audited_meshes.specs.Rows.{HoldsClosed}
 use Rattle.refined_meshes.specs.declared.Edition.{Edition}
-use Rattle.steps.specs.declared.Stepped.{Stepped}
-use Rattle.steps.specs.declared.Stepped.TheVariants.{Refined, NotClosed, NotEachFaceOnce, NoRoom, NotFinite}
+use Rattle.steps.specs.declared.StepRefusal.{StepRefusal}
 use Rattle.steps.specs.Step.{step_ground, refined_counts}
 use Rattle.tables.specs.Counted.{first_rows}
 use Rattle.steps.specs.OneStep.{Refinement, Binary64}
@@ -72,12 +72,9 @@ module _ {first : Counts} {l : Lent} where
       }
 
 -- One accepted step more, before or after the others.
-pub add-accepted : (g : Stepped) (k a : ℕ) → one_more_if g k + a ≡ k + one_more_if g a
-add-accepted (Refined c) k a = omega arith
-add-accepted NotClosed k a = refl
-add-accepted NotEachFaceOnce k a = refl
-add-accepted NoRoom k a = refl
-add-accepted NotFinite k a = refl
+pub add-accepted : (g : Result Counts StepRefusal) (k a : ℕ) → one_more_if g k + a ≡ k + one_more_if g a
+add-accepted (Ok c) k a = omega arith
+add-accepted (Err g) k a = refl
 
 -- What holds of each edition of a list.
 unfoldable pub EachEdition : (Edition → Type 0) → List Edition → Type 0
@@ -91,22 +88,16 @@ each-edition Q h (ed ∷ eds) = (h ed, each-edition Q h eds)
 
 module _ (Q : Edition → Type 0) (ed : Edition) (eds : List Edition) where
   -- It holds of the edition of an accepted step,
-  this-edition : (g : Stepped) (c : Counts) → g ≡ Refined c → EachEdition Q (in_edition g ed eds) → Q ed
+  this-edition : (g : Result Counts StepRefusal) (c : Counts) → g ≡ Ok c → EachEdition Q (in_edition g ed eds) → Q ed
   unfolding EachEdition
-  this-edition (Refined c') c e q = q.0
-  this-edition NotClosed c e q = absurd (let z : ◌≡◌ {A = ℕ} 0 1 = cc in omega arith)
-  this-edition NotEachFaceOnce c e q = absurd (let z : ◌≡◌ {A = ℕ} 0 1 = cc in omega arith)
-  this-edition NoRoom c e q = absurd (let z : ◌≡◌ {A = ℕ} 0 1 = cc in omega arith)
-  this-edition NotFinite c e q = absurd (let z : ◌≡◌ {A = ℕ} 0 1 = cc in omega arith)
+  this-edition (Ok c') c e q = q.0
+  this-edition (Err g) c e q = absurd (let z : ◌≡◌ {A = ℕ} 0 1 = cc in omega arith)
 
   -- and of those after it.
-  later-editions : (g : Stepped) → EachEdition Q (in_edition g ed eds) → EachEdition Q eds
+  later-editions : (g : Result Counts StepRefusal) → EachEdition Q (in_edition g ed eds) → EachEdition Q eds
   unfolding EachEdition
-  later-editions (Refined c) q = q.1
-  later-editions NotClosed q = q
-  later-editions NotEachFaceOnce q = q
-  later-editions NoRoom q = q
-  later-editions NotFinite q = q
+  later-editions (Ok c) q = q.1
+  later-editions (Err g) q = q
 
 -- What holds in the beginning, is kept by the same names and is made by new names holds of the names that a run makes. Q is what is known
 -- of the editions of the accepted steps.
@@ -121,11 +112,11 @@ module _
   where
     along-step :
         (k : ℕ) (l : Lent) (n : NamedMesh first l) → P k l n → Binary64 l.counts l.tables → (h : Handed) (n' : NamedMesh first (after l h)) →
-        ((c : Counts) → (outcome l h).answer ≡ Refined c → Q h.edition) → Renamed k (outcome l h).answer n n' → P (one_more_if (outcome l h).answer k) (after l h) n'
+        ((c : Counts) → (outcome l h).answer ≡ Ok c → Q h.edition) → Renamed k (outcome l h).answer n n' → P (one_more_if (outcome l h).answer k) (after l h) n'
     along-step k l n r b h n' known a = go (answered (outcome l h).answer)
       where
         go :
-            ((c : Counts) × ((outcome l h).answer ≡ Refined c)) ⊎ ((x : ℕ) × (step_ground (outcome l h).answer ≡ some x)) →
+            ((c : Counts) × ((outcome l h).answer ≡ Ok c)) ⊎ ((x : ℕ) × (step_ground (outcome l h).answer ≡ some x)) →
             P (one_more_if (outcome l h).answer k) (after l h) n'
         go (inl (c, e)) =
             subst (λ g. P (one_more_if g k) (after l h) n') (sym e)
@@ -178,7 +169,7 @@ module _ {first : Counts} where
   next-names k l n b h = go (answered (outcome l h).answer)
     where
       go :
-          ((c : Counts) × ((outcome l h).answer ≡ Refined c)) ⊎ ((x : ℕ) × (step_ground (outcome l h).answer ≡ some x)) →
+          ((c : Counts) × ((outcome l h).answer ≡ Ok c)) ⊎ ((x : ℕ) × (step_ground (outcome l h).answer ≡ some x)) →
           (n' : NamedMesh first (after l h)) × Renamed k (outcome l h).answer n n'
       go (inl (c, e)) =
           let r = (made_of l h b n.holds c e).refinement in
@@ -236,7 +227,7 @@ module _ {first : Counts} where
       (n' o' : NamedMesh first (after l h)) → Renamed k (outcome l h).answer n n' → Renamed k (outcome l h).answer o o' → SameNames n' o'
   settled-step k l n o s b h n' o' x y = go (answered (outcome l h).answer)
     where
-      go : ((c : Counts) × ((outcome l h).answer ≡ Refined c)) ⊎ ((g : ℕ) × (step_ground (outcome l h).answer ≡ some g)) → SameNames n' o'
+      go : ((c : Counts) × ((outcome l h).answer ≡ Ok c)) ⊎ ((g : ℕ) × (step_ground (outcome l h).answer ≡ some g)) → SameNames n' o'
       go (inl (c, e)) =
           path_j (λ z q. (n' o' : NamedMesh first z) → NewNames (suc k) n n' → NewNames (suc k) o o' → SameNames n' o')
           (λ n' o' x y.

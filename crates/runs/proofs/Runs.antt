@@ -1,5 +1,6 @@
 -- Demand 3. The names of each run are reached by steps on kinds, and two runs of as many steps match
 -- whatever their numberings. Assumes nothing.
+use Rattle.std.specs.Prelude.{Result, Ok, Err}
 use mathlib.Core.Path.{◌≡◌, refl, sym, ◌∙◌, ap, subst}
 use mathlib.Core.List.{List, [], ◌∷◌}
 use Prim.Native.Nat.{ℕ, suc, ◌≤◌, ◌<◌}
@@ -24,8 +25,7 @@ use Rattle.audited_meshes.proofs.Holds.{audited-of-closed, audit-is-closed}
 use Rattle.tables.specs.Counted.{first_rows}
 use Rattle.refined_meshes.specs.declared.Edition.{Edition}
 use Rattle.refined_meshes.specs.declared.Edition.TheVariants.{First}
-use Rattle.steps.specs.declared.Stepped.{Stepped}
-use Rattle.steps.specs.declared.Stepped.TheVariants.{Refined, NotClosed, NotEachFaceOnce, NoRoom, NotFinite}
+use Rattle.steps.specs.declared.StepRefusal.{StepRefusal}
 use Rattle.steps.specs.OneStep.{Binary64}
 use Rattle.steps.proofs.Rows.{SameRows, same-of-first_rows, room-of-first_rows, room-of-holds, holds_same, position-same}
 use Rattle.runs.specs.Runs.{Lent, Handed, outcome, after, run, one_more_if, accepted, in_edition, editions, lent, NamedMesh, stage, SameNames, NamedRun, TwoRuns, Demand3}
@@ -128,13 +128,10 @@ unfolding editions accepted
 editions-counted l [] = refl
 editions-counted l (h ∷ hs) = go (outcome l h).answer (editions-counted (after l h) hs)
   where
-    go : (g : Stepped) → length (editions (after l h) hs) ≡ accepted (after l h) hs →
+    go : (g : Result Counts StepRefusal) → length (editions (after l h) hs) ≡ accepted (after l h) hs →
         length (in_edition g h.edition (editions (after l h) hs)) ≡ one_more_if g (accepted (after l h) hs)
-    go (Refined c) e = ap suc e
-    go NotClosed e = e
-    go NotEachFaceOnce e = e
-    go NoRoom e = e
-    go NotFinite e = e
+    go (Ok c) e = ap suc e
+    go (Err g) e = e
 
 -- the edition of the one accepted step
 abbrev one_edition : List Edition → Edition

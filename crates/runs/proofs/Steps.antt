@@ -1,8 +1,9 @@
 -- What one step of a run does, from the theorem of one step. Assumes nothing.
---     answered               an answer is Refined, or it has a number
+--     answered               an answer is Ok, or it has a number
 --     after-accepted         what an accepted step leaves
 --     after-refused          a refused step leaves tables and counts as found
 --     each_step              every step of a list meets its claim
+use Rattle.std.specs.Prelude.{Result, Ok, Err}
 use mathlib.Core.Path.{◌≡◌, refl, sym, ◌∙◌, ap, ap₂, subst}
 use mathlib.Core.List.{List, [], ◌∷◌}
 use mathlib.Core.Logic.{◌⊎◌, inl, inr}
@@ -12,55 +13,40 @@ use native.Mathlib.Omega.{arith}
 use Rattle.tables.specs.declared.Counts.{Counts}
 use Rattle.audited_meshes.specs.Rows.{HoldsClosed}
 use Rattle.audited_meshes.proofs.Holds.{audit-is-closed}
-use Rattle.steps.specs.declared.Stepped.{Stepped}
-use Rattle.steps.specs.declared.Stepped.TheVariants.{Refined, NotClosed, NotEachFaceOnce, NoRoom, NotFinite}
-use Rattle.steps.specs.Step.{step_ground, refined_counts, whole, made}
+use Rattle.steps.specs.declared.StepRefusal.{StepRefusal}
+use Rattle.steps.specs.declared.StepRefusal.TheVariants.{NotClosed, NotEachFaceOnce, NoRoom, NotFinite}
+use Rattle.steps.specs.Step.{refusal_number, step_ground, refined_counts, whole, made}
 use Rattle.tables.specs.Counted.{first_rows}
 use Rattle.steps.specs.OneStep.{Binary64, Accepted}
 use Rattle.steps.proofs.Grounds.{untouched}
 use Rattle.steps.proofs.OneStep.{one-step}
 use Rattle.runs.specs.Runs.{Lent, Handed, outcome, counts_after, after, one_more_if, lent, NamedMesh, SameNames, Renamed, StepClaim, EachStep, no_steps, each_step_of}
 
-pub answered : (g : Stepped) → ((c : Counts) × (g ≡ Refined c)) ⊎ ((x : ℕ) × (step_ground g ≡ some x))
-answered (Refined c) = inl (c, refl)
-answered NotClosed = inr (30, refl)
-answered NotEachFaceOnce = inr (31, refl)
-answered NoRoom = inr (32, refl)
-answered NotFinite = inr (33, refl)
+pub answered : (g : Result Counts StepRefusal) → ((c : Counts) × (g ≡ Ok c)) ⊎ ((x : ℕ) × (step_ground g ≡ some x))
+answered (Ok c) = inl (c, refl)
+answered (Err g) = inr (refusal_number g, refl)
 
 -- An answer is not both.
-pub not-both : {g : Stepped} (c : Counts) (x : ℕ) → g ≡ Refined c → ¬ (step_ground g ≡ some x)
+pub not-both : {g : Result Counts StepRefusal} (c : Counts) (x : ℕ) → g ≡ Ok c → ¬ (step_ground g ≡ some x)
 not-both c x e q = let z = sym (ap step_ground e) ∙ q in let y : ◌≡◌ {A = ℕ} 0 1 = cc in omega arith
 
-refused-counts : (g : Stepped) (x : ℕ) (c : Counts) → step_ground g ≡ some x → counts_after g c ≡ c
-refused-counts (Refined c') x c q = absurd (not-both c' x refl q)
-refused-counts NotClosed x c q = refl
-refused-counts NotEachFaceOnce x c q = refl
-refused-counts NoRoom x c q = refl
-refused-counts NotFinite x c q = refl
+refused-counts : (g : Result Counts StepRefusal) (x : ℕ) (c : Counts) → step_ground g ≡ some x → counts_after g c ≡ c
+refused-counts (Ok c') x c q = absurd (not-both c' x refl q)
+refused-counts (Err g) x c q = refl
 
-pub refused-number : (g : Stepped) (x k : ℕ) → step_ground g ≡ some x → one_more_if g k ≡ k
-refused-number (Refined c') x k q = absurd (not-both c' x refl q)
-refused-number NotClosed x k q = refl
-refused-number NotEachFaceOnce x k q = refl
-refused-number NoRoom x k q = refl
-refused-number NotFinite x k q = refl
+pub refused-number : (g : Result Counts StepRefusal) (x k : ℕ) → step_ground g ≡ some x → one_more_if g k ≡ k
+refused-number (Ok c') x k q = absurd (not-both c' x refl q)
+refused-number (Err g) x k q = refl
 
 -- The names after a refused step are the names before it.
 module _ {first : Counts} {l l' : Lent} (n : NamedMesh first l) (n' : NamedMesh first l') where
-  pub same-names-of : (g : Stepped) (x k : ℕ) → step_ground g ≡ some x → Renamed k g n n' → SameNames n n'
-  same-names-of (Refined c') x k q a = absurd (not-both c' x refl q)
-  same-names-of NotClosed x k q a = a
-  same-names-of NotEachFaceOnce x k q a = a
-  same-names-of NoRoom x k q a = a
-  same-names-of NotFinite x k q a = a
+  pub same-names-of : (g : Result Counts StepRefusal) (x k : ℕ) → step_ground g ≡ some x → Renamed k g n n' → SameNames n n'
+  same-names-of (Ok c') x k q a = absurd (not-both c' x refl q)
+  same-names-of (Err g) x k q a = a
 
-  pub renamed-same : (g : Stepped) (x k : ℕ) → step_ground g ≡ some x → SameNames n n' → Renamed k g n n'
-  renamed-same (Refined c') x k q a = absurd (not-both c' x refl q)
-  renamed-same NotClosed x k q a = a
-  renamed-same NotEachFaceOnce x k q a = a
-  renamed-same NoRoom x k q a = a
-  renamed-same NotFinite x k q a = a
+  pub renamed-same : (g : Result Counts StepRefusal) (x k : ℕ) → step_ground g ≡ some x → SameNames n n' → Renamed k g n n'
+  renamed-same (Ok c') x k q a = absurd (not-both c' x refl q)
+  renamed-same (Err g) x k q a = a
 
 module _ (l : Lent) (h : Handed) where
   pub after-refused : (x : ℕ) → step_ground (outcome l h).answer ≡ some x → after l h ≡ l
@@ -70,7 +56,7 @@ module _ (l : Lent) (h : Handed) where
       ap₂ lent t c
 
 module _ (l : Lent) (h : Handed) (numbers : Binary64 l.counts l.tables) where
-  module _ (H : HoldsClosed l.tables l.counts.points l.counts.edges l.counts.faces) (c : Counts) (e : (outcome l h).answer ≡ Refined c) where
+  module _ (H : HoldsClosed l.tables l.counts.points l.counts.edges l.counts.faces) (c : Counts) (e : (outcome l h).answer ≡ Ok c) where
     pub made_of : Accepted h.edition l.tables l.counts h.order h.scratch H c
     made_of = one-step h.edition l.tables l.counts h.order h.scratch H numbers c e
 
@@ -92,7 +78,7 @@ module _ (l : Lent) (h : Handed) (numbers : Binary64 l.counts l.tables) where
         Holds : Lent → Type 0
         Holds x = HoldsClosed x.tables x.counts.points x.counts.edges x.counts.faces
 
-        go : ((c : Counts) × ((outcome l h).answer ≡ Refined c)) ⊎ ((x : ℕ) × (step_ground (outcome l h).answer ≡ some x)) → Holds (after l h)
+        go : ((c : Counts) × ((outcome l h).answer ≡ Ok c)) ⊎ ((x : ℕ) × (step_ground (outcome l h).answer ≡ some x)) → Holds (after l h)
         go (inl (c, e)) = subst Holds (sym (after-accepted H c e)) (made_of H c e).refinement.holds
         go (inr (x, q)) = subst Holds (sym (after-refused l h x q)) H
 
@@ -100,7 +86,7 @@ module _ (l : Lent) (h : Handed) (numbers : Binary64 l.counts l.tables) where
     numbers_after = go (answered (outcome l h).answer)
       where
         go :
-            ((c : Counts) × ((outcome l h).answer ≡ Refined c)) ⊎ ((x : ℕ) × (step_ground (outcome l h).answer ≡ some x)) →
+            ((c : Counts) × ((outcome l h).answer ≡ Ok c)) ⊎ ((x : ℕ) × (step_ground (outcome l h).answer ≡ some x)) →
             Binary64 (after l h).counts (after l h).tables
         go (inl (c, e)) = subst (λ x. Binary64 x.counts x.tables) (sym (after-accepted H c e)) (made_of H c e).numbers
         go (inr (x, q)) = subst (λ x. Binary64 x.counts x.tables) (sym (after-refused l h x q)) numbers

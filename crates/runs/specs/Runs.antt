@@ -24,7 +24,7 @@
 --     NamedRun c m hs          the names that a run makes, begun with row numbers
 --     TwoRuns c a b hs_a hs_b    what is claimed of two runs
 --     Demand3                  the claim
-use Rattle.std.specs.Prelude.{◌≡◌, true, List, [], ◌∷◌, ◌++◌, ℕ, zero, suc, ◌≤◌}
+use Rattle.std.specs.Prelude.{◌≡◌, true, List, [], ◌∷◌, ◌++◌, ℕ, zero, suc, ◌≤◌, Result, Ok, Err}
 use Rattle.std.proofs.Math.Option.{none, some}
 use Rattle.tables.specs.Mesh.{Mesh, origin, dest, corner}
 use Rattle.tables.specs.Records.{position_at}
@@ -36,8 +36,7 @@ use Rattle.closed_meshes.specs.Shared.{Stage, Shared, NamesDiffer}
 use Rattle.audited_meshes.specs.Audit.{audit}
 use Rattle.audited_meshes.specs.Rows.{HoldsClosed, place}
 use Rattle.refined_meshes.specs.declared.Edition.{Edition}
-use Rattle.steps.specs.declared.Stepped.{Stepped}
-use Rattle.steps.specs.declared.Stepped.TheVariants.{Refined, NotClosed, NotEachFaceOnce, NoRoom, NotFinite}
+use Rattle.steps.specs.declared.StepRefusal.{StepRefusal}
 use Rattle.steps.specs.Step.{step_ground, refined_counts, whole, made, StepOutcome, step}
 use Rattle.tables.specs.Counted.{first_rows}
 use Rattle.steps.specs.OneStep.{Refinement, Binary64}
@@ -56,12 +55,9 @@ pub record Handed : Type 0 where
 abbrev pub outcome : Lent → Handed → StepOutcome
 outcome l h = step h.edition l.tables l.counts h.order h.scratch
 
-abbrev pub counts_after : Stepped → Counts → Counts
-counts_after (Refined c') c = c'
-counts_after NotClosed c = c
-counts_after NotEachFaceOnce c = c
-counts_after NoRoom c = c
-counts_after NotFinite c = c
+abbrev pub counts_after : Result Counts StepRefusal → Counts → Counts
+counts_after (Ok c') c = c'
+counts_after (Err g) c = c
 
 abbrev pub after : Lent → Handed → Lent
 after l h = record { tables = (outcome l h).tables; counts = counts_after (outcome l h).answer l.counts }
@@ -70,23 +66,17 @@ unfoldable pub run : Lent → List Handed → Lent
 run l [] = l
 run l (h ∷ hs) = run (after l h) hs
 
-abbrev pub one_more_if : Stepped → ℕ → ℕ
-one_more_if (Refined c) k = suc k
-one_more_if NotClosed k = k
-one_more_if NotEachFaceOnce k = k
-one_more_if NoRoom k = k
-one_more_if NotFinite k = k
+abbrev pub one_more_if : Result Counts StepRefusal → ℕ → ℕ
+one_more_if (Ok c) k = suc k
+one_more_if (Err g) k = k
 
 unfoldable pub accepted : Lent → List Handed → ℕ
 accepted l [] = 0
 accepted l (h ∷ hs) = one_more_if (outcome l h).answer (accepted (after l h) hs)
 
-abbrev pub in_edition : Stepped → Edition → List Edition → List Edition
-in_edition (Refined c) ed eds = ed ∷ eds
-in_edition NotClosed ed eds = eds
-in_edition NotEachFaceOnce ed eds = eds
-in_edition NoRoom ed eds = eds
-in_edition NotFinite ed eds = eds
+abbrev pub in_edition : Result Counts StepRefusal → Edition → List Edition → List Edition
+in_edition (Ok c) ed eds = ed ∷ eds
+in_edition (Err g) ed eds = eds
 
 unfoldable pub editions : Lent → List Handed → List Edition
 editions l [] = []
@@ -99,7 +89,7 @@ numbered (suc n) = numbered n ++ (n ∷ [])
 pub data NumberedOrder : Lent → List Handed → Type 0 where
   no_step : {l : Lent} → NumberedOrder l []
   one_step :
-      {l : Lent} {h : Handed} {hs : List Handed} → ((c : Counts) → (outcome l h).answer ≡ Refined c → h.order ≡ numbered l.counts.faces) →
+      {l : Lent} {h : Handed} {hs : List Handed} → ((c : Counts) → (outcome l h).answer ≡ Ok c → h.order ≡ numbered l.counts.faces) →
       NumberedOrder (after l h) hs → NumberedOrder l (h ∷ hs)
 
 -- ---- names
@@ -160,12 +150,9 @@ module _ {first : Counts} where
     pub faces :
         (f : Row l.counts.faces) (f' : Row l'.counts.faces) → f'.0 ≡ f.0 → n'.names.face f' ≡ n.names.face f
 
-  abbrev pub Renamed : ℕ → Stepped → {l l' : Lent} → NamedMesh first l → NamedMesh first l' → Type 0
-  Renamed k (Refined c) n n' = NewNames (suc k) n n'
-  Renamed k NotClosed n n' = SameNames n n'
-  Renamed k NotEachFaceOnce n n' = SameNames n n'
-  Renamed k NoRoom n n' = SameNames n n'
-  Renamed k NotFinite n n' = SameNames n n'
+  abbrev pub Renamed : ℕ → Result Counts StepRefusal → {l l' : Lent} → NamedMesh first l → NamedMesh first l' → Type 0
+  Renamed k (Ok c) n n' = NewNames (suc k) n n'
+  Renamed k (Err g) n n' = SameNames n n'
 
   pub data Naming : ℕ → (l : Lent) → NamedMesh first l → List Handed → (l' : Lent) → NamedMesh first l' → Type 0 where
     done : {k : ℕ} {l : Lent} {n : NamedMesh first l} → Naming k l n [] l n
@@ -180,14 +167,14 @@ pub record StepClaim (l : Lent) (h : Handed) : Type 0 where
   -- After the step the mesh is closed.
   pub closed : audit (after l h).tables (after l h).counts.points (after l h).counts.edges (after l h).counts.faces ≡ true
   -- An accepted step takes V, E, F to V + E + F, 4 E, 2 E, and what it leaves is its edition's refinement in the order handed in.
-  pub counted : (c : Counts) → (outcome l h).answer ≡ Refined c → (after l h).counts ≡ refined_counts l.counts
+  pub counted : (c : Counts) → (outcome l h).answer ≡ Ok c → (after l h).counts ≡ refined_counts l.counts
   pub refined :
-      (c : Counts) → (outcome l h).answer ≡ Refined c →
+      (c : Counts) → (outcome l h).answer ≡ Ok c →
       made h.edition (first_rows l.counts l.tables) l.counts h.order (first_rows c h.scratch)
       ≡ whole (first_rows c (after l h).tables)
   -- That is the refinement on kinds, with its marks, intervals and start edges, and every position is its rule's answer.
   pub on-kinds :
-      (c : Counts) → (outcome l h).answer ≡ Refined c →
+      (c : Counts) → (outcome l h).answer ≡ Ok c →
       (n : HoldsClosed l.tables l.counts.points l.counts.edges l.counts.faces) →
       Refinement h.edition (first_rows l.counts l.tables) l.counts n.mesh n.closed h.order (after l h).tables
   -- A refused step changes nothing.

@@ -22,14 +22,9 @@ pub fn refined_counts(c: Counts) -> Counts
 }
 
 // Whether a mesh with these counts is within the ceilings.
+#[tactic(auto, unfolding(steps::specs::Step::within_ceilings))]
 pub fn within_ceilings(c: Counts) -> bool
     ensures { result ≡ within_ceilings c }
 {
-    if POINT_CEILING < c.points {
-        return false;
-    }
-    if EDGE_CEILING < c.edges {
-        return false;
-    }
-    c.faces <= FACE_CEILING
+    c.points <= POINT_CEILING && c.edges <= EDGE_CEILING && c.faces <= FACE_CEILING
 }

@@ -2,7 +2,7 @@
 --     side-none, side-turn, side-end     nothing settled, one joining edge more, all of them
 --     side-fit-length                    only the length of the table of intervals counts
 --     both-settled                       both sides are settled
-use mathlib.Core.Path.{◌≡◌, sym, ◌∙◌, ap, ap₂}
+use mathlib.Core.Path.{◌≡◌, ◌∙◌, ap, ap₂}
 use mathlib.Core.List.{List}
 use Prim.Native.Nat.{ℕ, ◌+◌}
 use lib.ListN.{length, set}

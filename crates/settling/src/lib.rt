@@ -29,14 +29,12 @@ fn settle_side(
     ensures { newintervals.new
         ≡ settled_side edges.now intervals.now newedges.now w next prev ne newintervals.old }
 {
-    let mut e = 0;
-    while e < ne {
+    for e in 0..ne {
         let b = e * EDGE_WIDTH;
         let after = index(edges[b + next]);
         let before = index(edges[b + prev]);
         let join = index(newedges[b + w]);
         newintervals[join] = (intervals[after] + intervals[before]) * 0.25;
-        e += 1;
     }
 }
 

@@ -64,11 +64,9 @@ fn settle_olds(points: &[u32], edges: &[u32], np: usize, newedges: &[u32], newpo
         ≡ starts_put np (λ p. p) (old_start (mesh_of [] points.now edges.now [] []) (edge_table newedges.now))
         newpoints.old }
 {
-    let mut p = 0;
-    while p < np {
+    for p in 0..np {
         let start = old_start(points, edges, newedges, p);
         newpoints[p * POINT_WIDTH + START_WORD] = start;
-        p += 1;
     }
 }
 
@@ -78,12 +76,10 @@ fn settle_mids(ne: usize, newedges: &[u32], newpoints: &mut [u32])
     ensures { newpoints.new
         ≡ starts_put ne (dest (edge_table newedges.now)) (new_half (edge_table newedges.now)) newpoints.old }
 {
-    let mut e = 0;
-    while e < ne {
+    for e in 0..ne {
         let p = index(newedges[e * EDGE_WIDTH + DEST_WORD]);
         let start = new_half(newedges, e);
         newpoints[p * POINT_WIDTH + START_WORD] = start;
-        e += 1;
     }
 }
 
@@ -102,12 +98,10 @@ fn settle_centres(
         (centre_join (mesh_of [] [] edges.now [] faces.now) (edge_table newedges.now))
         newpoints.old }
 {
-    let mut f = 0;
-    while f < nf {
+    for f in 0..nf {
         let p = index(newfaces[f * FACE_WIDTH + FIRST_CORNER_WORD]);
         let start = centre_start(edges, faces, newedges, f);
         newpoints[p * POINT_WIDTH + START_WORD] = start;
-        f += 1;
     }
 }
 

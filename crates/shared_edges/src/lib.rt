@@ -11,26 +11,6 @@ ghost use Rattle.shared_edges.specs.Chains.{joins_at, low_at, mate_at, third_at,
 
 use tables::index;
 
-// The lower of two points.
-fn lower(p: u32, q: u32) -> u32
-    ensures { result ≡ min p q }
-{
-    if p < q {
-        return p;
-    }
-    q
-}
-
-// Whether two numbers are two others, in their order.
-fn are(a: u32, b: u32, p: u32, q: u32) -> bool
-    ensures { result ≡ (eqb a p && eqb b q) }
-{
-    if a == p {
-        return b == q;
-    }
-    false
-}
-
 // Whether place j joins the points p and q, in either direction.
 fn joins(listed: &[u32], tos: &[u32], j: usize, p: u32, q: u32) -> bool
     requires j_in_bounds { j < length listed.now }
@@ -39,10 +19,7 @@ fn joins(listed: &[u32], tos: &[u32], j: usize, p: u32, q: u32) -> bool
 {
     let from = listed[j];
     let to = tos[j];
-    if are(from, to, p, q) {
-        return true;
-    }
-    are(from, to, q, p)
+    from == p && to == q || from == q && to == p
 }
 
 // 1 more than the last of k places that joins the points p and q, or 0, found along the chain that begins with the link from.
@@ -74,7 +51,7 @@ fn chain_place(listed: &[u32], tos: &[u32], heads: &mut [u32], links: &mut [u32]
 {
     let p = listed[k];
     let q = tos[k];
-    let low = index(lower(p, q));
+    let low = index(p.min(q));
     let head = heads[low];
     let mate = search(listed, tos, links, k, head, p, q);
     links[k] = head;
@@ -135,12 +112,10 @@ pub fn enter_places(
     ensures entered_to { EnteredTo listed.now tos.now heads.new links.new mates.new
         seconds.new (a + n) result }
 {
-    let mut i = 0;
-    while i < n {
+    for i in 0..n {
         if !enter(listed, tos, heads, links, mates, seconds, a + i) {
             return false;
         }
-        i += 1;
     }
     true
 }
@@ -151,12 +126,10 @@ pub fn are_shared(mates: &[u32], seconds: &[u32]) -> bool
     ensures { result ≡ every (length mates.now) (λ k. not (eqb (get_or mates.now k 0) 0
         && eqb (get_or seconds.now k 0) 0)) }
 {
-    let mut k = 0;
-    while k < mates.len() {
-        if are(mates[k], seconds[k], 0, 0) {
+    for k in 0..mates.len() {
+        if mates[k] == 0 && seconds[k] == 0 {
             return false;
         }
-        k += 1;
     }
     true
 }

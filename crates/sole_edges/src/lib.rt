@@ -23,7 +23,7 @@ ghost use Rattle.sole_edges.specs.Sole.{few, ends_window, second, unseen, edge_n
 
 use few_edges::few_sole;
 use tables::{POINT_WIDTH, START_WORD, index};
-use walks::{Step, point_step, touches};
+use walks::{point_step, touches};
 
 // A point with more edges than this has many.
 const FEW: usize = 32;
@@ -90,19 +90,17 @@ fn is_sole_in(
     let k = index(points[p * POINT_WIDTH]);
     let start = points[p * POINT_WIDTH + START_WORD];
     let mut i = start;
-    let mut n = 0;
-    while n < k {
-        let Step::To { point, next } = point_step(edges, ne, p, index(i)) else {
+    for n in 0..k {
+        let Some(step) = point_step(edges, ne, p, index(i)) else {
             return false;
         };
-        if !note(edges, seen, ne, base, p, index(point), i) {
+        if !note(edges, seen, ne, base, p, index(step.point), i) {
             return false;
         }
-        n += 1;
-        if next == start {
-            return n == k;
+        if step.next == start {
+            return n + 1 == k;
         }
-        i = next;
+        i = step.next;
     }
     false
 }
@@ -119,12 +117,10 @@ fn is_sole(points: &[u32], edges: &[u32], seen: &mut [u32], np: usize, ne: usize
     ensures value { Good (point_tables points.now edges.now) ne p → result ≡ true }
 {
     let passes = np / WINDOW + 1;
-    let mut k = 0;
-    while k < passes {
+    for k in 0..passes {
         if !is_sole_in(points, edges, seen, np, ne, p, k * WINDOW) {
             return false;
         }
-        k += 1;
     }
     true
 }
@@ -169,12 +165,10 @@ fn sole_by_table(
     ensures rounds_from { result ≡ true → RoundsFrom (point_tables points.now edges.now) np ne from }
     ensures value { GoodFrom (point_tables points.now edges.now) np ne from → result ≡ true }
 {
-    let mut p = from;
-    while p < np {
+    for p in from..np {
         if !point_sole(points, edges, seen, np, ne, p) {
             return false;
         }
-        p += 1;
     }
     true
 }
@@ -201,15 +195,13 @@ fn all_sole(points: &[u32], edges: &[u32], ends: &mut [u32], np: usize, ne: usiz
     ensures rounds_from { result ≡ true → RoundsFrom (point_tables points.now edges.now) np ne 0 }
     ensures value { GoodFrom (point_tables points.now edges.now) np ne 0 → result ≡ true }
 {
-    let mut p = 0;
-    while p < np {
+    for p in 0..np {
         if FEW < index(points[p * POINT_WIDTH]) {
             return sole_from(points, edges, np, ne, p);
         }
         if !few_sole(points, edges, ends, np, ne, p) {
             return false;
         }
-        p += 1;
     }
     true
 }

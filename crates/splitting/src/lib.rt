@@ -160,10 +160,8 @@ pub fn split_all(
         (split_all np perimeter.now n (scratch points.old edges.old intervals.old taken)) }
 {
     let mut counts = taken;
-    let mut i = 0;
-    while i < n {
+    for i in 0..n {
         counts = split_whole(points, edges, intervals, np, perimeter[i], counts);
-        i += 1;
     }
     counts
 }

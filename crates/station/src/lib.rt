@@ -33,7 +33,7 @@ ghost use Rattle.station_answers.specs.Answers.{counts_in};
 ghost use Rattle.listings.specs.Handing.{write_listing, read_listing};
 ghost use Rattle.station_listings.specs.Told.{WritingTold, told_writing, ReadingTold, told_reading};
 
-use built_meshes::Version;
+use built_meshes::{LentLists, Version};
 use refined_meshes::Edition;
 use station_audits::{audit_told, find_depth_told};
 use station_building::{build_text_told, build_told};
@@ -41,6 +41,7 @@ use station_listings::{read_listing_told, write_listing_told};
 use station_mending::mend_text_told;
 use station_places::explain_text_told;
 use station_steps::step_told;
+use tables::MeshTables;
 
 // The version of the library: 1 for document 01, and one more for each request of document 02 that is in it. LAVYNGO_VERSION in the
 // header is the same number.
@@ -66,20 +67,15 @@ pub fn lavyngo_build(
         (mesh_of positions.old points.old edges.old intervals.old faces.old))) }
 {
     let firsts = [0u32; 0];
-    build_told(
-        Version::One,
+    let lists = LentLists {
+        version: Version::One,
         coordinates,
         sides,
-        &firsts,
+        firsts: &firsts,
         listed,
         beside,
-        positions,
-        points,
-        edges,
-        intervals,
-        faces,
-        counts,
-    )
+    };
+    build_told(&lists, positions, points, edges, intervals, faces, counts)
 }
 
 // Builds a mesh from lists of version 2 in the lent tables. The counts are written if it is accepted.
@@ -103,20 +99,15 @@ pub fn lavyngo_build_2(
         (lists_in Two coordinates.now sides.now firsts.now listed.now beside.now)
         (mesh_of positions.old points.old edges.old intervals.old faces.old))) }
 {
-    build_told(
-        Version::Two,
+    let lists = LentLists {
+        version: Version::Two,
         coordinates,
         sides,
         firsts,
         listed,
         beside,
-        positions,
-        points,
-        edges,
-        intervals,
-        faces,
-        counts,
-    )
+    };
+    build_told(&lists, positions, points, edges, intervals, faces, counts)
 }
 
 // Builds a mesh from a text in the lent tables. The counts are written if it is accepted.
@@ -167,7 +158,14 @@ pub fn lavyngo_audit(
         (mesh_of positions.now points.now edges.now intervals.now faces.now)
         (counts_in counts.now) }
 {
-    audit_told(positions, points, edges, intervals, faces, counts)
+    let tables = MeshTables {
+        positions,
+        points,
+        edges,
+        intervals,
+        faces,
+    };
+    audit_told(&tables, counts)
 }
 
 // Refines the mesh in the tables once, visiting the faces in the order handed in. `newpositions`, `newpoints`, `newedges`, `newintervals` and
@@ -218,7 +216,8 @@ pub fn lavyngo_step(
     )
 }
 
-// The same in the second edition, by the published position rule (document 02, §5).
+// The same in the second edition, by the published position rule (document 02, §5). The C interface has a function for each edition; what
+// they share is `step_told`.
 pub fn lavyngo_step_published(
     positions: &mut [f64],
     points: &mut [u32],
@@ -280,9 +279,14 @@ pub fn lavyngo_find_depth(
         (find (mesh_of positions.now points.now edges.now intervals.now faces.now)
         (counts_in counts.now) depth)) }
 {
-    find_depth_told(
-        positions, points, edges, intervals, faces, counts, depth, edge,
-    )
+    let tables = MeshTables {
+        positions,
+        points,
+        edges,
+        intervals,
+        faces,
+    };
+    find_depth_told(&tables, counts, depth, edge)
 }
 
 // Writes the listing of a mesh at the front of the output. How many bytes it has is written if it is accepted.
@@ -304,9 +308,14 @@ pub fn lavyngo_write_listing(
         (counts_in counts.now)
         text.old)) }
 {
-    write_listing_told(
-        positions, points, edges, intervals, faces, counts, text, written,
-    )
+    let tables = MeshTables {
+        positions,
+        points,
+        edges,
+        intervals,
+        faces,
+    };
+    write_listing_told(&tables, counts, text, written)
 }
 
 // Reads a listing into the lent tables. The counts are written if it is accepted.

@@ -7,25 +7,20 @@ ghost use Rattle.std.specs.Prelude.{◌≡◌};
 ghost use Rattle.tables.specs.Mesh.{mesh_of};
 ghost use Rattle.built_meshes.specs.Building.{build};
 ghost use Rattle.built_meshes.specs.Lists.{general_limits};
-ghost use Rattle.building_tests.specs.Lent.{lists_in};
+ghost use Rattle.built_meshes.specs.Lent.{lists_of};
 ghost use Rattle.building_tests.specs.declared.Bounds.TheVariants.{General};
 ghost use Rattle.text_meshes.specs.TextBuilding.{build_text};
 ghost use Rattle.station_building.specs.Told.{BuildingTold, built, text_built};
 
 use building::build;
 use building_tests::Bounds;
-use built_meshes::Version;
-use station_answers::{tell_built, tell_text_built};
+use built_meshes::LentLists;
+use station_answers::{tell, tell_text_built};
 use text_building::build_text;
 
 // Builds a mesh from lists of either version in the lent tables. The counts are written if it is accepted.
 pub fn build_told(
-    version: Version,
-    coordinates: &[f64],
-    sides: &[u32],
-    firsts: &[u32],
-    listed: &[u32],
-    beside: &[f64],
+    lists: &LentLists,
     positions: &mut [f64],
     points: &mut [u32],
     edges: &mut [u32],
@@ -37,16 +32,11 @@ pub fn build_told(
         (record { answer = result; counts = counts.new; tables = mesh_of positions.new points.new edges.new intervals.new faces.new })
         (built counts.old
         (build general_limits
-        (lists_in version coordinates.now sides.now firsts.now listed.now beside.now)
+        (lists_of lists.now)
         (mesh_of positions.old points.old edges.old intervals.old faces.old))) }
 {
     let answer = build(
-        version,
-        coordinates,
-        sides,
-        firsts,
-        listed,
-        beside,
+        lists,
         positions,
         points,
         edges,
@@ -54,7 +44,7 @@ pub fn build_told(
         faces,
         Bounds::General,
     );
-    tell_built(counts, answer)
+    tell(counts, answer)
 }
 
 // Builds a mesh from a text in the lent tables. The counts are written if it is accepted.

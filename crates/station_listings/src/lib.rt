@@ -6,6 +6,7 @@
 
 ghost use Rattle.std.specs.Prelude.{◌≡◌};
 ghost use Rattle.tables.specs.Mesh.{mesh_of};
+ghost use Rattle.tables.specs.Lent.{tables_of};
 ghost use Rattle.station_answers.specs.Answers.{counts_in};
 ghost use Rattle.listings.specs.Handing.{write_listing, read_listing};
 ghost use Rattle.station_listings.specs.Told.{WritingTold, told_writing, ReadingTold, told_reading};
@@ -14,14 +15,11 @@ use listing_answers::{reading_number, store_length, store_read, writing_number};
 use listing_reading::read_listing;
 use listing_writing::write_listing;
 use station_answers::load_counts;
+use tables::MeshTables;
 
 // Writes the listing of a mesh at the front of the output. How many bytes it has is written if it is accepted.
 pub fn write_listing_told(
-    positions: &[f64],
-    points: &[u32],
-    edges: &[u32],
-    intervals: &[f64],
-    faces: &[u32],
+    t: &MeshTables,
     counts: &[usize; 3],
     text: &mut [u8],
     length: &mut usize,
@@ -30,12 +28,12 @@ pub fn write_listing_told(
         (record { answer = result; count = length.new; text = text.new })
         (told_writing length.old
         (write_listing
-        (mesh_of positions.now points.now edges.now intervals.now faces.now)
+        (tables_of t.now)
         (counts_in counts.now)
         text.old)) }
 {
     let c = load_counts(counts);
-    let answer = write_listing(positions, points, edges, intervals, faces, c, text);
+    let answer = write_listing(t, c, text);
     store_length(length, answer);
     writing_number(answer)
 }

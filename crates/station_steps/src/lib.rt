@@ -12,7 +12,7 @@ ghost use Rattle.station_steps.specs.Told.{StepTold, stepped};
 
 use refined_meshes::Edition;
 use refining::step;
-use station_answers::{load_counts, tell_stepped};
+use station_answers::{load_counts, tell};
 
 // One step of refining in the lent tables, by the lent scratch. The counts are written if it is accepted.
 pub fn step_told(
@@ -60,5 +60,5 @@ pub fn step_told(
         newfaces,
         edition,
     );
-    tell_stepped(counts, answer)
+    tell(counts, answer)
 }

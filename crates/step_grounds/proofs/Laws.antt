@@ -1,4 +1,5 @@
 -- The laws of the tests of a step, one after the other. Assumes nothing.
+use Rattle.std.specs.Prelude.{Ok, Err}
 use mathlib.Core.Path.{◌≡◌}
 use mathlib.Core.Bool.{Bool, true, false}
 use mathlib.Core.List.{List}
@@ -9,7 +10,7 @@ use Rattle.tables.specs.Mesh.{Mesh}
 use Rattle.tables.specs.declared.Counts.{Counts}
 use Rattle.audited_meshes.specs.Audit.{audit}
 use Rattle.audited_meshes.proofs.Audited.{audit-is-audited}
-use Rattle.steps.specs.declared.Stepped.TheVariants.{Refined, NotClosed, NotEachFaceOnce, NoRoom}
+use Rattle.steps.specs.declared.StepRefusal.TheVariants.{NotClosed, NotEachFaceOnce, NoRoom}
 use Rattle.steps.specs.Step.{refined_counts, each_face_once, within_ceilings, room_for, tested}
 use Rattle.tables.specs.Counted.{rows_for}
 
@@ -20,28 +21,28 @@ module _ (m : Mesh) (c : Counts) (order : List ℕ) (t : Mesh) where
   abbrev once : Bool
   once = each_face_once c.faces order
 
-  pub not-closed : audit m c.points c.edges c.faces ≡ false → NotClosed ≡ tested m c order t
+  pub not-closed : audit m c.points c.edges c.faces ≡ false → Err NotClosed ≡ tested m c order t
   not-closed a = rw a
 
-  pub not-once : Passes → once ≡ false → NotEachFaceOnce ≡ tested m c order t
+  pub not-once : Passes → once ≡ false → Err NotEachFaceOnce ≡ tested m c order t
   not-once a o = rw (a, o)
 
-  pub no-room-in-tables : Passes → once ≡ true → rows_for (refined_counts c) m ≡ false → NoRoom ≡ tested m c order t
+  pub no-room-in-tables : Passes → once ≡ true → rows_for (refined_counts c) m ≡ false → Err NoRoom ≡ tested m c order t
   unfolding room_for
   no-room-in-tables a o r = rw (a, o, r)
 
   pub no-room-in-scratch : Passes → once ≡ true → rows_for (refined_counts c) m ≡ true → rows_for (refined_counts c) t ≡ false
-      → NoRoom ≡ tested m c order t
+      → Err NoRoom ≡ tested m c order t
   unfolding room_for
   no-room-in-scratch a o r s = rw (a, o, r, s)
 
   pub over-ceilings : Passes → once ≡ true → rows_for (refined_counts c) m ≡ true → rows_for (refined_counts c) t ≡ true
-      → within_ceilings (refined_counts c) ≡ false → NoRoom ≡ tested m c order t
+      → within_ceilings (refined_counts c) ≡ false → Err NoRoom ≡ tested m c order t
   unfolding room_for
   over-ceilings a o r s w = rw (a, o, r, s, w)
 
   pub no-ground : Passes → once ≡ true → rows_for (refined_counts c) m ≡ true → rows_for (refined_counts c) t ≡ true
-      → within_ceilings (refined_counts c) ≡ true → Refined (refined_counts c) ≡ tested m c order t
+      → within_ceilings (refined_counts c) ≡ true → Ok (refined_counts c) ≡ tested m c order t
   unfolding room_for
   no-ground a o r s w = rw (a, o, r, s, w)
 

@@ -5,51 +5,40 @@
 #![tactic(auto)]
 
 ghost use Rattle.std.specs.Prelude.{◌≡◌};
-ghost use Rattle.tables.specs.Mesh.{mesh_of};
+ghost use Rattle.tables.specs.Lent.{tables_of};
 ghost use Rattle.steps.specs.Step.{tested};
 
 use audit::audit;
 use counted_rows::rows_for;
 use orders::each_face_once;
 use scratch_rows::{refined_counts, within_ceilings};
-use steps::Stepped;
-use tables::Counts;
+use steps::StepRefusal;
+use tables::{Counts, MeshTables};
 
-// The first of the grounds 30, 31 and 32 that holds, or the counts after the step.
+// The counts after the step, or the first of the grounds 30, 31 and 32 that holds.
 pub fn first_ground(
-    positions: &[f64],
-    points: &[u32],
-    edges: &[u32],
-    intervals: &[f64],
-    faces: &[u32],
+    mesh: &MeshTables,
     counts: Counts,
     order: &[u32],
-    newpositions: &[f64],
-    newpoints: &[u32],
-    newedges: &[u32],
-    newintervals: &[f64],
-    newfaces: &[u32],
-) -> Stepped
-    ensures { result
-        ≡ tested (mesh_of positions.now points.now edges.now intervals.now faces.now)
-        counts order.now
-        (mesh_of newpositions.now newpoints.now newedges.now newintervals.now newfaces.now) }
+    scratch: &MeshTables,
+) -> Result<Counts, StepRefusal>
+    ensures { result ≡ tested (tables_of mesh.now) counts order.now (tables_of scratch.now) }
 {
-    if !audit(positions, points, edges, intervals, faces, counts) {
-        return Stepped::NotClosed;
+    if !audit(mesh, counts) {
+        return Err(StepRefusal::NotClosed);
     }
     if !each_face_once(order, counts.faces) {
-        return Stepped::NotEachFaceOnce;
+        return Err(StepRefusal::NotEachFaceOnce);
     }
     let c = refined_counts(counts);
-    if !rows_for(c, positions, points, edges, intervals, faces) {
-        return Stepped::NoRoom;
+    if !rows_for(c, mesh) {
+        return Err(StepRefusal::NoRoom);
     }
-    if !rows_for(c, newpositions, newpoints, newedges, newintervals, newfaces) {
-        return Stepped::NoRoom;
+    if !rows_for(c, scratch) {
+        return Err(StepRefusal::NoRoom);
     }
     if !within_ceilings(c) {
-        return Stepped::NoRoom;
+        return Err(StepRefusal::NoRoom);
     }
-    Stepped::Refined(c)
+    Ok(c)
 }

@@ -6,49 +6,21 @@
 // Names: `newpositions`, `newpoints`, `newedges`, `newintervals` and `newfaces` are the scratch tables of positions, points, edges, intervals, faces.
 #![tactic(auto)]
 
-ghost use Rattle.std.specs.Prelude.{◌≡◌, ◌<◌, min};
+ghost use Rattle.std.specs.Prelude.{◌≡◌};
 ghost use Rattle.tables.specs.Mesh.{mesh_of};
 ghost use Rattle.steps.specs.OneStep.{Binary64};
-ghost use Rattle.runs.specs.Runs.{counts_after, one_more_if, lent};
+ghost use Rattle.runs.specs.Runs.{lent};
 ghost use Rattle.ordered_runs.specs.Runs.{RunOutcome, orders_of, ran};
 
 use refined_meshes::Edition;
 use refining::step;
-use steps::Stepped;
-use tables::{Counts, index, least};
+use tables::{Counts, index};
 
 // What a list of steps answers: the counts of the mesh that it leaves, and how many of the steps were accepted.
 #[derive(Clone, Copy)]
 pub struct Ran {
     pub counts: Counts,
     pub accepted: usize,
-}
-
-// The counts after a step: those that it answers, or as they were where it is refused.
-fn counts_after(answer: Stepped, counts: Counts) -> Counts
-    ensures { result ≡ counts_after answer counts }
-{
-    match answer {
-        Stepped::Refined(c) => c,
-        Stepped::NotClosed => counts,
-        Stepped::NotEachFaceOnce => counts,
-        Stepped::NoRoom => counts,
-        Stepped::NotFinite => counts,
-    }
-}
-
-// How many steps are accepted after a step, if k were before it.
-fn accepted_after(answer: Stepped, k: usize) -> usize
-    requires { k < 18446744073709551615 }
-    ensures { result ≡ one_more_if answer k }
-{
-    match answer {
-        Stepped::Refined(_c) => k + 1,
-        Stepped::NotClosed => k,
-        Stepped::NotEachFaceOnce => k,
-        Stepped::NoRoom => k,
-        Stepped::NotFinite => k,
-    }
 }
 
 // Makes as many steps of an edition as there are lengths, from the mesh with the counts on. The orders stand one behind the other in `orders`, each
@@ -89,9 +61,8 @@ pub fn run_steps(
     let mut c = counts;
     let mut accepted = 0;
     let mut at = 0;
-    let mut i = 0;
-    while i < lengths.len() {
-        let end = at + least(index(lengths[i]), orders.len() - at);
+    for length in lengths {
+        let end = at + index(*length).min(orders.len() - at);
         let answer = step(
             positions,
             points,
@@ -107,10 +78,11 @@ pub fn run_steps(
             newfaces,
             edition,
         );
-        c = counts_after(answer, c);
-        accepted = accepted_after(answer, accepted);
+        if let Ok(refined) = answer {
+            c = refined;
+            accepted += 1;
+        }
         at = end;
-        i += 1;
     }
     Ran {
         counts: c,

@@ -2,6 +2,7 @@
 --     room-is                 what the test for ground 32 says
 --     due-once                no two answers are due
 --     first-ground            the claim of `specs/FirstGround.antt`
+use Rattle.std.specs.Prelude.{Result, Ok, Err}
 use mathlib.Core.Path.{◌≡◌, refl, sym, ◌∙◌, ap, subst}
 use mathlib.Core.Bool.{Bool, true, false, ◌&&◌}
 use mathlib.Core.List.{List}
@@ -19,8 +20,8 @@ use Rattle.audited_meshes.proofs.Audited.{distinct-is, audit-is-audited}
 use Rattle.audited_meshes.proofs.Holds.{audit-is-closed}
 use Rattle.refined_meshes.specs.declared.Edition.{Edition}
 use Rattle.refined_meshes.specs.Order.{EachOnce}
-use Rattle.steps.specs.declared.Stepped.{Stepped}
-use Rattle.steps.specs.declared.Stepped.TheVariants.{Refined, NotClosed, NotEachFaceOnce, NoRoom, NotFinite}
+use Rattle.steps.specs.declared.StepRefusal.{StepRefusal}
+use Rattle.steps.specs.declared.StepRefusal.TheVariants.{NotClosed, NotEachFaceOnce, NoRoom, NotFinite}
 use Rattle.steps.specs.Step.{refined_counts, each_face_once, within_ceilings, room_for, Made, whole, not_finite_made, ended, step_by, step}
 use Rattle.tables.specs.Counted.{rows_for, first_rows}
 use Rattle.steps.specs.FirstGround.{Short, HasNoRoom, Due, FirstGround}
@@ -94,32 +95,32 @@ room-enough c m t h = go
 -- ---- the answer
 
 module _ (ed : Edition) (m : Mesh) (c : Counts) (order : List ℕ) (t : Mesh) where
-  due-once : (a b : Stepped) → Due ed m c order t a → Due ed m c order t b → a ≡ b
-  due-once NotClosed NotClosed x y = refl
-  due-once NotClosed NotEachFaceOnce x y = absurd (x y.0)
-  due-once NotClosed NoRoom x y = absurd (x y.0)
-  due-once NotClosed NotFinite x y = absurd (x y.0)
-  due-once NotClosed (Refined k) x y = absurd (x y.0)
-  due-once NotEachFaceOnce NotClosed x y = absurd (y x.0)
-  due-once NotEachFaceOnce NotEachFaceOnce x y = refl
-  due-once NotEachFaceOnce NoRoom x y = absurd (x.1 y.1)
-  due-once NotEachFaceOnce NotFinite x y = absurd (x.1 y.1)
-  due-once NotEachFaceOnce (Refined k) x y = absurd (x.1 y.1)
-  due-once NoRoom NotClosed x y = absurd (y x.0)
-  due-once NoRoom NotEachFaceOnce x y = absurd (y.1 x.1)
-  due-once NoRoom NoRoom x y = refl
-  due-once NoRoom NotFinite x y = absurd (y.2 x.2)
-  due-once NoRoom (Refined k) x y = absurd (y.2 x.2)
-  due-once NotFinite NotClosed x y = absurd (y x.0)
-  due-once NotFinite NotEachFaceOnce x y = absurd (y.1 x.1)
-  due-once NotFinite NoRoom x y = absurd (x.2 y.2)
-  due-once NotFinite NotFinite x y = refl
-  due-once NotFinite (Refined k) x y = absurd (x.3 y.3)
-  due-once (Refined k) NotClosed x y = absurd (y x.0)
-  due-once (Refined k) NotEachFaceOnce x y = absurd (y.1 x.1)
-  due-once (Refined k) NoRoom x y = absurd (x.2 y.2)
-  due-once (Refined k) NotFinite x y = absurd (y.3 x.3)
-  due-once (Refined k) (Refined n) x y = ap Refined (x.4 ∙ sym y.4)
+  due-once : (a b : Result Counts StepRefusal) → Due ed m c order t a → Due ed m c order t b → a ≡ b
+  due-once (Err NotClosed) (Err NotClosed) x y = refl
+  due-once (Err NotClosed) (Err NotEachFaceOnce) x y = absurd (x y.0)
+  due-once (Err NotClosed) (Err NoRoom) x y = absurd (x y.0)
+  due-once (Err NotClosed) (Err NotFinite) x y = absurd (x y.0)
+  due-once (Err NotClosed) (Ok k) x y = absurd (x y.0)
+  due-once (Err NotEachFaceOnce) (Err NotClosed) x y = absurd (y x.0)
+  due-once (Err NotEachFaceOnce) (Err NotEachFaceOnce) x y = refl
+  due-once (Err NotEachFaceOnce) (Err NoRoom) x y = absurd (x.1 y.1)
+  due-once (Err NotEachFaceOnce) (Err NotFinite) x y = absurd (x.1 y.1)
+  due-once (Err NotEachFaceOnce) (Ok k) x y = absurd (x.1 y.1)
+  due-once (Err NoRoom) (Err NotClosed) x y = absurd (y x.0)
+  due-once (Err NoRoom) (Err NotEachFaceOnce) x y = absurd (y.1 x.1)
+  due-once (Err NoRoom) (Err NoRoom) x y = refl
+  due-once (Err NoRoom) (Err NotFinite) x y = absurd (y.2 x.2)
+  due-once (Err NoRoom) (Ok k) x y = absurd (y.2 x.2)
+  due-once (Err NotFinite) (Err NotClosed) x y = absurd (y x.0)
+  due-once (Err NotFinite) (Err NotEachFaceOnce) x y = absurd (y.1 x.1)
+  due-once (Err NotFinite) (Err NoRoom) x y = absurd (x.2 y.2)
+  due-once (Err NotFinite) (Err NotFinite) x y = refl
+  due-once (Err NotFinite) (Ok k) x y = absurd (x.3 y.3)
+  due-once (Ok k) (Err NotClosed) x y = absurd (y x.0)
+  due-once (Ok k) (Err NotEachFaceOnce) x y = absurd (y.1 x.1)
+  due-once (Ok k) (Err NoRoom) x y = absurd (x.2 y.2)
+  due-once (Ok k) (Err NotFinite) x y = absurd (y.3 x.3)
+  due-once (Ok k) (Ok n) x y = ap Ok (x.4 ∙ sym y.4)
 
   answer-due : Due ed m c order t (step ed m c order t).answer
   unfolding step_by ended begun
@@ -144,7 +145,7 @@ module _ (ed : Edition) (m : Mesh) (c : Counts) (order : List ℕ) (t : Mesh) wh
             refl,
           )
       mending ha ho hr not_finite_made hw =
-          let is : (step ed m c order t).answer ≡ NotFinite = ap (λ o. o.answer) (step-made ed m c order t ha ho hr not_finite_made hw) in
+          let is : (step ed m c order t).answer ≡ Err NotFinite = ap (λ o. o.answer) (step-made ed m c order t ha ho hr not_finite_made hw) in
           subst (λ a. Due ed m c order t a) (sym is)
           ((audit-is-audited m _ _ _).0 ha, each_face_once-is c.faces order ho, room-enough (refined_counts c) m t hr, (not-finite-exactly ed m c order t ha ho hr).0 is)
 

@@ -3,10 +3,11 @@
 --     Within                    counts within the ceilings
 --     step_is                   the step by the answers of its tests
 --     begun, step-made          the mesh in the making, and the step by what it came to
---     Taken                     what stands behind the answer Refined
---     taken                     an answer Refined has it
+--     Taken                     what stands behind the answer Ok
+--     taken                     an answer Ok has it
 --     untouched                 what a refused step leaves
 --     Begun, made-is            what stands behind a mesh that is made whole
+use Rattle.std.specs.Prelude.{Result, Ok, Err}
 use mathlib.Core.Path.{◌≡◌, refl, sym, ◌∙◌, ap}
 use mathlib.Core.Bool.{Bool, true, false}
 use mathlib.Core.List.{List}
@@ -24,10 +25,10 @@ use Rattle.refined_meshes.specs.declared.Edition.{Edition}
 use Rattle.refined_meshes.specs.State.{State, with_positions}
 use Rattle.refined_meshes.specs.Order.{EachOnce}
 use Rattle.refined_meshes.specs.Settled.{settled_rows}
-use Rattle.steps.specs.declared.Stepped.{Stepped}
-use Rattle.steps.specs.declared.Stepped.TheVariants.{Refined, NotClosed, NotEachFaceOnce, NoRoom, NotFinite}
+use Rattle.steps.specs.declared.StepRefusal.{StepRefusal}
+use Rattle.steps.specs.declared.StepRefusal.TheVariants.{NotClosed, NotEachFaceOnce, NoRoom, NotFinite}
 use Rattle.steps.specs.Positions.{Placing, so_far, not_finite, placed_all}
-use Rattle.steps.specs.Step.{step_ground, refined_counts, each_face_once, within_ceilings, room_for, Made, whole}
+use Rattle.steps.specs.Step.{refusal_number, step_ground, refined_counts, each_face_once, within_ceilings, room_for, Made, whole}
 use Rattle.steps.specs.Step.{not_finite_made, made_of, placed_rows, made, step_refusal, ended, tested_if, step_by, step}
 use Rattle.tables.specs.Counted.{rows_for, first_rows, over_rows}
 use Rattle.steps.specs.Rows.{Room}
@@ -64,7 +65,7 @@ rooms-of-test c m t e =
     let h = (and_is (and_is (self-is (rows_for c m)) (self-is (rows_for c t))) (self-is (within_ceilings c))).0 e in
     ((room-of-test c m h.0.0, room-of-test c t h.0.1), within-of-test c h.1)
 
--- what stands behind the answer Refined
+-- what stands behind the answer Ok
 pub record Taken (ed : Edition) (m : Mesh) (c : Counts) (order : List ℕ) (t : Mesh) (c' : Counts) : Type 0 where
   pub counts : c' ≡ refined_counts c
   pub audited : audit m c.points c.edges c.faces ≡ true
@@ -95,7 +96,7 @@ module _ (ed : Edition) (m : Mesh) (c : Counts) (order : List ℕ) (t : Mesh) wh
   unfolding step_by begun
   step-made ha ho hr w e = step_is ha ho hr ∙ ap (ended m (refined_counts c) t) e
 
-  pub taken : (c' : Counts) → (step ed m c order t).answer ≡ Refined c' → Taken ed m c order t c'
+  pub taken : (c' : Counts) → (step ed m c order t).answer ≡ Ok c' → Taken ed m c order t c'
   unfolding step_by ended begun
   taken c' e = go _ refl _ refl _ refl
     where
@@ -103,7 +104,7 @@ module _ (ed : Edition) (m : Mesh) (c : Counts) (order : List ℕ) (t : Mesh) wh
           → (w : Made) → begun ≡ w → Taken ed m c order t c'
       mending ha ho hr (whole n) hw =
           let q = step-made ha ho hr (whole n) hw in
-          let k : Refined (refined_counts c) ≡ Refined c' = ap (λ x. x.answer) (sym q) ∙ e in
+          let k : ◌≡◌ {A = Result Counts StepRefusal} (Ok (refined_counts c)) (Ok c') = ap (λ x. x.answer) (sym q) ∙ e in
           let rooms = rooms-of-test (refined_counts c) m t hr in
           record {
             counts = cc;
@@ -118,30 +119,30 @@ module _ (ed : Edition) (m : Mesh) (c : Counts) (order : List ℕ) (t : Mesh) wh
           }
       mending ha ho hr not_finite_made hw =
           let q = step-made ha ho hr not_finite_made hw in
-          let k : NotFinite ≡ Refined c' = ap (λ x. x.answer) (sym q) ∙ e in
+          let k : ◌≡◌ {A = Result Counts StepRefusal} (Err NotFinite) (Ok c') = ap (λ x. x.answer) (sym q) ∙ e in
           absurd (let z : ◌≡◌ {A = ℕ} 0 1 = cc in omega arith)
 
       go :
           (a : Bool) → audit m c.points c.edges c.faces ≡ a → (o : Bool) → each_face_once c.faces order ≡ o → (r : Bool) →
           room_for (refined_counts c) m t ≡ r → Taken ed m c order t c'
       go false ha o ho r hr =
-          let k : NotClosed ≡ Refined c' = ap (λ x. x.answer) (sym (step_is ha ho hr)) ∙ e in
+          let k : ◌≡◌ {A = Result Counts StepRefusal} (Err NotClosed) (Ok c') = ap (λ x. x.answer) (sym (step_is ha ho hr)) ∙ e in
           absurd (let z : ◌≡◌ {A = ℕ} 0 1 = cc in omega arith)
       go true ha false ho r hr =
-          let k : NotEachFaceOnce ≡ Refined c' = ap (λ x. x.answer) (sym (step_is ha ho hr)) ∙ e in
+          let k : ◌≡◌ {A = Result Counts StepRefusal} (Err NotEachFaceOnce) (Ok c') = ap (λ x. x.answer) (sym (step_is ha ho hr)) ∙ e in
           absurd (let z : ◌≡◌ {A = ℕ} 0 1 = cc in omega arith)
       go true ha true ho false hr =
-          let k : NoRoom ≡ Refined c' = ap (λ x. x.answer) (sym (step_is ha ho hr)) ∙ e in
+          let k : ◌≡◌ {A = Result Counts StepRefusal} (Err NoRoom) (Ok c') = ap (λ x. x.answer) (sym (step_is ha ho hr)) ∙ e in
           absurd (let z : ◌≡◌ {A = ℕ} 0 1 = cc in omega arith)
       go true ha true ho true hr = mending ha ho hr begun refl
 
   -- A step that 30, 31 or 32 refuses leaves everything as found.
   refused-early :
-      (b : Stepped) (n : ℕ) → n < 33 → step_ground b ≡ some n → step ed m c order t ≡ step_refusal b m t → (g : ℕ) →
+      (b : StepRefusal) → refusal_number b < 33 → step ed m c order t ≡ step_refusal b m t → (g : ℕ) →
       step_ground (step ed m c order t).answer ≡ some g → Refused ed m c order t g
-  refused-early b n l k q g e =
-      let z : some n ≡ some g = sym k ∙ ap (λ o. step_ground o.answer) (sym q) ∙ e in
-      let w : n ≡ g = cc in
+  refused-early b l q g e =
+      let z : some (refusal_number b) ≡ some g = ap (λ o. step_ground o.answer) (sym q) ∙ e in
+      let w : refusal_number b ≡ g = cc in
       record { tables = ap (λ o. o.tables) q; scratch = λ i. ap (λ o. o.scratch) q; zeroed = λ i. absurd (omega arith) }
 
 -- A refused step leaves the tables as found, and scratch too but for 33.
@@ -165,9 +166,9 @@ untouched ed m c order t g e = go _ refl _ refl _ refl
     go :
         (a : Bool) → audit m c.points c.edges c.faces ≡ a → (o : Bool) → each_face_once c.faces order ≡ o → (r : Bool) →
         room_for (refined_counts c) m t ≡ r → Refused ed m c order t g
-    go false ha o ho r hr = refused-early ed m c order t NotClosed 30 (omega arith) refl (step_is ed m c order t ha ho hr) g e
-    go true ha false ho r hr = refused-early ed m c order t NotEachFaceOnce 31 (omega arith) refl (step_is ed m c order t ha ho hr) g e
-    go true ha true ho false hr = refused-early ed m c order t NoRoom 32 (omega arith) refl (step_is ed m c order t ha ho hr) g e
+    go false ha o ho r hr = refused-early ed m c order t NotClosed (omega arith) (step_is ed m c order t ha ho hr) g e
+    go true ha false ho r hr = refused-early ed m c order t NotEachFaceOnce (omega arith) (step_is ed m c order t ha ho hr) g e
+    go true ha true ho false hr = refused-early ed m c order t NoRoom (omega arith) (step_is ed m c order t ha ho hr) g e
     go true ha true ho true hr = mending ha ho hr (begun ed m c order t) refl
 
 -- The mesh that is made: the visits' rows, with all positions put.

@@ -2,6 +2,7 @@
 -- settled by the mesh and the order, and every position is its rule's answer from the mesh. Assumes nothing.
 --     made_alike              what is made in two scratch tables is the same
 --     lent-scratch            the claim of `specs/LentScratch.antt`
+use Rattle.std.specs.Prelude.{Result, Ok, Err}
 use mathlib.Core.Path.{◌≡◌, refl, sym, ◌∙◌, ap, subst}
 use mathlib.Core.List.{List, []}
 use mathlib.Core.Logic.{inl, inr}
@@ -29,8 +30,8 @@ use Rattle.refined_meshes.proofs.Refines.{first-refines, visited-points, visited
 use Rattle.refined_meshes.proofs.Fits.{all-taken}
 use Rattle.refined_meshes.proofs.Starts.{settled-points, joins-below}
 use Rattle.refined_meshes.proofs.Settled.{settled-edges, visits-refine}
-use Rattle.steps.specs.declared.Stepped.{Stepped}
-use Rattle.steps.specs.declared.Stepped.TheVariants.{Refined, NotClosed, NotEachFaceOnce, NoRoom, NotFinite}
+use Rattle.steps.specs.declared.StepRefusal.{StepRefusal}
+use Rattle.steps.specs.declared.StepRefusal.TheVariants.{NotClosed, NotEachFaceOnce, NoRoom, NotFinite}
 use Rattle.steps.specs.Positions.{so_far, face_point_row, edge_point_row, placed_all}
 use Rattle.steps.specs.Step.{refined_counts, step}
 use Rattle.tables.specs.Counted.{first_rows, over_rows}
@@ -238,12 +239,12 @@ room-same c m t t' s (inr h) = inr h
 numbers-back : {t t' : Mesh} → SameNumbers t t' → SameNumbers t' t
 numbers-back s = record { points = sym s.points; edges = sym s.edges; faces = sym s.faces }
 
-due-same : (ed : Edition) (m : Mesh) (c : Counts) (order : List ℕ) (t t' : Mesh) → SameNumbers t t' → (a : Stepped) → Due ed m c order t a → Due ed m c order t' a
-due-same ed m c order t t' s NotClosed d = d
-due-same ed m c order t t' s NotEachFaceOnce d = d
-due-same ed m c order t t' s NoRoom d = (d.0, d.1, room-same (refined_counts c) m t t' s d.2)
-due-same ed m c order t t' s NotFinite d = (d.0, d.1, λ h. d.2 (room-same (refined_counts c) m t' t (numbers-back s) h), d.3)
-due-same ed m c order t t' s (Refined k) d = (d.0, d.1, λ h. d.2 (room-same (refined_counts c) m t' t (numbers-back s) h), d.3, d.4)
+due-same : (ed : Edition) (m : Mesh) (c : Counts) (order : List ℕ) (t t' : Mesh) → SameNumbers t t' → (a : Result Counts StepRefusal) → Due ed m c order t a → Due ed m c order t' a
+due-same ed m c order t t' s (Err NotClosed) d = d
+due-same ed m c order t t' s (Err NotEachFaceOnce) d = d
+due-same ed m c order t t' s (Err NoRoom) d = (d.0, d.1, room-same (refined_counts c) m t t' s d.2)
+due-same ed m c order t t' s (Err NotFinite) d = (d.0, d.1, λ h. d.2 (room-same (refined_counts c) m t' t (numbers-back s) h), d.3)
+due-same ed m c order t t' s (Ok k) d = (d.0, d.1, λ h. d.2 (room-same (refined_counts c) m t' t (numbers-back s) h), d.3, d.4)
 
 module _ (ed : Edition) (m : Mesh) (c : Counts) (order : List ℕ) (t t' : Mesh) (s : SameNumbers t t') where
   answer-same : (step ed m c order t').answer ≡ (step ed m c order t).answer
@@ -251,7 +252,7 @@ module _ (ed : Edition) (m : Mesh) (c : Counts) (order : List ℕ) (t t' : Mesh)
       let a = (step ed m c order t).answer in
       (first-ground ed m c order t' a).1 (due-same ed m c order t t' s a ((first-ground ed m c order t a).0 refl))
 
-  refined-same : (k : Counts) → (step ed m c order t).answer ≡ Refined k → SameMesh k (step ed m c order t).tables (step ed m c order t').tables
+  refined-same : (k : Counts) → (step ed m c order t).answer ≡ Ok k → SameMesh k (step ed m c order t).tables (step ed m c order t').tables
   refined-same k e =
       let e' = answer-same ∙ e in
       let x = taken ed m c order t k e in

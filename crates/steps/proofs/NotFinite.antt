@@ -1,6 +1,7 @@
 -- Ground 33 by the position rules: positions are put, each by its rule, exactly as long as they are finite. Assumes nothing.
 --     made-finite, finite-made     the mesh is made whole exactly if every new position is finite
 --     not-finite-exactly           the claim of `specs/OneStep.antt`
+use Rattle.std.specs.Prelude.{Ok, Err, Result}
 use mathlib.Core.Path.{◌≡◌, refl, sym, ◌∙◌, ap}
 use mathlib.Core.List.{List}
 use Prim.Native.Nat.{ℕ, ◌*◌, ◌≤◌}
@@ -16,7 +17,8 @@ use Rattle.refined_meshes.specs.State.{State, with_positions}
 use Rattle.refined_meshes.specs.Order.{EachOnce}
 use Rattle.refined_meshes.specs.Settled.{settled_rows}
 use Rattle.refined_meshes.proofs.Settled.{visits-refine}
-use Rattle.steps.specs.declared.Stepped.TheVariants.{Refined, NotFinite}
+use Rattle.steps.specs.declared.StepRefusal.{StepRefusal}
+use Rattle.steps.specs.declared.StepRefusal.TheVariants.{NotFinite}
 use Rattle.steps.specs.Step.{refined_counts, Made, whole, not_finite_made, made_of, placed_rows, made, ended, step}
 use Rattle.tables.specs.Counted.{first_rows}
 use Rattle.steps.specs.OneStep.{AllFinite, NotFiniteExactly}
@@ -73,9 +75,9 @@ not-finite-exactly ed m c order t ha ho hr =
       λ k. go (λ n e. k (finite-made ed (first_rows c m) c h few order once u x n e)) (begun ed m c order t) refl,
     )
   where
-    refused-or-refined : (step ed m c order t).answer ≡ NotFinite → ¬ ((step ed m c order t).answer ≡ Refined (refined_counts c))
-    refused-or-refined e q = let k : NotFinite ≡ Refined (refined_counts c) = sym e ∙ q in let z : ◌≡◌ {A = ℕ} 0 1 = cc in omega arith
+    refused-or-refined : (step ed m c order t).answer ≡ Err NotFinite → ¬ ((step ed m c order t).answer ≡ Ok (refined_counts c))
+    refused-or-refined e q = let k : ◌≡◌ {A = Result Counts StepRefusal} (Err NotFinite) (Ok (refined_counts c)) = sym e ∙ q in let z : ◌≡◌ {A = ℕ} 0 1 = cc in omega arith
 
-    go : ((n : Mesh) → ¬ (begun ed m c order t ≡ whole n)) → (w : Made) → begun ed m c order t ≡ w → (step ed m c order t).answer ≡ NotFinite
+    go : ((n : Mesh) → ¬ (begun ed m c order t ≡ whole n)) → (w : Made) → begun ed m c order t ≡ w → (step ed m c order t).answer ≡ Err NotFinite
     go k (whole n) e = absurd (k n e)
     go k not_finite_made e = ap (λ o. o.answer) (step-made ed m c order t ha ho hr not_finite_made e)

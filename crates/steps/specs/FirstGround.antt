@@ -3,15 +3,15 @@
 --     HasNoRoom c m t            so have the tables m or scratch t, or the counts c are over the ceilings
 --     Due ed m c order t a     the answer a is due: its condition holds, and that of no ground before it
 --     FirstGround             the claim: the answer is the one that is due, both ways
-use Rattle.std.specs.Prelude.{◌≡◌, List, ◌⊎◌, ◌↔◌, ℕ, ◌<◌}
+use Rattle.std.specs.Prelude.{◌≡◌, List, ◌⊎◌, ◌↔◌, ℕ, ◌<◌, Result, Ok, Err}
 use Rattle.tables.specs.Layout.{point_ceiling, edge_ceiling, face_ceiling}
 use Rattle.tables.specs.Mesh.{Mesh, point_rows, edge_rows, face_rows}
 use Rattle.tables.specs.declared.Counts.{Counts}
 use Rattle.audited_meshes.specs.Audited.{Audited}
 use Rattle.refined_meshes.specs.declared.Edition.{Edition}
 use Rattle.refined_meshes.specs.Order.{EachOnce}
-use Rattle.steps.specs.declared.Stepped.{Stepped}
-use Rattle.steps.specs.declared.Stepped.TheVariants.{Refined, NotClosed, NotEachFaceOnce, NoRoom, NotFinite}
+use Rattle.steps.specs.declared.StepRefusal.{StepRefusal}
+use Rattle.steps.specs.declared.StepRefusal.TheVariants.{NotClosed, NotEachFaceOnce, NoRoom, NotFinite}
 use Rattle.steps.specs.Step.{refined_counts, step}
 use Rattle.tables.specs.Counted.{first_rows}
 use Rattle.steps.specs.OneStep.{AllFinite}
@@ -31,13 +31,13 @@ module _ (ed : Edition) (m : Mesh) (c : Counts) (order : List ℕ) (t : Mesh) wh
   abbrev pub RoomEnough : Type 0
   RoomEnough = ¬ HasNoRoom (refined_counts c) m t
 
-  abbrev pub Due : Stepped → Type 0
-  Due NotClosed = ¬ ClosedMesh
-  Due NotEachFaceOnce = ClosedMesh × (¬ EachOnce c.faces order)
-  Due NoRoom = ClosedMesh × EachOnce c.faces order × HasNoRoom (refined_counts c) m t
-  Due NotFinite = ClosedMesh × EachOnce c.faces order × RoomEnough × (¬ AllFinite ed (first_rows c m) c)
-  Due (Refined k) = ClosedMesh × EachOnce c.faces order × RoomEnough × AllFinite ed (first_rows c m) c × (k ≡ refined_counts c)
+  abbrev pub Due : Result Counts StepRefusal → Type 0
+  Due (Err NotClosed) = ¬ ClosedMesh
+  Due (Err NotEachFaceOnce) = ClosedMesh × (¬ EachOnce c.faces order)
+  Due (Err NoRoom) = ClosedMesh × EachOnce c.faces order × HasNoRoom (refined_counts c) m t
+  Due (Err NotFinite) = ClosedMesh × EachOnce c.faces order × RoomEnough × (¬ AllFinite ed (first_rows c m) c)
+  Due (Ok k) = ClosedMesh × EachOnce c.faces order × RoomEnough × AllFinite ed (first_rows c m) c × (k ≡ refined_counts c)
 
 abbrev pub FirstGround : Type 0
 FirstGround =
-    (ed : Edition) (m : Mesh) (c : Counts) (order : List ℕ) (t : Mesh) (a : Stepped) → ((step ed m c order t).answer ≡ a) ↔ Due ed m c order t a
+    (ed : Edition) (m : Mesh) (c : Counts) (order : List ℕ) (t : Mesh) (a : Result Counts StepRefusal) → ((step ed m c order t).answer ≡ a) ↔ Due ed m c order t a

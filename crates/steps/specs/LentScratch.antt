@@ -4,12 +4,11 @@
 --     LentScratch              the claim: with as many rows of scratch the answers are the same, and so are the rows of the mesh
 --                               afterwards, be it refined or as found
 -- Scratch itself is left as found by 30, 31 and 32, and its counted rows are zero otherwise: `Untouched` and `step` say so.
-use Rattle.std.specs.Prelude.{◌≡◌, List, ℕ, ◌<◌}
+use Rattle.std.specs.Prelude.{◌≡◌, List, ℕ, ◌<◌, Ok}
 use Rattle.tables.specs.Mesh.{Mesh, valence, start, mark, face_start, corner, point_rows, edge_rows, face_rows}
 use Rattle.tables.specs.Records.{position_at, edge_at}
 use Rattle.tables.specs.declared.Counts.{Counts}
 use Rattle.refined_meshes.specs.declared.Edition.{Edition}
-use Rattle.steps.specs.declared.Stepped.TheVariants.{Refined}
 use Rattle.steps.specs.Step.{step}
 
 pub record SameNumbers (t t' : Mesh) : Type 0 where
@@ -28,7 +27,7 @@ pub record SameMesh (c : Counts) (t t' : Mesh) : Type 0 where
 
 pub record ShowsNothing (ed : Edition) (m : Mesh) (c : Counts) (order : List ℕ) (t t' : Mesh) : Type 0 where
   pub answer : (step ed m c order t').answer ≡ (step ed m c order t).answer
-  pub refined : (k : Counts) → (step ed m c order t).answer ≡ Refined k → SameMesh k (step ed m c order t).tables (step ed m c order t').tables
+  pub refined : (k : Counts) → (step ed m c order t).answer ≡ Ok k → SameMesh k (step ed m c order t).tables (step ed m c order t').tables
 
 abbrev pub LentScratch : Type 0
 LentScratch =

@@ -8,7 +8,7 @@
 --     Untouched                     the claim: it holds of every refused step
 --     AllFinite ed m c              every new position is finite, by its rule from the rows m of the mesh alone
 --     NotFiniteExactly            the claim: where 30 to 32 do not refuse, 33 does exactly if not every new position is finite
-use Rattle.std.specs.Prelude.{◌≡◌, true, List, ◌↔◌, ℕ, ◌<◌, T}
+use Rattle.std.specs.Prelude.{◌≡◌, true, List, ◌↔◌, ℕ, ◌<◌, T, Ok, Err}
 use Rattle.std.proofs.Math.Option.{some}
 use Rattle.std.specs.Float.Ieee.{fits}
 use Rattle.std.specs.Float.{binary64}
@@ -26,7 +26,7 @@ use Rattle.refined_meshes.specs.declared.Edition.{Edition}
 use Rattle.refined_meshes.specs.Refines.{Refines}
 use Rattle.position_rules.specs.FacePoint.{face_point_in}
 use Rattle.position_rules.specs.Rules.{edge_point_in, old_point_in}
-use Rattle.steps.specs.declared.Stepped.TheVariants.{Refined, NotFinite}
+use Rattle.steps.specs.declared.StepRefusal.TheVariants.{NotFinite}
 use Rattle.steps.specs.Step.{step_ground, refined_counts, each_face_once, room_for, whole, made, step}
 use Rattle.tables.specs.Counted.{first_rows, zeroed_rows}
 
@@ -68,7 +68,7 @@ pub record Accepted
 abbrev pub OneStep : Type 0
 OneStep =
     (ed : Edition) (m : Mesh) (c : Counts) (order : List ℕ) (t : Mesh) (h : HoldsClosed m c.points c.edges c.faces) → Binary64 c m →
-    (c' : Counts) → (step ed m c order t).answer ≡ Refined c' → Accepted ed m c order t h c'
+    (c' : Counts) → (step ed m c order t).answer ≡ Ok c' → Accepted ed m c order t h c'
 
 pub record Refused (ed : Edition) (m : Mesh) (c : Counts) (order : List ℕ) (t : Mesh) (g : ℕ) : Type 0 where
   -- Every ground leaves the tables as found, and all but 33 leave scratch as found.
@@ -92,4 +92,4 @@ abbrev pub NotFiniteExactly : Type 0
 NotFiniteExactly =
     (ed : Edition) (m : Mesh) (c : Counts) (order : List ℕ) (t : Mesh) → audit m c.points c.edges c.faces ≡ true →
     each_face_once c.faces order ≡ true → room_for (refined_counts c) m t ≡ true →
-    ((step ed m c order t).answer ≡ NotFinite) ↔ (¬ AllFinite ed (first_rows c m) c)
+    ((step ed m c order t).answer ≡ Err NotFinite) ↔ (¬ AllFinite ed (first_rows c m) c)

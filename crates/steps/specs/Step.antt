@@ -1,5 +1,6 @@
 -- One step of refining in an edition ed, for tables, counts, order and scratch of any content and any lengths, in document 01's words and
 -- order. The grounds 30 to 32 are the same in both editions.
+--     refusal_number g          document 01's number of the ground g
 --     step_numbers a            the answer in document 01's numbers: points, edges and faces, or the number of the ground
 --     step_ground a             the number of the ground that is answered
 --     refined_counts c          V, E, F become V + E + F, 4 E, 2 E
@@ -10,7 +11,7 @@
 --     StepOutcome              the answer, the tables afterwards, the scratch tables afterwards
 --     tested m c order t       the first of the grounds 30, 31 and 32 that holds, or the counts after the step
 --     step ed m c order t      the step of the mesh in the tables m with the counts c, in the order handed in, by scratch t
-use Rattle.std.specs.Prelude.{Bool, true, false, ◌&&◌, List, [], ◌∷◌, ℕ, ◌+◌, ◌*◌, eqb, ltb, leb, length, get_or, Float}
+use Rattle.std.specs.Prelude.{Bool, true, false, ◌&&◌, List, [], ◌∷◌, ℕ, ◌+◌, ◌*◌, eqb, ltb, leb, length, get_or, Float, Result, Ok, Err}
 use Rattle.std.proofs.Math.Option.{Option, none, some}
 use Rattle.tables.specs.Layout.{position_width, point_width, edge_width, face_width, point_ceiling, edge_ceiling, face_ceiling}
 use Rattle.tables.specs.Mesh.{Mesh}
@@ -21,16 +22,19 @@ use Rattle.audited_meshes.specs.Audit.{audit}
 use Rattle.refined_meshes.specs.declared.Edition.{Edition}
 use Rattle.refined_meshes.specs.State.{State, with_positions}
 use Rattle.refined_meshes.specs.Settled.{settled_rows}
-use Rattle.steps.specs.declared.Stepped.{Stepped}
-use Rattle.steps.specs.declared.Stepped.TheVariants.{Refined, NotClosed, NotEachFaceOnce, NoRoom, NotFinite}
+use Rattle.steps.specs.declared.StepRefusal.{StepRefusal}
+use Rattle.steps.specs.declared.StepRefusal.TheVariants.{NotClosed, NotEachFaceOnce, NoRoom, NotFinite}
 use Rattle.steps.specs.Positions.{Placing, so_far, not_finite, placed_all}
 
-abbrev pub step_numbers : Stepped → List ℕ
-step_numbers (Refined c) = c.points ∷ c.edges ∷ c.faces ∷ []
-step_numbers NotClosed = 30 ∷ []
-step_numbers NotEachFaceOnce = 31 ∷ []
-step_numbers NoRoom = 32 ∷ []
-step_numbers NotFinite = 33 ∷ []
+abbrev pub refusal_number : StepRefusal → ℕ
+refusal_number NotClosed = 30
+refusal_number NotEachFaceOnce = 31
+refusal_number NoRoom = 32
+refusal_number NotFinite = 33
+
+abbrev pub step_numbers : Result Counts StepRefusal → List ℕ
+step_numbers (Ok c) = c.points ∷ c.edges ∷ c.faces ∷ []
+step_numbers (Err g) = refusal_number g ∷ []
 
 -- one number is a ground's, three are counts
 abbrev ground : List ℕ → Option ℕ
@@ -38,7 +42,7 @@ ground [] = none
 ground (g ∷ []) = some g
 ground (p ∷ e ∷ ns) = none
 
-abbrev pub step_ground : Stepped → Option ℕ
+abbrev pub step_ground : Result Counts StepRefusal → Option ℕ
 step_ground a = ground (step_numbers a)
 
 abbrev pub refined_counts : Counts → Counts
@@ -76,40 +80,37 @@ unfolding placed_rows settled_rows
 made ed m c order t = placed_rows ed m c t.positions (settled_rows ed m c.points c.edges c.faces order t)
 
 pub record StepOutcome : Type 0 where
-  pub answer : Stepped
+  pub answer : Result Counts StepRefusal
   pub tables : Mesh
   pub scratch : Mesh
 
 -- everything untouched
-abbrev pub step_refusal : Stepped → Mesh → Mesh → StepOutcome
-step_refusal a m t = record { answer = a; tables = m; scratch = t }
+abbrev pub step_refusal : StepRefusal → Mesh → Mesh → StepOutcome
+step_refusal g m t = record { answer = Err g; tables = m; scratch = t }
 
 -- the mesh is written only when it is made whole; scratch is zeroed either way
 unfoldable pub ended : Mesh → Counts → Mesh → Made → StepOutcome
 unfolding zeroed_rows over_rows
 ended m c t (whole n) =
-    record { answer = Refined c; tables = over_rows c n m; scratch = zeroed_rows c t }
-ended m c t not_finite_made = record { answer = NotFinite; tables = m; scratch = zeroed_rows c t }
+    record { answer = Ok c; tables = over_rows c n m; scratch = zeroed_rows c t }
+ended m c t not_finite_made = record { answer = Err NotFinite; tables = m; scratch = zeroed_rows c t }
 
 -- by the answers of the tests for 30, 31 and 32, and the counts after the step
-abbrev pub tested_if : Bool → Bool → Bool → Counts → Stepped
-tested_if false once room c = NotClosed
-tested_if true false room c = NotEachFaceOnce
-tested_if true true false c = NoRoom
-tested_if true true true c = Refined c
+abbrev pub tested_if : Bool → Bool → Bool → Counts → Result Counts StepRefusal
+tested_if false once room c = Err NotClosed
+tested_if true false room c = Err NotEachFaceOnce
+tested_if true true false c = Err NoRoom
+tested_if true true true c = Ok c
 
-abbrev pub tested : Mesh → Counts → List ℕ → Mesh → Stepped
+abbrev pub tested : Mesh → Counts → List ℕ → Mesh → Result Counts StepRefusal
 tested m c order t =
     tested_if (audit m c.points c.edges c.faces) (each_face_once c.faces order) (room_for (refined_counts c) m t) (refined_counts c)
 
 -- the step, by the answer of its tests
-unfoldable pub step_by : Edition → Stepped → Mesh → Counts → List ℕ → Mesh → StepOutcome
+unfoldable pub step_by : Edition → Result Counts StepRefusal → Mesh → Counts → List ℕ → Mesh → StepOutcome
 unfolding ended made first_rows
-step_by ed (Refined c') m c order t = ended m c' t (made ed (first_rows c m) c order (first_rows c' t))
-step_by ed NotClosed m c order t = step_refusal NotClosed m t
-step_by ed NotEachFaceOnce m c order t = step_refusal NotEachFaceOnce m t
-step_by ed NoRoom m c order t = step_refusal NoRoom m t
-step_by ed NotFinite m c order t = step_refusal NotFinite m t
+step_by ed (Ok c') m c order t = ended m c' t (made ed (first_rows c m) c order (first_rows c' t))
+step_by ed (Err g) m c order t = step_refusal g m t
 
 unfoldable pub step : Edition → Mesh → Counts → List ℕ → Mesh → StepOutcome
 unfolding audit each_face_once room_for step_by

@@ -4,15 +4,15 @@
 // rows). Claims: `specs/OneStep.antt`, proved in `proofs/OneStep.antt` (accepted steps), `proofs/Grounds.antt` (what refused ones
 // leave) and `proofs/NotFinite.antt` (ground 33); `specs/FirstGround.antt` (when each answer is given) and
 // `specs/LentScratch.antt` (what scratch held shows nowhere), proved in the files of `proofs/` with their names.
+// A step answers `Result<Counts, StepRefusal>`: how many points, edges and faces the mesh has after it, or the ground.
 #![tactic(auto)]
 
-use tables::Counts;
+ghost use Rattle.std.specs.Prelude.{◌≡◌};
+ghost use Rattle.steps.specs.Step.{refusal_number};
 
-// The answer of a step: how many points, edges and faces the mesh has after it, or the ground. Document 01's number stands
-// beside each.
-#[derive(Clone, Copy)]
-pub enum Stepped {
-    Refined(Counts),
+// The ground on which a step is refused. Document 01's number stands beside each.
+#[derive(Clone, Copy, Debug, PartialEq, Eq)]
+pub enum StepRefusal {
     // 30: the audit fails
     NotClosed,
     // 31: the order is not each face once
@@ -21,4 +21,18 @@ pub enum Stepped {
     NoRoom,
     // 33: a stored number would not be finite
     NotFinite,
+}
+
+impl StepRefusal {
+    // Document 01's number of the ground.
+    pub fn number(self) -> u32
+        ensures { result ≡ refusal_number self }
+    {
+        match self {
+            StepRefusal::NotClosed => 30,
+            StepRefusal::NotEachFaceOnce => 31,
+            StepRefusal::NoRoom => 32,
+            StepRefusal::NotFinite => 33,
+        }
+    }
 }

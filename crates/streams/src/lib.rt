@@ -17,6 +17,7 @@ pub fn read_full<R: Read>(input: &mut R, buffer: &mut [u8]) -> io::Result<usize>
     ensures end { IfOk result (λ n. n < length buffer.new → IsAtEnd (R.remaining input.new)) }
 {
     let mut done = 0;
+    // No `for`: each turn goes on by as many bytes as the read gives.
     while done < buffer.len() {
         let n = input.read(&mut buffer[done..])?;
         if n == 0 {
@@ -27,32 +28,25 @@ pub fn read_full<R: Read>(input: &mut R, buffer: &mut [u8]) -> io::Result<usize>
     Ok(done)
 }
 
-// Says on standard error what the program could not do.
-fn complain(rt: HostRuntime, program: &[u8], what: &[u8]) {
-    let errors = rt.stderr();
-    // That this cannot be said either can be told nobody.
-    let _ = errors.write_all(program);
-    let _ = errors.write_all(what);
-}
-
 // Whether the input could not be read, which is said.
-pub fn is_input_lost(rt: HostRuntime, program: &[u8], read: &io::Result<usize>) -> bool
+pub fn is_input_lost(rt: HostRuntime, program: &str, read: &io::Result<usize>) -> bool
     ensures { result ≡ is_err read.now }
 {
     if read.is_ok() {
         return false;
     }
-    complain(rt, program, b": standard input cannot be read\n");
+    // That this cannot be said either can be told nobody.
+    let _ = eprintln!(rt; "{program}: standard input cannot be read");
     true
 }
 
 // Says that the output cannot be written.
-pub fn say_output_lost(rt: HostRuntime, program: &[u8]) {
-    complain(rt, program, b": standard output cannot be written\n");
+pub fn say_output_lost(rt: HostRuntime, program: &str) {
+    let _ = eprintln!(rt; "{program}: standard output cannot be written");
 }
 
 // Reads the input into the buffer, as `read_full` does it.
-pub fn read_input(rt: HostRuntime, program: &[u8], buffer: &mut [u8]) -> io::Result<usize>
+pub fn read_input(rt: HostRuntime, program: &str, buffer: &mut [u8]) -> io::Result<usize>
     ensures { ReadsAtMost result buffer.new }
 {
     let read = read_full(&mut rt.stdin(), buffer);
@@ -61,12 +55,9 @@ pub fn read_input(rt: HostRuntime, program: &[u8], buffer: &mut [u8]) -> io::Res
 }
 
 // Writes the output.
-pub fn write_output(rt: HostRuntime, program: &[u8], bytes: &[u8]) -> io::Result<()> {
-    let written = rt.write_all(bytes);
-    if written.is_err() {
-        say_output_lost(rt, program);
-    }
-    written
+pub fn write_output(rt: HostRuntime, program: &str, bytes: &[u8]) -> io::Result<()> {
+    rt.write_all(bytes)
+        .inspect_err(|_| say_output_lost(rt, program))
 }
 
 #[cfg(test)]

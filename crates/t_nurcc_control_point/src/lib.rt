@@ -12,36 +12,32 @@ ghost use Rattle.walks.specs.Steps.{passed_by, radial_over};
 
 use t_nurcc_iter::point_walk;
 use tables::{POINT_WIDTH, START_WORD, index};
-use walks::{FoundEdge, Passed, Step, acw_of_point, point_step, touches};
+use walks::{acw_of_point, point_step, touches};
 
-// The edges about point p, anticlockwise from its start edge, in the lent words: as many as the walk passes, none if it is lost.
+// The edges about point p, anticlockwise from its start edge, in the lent words: as many as the walk passes, which is the answer; none if it is lost.
 pub fn radial_edges(
     edges: &[u32],
     points: &[u32],
     ne: usize,
     p: usize,
     radial: &mut [u32],
-) -> Passed
+) -> Option<usize>
     requires edge_width_in_bounds { ne * edge_width ≤ length edges.now }
     requires point_width_in_bounds { p * point_width + point_width ≤ length points.now }
     ensures value { result ≡ passed_by (point_walk (point_tables points.now edges.now) ne (length radial.old) p) }
     ensures radial_after { radial.new ≡ radial_over (point_walk (point_tables points.now edges.now) ne (length radial.old) p) radial.old }
 {
     let k = radial.len();
-    let Passed::Back(n) = point_walk(edges, points, ne, k, p) else {
-        return Passed::Lost;
-    };
-    let mut i = 0;
+    let n = point_walk(edges, points, ne, k, p)?;
     let mut e = points[p * POINT_WIDTH + START_WORD];
-    while i < n {
+    for i in 0..n {
         radial[i] = e;
         e = acw_of_point(edges, p, index(e));
-        i += 1;
     }
-    Passed::Back(n)
+    Some(n)
 }
 
-// The first edge about point p, of at most k from its start edge, that touches point q too.
+// The first edge about point p, of at most k from its start edge, that touches point q too, if there is one.
 pub fn edge_from_opposing_point(
     edges: &[u32],
     points: &[u32],
@@ -49,26 +45,22 @@ pub fn edge_from_opposing_point(
     k: usize,
     p: usize,
     q: usize,
-) -> FoundEdge
+) -> Option<u32>
     requires edge_width_in_bounds { ne * edge_width ≤ length edges.now }
     requires point_width_in_bounds { p * point_width + point_width ≤ length points.now }
     ensures { result ≡ edge_to_point (point_tables points.now edges.now) ne k p q }
 {
     let start = points[p * POINT_WIDTH + START_WORD];
-    let mut n = 0;
     let mut e = start;
-    while n < k {
-        let Step::To { point: _, next } = point_step(edges, ne, p, index(e)) else {
-            return FoundEdge::Nowhere;
-        };
+    for _n in 0..k {
+        let step = point_step(edges, ne, p, index(e))?;
         if touches(edges, q, index(e)) {
-            return FoundEdge::At(e);
+            return Some(e);
         }
-        n += 1;
-        if next == start {
-            return FoundEdge::Nowhere;
+        if step.next == start {
+            return None;
         }
-        e = next;
+        e = step.next;
     }
-    FoundEdge::Nowhere
+    None
 }

@@ -13,6 +13,7 @@ use native.Mathlib.Omega.{arith}
 use lib.Ieee.{Float}
 use lib.ListN.{length, get_or, set, length-set}
 use lib.Seq.{set-get_or}
+use Rattle.std.specs.Prelude.{Option, Some, None}
 use Rattle.edge_ends.specs.Connection.{index_of}
 use Rattle.t_spline.specs.Edge.{with_connection, same_face}
 use Rattle.edge_links.specs.Connect.{vertex_state, with_links, links_of, served, connected}
@@ -20,8 +21,6 @@ use Rattle.edge_links.specs.declared.Pair.{Pair}
 use Rattle.t_spline.specs.declared.TnurccEdge.{TnurccEdge}
 use Rattle.edge_ends.specs.declared.TnurccConnection.{TnurccConnection}
 use Rattle.edge_ends.specs.declared.TnurccConnection.TheVariants.{LeftCw, LeftAcw, RightCw, RightAcw}
-use Rattle.edge_links.specs.declared.Links.{Links}
-use Rattle.edge_links.specs.declared.Links.TheVariants.{Both, Mismatch}
 use Rattle.edge_ends.proofs.Laws.{index_below}
 use Rattle.tables.specs.Rows.{put_row}
 use Rattle.tables.specs.Records.{edge_at, edge_words}
@@ -90,16 +89,16 @@ module _ (es : List ℕ) (i j : ℕ) (apart : i ≢ j) where
     pub not-served : b ≡ false → xs ≡ paired es i j (served b f v i j p)
     not-served e = rw e q
 
-    pub mismatched : b ≡ true → Mismatch ≡ links_of f v → xs ≡ paired es i j (served b f v i j p)
+    pub mismatched : b ≡ true → None ≡ links_of f v → xs ≡ paired es i j (served b f v i j p)
     mismatched e m =
         let same : p ≡ served b f v i j p = rw (e, sym m) in
         q ∙ ap (paired es i j) same
 
-    pub both-served : (c d : TnurccConnection) (n k : ℕ) → Linkable p → b ≡ true → Both c d ≡ links_of f v
+    pub both-served : (c d : TnurccConnection) (n k : ℕ) → Linkable p → b ≡ true → Some (c, d) ≡ links_of f v
         → n ≡ i * 8 + 4 + index_of c → k ≡ j * 8 + 4 + index_of d
         → set (set xs n j) k i ≡ paired es i j (served b f v i j p)
     both-served c d n k h e m a o =
-        let same : with_links i j (Both c d) p ≡ served b f v i j p = rw (e, sym m) in
+        let same : with_links i j (Some (c, d)) p ≡ served b f v i j p = rw (e, sym m) in
         ap (λ (t : List ℕ). set (set t n j) k i) q
         ∙ ap (λ (t : List ℕ). set t k i) (link-first p j c n h a)
         ∙ link-other (record { first = with_connection p.first j c; other = p.other }) i d k
@@ -110,13 +109,13 @@ pub linkable-served : (b : Bool) (f v i j : ℕ) (p : Pair) → Linkable p → L
 linkable-served false f v i j p h = h
 linkable-served true f v i j p h = go (links_of f v)
   where
-    go : (ls : Links) → Linkable (with_links i j ls p)
-    go (Both c d) =
+    go : (ls : Option (TnurccConnection × TnurccConnection)) → Linkable (with_links i j ls p)
+    go (Some (c, d)) =
         record {
           first-four = length-set p.first.connections (index_of c) j ∙ h.first-four;
           other-four = length-set p.other.connections (index_of d) i ∙ h.other-four;
         }
-    go Mismatch = h
+    go None = h
 
 row-self : (es : List ℕ) (is : List Float) (i : ℕ) → put_row es (i * 8) (edge_words (edge_at es is i)) ≡ es
 row-self es is i =

@@ -11,7 +11,7 @@ ghost use Rattle.t_nurcc_edge.specs.Connected.{paired, connected_rows};
 ghost use Rattle.t_nurcc_edge.specs.Joinable.{joinable_rows, Linkable};
 
 use edge_ends::same_face;
-use edge_links::{Links, Pair, link_directions};
+use edge_links::{Pair, link_directions};
 use records::{load_edge, store_edge_words};
 use tables::{EDGE_WIDTH, LEFT_CW_WORD, index};
 
@@ -26,14 +26,11 @@ fn put_links(edges: &mut [u32], holds: bool, face: usize, vert: usize, i: u32, j
     if !holds {
         return;
     }
-    match link_directions(face, vert) {
-        Links::Both(own, other) => {
-            let c = own.index();
-            let d = other.index();
-            edges[index(i) * EDGE_WIDTH + LEFT_CW_WORD + c] = j;
-            edges[index(j) * EDGE_WIDTH + LEFT_CW_WORD + d] = i;
-        }
-        Links::Mismatch => {}
+    if let Some((own, other)) = link_directions(face, vert) {
+        let c = own.index();
+        let d = other.index();
+        edges[index(i) * EDGE_WIDTH + LEFT_CW_WORD + c] = j;
+        edges[index(j) * EDGE_WIDTH + LEFT_CW_WORD + d] = i;
     }
 }
 

@@ -11,7 +11,7 @@ ghost use Rattle.walks.specs.declared.FaceBorder.{FaceBorder};
 ghost use Rattle.walks.specs.Border.{laid, border, BorderLaid};
 
 use tables::{FACE_WIDTH, LONGEST_BORDER, LONGEST_PERIMETER, index};
-use walks::{FaceBorder, Passed, Step, face_step};
+use walks::{FaceBorder, face_step};
 
 // Stores the first four points once more behind the first n.
 fn put_first_four(points: &mut [u32; LONGEST_BORDER], n: usize)
@@ -27,7 +27,7 @@ fn put_first_four(points: &mut [u32; LONGEST_BORDER], n: usize)
 }
 
 // Lays the border of face f, from its start edge along the edges below ne, into arrays of any content: its edges, and its points with
-// the first four again. Answers the number of its edges, or that the walk is lost. Further places of the arrays keep what they hold, so
+// the first four again. Answers the number of its edges, none where the walk is lost. Further places of the arrays keep what they hold, so
 // that one pair of arrays serves for the borders of many faces.
 pub fn lay_border(
     edges: &[u32],
@@ -36,7 +36,7 @@ pub fn lay_border(
     f: usize,
     perimeter: &mut [u32; LONGEST_PERIMETER],
     points: &mut [u32; LONGEST_BORDER],
-) -> Passed
+) -> Option<usize>
     requires edge_width_in_bounds { ne * edge_width ≤ length edges.now }
     requires face_width_in_bounds { f * face_width + face_width ≤ length faces.now }
     requires perimeter_len { length perimeter.old ≡ longest_perimeter }
@@ -45,22 +45,18 @@ pub fn lay_border(
         perimeter.old points.old }
 {
     let start = faces[f * FACE_WIDTH];
-    let mut n = 0;
     let mut e = start;
-    while n < LONGEST_PERIMETER {
-        let Step::To { point, next } = face_step(edges, ne, f, index(e)) else {
-            return Passed::Lost;
-        };
+    for n in 0..LONGEST_PERIMETER {
+        let step = face_step(edges, ne, f, index(e))?;
         perimeter[n] = e;
-        points[n] = point;
-        n += 1;
-        if next == start {
-            put_first_four(points, n);
-            return Passed::Back(n);
+        points[n] = step.point;
+        if step.next == start {
+            put_first_four(points, n + 1);
+            return Some(n + 1);
         }
-        e = next;
+        e = step.next;
     }
-    Passed::Lost
+    None
 }
 
 // Makes the arrays of a border 0, for a walk that is lost.
@@ -73,7 +69,7 @@ fn clear(perimeter: &mut [u32; LONGEST_PERIMETER], points: &mut [u32; LONGEST_BO
 }
 
 // Stores the border of face f, from its start edge along the edges below ne, in arrays of 0: its edges, and its points with the
-// first four again. Answers the number of its edges, or that the walk is lost; then the arrays are 0.
+// first four again. Answers the number of its edges, none where the walk is lost; then the arrays are 0.
 pub fn put_border(
     edges: &[u32],
     faces: &[u32],
@@ -81,7 +77,7 @@ pub fn put_border(
     f: usize,
     perimeter: &mut [u32; LONGEST_PERIMETER],
     points: &mut [u32; LONGEST_BORDER],
-) -> Passed
+) -> Option<usize>
     requires edge_width_in_bounds { ne * edge_width ≤ length edges.now }
     requires face_width_in_bounds { f * face_width + face_width ≤ length faces.now }
     requires perimeter_value { perimeter.old ≡ replicate longest_perimeter 0 }
@@ -90,11 +86,11 @@ pub fn put_border(
         (record { passed = result; edges = perimeter.new; points = points.new })
         (border (face_tables edges.now faces.now) ne f) }
 {
-    let Passed::Back(n) = lay_border(edges, faces, ne, f, perimeter, points) else {
+    let passed = lay_border(edges, faces, ne, f, perimeter, points);
+    if passed.is_none() {
         clear(perimeter, points);
-        return Passed::Lost;
-    };
-    Passed::Back(n)
+    }
+    passed
 }
 
 // The border of face f, from its start edge, along the edges below ne.

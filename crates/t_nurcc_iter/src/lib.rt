@@ -10,48 +10,40 @@ ghost use Rattle.audited_meshes.specs.Walks.{face_walk, point_walk};
 ghost use Rattle.walks.specs.Steps.{passed_by};
 
 use tables::{FACE_WIDTH, LONGEST_PERIMETER, POINT_WIDTH, START_WORD, index};
-use walks::{Passed, Step, face_step, point_step};
+use walks::{face_step, point_step};
 
-// The number of edges that the walk about face f passes, of at most 64.
-pub fn face_walk(edges: &[u32], faces: &[u32], ne: usize, f: usize) -> Passed
+// The number of edges that the walk about face f passes, of at most 64; none where the walk is lost.
+pub fn face_walk(edges: &[u32], faces: &[u32], ne: usize, f: usize) -> Option<usize>
     requires edge_width_in_bounds { ne * edge_width ≤ length edges.now }
     requires face_width_in_bounds { f * face_width + face_width ≤ length faces.now }
     ensures { result ≡ passed_by (face_walk (face_tables edges.now faces.now) ne f) }
 {
     let start = faces[f * FACE_WIDTH];
-    let mut n = 0;
     let mut e = start;
-    while n < LONGEST_PERIMETER {
-        let Step::To { point: _, next } = face_step(edges, ne, f, index(e)) else {
-            return Passed::Lost;
-        };
-        n += 1;
-        if next == start {
-            return Passed::Back(n);
+    for n in 0..LONGEST_PERIMETER {
+        let step = face_step(edges, ne, f, index(e))?;
+        if step.next == start {
+            return Some(n + 1);
         }
-        e = next;
+        e = step.next;
     }
-    Passed::Lost
+    None
 }
 
-// The number of edges that the walk about point p passes, of at most k.
-pub fn point_walk(edges: &[u32], points: &[u32], ne: usize, k: usize, p: usize) -> Passed
+// The number of edges that the walk about point p passes, of at most k; none where the walk is lost.
+pub fn point_walk(edges: &[u32], points: &[u32], ne: usize, k: usize, p: usize) -> Option<usize>
     requires edge_width_in_bounds { ne * edge_width ≤ length edges.now }
     requires point_width_in_bounds { p * point_width + point_width ≤ length points.now }
     ensures { result ≡ passed_by (point_walk (point_tables points.now edges.now) ne k p) }
 {
     let start = points[p * POINT_WIDTH + START_WORD];
-    let mut v = 0;
     let mut e = start;
-    while v < k {
-        let Step::To { point: _, next } = point_step(edges, ne, p, index(e)) else {
-            return Passed::Lost;
-        };
-        v += 1;
-        if next == start {
-            return Passed::Back(v);
+    for v in 0..k {
+        let step = point_step(edges, ne, p, index(e))?;
+        if step.next == start {
+            return Some(v + 1);
         }
-        e = next;
+        e = step.next;
     }
-    Passed::Lost
+    None
 }

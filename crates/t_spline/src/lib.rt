@@ -5,7 +5,6 @@
 // Contracts cite `specs/Edge.antt` and `specs/Ends.antt`.
 #![tactic(auto)]
 
-use edge_ends::{TnurccFaceSide, TnurccVertexEnd};
 use positions::Position;
 
 pub mod t_nurcc_edge;
@@ -24,20 +23,6 @@ pub struct TnurccControlPoint {
 pub struct TnurccFace {
     pub edge: u32,
     pub corners: [u32; 4],
-}
-
-// The end at which an edge has a point, if it has it.
-#[derive(Clone, Copy)]
-pub enum PointEnd {
-    At(TnurccVertexEnd),
-    Nowhere,
-}
-
-// The side on which an edge has a face, if it has it.
-#[derive(Clone, Copy)]
-pub enum FaceSide {
-    At(TnurccFaceSide),
-    Nowhere,
 }
 
 // An edge: its four neighbours, its faces, its ends and its interval.

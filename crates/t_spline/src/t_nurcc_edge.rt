@@ -5,9 +5,11 @@ ghost use Rattle.t_spline.specs.Edge.{connection_of, with_connection, common_fac
 ghost use Rattle.t_spline.specs.Ends.{point_at_end, face_from_side, end_of, side_of};
 ghost use Rattle.t_spline.specs.Ends.{acw_from_point, cw_from_point, acw_from_face, cw_from_face, common_point};
 
-use crate::{FaceSide, PointEnd, TnurccEdge};
+use crate::TnurccEdge;
 use edge_ends::{NONE, TnurccConnection, TnurccFaceSide, TnurccVertexEnd, same_face};
 
+// What is asked of an end and of a side has a name for each, as in the Rust (docs/DIFFERENCES.md has them one by one): a trait of both would
+// have seven members and two impls, for six pairs of methods that are a line or a match each.
 impl TnurccEdge {
     pub fn connection(self, con: TnurccConnection) -> u32
         ensures { result ≡ connection_of self con }
@@ -67,30 +69,30 @@ impl TnurccEdge {
         }
     }
 
-    // The end at which the edge has the point of this row.
-    pub fn point_end(self, point: usize) -> PointEnd
+    // The end at which the edge has the point of this row, if it has it.
+    pub fn point_end(self, point: usize) -> Option<TnurccVertexEnd>
         ensures { result ≡ end_of self point }
     {
         if self.origin as usize == point {
-            return PointEnd::At(TnurccVertexEnd::Origin);
+            return Some(TnurccVertexEnd::Origin);
         }
         if self.dest as usize == point {
-            return PointEnd::At(TnurccVertexEnd::Dest);
+            return Some(TnurccVertexEnd::Dest);
         }
-        PointEnd::Nowhere
+        None
     }
 
-    // The side on which the edge has the face of this row.
-    pub fn face_side(self, face: usize) -> FaceSide
+    // The side on which the edge has the face of this row, if it has it.
+    pub fn face_side(self, face: usize) -> Option<TnurccFaceSide>
         ensures { result ≡ side_of self face }
     {
         if self.face_left as usize == face {
-            return FaceSide::At(TnurccFaceSide::Left);
+            return Some(TnurccFaceSide::Left);
         }
         if self.face_right as usize == face {
-            return FaceSide::At(TnurccFaceSide::Right);
+            return Some(TnurccFaceSide::Right);
         }
-        FaceSide::Nowhere
+        None
     }
 
     // The next edge anticlockwise about the point, `NONE` where it is no end of the edge.
@@ -98,8 +100,8 @@ impl TnurccEdge {
         ensures { result ≡ acw_from_point self point }
     {
         match self.point_end(point) {
-            PointEnd::At(end) => self.acw_edge_from_end(end),
-            PointEnd::Nowhere => NONE,
+            Some(end) => self.acw_edge_from_end(end),
+            None => NONE,
         }
     }
 
@@ -108,8 +110,8 @@ impl TnurccEdge {
         ensures { result ≡ cw_from_point self point }
     {
         match self.point_end(point) {
-            PointEnd::At(end) => self.cw_edge_from_end(end),
-            PointEnd::Nowhere => NONE,
+            Some(end) => self.cw_edge_from_end(end),
+            None => NONE,
         }
     }
 
@@ -118,8 +120,8 @@ impl TnurccEdge {
         ensures { result ≡ acw_from_face self face }
     {
         match self.face_side(face) {
-            FaceSide::At(side) => self.acw_edge_from_side(side),
-            FaceSide::Nowhere => NONE,
+            Some(side) => self.acw_edge_from_side(side),
+            None => NONE,
         }
     }
 
@@ -128,8 +130,8 @@ impl TnurccEdge {
         ensures { result ≡ cw_from_face self face }
     {
         match self.face_side(face) {
-            FaceSide::At(side) => self.cw_edge_from_side(side),
-            FaceSide::Nowhere => NONE,
+            Some(side) => self.cw_edge_from_side(side),
+            None => NONE,
         }
     }
 

@@ -4,8 +4,9 @@
 --     get_or-put_row-other      every other place is as it was
 --     set-put_row             an element stored in a row that was put; set-put_row-other: outside it
 --     over_none, over-more   what a loop that copies has done before its first turn, and one turn more; zeroed likewise
+--     zeroed-front           the first elements zeroed by themselves
 use mathlib.Core.Path.{◌≡◌, refl, ◌∙◌, ap, sym}
-use mathlib.Core.List.{List, [], ◌∷◌}
+use mathlib.Core.List.{List, [], ◌∷◌, ◌++◌}
 use Prim.Native.Nat.{ℕ, zero, suc, ◌+◌, ◌*◌, ◌<◌, ◌≤◌}
 use native.Mathlib.Nat.{not-suc-le-zero, le_of_suc-le-suc, add-zero, suc-mul, mul-le-mul_right}
 use native.Mathlib.Decide.{dec_lt}
@@ -185,6 +186,13 @@ module _ {A : Type 0} where
 
   pub zeroed-more : (n : ℕ) (z : A) (xs : List A) → n < length xs → set (zeroed n z xs) n z ≡ zeroed (n + 1) z xs
   zeroed-more n z xs l = rw add-one (zeroed-suc n z xs l)
+
+  -- the first n elements made z by themselves, followed by the others
+  pub zeroed-front : (n : ℕ) (z : A) (xs : List A) → n ≤ length xs → zeroed n z (take n xs) ++ drop n xs ≡ zeroed n z xs
+  unfolding zeroed
+  zeroed-front zero z xs l = refl
+  zeroed-front (suc n) z [] l = absurd (not-suc-le-zero l)
+  zeroed-front (suc n) z (x ∷ xs) l = ap (λ (t : List A). z ∷ t) (zeroed-front n z xs (le_of_suc-le-suc l))
 
   pub length-zeroed : (n : ℕ) (z : A) (xs : List A) → n ≤ length xs → length (zeroed n z xs) ≡ length xs
   unfolding zeroed

@@ -5,3 +5,4 @@ pub mod Counted
 pub mod Parts
 pub mod Records
 pub mod Loaded
+pub mod Lent

@@ -1,11 +1,11 @@
-// The five tables of a mesh: their rows zeroed, copied and counted.
+// The five tables of a mesh: their rows counted, and the first elements of a table filled and copied.
 // Positions: 3 numbers a point. Points: 3 words (valence, start edge, mark). Edges: 8 words (origin, destination, left face,
 // right face, then the neighbours LeftCw, LeftAcw, RightCw, RightAcw). Intervals: 1 number an edge. Faces: 5 words (start
 // edge, four corners).
 // Not here: rows loaded and stored as records by value (`records`), what a closed mesh is (`audited_meshes`).
 // The widths of the rows and the places of their words stand here as constants; the first word of a row stands where the row begins.
 // Definitions: `specs/Layout.antt`, `specs/Mesh.antt`, `specs/Rows.antt`, `specs/Records.antt`, `specs/Loaded.antt`,
-// `specs/Counted.antt`, `specs/Parts.antt`. Laws for callers: `proofs/Laws.antt`.
+// `specs/Counted.antt`, `specs/Parts.antt`, `specs/Lent.antt`. Laws for callers: `proofs/Laws.antt`.
 #![tactic(auto)]
 
 ghost use Rattle.std.specs.Prelude.{◌≡◌, [], ◌≤◌, min, length};
@@ -84,7 +84,18 @@ pub struct Sizes {
     pub listed: usize,
 }
 
-// A row number as an index.
+// The five tables of a mesh, lent to be read.
+#[derive(Clone, Copy)]
+pub struct MeshTables<'a> {
+    pub positions: &'a [f64],
+    pub points: &'a [u32],
+    pub edges: &'a [u32],
+    pub intervals: &'a [f64],
+    pub faces: &'a [u32],
+}
+
+// A row number as an index. No `From` leads from u32 to usize, and `try_from` would ask each caller for what to do where it fails, which it
+// does not.
 pub fn index(row: u32) -> usize
     ensures { result ≡ row }
 {
@@ -95,14 +106,14 @@ pub fn index(row: u32) -> usize
 pub fn point_rows(positions: &[f64], points: &[u32]) -> usize
     ensures { result ≡ point_rows (mesh_of positions.now points.now [] [] []) }
 {
-    least(positions.len() / POSITION_WIDTH, points.len() / POINT_WIDTH)
+    (positions.len() / POSITION_WIDTH).min(points.len() / POINT_WIDTH)
 }
 
 // How many whole edges the two tables hold.
 pub fn edge_rows(edges: &[u32], intervals: &[f64]) -> usize
     ensures { result ≡ edge_rows (mesh_of [] [] edges.now intervals.now []) }
 {
-    least(edges.len() / EDGE_WIDTH, intervals.len())
+    (edges.len() / EDGE_WIDTH).min(intervals.len())
 }
 
 // How many whole faces the table holds.
@@ -112,59 +123,21 @@ pub fn face_rows(faces: &[u32]) -> usize
     faces.len() / FACE_WIDTH
 }
 
-// The lesser of two numbers.
-pub fn least(a: usize, b: usize) -> usize
-    ensures { result ≡ min a b }
+// Makes the first n elements the one that is handed in.
+pub fn fill_first<T: Copy>(elements: &mut [T], n: usize, value: T)
+    requires { n ≤ length elements.old }
+    ensures { elements.new ≡ zeroed n value elements.old }
 {
-    if a <= b { a } else { b }
-}
-
-// Makes the first n words 0.
-pub fn zero_words(words: &mut [u32], n: usize)
-    requires { n ≤ length words.old }
-    ensures { words.new ≡ zeroed n 0 words.old }
-{
-    let mut i = 0;
-    while i < n {
-        words[i] = 0;
-        i += 1;
+    for element in &mut elements[..n] {
+        *element = value;
     }
 }
 
-// Makes the first n numbers +0.
-pub fn zero_numbers(numbers: &mut [f64], n: usize)
-    requires { n ≤ length numbers.old }
-    ensures { numbers.new ≡ zeroed n (of_bits binary64 0) numbers.old }
-{
-    let mut i = 0;
-    while i < n {
-        numbers[i] = 0.0;
-        i += 1;
-    }
-}
-
-// Copies the first n words.
-pub fn copy_words(new: &[u32], words: &mut [u32], n: usize)
+// Copies the first n elements.
+pub fn copy_first<T: Copy>(new: &[T], elements: &mut [T], n: usize)
     requires n_in_bounds { n ≤ length new.now }
-    requires n_in_bounds_2 { n ≤ length words.old }
-    ensures { words.new ≡ over n new.now words.old }
+    requires n_in_bounds_2 { n ≤ length elements.old }
+    ensures { elements.new ≡ over n new.now elements.old }
 {
-    let mut i = 0;
-    while i < n {
-        words[i] = new[i];
-        i += 1;
-    }
-}
-
-// Copies the first n numbers.
-pub fn copy_numbers(new: &[f64], numbers: &mut [f64], n: usize)
-    requires n_in_bounds { n ≤ length new.now }
-    requires n_in_bounds_2 { n ≤ length numbers.old }
-    ensures { numbers.new ≡ over n new.now numbers.old }
-{
-    let mut i = 0;
-    while i < n {
-        numbers[i] = new[i];
-        i += 1;
-    }
+    elements[..n].copy_from_slice(&new[..n]);
 }

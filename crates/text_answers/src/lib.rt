@@ -8,8 +8,9 @@ ghost use Rattle.std.specs.Prelude.{◌≡◌};
 ghost use Rattle.text_meshes.specs.TextBuilding.{is_too_long, told};
 
 use building_tests::Bounds;
-use built_meshes::Built;
-use text_meshes::TextBuilt;
+use built_meshes::Ground;
+use tables::Counts;
+use text_meshes::TextRefusal;
 
 // The most bytes of a text that `refine` takes.
 pub const REFINE_BYTES: usize = 16384;
@@ -25,11 +26,11 @@ pub fn is_too_long(bounds: Bounds, n: usize) -> bool
 }
 
 // The answer of building from lists, as one of building from a text.
-pub fn told(built: Built) -> TextBuilt
+pub fn told(built: Result<Counts, Ground>) -> Result<Counts, TextRefusal>
     ensures { result ≡ told built }
 {
     match built {
-        Built::Accepted(c) => TextBuilt::Accepted(c),
-        Built::Refused(g) => TextBuilt::Refused(g),
+        Ok(c) => Ok(c),
+        Err(g) => Err(TextRefusal::Refused(g)),
     }
 }

@@ -15,6 +15,9 @@ use lib.Dec.{leb}
 use lib.ListN.{length, take, drop}
 use lib.Seq.{sets, length-sets, sets-eq, take-append_seam}
 use borrow.Author.Tests.{leb-true, le-leb}
+use Rattle.built_meshes.specs.declared.Ground.{Ground}
+use Rattle.tables.specs.declared.Counts.{Counts}
+use Rattle.std.specs.Prelude.{Result, Ok, Err}
 use Rattle.tables.specs.Mesh.{Mesh}
 use Rattle.text_numbers.specs.Form.{Parsed, parsed, unparsed}
 use Rattle.text_numbers.proofs.Laws.{and_both}
@@ -22,21 +25,19 @@ use Rattle.mesh_text.specs.Text.{text, TextMesh}
 use Rattle.mesh_text.specs.Reading.{counts, TextLists, with_text, within, ReadOutcome, read_into}
 use Rattle.mesh_text.specs.Lists.{coordinates, lengths, firsts, listed_points, intervals}
 use Rattle.tables.specs.declared.Sizes.{Sizes}
-use Rattle.mesh_text.specs.declared.Reading.{Reading}
-use Rattle.mesh_text.specs.declared.Reading.TheVariants as Reading
+use Rattle.mesh_text.specs.declared.ReadingGround.{ReadingGround}
 use Rattle.mesh_text.proofs.Read.{ReadText, read-means, length-coordinates, length-lengths, length-firsts, length-intervals}
 use Rattle.built_meshes.specs.Lists.{Lists, counts_fit}
 use Rattle.built_meshes.specs.Building.{build, BuildOutcome as ListsOutcome}
 use Rattle.built_meshes.specs.declared.Version.{Version}
 use Rattle.built_meshes.specs.declared.Ground.TheVariants.{OverCounts}
-use Rattle.built_meshes.specs.declared.Built.{Built}
 use Rattle.built_meshes.proofs.Begin.{counts-is}
 use Rattle.building_tests.specs.Lent.{lists_in, limits_of}
 use Rattle.building_tests.specs.declared.Bounds.{Bounds}
 use Rattle.building_tests.specs.declared.Bounds.TheVariants.{General, Refine}
-use Rattle.text_meshes.specs.TextBuilding.{is_too_long, lists_of, told, text_numbers, TextOutcome, told_outcome, of_form, build_text_if, build_text}
-use Rattle.text_meshes.specs.declared.TextBuilt.{TextBuilt}
-use Rattle.text_meshes.specs.declared.TextBuilt.TheVariants.{NotText, Refused}
+use Rattle.text_meshes.specs.TextBuilding.{is_too_long, lists_of, told, text_numbers, TextOutcome, told_outcome, build_text_if, build_text}
+use Rattle.text_meshes.specs.declared.TextRefusal.{TextRefusal}
+use Rattle.text_meshes.specs.declared.TextRefusal.TheVariants.{NotText, Refused}
 
 -- the limits of both kinds are within the general ones
 few : (b : Bounds) → ((limits_of b).points ≤ 4096) × ((limits_of b).faces ≤ 4096) × ((limits_of b).listed ≤ 16384)
@@ -101,17 +102,18 @@ take-sets xs cs n e h =
     rw (sets-eq cs xs 0 (omega arith), ← e) (take-append_seam cs (drop (0 + length cs) xs))
 
 -- the answer as one of building from a text, beside the tables
-pub same-told : {a : TextBuilt} {r : Built} {m : Mesh} {o : ListsOutcome} → a ≡ told r → record { answer = r; tables = m } ≡ o → record { answer = a; tables = m } ≡ told_outcome o
+pub same-told : {a : Result Counts TextRefusal} {r : Result Counts Ground} {m : Mesh} {o : ListsOutcome} → a ≡ told r →
+    record { answer = r; tables = m } ≡ o → record { answer = a; tables = m } ≡ told_outcome o
 same-told {a} {r} {m} e h =
     let f : (x : ListsOutcome) → TextOutcome = told_outcome in
     (λ i. record { answer = e i; tables = m }) ∙ ap f h
 
-module _ (b : Bounds) (s : List ℕ) (l : TextLists) {r : Reading} {l' : TextLists} {limits : Sizes} (eb : limits ≡ limits_of b)
+module _ (b : Bounds) (s : List ℕ) (l : TextLists) {r : Result (Version × Sizes) ReadingGround} {l' : TextLists} {limits : Sizes} (eb : limits ≡ limits_of b)
     (e : record { reading = r; lists = l' } ≡ read_into s limits l) where
   answered : r ≡ (read_into s (limits_of b) l).reading
   answered = ap (λ (x : ReadOutcome). x.reading) e ∙ ap (λ (v : Sizes). (read_into s v l).reading) eb
 
-  pub no-form : r ≡ Reading.NotText → text s ≡ unparsed
+  pub no-form : r ≡ Err ReadingGround.NotText → text s ≡ unparsed
   unfolding read_into
   no-form h = go (text s) refl
     where
@@ -131,7 +133,7 @@ module _ (b : Bounds) (s : List ℕ) (l : TextLists) {r : Reading} {l' : TextLis
   -- what a text over the limits says
   module _ (rx : 12288 ≤ length l.coordinates) (rl : 16384 ≤ length l.lengths) (rp : 16384 ≤ length l.listed) (rd : 16384 ≤ length l.intervals)
       (rq : 16384 ≤ length l.firsts) where
-    pub over-text : r ≡ Reading.OverLimits → (t : TextMesh) × (n : ℕ) × (text s ≡ parsed t n) × (counts_fit (limits_of b) (lists_of t) ≡ false)
+    pub over-text : r ≡ Err ReadingGround.OverLimits → (t : TextMesh) × (n : ℕ) × (text s ≡ parsed t n) × (counts_fit (limits_of b) (lists_of t) ≡ false)
     unfolding read_into
     over-text h = go (text s) refl
       where
@@ -151,7 +153,7 @@ module _ (b : Bounds) (s : List ℕ) (l : TextLists) {r : Reading} {l' : TextLis
             let z : ◌≡◌ {A = ℕ} 0 1 = cc in
             absurd (omega arith)
 
-  module _ {v : Version} {c : Sizes} (ec : r ≡ Reading.Read v c) where
+  module _ {v : Version} {c : Sizes} (ec : r ≡ Ok (v, c)) where
     pub means : ReadText s (limits_of b) l v c
     means = read-means s (limits_of b) l v c (sym answered ∙ ec)
 
@@ -202,19 +204,19 @@ module _ (b : Bounds) (s : List ℕ) (l : TextLists) {r : Reading} {l' : TextLis
         let td = ap (λ (v : TextLists). take c.listed v.intervals) el ∙ take-sets l.intervals (intervals t) c.listed (omega arith) h.intervals in
         λ i. lists_in (tv i) (tc i) (tl i) (tq i) (tp i) (td i)
 
-module _ (b : Bounds) (s : List ℕ) (l : TextLists) (m : Mesh) {r : Reading} {l' : TextLists} {limits : Sizes} (eb : limits ≡ limits_of b)
+module _ (b : Bounds) (s : List ℕ) (l : TextLists) (m : Mesh) {r : Result (Version × Sizes) ReadingGround} {l' : TextLists} {limits : Sizes} (eb : limits ≡ limits_of b)
     (e : record { reading = r; lists = l' } ≡ read_into s limits l) where
-  pub not-text : r ≡ Reading.NotText → record { answer = NotText; tables = m } ≡ build_text_if false b s m
+  pub not-text : r ≡ Err ReadingGround.NotText → record { answer = Err NotText; tables = m } ≡ build_text_if false b s m
   unfolding build_text_if
   not-text h = rw (no-form b s l eb e h)
 
   module _ (rx : 12288 ≤ length l.coordinates) (rl : 16384 ≤ length l.lengths) (rp : 16384 ≤ length l.listed) (rd : 16384 ≤ length l.intervals)
       (rq : 16384 ≤ length l.firsts) where
-    pub over-limits : r ≡ Reading.OverLimits → record { answer = Refused OverCounts; tables = m } ≡ build_text_if false b s m
+    pub over-limits : r ≡ Err ReadingGround.OverLimits → record { answer = Err (Refused OverCounts); tables = m } ≡ build_text_if false b s m
     unfolding build_text_if
     over-limits h = let (t, n, et, ec) = over-text b s l eb e rx rl rp rd rq h in rw (et, ec)
 
-  module _ {v : Version} {c : Sizes} (ec : r ≡ Reading.Read v c) where
+  module _ {v : Version} {c : Sizes} (ec : r ≡ Ok (v, c)) where
     pub first-entries : (o : TextOutcome) → o ≡ told_outcome (build (limits_of b)
         (lists_in v (take (3 * c.points) l'.coordinates) (take (4 * c.faces) l'.lengths) (take (4 * c.faces) l'.firsts)
         (take c.listed l'.listed) (take c.listed l'.intervals)) m)
@@ -224,7 +226,7 @@ module _ (b : Bounds) (s : List ℕ) (l : TextLists) (m : Mesh) {r : Reading} {l
         rw (means b s l eb e ec).form (eo ∙ ap (λ (x : Lists). told_outcome (build (limits_of b) x m)) (first-lists b s l eb e ec))
 
 module _ (b : Bounds) (s : List ℕ) (m : Mesh) {t : Bool} (e : t ≡ is_too_long b (length s)) where
-  pub too_long : t ≡ true → record { answer = Refused OverCounts; tables = m } ≡ build_text b s m
+  pub too_long : t ≡ true → record { answer = Err (Refused OverCounts); tables = m } ≡ build_text b s m
   unfolding build_text
   too_long h = rw (sym e ∙ h)
 

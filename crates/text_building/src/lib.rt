@@ -16,11 +16,11 @@ ghost use Rattle.text_meshes.specs.TextBuilding.{TextOutcome, told_outcome, buil
 
 use building::build;
 use building_tests::{Bounds, MOST_FACES, MOST_LISTED, MOST_POINTS};
-use built_meshes::{Ground, Version};
-use mesh_text::Reading;
-use tables::POSITION_WIDTH;
+use built_meshes::{Ground, LentLists, Version};
+use mesh_text::ReadingGround;
+use tables::{Counts, POSITION_WIDTH};
 use text_answers::{is_too_long, told};
-use text_meshes::TextBuilt;
+use text_meshes::TextRefusal;
 use text_reading::read_text;
 
 // Builds from the first entries of the lists: 3 for each of p points, 4 side lengths and first points for each of f faces, n listed
@@ -41,7 +41,7 @@ fn build_first(
     intervals: &mut [f64],
     faces: &mut [u32],
     bounds: Bounds,
-) -> TextBuilt
+) -> Result<Counts, TextRefusal>
     requires p_in_bounds { position_width * p ≤ length coordinates.now }
     requires f_in_bounds { 4 * f ≤ length sides.now }
     requires n_in_bounds { n ≤ length listed.now }
@@ -57,20 +57,15 @@ fn build_first(
 {
     let a = POSITION_WIDTH * p;
     let b = 4 * f;
-    let built = build(
+    let lists = LentLists {
         version,
-        &coordinates[..a],
-        &sides[..b],
-        &firsts[..b],
-        &listed[..n],
-        &beside[..n],
-        positions,
-        points,
-        edges,
-        intervals,
-        faces,
-        bounds,
-    );
+        coordinates: &coordinates[..a],
+        sides: &sides[..b],
+        firsts: &firsts[..b],
+        listed: &listed[..n],
+        beside: &beside[..n],
+    };
+    let built = build(&lists, positions, points, edges, intervals, faces, bounds);
     told(built)
 }
 
@@ -88,7 +83,7 @@ fn read_and_build(
     edges: &mut [u32],
     intervals: &mut [f64],
     faces: &mut [u32],
-) -> TextBuilt
+) -> Result<Counts, TextRefusal>
     requires points_in_bounds { position_width * general_limits.points ≤ length coordinates.old }
     requires faces_in_bounds { 4 * general_limits.faces ≤ length sides.old }
     requires listed_in_bounds { general_limits.listed ≤ length listed.old }
@@ -108,7 +103,7 @@ fn read_and_build(
         listed,
         beside,
     ) {
-        Reading::Read(version, c) => build_first(
+        Ok((version, c)) => build_first(
             version,
             coordinates,
             sides,
@@ -125,8 +120,8 @@ fn read_and_build(
             faces,
             bounds,
         ),
-        Reading::NotText => TextBuilt::NotText,
-        Reading::OverLimits => TextBuilt::Refused(Ground::OverCounts),
+        Err(ReadingGround::NotText) => Err(TextRefusal::NotText),
+        Err(ReadingGround::OverLimits) => Err(TextRefusal::Refused(Ground::OverCounts)),
     }
 }
 
@@ -139,7 +134,7 @@ pub fn build_text(
     edges: &mut [u32],
     intervals: &mut [f64],
     faces: &mut [u32],
-) -> TextBuilt
+) -> Result<Counts, TextRefusal>
     ensures outcome { ◌≡◌ {A = TextOutcome}
         (record { answer = result; tables = mesh_of positions.new points.new edges.new intervals.new faces.new })
         (build_text bounds text.now
@@ -149,7 +144,7 @@ pub fn build_text(
         (mesh_of positions.old points.old edges.old intervals.old faces.old)).answer }
 {
     if is_too_long(bounds, text.len()) {
-        return TextBuilt::Refused(Ground::OverCounts);
+        return Err(TextRefusal::Refused(Ground::OverCounts));
     }
     let mut coordinates = [0.0; POSITION_WIDTH * MOST_POINTS];
     let mut sides = [0u32; 4 * MOST_FACES];

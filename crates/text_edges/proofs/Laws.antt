@@ -9,25 +9,23 @@ use lib.Dec.{leb}
 use lib.Ieee.{Float}
 use lib.ListN.{length, take}
 use borrow.Author.Tests.{leb-true}
+use Rattle.std.specs.Prelude.{Result, Ok, Err}
 use Rattle.tables.specs.Mesh.{Mesh, mesh_of}
 use Rattle.tables.specs.declared.Sizes.{Sizes}
 use Rattle.text_numbers.proofs.Laws.{and_both}
 use Rattle.mesh_text.specs.Text.{TextMesh}
 use Rattle.mesh_text.specs.Reading.{TextLists, within, read_into}
 use Rattle.mesh_text.specs.Lists.{listed_points}
-use Rattle.mesh_text.specs.declared.Reading.{Reading}
-use Rattle.mesh_text.specs.declared.Reading.TheVariants as Reading
+use Rattle.mesh_text.specs.declared.ReadingGround.{ReadingGround}
 use Rattle.built_meshes.specs.Lists.{Lists, offset, counts_fit}
 use Rattle.built_meshes.specs.Building.{build}
 use Rattle.built_meshes.specs.Places.{point_of, next_of}
 use Rattle.built_meshes.specs.declared.Version.{Version}
 use Rattle.built_meshes.specs.declared.Ground.TheVariants.{OverCounts}
-use Rattle.built_meshes.specs.declared.Built.TheVariants as Built
 use Rattle.building_tests.specs.Lent.{lists, lists_in, limits_of}
 use Rattle.building_tests.specs.declared.Bounds.{Bounds}
 use Rattle.text_meshes.specs.TextBuilding.{is_too_long, lists_of, told, TextOutcome}
 use Rattle.text_meshes.specs.Claims.{StandsFor, OverText, over-bytes, over-points, over-faces, over-listed}
-use Rattle.text_meshes.specs.declared.TextBuilt.TheVariants.{Refused}
 use Rattle.text_meshes.proofs.Theorem.{of-lists, over-exactly}
 use Rattle.text_building.proofs.Laws.{no-form, over-text, means, first-lists}
 use Rattle.told_edges.specs.declared.ToldEdge.{ToldEdge}
@@ -54,19 +52,25 @@ module _ (v : Version) (cs : List Float) (ss fs ls : List ℕ) (is : List Float)
       ap (λ (x : ToldEdge). cond (is_listed (lists [] ss ls []) f i) x Missing)
       (same-before (point_of (lists [] ss ls []) f i) (next_of (lists [] ss ls []) f i) f)
 
-module _ (b : Bounds) (s : List ℕ) (l : TextLists) {r : Reading} {l' : TextLists} {limits : Sizes} (eb : limits ≡ limits_of b)
+module _ (b : Bounds) (s : List ℕ) (l : TextLists) {r : Result (Version × Sizes) ReadingGround} {l' : TextLists} {limits : Sizes} (eb : limits ≡ limits_of b)
     (e : record { reading = r; lists = l' } ≡ read_into s limits l) (short : is_too_long b (length s) ≡ false) (f i : ℕ) where
-  pub not-text : r ≡ Reading.NotText → Missing ≡ text_edge b s f i
+  not-text : r ≡ Err ReadingGround.NotText → Missing ≡ text_edge b s f i
   unfolding text_edge form_edge
   not-text h = rw (short, no-form b s l eb e h)
 
-  pub over-limits :
+  over-limits :
       12288 ≤ length l.coordinates → 16384 ≤ length l.lengths → 16384 ≤ length l.listed → 16384 ≤ length l.intervals →
-      16384 ≤ length l.firsts → r ≡ Reading.OverLimits → Missing ≡ text_edge b s f i
+      16384 ≤ length l.firsts → r ≡ Err ReadingGround.OverLimits → Missing ≡ text_edge b s f i
   unfolding text_edge form_edge
   over-limits rx rl rp rd rq h = let (t, n, et, ec) = over-text b s l eb e rx rl rp rd rq h in rw (short, et, ec)
 
-  module _ {v : Version} {c : Sizes} (ec : r ≡ Reading.Read v c) where
+  pub unread :
+      12288 ≤ length l.coordinates → 16384 ≤ length l.lengths → 16384 ≤ length l.listed → 16384 ≤ length l.intervals →
+      16384 ≤ length l.firsts → (g : ReadingGround) → r ≡ Err g → Missing ≡ text_edge b s f i
+  unread rx rl rp rd rq ReadingGround.NotText h = not-text h
+  unread rx rl rp rd rq ReadingGround.OverLimits h = over-limits rx rl rp rd rq h
+
+  module _ {v : Version} {c : Sizes} (ec : r ≡ Ok (v, c)) where
     abbrev T : TextMesh
     T = (means b s l eb e ec).what
 
@@ -106,7 +110,7 @@ module _ (b : Bounds) (s : List ℕ) (l : TextLists) {r : Reading} {l' : TextLis
         go true h = refl
         go false h =
             let m : Mesh = mesh_of [] [] [] [] [] in
-            let a : (build (limits_of b) (lists_of T) m).answer ≡ Built.Refused OverCounts = rw h in
+            let a : (build (limits_of b) (lists_of T) m).answer ≡ Err OverCounts = rw h in
             absurd (not-over ((over-exactly b s m).0 (ap (λ (o : TextOutcome). o.answer) (of-lists b s m stands) ∙ ap told a)))
 
     pub first-entries :

@@ -15,7 +15,6 @@ ghost use Rattle.explained_edges.specs.TextEdges.{text_edge};
 
 use building_tests::{Bounds, MOST_FACES, MOST_LISTED, MOST_POINTS};
 use edge_lookups::told_edge;
-use mesh_text::Reading;
 use tables::POSITION_WIDTH;
 use text_answers::is_too_long;
 use text_reading::read_text;
@@ -61,9 +60,8 @@ fn read_and_tell(
         listed,
         beside,
     ) {
-        Reading::Read(_, c) => told_first(sides, listed, c.faces, c.listed, f, i),
-        Reading::NotText => ToldEdge::Missing,
-        Reading::OverLimits => ToldEdge::Missing,
+        Ok((_, c)) => told_first(sides, listed, c.faces, c.listed, f, i),
+        Err(_) => ToldEdge::Missing,
     }
 }
 

@@ -9,20 +9,19 @@ ghost use Rattle.mesh_text.specs.Text.{head_form, ends};
 ghost use Rattle.mesh_text.specs.Parts.{head_of};
 
 use built_meshes::Version;
-use mesh_text::Head;
 use text_numbers::stands;
 
-// The head of a text.
-pub fn read_head(s: &[u8]) -> Head
+// The version that the head of a text names.
+pub fn read_head(s: &[u8]) -> Option<Version>
     ensures { result ≡ head_of (head_form s.now 0) }
 {
     if stands(s, 0, b"[mesh 1]\n") {
-        return Head::Is(Version::One);
+        return Some(Version::One);
     }
     if stands(s, 0, b"[mesh 2]\n") {
-        return Head::Is(Version::Two);
+        return Some(Version::Two);
     }
-    Head::None
+    None
 }
 
 // Whether the end line stands at a place and is the last of the text.

@@ -14,7 +14,7 @@ ghost use Rattle.text_rewriting.specs.Said.{Said};
 use building_tests::{Bounds, MOST_FACES, MOST_LISTED, MOST_POINTS};
 use built_meshes::Ground;
 use mended_texts::TextMending;
-use mesh_text::Reading;
+use mesh_text::ReadingGround;
 use tables::POSITION_WIDTH;
 use text_numbers::stands;
 use text_reading::read_text;
@@ -81,7 +81,7 @@ fn read_and_mend(
         listed,
         beside,
     ) {
-        Reading::Read(version, c) => mend_first(
+        Ok((version, c)) => mend_first(
             text,
             coordinates,
             sides,
@@ -92,8 +92,8 @@ fn read_and_mend(
             c.faces,
             c.listed,
         ),
-        Reading::NotText => TextMending::NotText,
-        Reading::OverLimits => TextMending::Refused(Ground::OverCounts),
+        Err(ReadingGround::NotText) => TextMending::NotText,
+        Err(ReadingGround::OverLimits) => TextMending::Refused(Ground::OverCounts),
     }
 }
 

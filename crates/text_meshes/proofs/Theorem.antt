@@ -8,6 +8,7 @@ use mathlib.Core.Logic.{◌⊎◌, inl, inr}
 use Prim.Native.Nat.{ℕ, zero, suc, ◌+◌, ◌<◌, ◌≤◌}
 use native.Mathlib.Omega.{arith}
 use lib.ListN.{length, get_or}
+use Rattle.std.specs.Prelude.{Result, Ok, Err}
 use Rattle.tables.specs.Mesh.{Mesh, none as no_row}
 use Rattle.tables.specs.declared.Counts.{Counts}
 use Rattle.closed_meshes.specs.Renumbering.{sum_to}
@@ -22,8 +23,6 @@ use Rattle.built_meshes.specs.Building.{build}
 use Rattle.built_meshes.specs.Grounds.{Holds, lists, over-counts, IsOverCounts, many-points, many-faces, many-listed, point-cut, face-cut, unlike, sum-unlike, firsts-unlike}
 use Rattle.built_meshes.specs.declared.Ground.{Ground}
 use Rattle.built_meshes.specs.declared.Ground.TheVariants.{OverCounts}
-use Rattle.built_meshes.specs.declared.Built.{Built}
-use Rattle.built_meshes.specs.declared.Built.TheVariants as Built
 use Rattle.built_meshes.proofs.Begin.{Counted, counts-is, counts-fail, counted-fits}
 use Rattle.built_meshes.proofs.Theorem.{over-of, refusals-hold, accepts-exactly as lists-accept-exactly, accepted-audited, untouched-beyond}
 use Rattle.building_tests.specs.Lent.{limits_of}
@@ -33,7 +32,7 @@ use Rattle.text_meshes.specs.TextBuilding.{is_too_long, lists_of, told, TextOutc
 use Rattle.text_meshes.specs.Claims.{StandsFor, OverText, over-bytes, AcceptsTextExactly, NotTextExactly, OverExactly}
 use Rattle.text_meshes.specs.Within.{UntouchedEarly, WithinLimits, AcceptedWithin}
 use Rattle.text_meshes.specs.Claims as Claims
-use Rattle.text_meshes.specs.declared.TextBuilt.TheVariants.{Accepted, NotText, Refused}
+use Rattle.text_meshes.specs.declared.TextRefusal.TheVariants.{NotText, Refused}
 
 pub few-faces : (b : Bounds) → (limits_of b).faces ≤ no_row
 few-faces General = omega arith
@@ -78,8 +77,8 @@ module _ (b : Bounds) (s : List ℕ) (m : Mesh) where
 
   -- what comes of a text
   data Came : TextOutcome → Type 0 where
-    bytes : is_too_long b (length s) ≡ true → Came (record { answer = Refused OverCounts; tables = m })
-    formless : is_too_long b (length s) ≡ false → text s ≡ unparsed → Came (record { answer = NotText; tables = m })
+    bytes : is_too_long b (length s) ≡ true → Came (record { answer = Err (Refused OverCounts); tables = m })
+    formless : is_too_long b (length s) ≡ false → text s ≡ unparsed → Came (record { answer = Err NotText; tables = m })
     formed : {t : TextMesh} → StandsFor b s t → Came (told_outcome (build (limits_of b) (lists_of t) m))
 
   came : Came (build_text b s m)
@@ -94,30 +93,30 @@ module _ (b : Bounds) (s : List ℕ) (m : Mesh) where
       go true eb = bytes eb
       go false eb = form eb (text s) refl
 
-told-accepted : (a : Built) {k : Counts} → told a ≡ Accepted k → a ≡ Built.Accepted k
-told-accepted (Built.Accepted k') {k} e = let z : k' ≡ k = cc in ap Built.Accepted z
-told-accepted (Built.Refused g) e = cc
+told-accepted : (a : Result Counts Ground) {k : Counts} → told a ≡ Ok k → a ≡ Ok k
+told-accepted (Ok k') {k} e = let z : k' ≡ k = cc in ap Ok z
+told-accepted (Err g) e = cc
 
-pub told-refused : (a : Built) {g : Ground} → told a ≡ Refused g → a ≡ Built.Refused g
-told-refused (Built.Accepted k) e = cc
-told-refused (Built.Refused g') {g} e = let z : g' ≡ g = cc in ap Built.Refused z
+pub told-refused : (a : Result Counts Ground) {g : Ground} → told a ≡ Err (Refused g) → a ≡ Err g
+told-refused (Ok k) e = cc
+told-refused (Err g') {g} e = let z : g' ≡ g = cc in ap Err z
 
-told_text : (a : Built) → told a ≡ NotText → ⊥
-told_text (Built.Accepted k) e = let z : ◌≡◌ {A = ℕ} 0 1 = cc in omega arith
-told_text (Built.Refused g) e = let z : ◌≡◌ {A = ℕ} 0 1 = cc in omega arith
+told_text : (a : Result Counts Ground) → told a ≡ Err NotText → ⊥
+told_text (Ok k) e = let z : ◌≡◌ {A = ℕ} 0 1 = cc in omega arith
+told_text (Err g) e = let z : ◌≡◌ {A = ℕ} 0 1 = cc in omega arith
 
 -- ---- the claims
 
 pub accepts-exactly : AcceptsTextExactly
 accepts-exactly b s m = (λ a. to (build_text b s m) (came b s m) a.0 a.1, from)
   where
-    to : (o : TextOutcome) → Came b s m o → (k : Counts) → o.answer ≡ Accepted k
+    to : (o : TextOutcome) → Came b s m o → (k : Counts) → o.answer ≡ Ok k
         → (t : TextMesh) × StandsFor b s t × ((g : Ground) → ¬ Holds (limits_of b) (lists_of t) m g)
     to o (bytes h) k a = let z : ◌≡◌ {A = ℕ} 0 1 = cc in absurd (omega arith)
     to o (formless h e) k a = let z : ◌≡◌ {A = ℕ} 0 1 = cc in absurd (omega arith)
     to o (formed {t = t} h) k a = (t, h, (lists-accept-exactly (limits_of b) (lists_of t) m (few-faces b)).0 (k, told-accepted (build (limits_of b) (lists_of t) m).answer a))
 
-    from : (t : TextMesh) × StandsFor b s t × ((g : Ground) → ¬ Holds (limits_of b) (lists_of t) m g) → (k : Counts) × ((build_text b s m).answer ≡ Accepted k)
+    from : (t : TextMesh) × StandsFor b s t × ((g : Ground) → ¬ Holds (limits_of b) (lists_of t) m g) → (k : Counts) × ((build_text b s m).answer ≡ Ok k)
     from (t, h, n) =
         let (k, e) = (lists-accept-exactly (limits_of b) (lists_of t) m (few-faces b)).1 n in
         (k, ap (λ (o : TextOutcome). o.answer) (of-lists b s m h) ∙ ap told e)
@@ -126,12 +125,12 @@ pub not-text-exactly : NotTextExactly
 unfolding build_text
 not-text-exactly b s m = (to (build_text b s m) (came b s m), from)
   where
-    to : (o : TextOutcome) → Came b s m o → o.answer ≡ NotText → (is_too_long b (length s) ≡ false) × (text s ≡ unparsed)
+    to : (o : TextOutcome) → Came b s m o → o.answer ≡ Err NotText → (is_too_long b (length s) ≡ false) × (text s ≡ unparsed)
     to o (bytes h) a = let z : ◌≡◌ {A = ℕ} 0 1 = cc in absurd (omega arith)
     to o (formless h e) a = (h, e)
     to o (formed {t = t} h) a = absurd (told_text (build (limits_of b) (lists_of t) m).answer a)
 
-    from : (is_too_long b (length s) ≡ false) × (text s ≡ unparsed) → (build_text b s m).answer ≡ NotText
+    from : (is_too_long b (length s) ≡ false) × (text s ≡ unparsed) → (build_text b s m).answer ≡ Err NotText
     from (h, e) = rw (h, e)
 
 pub over-exactly : OverExactly
@@ -144,7 +143,7 @@ over-exactly b s m = (to (build_text b s m) (came b s m), from)
     which t h (inr (inl k)) = Claims.over-faces t h k
     which t h (inr (inr k)) = Claims.over-listed t h k
 
-    to : (o : TextOutcome) → Came b s m o → o.answer ≡ Refused OverCounts → OverText b s
+    to : (o : TextOutcome) → Came b s m o → o.answer ≡ Err (Refused OverCounts) → OverText b s
     to o (bytes h) a = over-bytes h
     to o (formless h e) a = let z : ◌≡◌ {A = ℕ} 0 1 = cc in absurd (omega arith)
     to o (formed {t = t} h) a = which t h
@@ -153,14 +152,14 @@ over-exactly b s m = (to (build_text b s m) (came b s m), from)
         (refusals-hold (limits_of b) (lists_of t) m (few-faces b) OverCounts
         (told-refused (build (limits_of b) (lists_of t) m).answer a)).holds))
 
-    refuses : (t : TextMesh) → StandsFor b s t → IsOverCounts (limits_of b) (lists_of t) → (build_text b s m).answer ≡ Refused OverCounts
+    refuses : (t : TextMesh) → StandsFor b s t → IsOverCounts (limits_of b) (lists_of t) → (build_text b s m).answer ≡ Err (Refused OverCounts)
     refuses t h k = ap (λ (o : TextOutcome). o.answer) (of-lists b s m h) ∙ ap told (go (counts_fit (limits_of b) (lists_of t)) refl)
       where
-        go : (f : Bool) → counts_fit (limits_of b) (lists_of t) ≡ f → (build (limits_of b) (lists_of t) m).answer ≡ Built.Refused OverCounts
+        go : (f : Bool) → counts_fit (limits_of b) (lists_of t) ≡ f → (build (limits_of b) (lists_of t) m).answer ≡ Err OverCounts
         go true e = absurd (counted-fits _ _ (counts-is (limits_of b) (lists_of t) e) k)
         go false e = rw e
 
-    from : OverText b s → (build_text b s m).answer ≡ Refused OverCounts
+    from : OverText b s → (build_text b s m).answer ≡ Err (Refused OverCounts)
     from (over-bytes h) = rw h
     from (Claims.over-points t h k) = refuses t h (means-over (limits_of b) s t h.place h.form (inl k))
     from (Claims.over-faces t h k) = refuses t h (means-over (limits_of b) s t h.place h.form (inr (inl k)))
@@ -169,7 +168,7 @@ over-exactly b s m = (to (build_text b s m) (came b s m), from)
 pub untouched-early : UntouchedEarly
 untouched-early b s m = go (build_text b s m) (came b s m)
   where
-    go : (o : TextOutcome) → Came b s m o → (o.answer ≡ NotText) ⊎ (o.answer ≡ Refused OverCounts) → o.tables ≡ m
+    go : (o : TextOutcome) → Came b s m o → (o.answer ≡ Err NotText) ⊎ (o.answer ≡ Err (Refused OverCounts)) → o.tables ≡ m
     go o (bytes h) a = refl
     go o (formless h e) a = refl
     go o (formed {t = t} h) (inl a) = absurd (told_text (build (limits_of b) (lists_of t) m).answer a)
@@ -179,13 +178,13 @@ untouched-early b s m = go (build_text b s m) (came b s m)
 pub accepted-within : AcceptedWithin
 accepted-within b s m k answer = go (build_text b s m) (came b s m) answer
   where
-    few : (t : TextMesh) → (build (limits_of b) (lists_of t) m).answer ≡ Built.Accepted k → (f : Bool) → counts_fit (limits_of b) (lists_of t) ≡ f
+    few : (t : TextMesh) → (build (limits_of b) (lists_of t) m).answer ≡ Ok k → (f : Bool) → counts_fit (limits_of b) (lists_of t) ≡ f
         → Counted (limits_of b) (lists_of t)
     few t a true e = counts-is (limits_of b) (lists_of t) e
     few t a false e =
         absurd ((lists-accept-exactly (limits_of b) (lists_of t) m (few-faces b)).0 (k, a) OverCounts (lists, over-counts (counts-fail (limits_of b) (lists_of t) e)))
 
-    go : (o : TextOutcome) → Came b s m o → o.answer ≡ Accepted k → WithinLimits b m o.tables k
+    go : (o : TextOutcome) → Came b s m o → o.answer ≡ Ok k → WithinLimits b m o.tables k
     go o (bytes h) a = let z : ◌≡◌ {A = ℕ} 0 1 = cc in absurd (omega arith)
     go o (formless h e) a = let z : ◌≡◌ {A = ℕ} 0 1 = cc in absurd (omega arith)
     go o (formed {t = t} h) a =

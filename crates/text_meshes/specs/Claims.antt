@@ -5,7 +5,7 @@
 --     NotTextExactly        1 is answered exactly if it is not too long and not of the form
 --     OverExactly            2 is answered exactly if it is over a limit
 -- All further grounds are those of building from its lists (`built_meshes`): `of-lists` in `proofs/Theorem.antt`.
-use Rattle.std.specs.Prelude.{◌≡◌, true, false, List, ◌↔◌, ℕ, ◌<◌, length}
+use Rattle.std.specs.Prelude.{◌≡◌, true, false, List, ◌↔◌, ℕ, ◌<◌, length, Ok, Err}
 use Rattle.tables.specs.Mesh.{Mesh}
 use Rattle.tables.specs.declared.Counts.{Counts}
 use Rattle.text_numbers.specs.Form.{parsed, unparsed}
@@ -17,7 +17,7 @@ use Rattle.built_meshes.specs.declared.Ground.TheVariants.{OverCounts}
 use Rattle.building_tests.specs.Lent.{limits_of}
 use Rattle.building_tests.specs.declared.Bounds.{Bounds}
 use Rattle.text_meshes.specs.TextBuilding.{is_too_long, lists_of, build_text}
-use Rattle.text_meshes.specs.declared.TextBuilt.TheVariants.{Accepted, NotText, Refused}
+use Rattle.text_meshes.specs.declared.TextRefusal.TheVariants.{NotText, Refused}
 
 pub record StandsFor (b : Bounds) (s : List ℕ) (t : TextMesh) : Type 0 where
   pub short : is_too_long b (length s) ≡ false
@@ -33,13 +33,13 @@ pub data OverText (b : Bounds) (s : List ℕ) : Type 0 where
 abbrev pub AcceptsTextExactly : Type 0
 AcceptsTextExactly =
     (b : Bounds) (s : List ℕ) (m : Mesh) →
-    ((k : Counts) × ((build_text b s m).answer ≡ Accepted k))
+    ((k : Counts) × ((build_text b s m).answer ≡ Ok k))
     ↔ ((t : TextMesh) × StandsFor b s t × ((g : Ground) → ¬ Holds (limits_of b) (lists_of t) m g))
 
 abbrev pub NotTextExactly : Type 0
 NotTextExactly =
     (b : Bounds) (s : List ℕ) (m : Mesh) →
-    ((build_text b s m).answer ≡ NotText) ↔ ((is_too_long b (length s) ≡ false) × (text s ≡ unparsed))
+    ((build_text b s m).answer ≡ Err NotText) ↔ ((is_too_long b (length s) ≡ false) × (text s ≡ unparsed))
 
 abbrev pub OverExactly : Type 0
-OverExactly = (b : Bounds) (s : List ℕ) (m : Mesh) → ((build_text b s m).answer ≡ Refused OverCounts) ↔ OverText b s
+OverExactly = (b : Bounds) (s : List ℕ) (m : Mesh) → ((build_text b s m).answer ≡ Err (Refused OverCounts)) ↔ OverText b s

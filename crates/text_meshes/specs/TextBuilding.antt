@@ -8,7 +8,9 @@
 --     TextOutcome             the answer, and the tables afterwards
 --     build_text b s m         building from the text s in the lent tables m, within the limits b
 -- Grounds 1 and 2 leave the tables as they are.
-use Rattle.std.specs.Prelude.{Bool, true, false, List, [], ◌∷◌, ℕ, ltb, length}
+use Rattle.std.specs.Prelude.{Bool, true, false, List, [], ◌∷◌, ℕ, ltb, length, Result, Ok, Err}
+use Rattle.built_meshes.specs.declared.Ground.{Ground}
+use Rattle.tables.specs.declared.Counts.{Counts}
 use Rattle.tables.specs.Mesh.{Mesh}
 use Rattle.text_numbers.specs.Form.{Parsed, parsed, unparsed}
 use Rattle.mesh_text.specs.Text.{text, TextMesh}
@@ -17,13 +19,11 @@ use Rattle.built_meshes.specs.Lists.{Lists}
 use Rattle.built_meshes.specs.Answers.{ground_number}
 use Rattle.built_meshes.specs.Building.{build, BuildOutcome as ListsOutcome}
 use Rattle.built_meshes.specs.declared.Ground.TheVariants.{OverCounts}
-use Rattle.built_meshes.specs.declared.Built.{Built}
-use Rattle.built_meshes.specs.declared.Built.TheVariants as Built
 use Rattle.building_tests.specs.Lent.{lists_in, limits_of}
 use Rattle.building_tests.specs.declared.Bounds.{Bounds}
 use Rattle.building_tests.specs.declared.Bounds.TheVariants.{General, Refine}
-use Rattle.text_meshes.specs.declared.TextBuilt.{TextBuilt}
-use Rattle.text_meshes.specs.declared.TextBuilt.TheVariants.{Accepted, NotText, Refused}
+use Rattle.text_meshes.specs.declared.TextRefusal.{TextRefusal}
+use Rattle.text_meshes.specs.declared.TextRefusal.TheVariants.{NotText, Refused}
 
 abbrev pub refine_bytes : ℕ
 refine_bytes = 16384
@@ -35,17 +35,17 @@ is_too_long Refine n = ltb refine_bytes n
 abbrev pub lists_of : TextMesh → Lists
 lists_of t = lists_in t.version (coordinates t) (lengths t) (firsts t) (listed_points t) (intervals t)
 
-abbrev pub told : Built → TextBuilt
-told (Built.Accepted k) = Accepted k
-told (Built.Refused g) = Refused g
+abbrev pub told : Result Counts Ground → Result Counts TextRefusal
+told (Ok k) = Ok k
+told (Err g) = Err (Refused g)
 
-abbrev pub text_numbers : TextBuilt → List ℕ
-text_numbers (Accepted k) = k.points ∷ k.edges ∷ k.faces ∷ []
-text_numbers NotText = 1 ∷ []
-text_numbers (Refused g) = ground_number g ∷ []
+abbrev pub text_numbers : Result Counts TextRefusal → List ℕ
+text_numbers (Ok k) = k.points ∷ k.edges ∷ k.faces ∷ []
+text_numbers (Err NotText) = 1 ∷ []
+text_numbers (Err (Refused g)) = ground_number g ∷ []
 
 pub record TextOutcome : Type 0 where
-  pub answer : TextBuilt
+  pub answer : Result Counts TextRefusal
   pub tables : Mesh
 
 abbrev pub told_outcome : ListsOutcome → TextOutcome
@@ -55,11 +55,11 @@ told_outcome x = record { answer = told x.answer; tables = x.tables }
 unfoldable pub of_form : Bounds → Mesh → Parsed TextMesh → TextOutcome
 unfolding build
 of_form b m (parsed t n) = told_outcome (build (limits_of b) (lists_of t) m)
-of_form b m unparsed = record { answer = NotText; tables = m }
+of_form b m unparsed = record { answer = Err NotText; tables = m }
 
 unfoldable pub build_text_if : Bool → Bounds → List ℕ → Mesh → TextOutcome
 unfolding of_form text
-build_text_if true b s m = record { answer = Refused OverCounts; tables = m }
+build_text_if true b s m = record { answer = Err (Refused OverCounts); tables = m }
 build_text_if false b s m = of_form b m (text s)
 
 unfoldable pub build_text : Bounds → List ℕ → Mesh → TextOutcome

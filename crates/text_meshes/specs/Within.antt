@@ -3,7 +3,7 @@
 --     AsLong m t              the tables t are as long as the tables m
 --     WithinLimits b m t k   the tables t, as long as m, hold a mesh with the counts k that passes the audit and is within the limits
 --     AcceptedWithin         what is accepted is such a mesh
-use Rattle.std.specs.Prelude.{◌≡◌, true, List, ◌⊎◌, ℕ, ◌*◌, ◌≤◌, length}
+use Rattle.std.specs.Prelude.{◌≡◌, true, List, ◌⊎◌, ℕ, ◌*◌, ◌≤◌, length, Ok, Err}
 use Rattle.tables.specs.Mesh.{Mesh}
 use Rattle.tables.specs.declared.Counts.{Counts}
 use Rattle.audited_meshes.specs.Audit.{audit}
@@ -11,12 +11,12 @@ use Rattle.built_meshes.specs.declared.Ground.TheVariants.{OverCounts}
 use Rattle.building_tests.specs.Lent.{limits_of}
 use Rattle.building_tests.specs.declared.Bounds.{Bounds}
 use Rattle.text_meshes.specs.TextBuilding.{build_text}
-use Rattle.text_meshes.specs.declared.TextBuilt.TheVariants.{Accepted, NotText, Refused}
+use Rattle.text_meshes.specs.declared.TextRefusal.TheVariants.{NotText, Refused}
 
 abbrev pub UntouchedEarly : Type 0
 UntouchedEarly =
     (b : Bounds) (s : List ℕ) (m : Mesh) →
-    ((build_text b s m).answer ≡ NotText) ⊎ ((build_text b s m).answer ≡ Refused OverCounts) → (build_text b s m).tables ≡ m
+    ((build_text b s m).answer ≡ Err NotText) ⊎ ((build_text b s m).answer ≡ Err (Refused OverCounts)) → (build_text b s m).tables ≡ m
 
 pub record AsLong (m t : Mesh) : Type 0 where
   pub positions : length t.positions ≡ length m.positions
@@ -35,5 +35,5 @@ pub record WithinLimits (b : Bounds) (m t : Mesh) (k : Counts) : Type 0 where
 
 abbrev pub AcceptedWithin : Type 0
 AcceptedWithin =
-    (b : Bounds) (s : List ℕ) (m : Mesh) (k : Counts) → (build_text b s m).answer ≡ Accepted k →
+    (b : Bounds) (s : List ℕ) (m : Mesh) (k : Counts) → (build_text b s m).answer ≡ Ok k →
     WithinLimits b m (build_text b s m).tables k

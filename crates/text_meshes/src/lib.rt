@@ -6,12 +6,10 @@
 #![tactic(auto)]
 
 use built_meshes::Ground;
-use tables::Counts;
 
-// What building from a text answers: how many points, edges and faces the mesh has, or why there is none.
+// Why there is no mesh of a text.
 #[derive(Clone, Copy)]
-pub enum TextBuilt {
-    Accepted(Counts),
+pub enum TextRefusal {
     // 1: not of the form
     NotText,
     // 2 and later

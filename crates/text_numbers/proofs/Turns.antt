@@ -1,26 +1,42 @@
 -- One turn of a repeated form, and what an answer says of a form. Assumes nothing.
 use mathlib.Core.List.{List, [], ◌∷◌}
-use mathlib.Core.Path.{◌≡◌, refl}
-use mathlib.Core.Bool.{true, false}
+use mathlib.Core.Path.{◌≡◌, refl, sym}
+use mathlib.Core.Bool.{Bool, true, false, cond}
 use Prim.Native.Nat.{ℕ, zero, suc, ◌+◌, ◌*◌, ◌≤◌, ◌<◌}
+use Rattle.std.specs.Prelude.{Some, None}
+use Rattle.std.proofs.lemmas.Option.{some_pair_parts, cond_some}
 use lib.ListN.{length, get_or}
-use borrow.Author.Tests.{lt-ltb, le-ltb}
+use lib.Dec.{ltb}
+use borrow.Author.Tests.{lt-ltb, le-ltb, ltb-true, ltb-false}
 use Rattle.text_numbers.specs.Form.{Parsed, parsed, unparsed, Form, onward, pure, times, if_parsed, stands, literal, many}
 use Rattle.text_numbers.specs.Numbers.{digit_value, digit, digits_from}
-use Rattle.text_numbers.specs.Answers.{number}
-use Rattle.text_numbers.specs.declared.Number.TheVariants as Number
+use Rattle.text_numbers.specs.Answers.{number, digit_below}
 
 pub given-pure : {A B R : Type 0} (g : B → ℕ → R) (d : R) (f : A → B) (x : Parsed A) → if_parsed g d (onward (λ a. pure (f a)) x) ≡ if_parsed (λ a n. g (f a) n) d x
 given-pure g d f (parsed a n) = refl
 given-pure g d f unparsed = refl
 
-pub number_is : (x : Parsed ℕ) {v n : ℕ} → number x ≡ Number.Is v n → x ≡ parsed v n
-number_is (parsed v n) e = cc
+pub number_is : (x : Parsed ℕ) {v n : ℕ} → number x ≡ Some (v, n) → x ≡ parsed v n
+number_is (parsed v n) e = let p = some_pair_parts _ _ _ _ e in cc
 number_is unparsed e = cc
 
-pub number-none : (x : Parsed ℕ) → number x ≡ Number.None → x ≡ unparsed
+pub number-none : (x : Parsed ℕ) → number x ≡ None → x ≡ unparsed
 number-none (parsed v n) e = cc
 number-none unparsed e = refl
+
+module _ {base v : ℕ} where
+  pub digit_some : {d : ℕ} → digit_below base v ≡ Some d → (d ≡ v) × (d < base)
+  digit_some {d} e =
+      let k = cond_some (ltb v base) v d e in
+      let h = ltb-true v base k.0 in
+      (sym k.1, rw k.1 at h)
+
+  pub digit_past : digit_below base v ≡ None → base ≤ v
+  digit_past e = go (ltb v base) refl e
+    where
+      go : (b : Bool) → ltb v base ≡ b → cond b (Some v) None ≡ None → base ≤ v
+      go true eb e' = cc
+      go false eb e' = ltb-false v base eb
 
 module _ {A : Type 0} (p : Form A) (at : ℕ) where
   pub times-found : (k : ℕ) {a : A} {n : ℕ} → p at ≡ parsed a n → times (suc k) p at ≡ onward (λ l. pure (a ∷ l)) (times k p n)

@@ -8,7 +8,7 @@
 use Rattle.std.specs.Prelude.{List, [], ◌∷◌, cond, ℕ, zero, suc, ◌+◌, ◌-◌, ◌*◌, get_or, length, eqb, ltb, Float}
 use Rattle.std.specs.Float.{binary64}
 use Rattle.std.specs.Float.Ieee.{of_bits}
-use Rattle.text_numbers.specs.Form.{Parsed, parsed, unparsed, Form, onward, ◌>>=◌, ◌>>◌, pure, choose, times}
+use Rattle.text_numbers.specs.Form.{parsed, unparsed, Form, ◌>>=◌, pure, choose, times}
 
 -- 0 to 9 and a to f
 unfoldable pub digit_value : ℕ → ℕ

@@ -8,13 +8,7 @@
 ghost use Rattle.std.specs.Prelude.{◌≡◌, ◌≤◌, length, get_or};
 ghost use Rattle.text_numbers.specs.Form.{stands};
 ghost use Rattle.text_numbers.specs.Numbers.{digit_value};
-
-// A number of the text, and the place after it.
-#[derive(Clone, Copy)]
-pub enum Number {
-    Is(u64, usize),
-    None,
-}
+ghost use Rattle.text_numbers.specs.Answers.{digit_below};
 
 // The byte at a place, 0 past the end.
 pub fn byte(s: &[u8], at: usize) -> u8
@@ -28,37 +22,23 @@ pub fn stands(s: &[u8], at: usize, t: &[u8]) -> bool
     requires { at ≤ length s.now }
     ensures { result ≡ stands s.now at t.now }
 {
-    let mut i = 0;
-    while i < t.len() {
+    for i in 0..t.len() {
         if byte(s, at + i) != t[i] {
             return false;
         }
-        i += 1;
     }
     true
 }
 
-// The value of a lower-case hexadecimal digit, 16 for any other byte.
-pub fn digit_value(b: u8) -> u64
-    ensures { result ≡ digit_value b }
+// The value of a lower-case hexadecimal digit that is one of this base; any other byte has the value 16, below no base of these.
+#[tactic(auto, unfolding(crate::specs::Numbers::digit_value))]
+pub fn digit_value(b: u8, base: u64) -> Option<u64>
+    ensures { result ≡ digit_below base (digit_value b) }
 {
-    if b < 48 {
-        return 16;
-    }
-    if b < 58 {
-        return wide(b) - 48;
-    }
-    if b < 97 {
-        return 16;
-    }
-    if b < 103 {
-        return wide(b) - 87;
-    }
-    16
-}
-
-fn wide(b: u8) -> u64
-    ensures { result ≡ b }
-{
-    b as u64
+    let value = match b {
+        48..=57 => u64::from(b) - 48,
+        97..=102 => u64::from(b) - 87,
+        _ => 16,
+    };
+    if value < base { Some(value) } else { None }
 }

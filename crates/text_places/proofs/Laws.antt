@@ -14,14 +14,13 @@ use lib.Ieee.{Float, nan}
 use lib.ListN.{length, take, replicate, length-replicate}
 use lib.Dec.{leb}
 use borrow.Author.Tests.{leb-true}
+use Rattle.std.specs.Prelude.{Result, Ok, Err, ⊤}
 use Rattle.tables.specs.Mesh.{Mesh, mesh_of}
 use Rattle.tables.specs.declared.Sizes.{Sizes}
 use Rattle.mesh_text.specs.Reading.{TextLists, within, read_into}
-use Rattle.mesh_text.specs.Lists.{coordinates, lengths, firsts, intervals}
-use Rattle.mesh_text.specs.declared.Reading.{Reading}
-use Rattle.mesh_text.specs.declared.Reading.TheVariants as Reading
+use Rattle.mesh_text.specs.declared.ReadingGround.{ReadingGround}
 use Rattle.built_meshes.specs.Lists.{Lists, points_of, faces_of, offset, counts_fit, listed_fit}
-use Rattle.built_meshes.specs.Grounds.{lists, whole}
+use Rattle.built_meshes.specs.Grounds.{whole}
 use Rattle.built_meshes.specs.declared.Version.{Version}
 use Rattle.built_meshes.specs.declared.Ground.{Ground}
 use Rattle.built_meshes.proofs.Begin.{Counted, counts-is, Roomy, numbers-is, listed-all}
@@ -31,11 +30,10 @@ use Rattle.building_tests.specs.declared.Bounds.TheVariants.{General, Refine}
 use Rattle.mended_lists.specs.Edges.{places_of}
 use Rattle.face_mending.specs.Shown.{FacesRoom}
 use Rattle.text_meshes.specs.TextBuilding.{is_too_long}
-use Rattle.text_meshes.specs.declared.TextBuilt.TheVariants.{NotText}
 use Rattle.text_building.proofs.Laws.{Held, no-form, over-text, means, fits, first-lists}
 use Rattle.text_numbers.proofs.Laws.{and_both}
 use Rattle.refusal_places.specs.declared.Spot.{Spot}
-use Rattle.refusal_places.specs.declared.Spot.TheVariants.{Clear, Face, Edge}
+use Rattle.refusal_places.specs.declared.Spot.TheVariants.{Face, Edge}
 use Rattle.refusal_places.specs.Spots.{faces_spot, first_spot, spot_if, spotted, where_of}
 use Rattle.refusal_places.proofs.Theorem.{spot-in-faces}
 use Rattle.text_places.specs.declared.TextPlace.{TextPlace}
@@ -90,22 +88,22 @@ spot-room b v cs ss fs ls is x y e t e' t' h =
     }
 
 module _ (b : Bounds) (v : Version) (cs : List Float) (ss fs ls : List ℕ) (is : List Float) where
-  pub spot-counts : (x : Bool) → x ≡ counts_fit (limits_of b) (lists_in v cs ss fs ls is) → x ≡ false → Clear ≡ spotted (limits_of b) (lists_in v cs ss fs ls is)
+  pub spot-counts : (x : Bool) → x ≡ counts_fit (limits_of b) (lists_in v cs ss fs ls is) → x ≡ false → Ok tt ≡ spotted (limits_of b) (lists_in v cs ss fs ls is)
   unfolding spotted
   spot-counts x e t = rw (sym e ∙ t)
 
   pub spot-numbers :
       (x y : Bool) → x ≡ counts_fit (limits_of b) (lists_in v cs ss fs ls is) → x ≡ true → y ≡ listed_fit (lists_one cs [] [] is) → y ≡ false →
-      Clear ≡ spotted (limits_of b) (lists_in v cs ss fs ls is)
+      Ok tt ≡ spotted (limits_of b) (lists_in v cs ss fs ls is)
   unfolding spotted listed_fit
   spot-numbers x y e t e' t' = go (counts_fit (limits_of b) (lists_in v cs ss fs ls is)) (listed_fit (lists_in v cs ss fs ls is)) (sym e ∙ t) (sym e' ∙ t')
     where
-      go : (p q : Bool) → p ≡ true → q ≡ false → Clear ≡ spot_if p q (first_spot (lists_in v cs ss fs ls is))
+      go : (p q : Bool) → p ≡ true → q ≡ false → Ok tt ≡ spot_if p q (first_spot (lists_in v cs ss fs ls is))
       go p q h k = rw (h, k)
 
   pub spot-first :
       (x y : Bool) → x ≡ counts_fit (limits_of b) (lists_in v cs ss fs ls is) → x ≡ true → y ≡ listed_fit (lists_one cs [] [] is) → y ≡ true →
-      (r : Spot) → r ≡ first_spot (lists_in v cs ss fs ls is) → r ≡ spotted (limits_of b) (lists_in v cs ss fs ls is)
+      (r : Result ⊤ Spot) → r ≡ first_spot (lists_in v cs ss fs ls is) → r ≡ spotted (limits_of b) (lists_in v cs ss fs ls is)
   unfolding spotted listed_fit
   spot-first x y e t e' t' r h =
       h ∙ go (counts_fit (limits_of b) (lists_in v cs ss fs ls is)) (listed_fit (lists_in v cs ss fs ls is)) (sym e ∙ t) (sym e' ∙ t')
@@ -113,30 +111,30 @@ module _ (b : Bounds) (v : Version) (cs : List Float) (ss fs ls : List ℕ) (is 
       go : (p q : Bool) → p ≡ true → q ≡ true → first_spot (lists_in v cs ss fs ls is) ≡ spot_if p q (first_spot (lists_in v cs ss fs ls is))
       go p q h k = rw (h, k)
 
-  pub few-faces : (s : Spot) → s ≡ spotted (limits_of b) (lists_in v cs ss fs ls is) → length ss / 4 ≤ 4096 → FewFaces s
-  few-faces Clear e h = omega arith
-  few-faces (Face f g) e h =
+  pub few-faces : (s : Result ⊤ Spot) → s ≡ spotted (limits_of b) (lists_in v cs ss fs ls is) → length ss / 4 ≤ 4096 → FewFaces s
+  few-faces (Ok tt) e h = omega arith
+  few-faces (Err (Face f g)) e h =
       let z = spot-in-faces (limits_of b) (lists_in v cs ss fs ls is) g f 0 (inl (sym e)) in omega (arith, z)
-  few-faces (Edge f i g) e h =
+  few-faces (Err (Edge f i g)) e h =
       let z = spot-in-faces (limits_of b) (lists_in v cs ss fs ls is) g f i (inr (sym e)) in omega (arith, z)
 
 -- ---- the place of what is met
 
-pub place-clear : (np : ℕ) (s : Spot) → s ≡ Clear → record { line = nowhere; face = nowhere; edge = nowhere } ≡ place_at_check np (where_of s)
+pub place-clear : (np : ℕ) (s : Result ⊤ Spot) → s ≡ Ok tt → record { line = nowhere; face = nowhere; edge = nowhere } ≡ place_at_check np (where_of s)
 place-clear np s e = rw e
 
 pub place-face :
-    (np : ℕ) (s : Spot) (f : ℕ) (g : Ground) → s ≡ Face f g → record { line = np + f + 2; face = f; edge = nowhere } ≡ place_at_check np (where_of s)
+    (np : ℕ) (s : Result ⊤ Spot) (f : ℕ) (g : Ground) → s ≡ Err (Face f g) → record { line = np + f + 2; face = f; edge = nowhere } ≡ place_at_check np (where_of s)
 place-face np s f g e = rw e
 
 pub place-edge :
-    (np : ℕ) (s : Spot) (f i : ℕ) (g : Ground) → s ≡ Edge f i g → record { line = np + f + 2; face = f; edge = i } ≡ place_at_check np (where_of s)
+    (np : ℕ) (s : Result ⊤ Spot) (f i : ℕ) (g : Ground) → s ≡ Err (Edge f i g) → record { line = np + f + 2; face = f; edge = i } ≡ place_at_check np (where_of s)
 place-edge np s f i g e = rw e
 
-pub few-face : (s : Spot) (f : ℕ) (g : Ground) → s ≡ Face f g → FewFaces s → f < 4096
+pub few-face : (s : Result ⊤ Spot) (f : ℕ) (g : Ground) → s ≡ Err (Face f g) → FewFaces s → f < 4096
 few-face s f g e h = rw e at h
 
-pub few-edge : (s : Spot) (f i : ℕ) (g : Ground) → s ≡ Edge f i g → FewFaces s → f < 4096
+pub few-edge : (s : Result ⊤ Spot) (f i : ℕ) (g : Ground) → s ≡ Err (Edge f i g) → FewFaces s → f < 4096
 few-edge s f i g e h = rw e at h
 
 -- ---- the local lists
@@ -159,26 +157,32 @@ faces-room ss fs ls is ts np r e =
     }
 
 pub first-is :
-    (v : Version) (cs : List Float) (ss fs ls : List ℕ) (is : List Float) (r : Spot) →
+    (v : Version) (cs : List Float) (ss fs ls : List ℕ) (is : List Float) (r : Result ⊤ Spot) →
     r ≡ faces_spot (lists_in v cs ss fs ls is) (places_of (lists_one [] ss ls [])) (length ss / 4) → r ≡ first_spot (lists_in v cs ss fs ls is)
 unfolding first_spot places_of offset
 first-is v cs ss fs ls is r e = e
 
 -- ---- a text
 
-module _ (b : Bounds) (s : List ℕ) (l : TextLists) {r : Reading} {l' : TextLists} {limits : Sizes} (eb : limits ≡ limits_of b)
+module _ (b : Bounds) (s : List ℕ) (l : TextLists) {r : Result (Version × Sizes) ReadingGround} {l' : TextLists} {limits : Sizes} (eb : limits ≡ limits_of b)
     (e : record { reading = r; lists = l' } ≡ read_into s limits l) where
-  pub not-text : r ≡ Reading.NotText → place_at_check 0 whole ≡ text_place_if false b s
+  not-text : r ≡ Err ReadingGround.NotText → place_at_check 0 whole ≡ text_place_if false b s
   unfolding text_place_if form_place
   not-text h = rw (no-form b s l eb e h)
 
-  pub over-limits :
+  over-limits :
       12288 ≤ length l.coordinates → 16384 ≤ length l.lengths → 16384 ≤ length l.listed → 16384 ≤ length l.intervals →
-      16384 ≤ length l.firsts → r ≡ Reading.OverLimits → place_at_check 0 whole ≡ text_place_if false b s
+      16384 ≤ length l.firsts → r ≡ Err ReadingGround.OverLimits → place_at_check 0 whole ≡ text_place_if false b s
   unfolding text_place_if form_place spotted
   over-limits rx rl rp rd rq h = let (t, n, et, ec) = over-text b s l eb e rx rl rp rd rq h in rw (et, ec)
 
-  module _ {v : Version} {c : Sizes} (ec : r ≡ Reading.Read v c) where
+  pub unread :
+      12288 ≤ length l.coordinates → 16384 ≤ length l.lengths → 16384 ≤ length l.listed → 16384 ≤ length l.intervals →
+      16384 ≤ length l.firsts → (g : ReadingGround) → r ≡ Err g → place_at_check 0 whole ≡ text_place_if false b s
+  unread rx rl rp rd rq ReadingGround.NotText h = not-text h
+  unread rx rl rp rd rq ReadingGround.OverLimits h = over-limits rx rl rp rd rq h
+
+  module _ {v : Version} {c : Sizes} (ec : r ≡ Ok (v, c)) where
     -- the lists have room for what was read, and its counts are within the general limits
     pub record Roomed : Type 0 where
       pub held : Held c l'

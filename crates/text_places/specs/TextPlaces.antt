@@ -4,7 +4,7 @@
 --     text_place b s         the place of the first check that is met in the text s within the limits b, if it has one
 --     SpotRoom              the lists agree in length and are within the general limits
 --     FewFaces s            a face that the place names is within the general limits
-use Rattle.std.specs.Prelude.{◌≡◌, Bool, true, false, List, [], ℕ, ◌+◌, ◌/◌, ◌≤◌, ◌<◌, Float, length}
+use Rattle.std.specs.Prelude.{◌≡◌, Bool, true, false, List, [], ℕ, ◌+◌, ◌/◌, ◌≤◌, ◌<◌, Float, length, Result, Ok, Err, ⊤}
 use Rattle.text_numbers.specs.Form.{Parsed, parsed, unparsed}
 use Rattle.mesh_text.specs.Text.{text, TextMesh}
 use Rattle.built_meshes.specs.Lists.{offset}
@@ -13,7 +13,7 @@ use Rattle.building_tests.specs.Lent.{limits_of, lists as lists_one}
 use Rattle.building_tests.specs.declared.Bounds.{Bounds}
 use Rattle.text_meshes.specs.TextBuilding.{is_too_long, lists_of}
 use Rattle.refusal_places.specs.declared.Spot.{Spot}
-use Rattle.refusal_places.specs.declared.Spot.TheVariants.{Clear, Face, Edge}
+use Rattle.refusal_places.specs.declared.Spot.TheVariants.{Face, Edge}
 use Rattle.refusal_places.specs.Spots.{spotted, where_of}
 use Rattle.text_places.specs.declared.TextPlace.{TextPlace}
 
@@ -49,7 +49,7 @@ pub record SpotRoom (ss fs ls : List ℕ) (is : List Float) (np : ℕ) : Type 0 
   pub few : length ls ≤ 16384
   pub few-faces : length ss / 4 ≤ 4096
 
-abbrev pub FewFaces : Spot → Type 0
-FewFaces Clear = 0 ≤ 4096
-FewFaces (Face f g) = f < 4096
-FewFaces (Edge f i g) = f < 4096
+abbrev pub FewFaces : Result ⊤ Spot → Type 0
+FewFaces (Ok tt) = 0 ≤ 4096
+FewFaces (Err (Face f g)) = f < 4096
+FewFaces (Err (Edge f i g)) = f < 4096

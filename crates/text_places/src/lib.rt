@@ -13,11 +13,10 @@ ghost use Rattle.text_places.specs.TextPlaces.{SpotRoom, FewFaces, place_at_chec
 
 use building_lists::counts_fit;
 use building_tests::{Bounds, MOST_FACES, MOST_LISTED, MOST_POINTS};
-use built_meshes::Version;
+use built_meshes::{LentLists, Version};
 use face_grounds::faces_spot;
 use face_places::spread;
 use list_numbers::numbers_fit;
-use mesh_text::Reading;
 use refusal_places::Spot;
 use tables::POSITION_WIDTH;
 use text_answers::is_too_long;
@@ -42,7 +41,7 @@ fn first_spot(
     listed: &[u32],
     beside: &[f64],
     np: usize,
-) -> Spot
+) -> Result<(), Spot>
     requires { SpotRoom sides.now firsts.now listed.now beside.now np }
     ensures { (cs : List Float) → length cs / position_width ≡ np →
         result ≡ first_spot (lists_in version cs sides.now firsts.now listed.now beside.now) }
@@ -78,39 +77,47 @@ fn spot_in(
     listed: &[u32],
     beside: &[f64],
     bounds: Bounds,
-) -> Spot
+) -> Result<(), Spot>
     requires { length firsts.now ≡ length sides.now }
     ensures { result ≡ spotted (limits_of bounds)
         (lists_in version coordinates.now sides.now firsts.now listed.now beside.now) }
 {
-    if !counts_fit(version, coordinates, sides, firsts, listed, beside, bounds) {
-        return Spot::Clear;
+    let lists = LentLists {
+        version,
+        coordinates,
+        sides,
+        firsts,
+        listed,
+        beside,
+    };
+    if !counts_fit(&lists, bounds) {
+        return Ok(());
     }
     if !numbers_fit(coordinates, beside) {
-        return Spot::Clear;
+        return Ok(());
     }
     let np = coordinates.len() / POSITION_WIDTH;
     first_spot(version, sides, firsts, listed, beside, np)
 }
 
 // The place in a text with np points: the head, a line for each point, then a line for each face.
-fn place_at(np: usize, spot: Spot) -> TextPlace
+fn place_at(np: usize, spot: Result<(), Spot>) -> TextPlace
     requires np_bound { np ≤ 4096 }
     requires few_faces { FewFaces spot }
     ensures { result ≡ place_at_check np (where_of spot) }
 {
     match spot {
-        Spot::Clear => TextPlace {
+        Ok(()) => TextPlace {
             line: NOWHERE,
             face: NOWHERE,
             edge: NOWHERE,
         },
-        Spot::Face(f, _) => TextPlace {
+        Err(Spot::Face(f, _)) => TextPlace {
             line: np + f + 2,
             face: f,
             edge: NOWHERE,
         },
-        Spot::Edge(f, i, _) => TextPlace {
+        Err(Spot::Edge(f, i, _)) => TextPlace {
             line: np + f + 2,
             face: f,
             edge: i,
@@ -183,7 +190,7 @@ fn read_and_place(
         listed,
         beside,
     ) {
-        Reading::Read(version, c) => place_first(
+        Ok((version, c)) => place_first(
             version,
             coordinates,
             sides,
@@ -195,8 +202,7 @@ fn read_and_place(
             c.listed,
             bounds,
         ),
-        Reading::NotText => place_at(0, Spot::Clear),
-        Reading::OverLimits => place_at(0, Spot::Clear),
+        Err(_) => place_at(0, Ok(())),
     }
 }
 
@@ -205,7 +211,7 @@ pub fn text_place(text: &[u8], bounds: Bounds) -> TextPlace
     ensures { result ≡ text_place bounds text.now }
 {
     if is_too_long(bounds, text.len()) {
-        return place_at(0, Spot::Clear);
+        return place_at(0, Ok(()));
     }
     let mut coordinates = [0.0; POSITION_WIDTH * MOST_POINTS];
     let mut sides = [0u32; 4 * MOST_FACES];

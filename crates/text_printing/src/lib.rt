@@ -52,10 +52,8 @@ fn write_points(
         result out.new }
 {
     let mut j = at;
-    let mut i: usize = 0;
-    while i < n {
+    for i in 0..n {
         j = write_listed(out, j, listed, beside, a + i);
-        i += 1;
     }
     j
 }
@@ -102,13 +100,11 @@ fn write_sides(
 {
     let mut i = at;
     let mut b = a;
-    let mut k: usize = 0;
-    while k < 4 {
+    for k in 0..4 {
         let p = firsts[f * 4 + k];
         let n = index(sides[f * 4 + k]);
         i = write_side(out, i, p, listed, beside, b, n);
         b = b + n;
-        k += 1;
     }
     i
 }
@@ -151,11 +147,9 @@ pub fn write_face_lines(
     let nf = sides.len() / 4;
     let mut i = at;
     let mut a: usize = 0;
-    let mut f: usize = 0;
-    while f < nf {
+    for f in 0..nf {
         i = write_face(out, i, sides, firsts, listed, beside, f, a);
         a = a + face_size(sides, f);
-        f += 1;
     }
     i
 }

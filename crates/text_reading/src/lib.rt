@@ -11,8 +11,9 @@ ghost use Rattle.mesh_text.specs.Reading.{ReadOutcome, read_into, reading_number
 ghost use Rattle.mesh_text.specs.Lists.{coordinates, firsts, listed_points, intervals};
 ghost use Rattle.mesh_text.specs.Parts.{length_words};
 
+use built_meshes::Version;
 use face_lines::store_faces;
-use mesh_text::{Reading, Total};
+use mesh_text::ReadingGround;
 use point_lines::store_points;
 use tables::Sizes;
 use text_sizes::{sizes, within};
@@ -30,7 +31,7 @@ fn store(s: &[u8], xs: &mut [f64], ls: &mut [u32], qs: &mut [u32], ps: &mut [u32
     store_faces(s, i, ls, qs, ps, ds);
 }
 
-// Reads a text: the coordinates of its points, the lengths and first points of its sides, the listed points and their intervals, each at the front of its list.
+// Reads a text, and answers its version and its sizes: the coordinates of its points, the lengths and first points of its sides, the listed points and their intervals, each at the front of its list.
 // A text that is not of the form, or is over the limits or the room of the lists, leaves the lists as they are.
 pub fn read_text(
     s: &[u8],
@@ -40,7 +41,7 @@ pub fn read_text(
     qs: &mut [u32],
     ps: &mut [u32],
     ds: &mut [f64],
-) -> Reading
+) -> Result<(Version, Sizes), ReadingGround>
     ensures outcome { ◌≡◌ {A = ReadOutcome}
         (record { reading = result; lists = record { coordinates = xs.new; lengths = ls.new; firsts = qs.new; listed = ps.new; intervals = ds.new } })
         (read_into s.now limits
@@ -50,17 +51,10 @@ pub fn read_text(
         (record { coordinates = xs.old; lengths = ls.old; firsts = qs.old; listed = ps.old; intervals = ds.old })
         ).reading }
 {
-    let Total::Of(version, points, faces, listed) = sizes(s) else {
-        return Reading::NotText;
-    };
-    let c = Sizes {
-        points,
-        faces,
-        listed,
-    };
+    let (version, c) = sizes(s).ok_or(ReadingGround::NotText)?;
     if !within(c, limits, xs.len(), ls.len(), ps.len(), ds.len(), qs.len()) {
-        return Reading::OverLimits;
+        return Err(ReadingGround::OverLimits);
     }
     store(s, xs, ls, qs, ps, ds);
-    Reading::Read(version, c)
+    Ok((version, c))
 }

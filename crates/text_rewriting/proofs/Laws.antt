@@ -13,6 +13,7 @@ use lib.ListN.{length, get_or, length-append}
 use lib.Seq.{sets}
 use lib.Ieee.{Float, nan}
 use lib.Ieee.Scale.{finite}
+use Rattle.std.specs.Prelude.{Result, Ok, Err, ⊤}
 use Rattle.text_numbers.specs.Form.{bytes}
 use Rattle.mesh_lines.specs.Grammar.{Side, flat}
 use Rattle.mesh_text.specs.Text.{TextMesh}
@@ -35,8 +36,8 @@ use Rattle.mended_lists.specs.Reversal.{Choice, reversed}
 use Rattle.mended_lists.specs.Parts.{faces_turned}
 use Rattle.mended_lists.specs.Mending.{mending}
 use Rattle.mended_lists.specs.Claims.{Fitting}
-use Rattle.mended_lists.specs.declared.Mending.{Mending}
-use Rattle.mended_lists.specs.declared.Mending.TheVariants as Lists
+use Rattle.mended_lists.specs.declared.Unmended.{Unmended}
+use Rattle.mended_lists.specs.declared.Unmended.TheVariants as Lists
 use Rattle.mended_lists.proofs.Reversal.{reversed-faces, reversed-offset}
 use Rattle.mended_lists.proofs.Again.{reversed-fitting}
 use Rattle.face_turning.specs.Moved.{AllTurned}
@@ -90,15 +91,15 @@ module _ (s : List ℕ) (cs : List Float) (ss fs ls : List ℕ) (is : List Float
     answered =
         of-lists s t said.place said.form said.two ∙ ap (λ (x : Lists). mending_of (mending general_limits x) s t) said.lists
 
-    pub refused : {r : Mending} {g : Ground} → r ≡ mending general_limits l → r ≡ Lists.Refused g → record { answer = Refused g; text = s } ≡ mend_text s
-    refused e h = sym (answered ∙ ap (λ (x : Mending). mending_of x s t) (sym e ∙ h))
+    pub refused : {r : Result ⊤ Unmended} {g : Ground} → r ≡ mending general_limits l → r ≡ Err (Lists.Refused g) → record { answer = Refused g; text = s } ≡ mend_text s
+    refused e h = sym (answered ∙ ap (λ (x : Result ⊤ Unmended). mending_of x s t) (sym e ∙ h))
 
-    pub twisted : {r : Mending} → r ≡ mending general_limits l → r ≡ Lists.Twisted → record { answer = Twisted; text = s } ≡ mend_text s
-    twisted e h = sym (answered ∙ ap (λ (x : Mending). mending_of x s t) (sym e ∙ h))
+    pub twisted : {r : Result ⊤ Unmended} → r ≡ mending general_limits l → r ≡ Err Lists.Twisted → record { answer = Twisted; text = s } ≡ mend_text s
+    twisted e h = sym (answered ∙ ap (λ (x : Result ⊤ Unmended). mending_of x s t) (sym e ∙ h))
 
     pub can-mend :
-        {r : Mending} (ts : List Bool) → r ≡ mending general_limits l →
-        (r ≡ Lists.Mended → (f : ℕ) → f < faces_of l → get_or ts f false ≡ faces_turned l f) → length ts ≡ 4096 → r ≡ Lists.Mended →
+        {r : Result ⊤ Unmended} (ts : List Bool) → r ≡ mending general_limits l →
+        (r ≡ Ok tt → (f : ℕ) → f < faces_of l → get_or ts f false ≡ faces_turned l f) → length ts ≡ 4096 → r ≡ Ok tt →
         Mendable s cs ss fs ls is ts
     can-mend ts e c room h = record { said = said; mended = sym e ∙ h; chosen = c h; room = room }
 
@@ -232,4 +233,4 @@ module _ (s : List ℕ) (cs : List Float) (ss fs ls : List ℕ) (is : List Float
             ∙ ap (λ (x : List (List Side)). h ++ (p ++ (flat text_face_line x ++ bytes "[end]\n")))
             (same-turned choice (faces_turned (lists_of (t said))) (t said).faces chosen) in
             ap (λ (x : List ℕ). record { answer = Mended; text = x }) e
-            ∙ sym (answered said ∙ ap (λ (x : Mending). mending_of x s (t said)) able.mended)
+            ∙ sym (answered said ∙ ap (λ (x : Result ⊤ Unmended). mending_of x s (t said)) able.mended)

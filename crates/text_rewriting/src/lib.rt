@@ -13,7 +13,7 @@ ghost use Rattle.text_rewriting.specs.Said.{Said, Mendable};
 use building_tests::MOST_FACES;
 use face_turning::turn_faces;
 use list_mending::find_turns;
-use mended_lists::Mending;
+use mended_lists::Unmended;
 use mended_texts::TextMending;
 use tables::POSITION_WIDTH;
 use text_printing::write_face_lines;
@@ -55,11 +55,11 @@ pub fn mend_by_lists(
 {
     let mut turned = [false; MOST_FACES];
     match find_turns(coordinates, sides, firsts, listed, beside, &mut turned) {
-        Mending::Mended => {
+        Ok(()) => {
             rewrite_faces(text, coordinates, sides, firsts, listed, beside, &turned);
             TextMending::Mended
         }
-        Mending::Refused(g) => TextMending::Refused(g),
-        Mending::Twisted => TextMending::Twisted,
+        Err(Unmended::Refused(g)) => TextMending::Refused(g),
+        Err(Unmended::Twisted) => TextMending::Twisted,
     }
 }

@@ -9,30 +9,28 @@ ghost use Rattle.mesh_text.specs.Text.{text};
 ghost use Rattle.mesh_text.specs.Reading.{within};
 ghost use Rattle.mesh_text.specs.Parts.{total_of};
 
+use built_meshes::Version;
 use face_lines::count_faces;
-use mesh_lines::{Lines, Run};
-use mesh_text::{Head, Total};
 use point_lines::count_points;
 use tables::Sizes;
 use text_ends::{ends, read_head};
 
 // The version of a text, and how many points, faces and listed points it has. Its numbers are stored nowhere.
-pub fn sizes(s: &[u8]) -> Total
+pub fn sizes(s: &[u8]) -> Option<(Version, Sizes)>
     ensures { result ≡ total_of (text s.now) }
 {
-    let Head::Is(v) = read_head(s) else {
-        return Total::None;
-    };
-    let Run::Of(p, i) = count_points(s, 9) else {
-        return Total::None;
-    };
-    let Lines::Are(f, c, j) = count_faces(s, i) else {
-        return Total::None;
-    };
-    if !ends(s, j) {
-        return Total::None;
+    let version = read_head(s)?;
+    let (points, i) = count_points(s, 9)?;
+    let lines = count_faces(s, i)?;
+    if !ends(s, lines.after) {
+        return None;
     }
-    Total::Of(v, p, f, c)
+    let counts = Sizes {
+        points,
+        faces: lines.faces,
+        listed: lines.listed,
+    };
+    Some((version, counts))
 }
 
 // Whether the counts are within the limits and within the rooms of the five lists.
@@ -47,32 +45,13 @@ pub fn within(
 ) -> bool
     ensures { result ≡ within c limits xs ls ps ds qs }
 {
-    if limits.points < c.points {
-        return false;
-    }
-    if limits.faces < c.faces {
-        return false;
-    }
-    if limits.listed < c.listed {
-        return false;
-    }
-    if 4294967295 < c.listed {
-        return false;
-    }
-    if xs / 3 < c.points {
-        return false;
-    }
-    if ls / 4 < c.faces {
-        return false;
-    }
-    if ps < c.listed {
-        return false;
-    }
-    if ds < c.listed {
-        return false;
-    }
-    if qs / 4 < c.faces {
-        return false;
-    }
-    true
+    c.points <= limits.points
+        && c.faces <= limits.faces
+        && c.listed <= limits.listed
+        && c.listed <= 4294967295
+        && c.points <= xs / 3
+        && c.faces <= ls / 4
+        && c.listed <= ps
+        && c.listed <= ds
+        && c.faces <= qs / 4
 }

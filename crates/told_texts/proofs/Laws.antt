@@ -9,14 +9,12 @@ use lib.Ieee.{Float, nan}
 use lib.ListN.{length, take, get_or, replicate, length-replicate, get_or-replicate}
 use lib.Dec.{eqb, ltb}
 use lib.Seq.{length-take-le, get_or-take}
+use Rattle.std.specs.Prelude.{Result, Ok, Err, ⊤}
 use Rattle.tables.specs.Layout.{position_width}
 use Rattle.tables.specs.declared.Sizes.{Sizes}
 use Rattle.mesh_text.specs.Reading.{TextLists, read_into}
-use Rattle.mesh_text.specs.Lists.{coordinates, lengths, firsts, intervals}
-use Rattle.mesh_text.specs.declared.Reading.{Reading}
-use Rattle.mesh_text.specs.declared.Reading.TheVariants as Reading
+use Rattle.mesh_text.specs.declared.ReadingGround.{ReadingGround}
 use Rattle.built_meshes.specs.Lists.{Lists, points_of, faces_of, size, offset, counts_fit, listed_fit}
-use Rattle.built_meshes.specs.Grounds.{lists}
 use Rattle.built_meshes.specs.declared.Ground.TheVariants.{OverCounts, UnfitNumber, FaceSize, OutOfRange, PointTwice, FirstPoint, NonRectangularFace}
 use Rattle.built_meshes.specs.declared.Version.{Version}
 use Rattle.built_meshes.specs.declared.Ground.{Ground}
@@ -31,18 +29,15 @@ use Rattle.face_mending.proofs.Laws.{unfit, mate-shown}
 use Rattle.built_meshes.specs.Answers.{ground_number}
 use Rattle.built_meshes.specs.Places.{point_of, IsPlace}
 use Rattle.built_meshes.specs.Faces.{size_fit, listed_in_range, no_point_twice, firsts_fit, sums_fit, face_verdict}
-use Rattle.built_meshes.specs.declared.Verdict.{Verdict}
-use Rattle.built_meshes.specs.declared.Verdict.TheVariants.{Fit, Unfit}
 use Rattle.audited_meshes.specs.Folds.{every}
 use Rattle.audited_meshes.proofs.Tests.{ltb-is, every-is}
 use Rattle.face_mending.specs.Shown.{FacesRoom, TosShown}
 use Rattle.text_meshes.specs.TextBuilding.{is_too_long}
-use Rattle.text_meshes.specs.declared.TextBuilt.TheVariants.{NotText}
 use Rattle.text_building.proofs.Laws.{Held, no-form, over-text, means, fits, first-lists}
 use Rattle.refusal_places.specs.declared.Spot.{Spot}
-use Rattle.refusal_places.specs.declared.Spot.TheVariants.{Clear, Face, Edge}
+use Rattle.refusal_places.specs.declared.Spot.TheVariants.{Face, Edge}
 use Rattle.refusal_places.specs.Spots.{then_spot, verdict_spot, edges_spot, face_spot, faces_spot, first_spot}
-use Rattle.refusal_places.proofs.Theorem.{face-stops, edge-stops, not-clear}
+use Rattle.refusal_places.proofs.Theorem.{stops, not-clear}
 use Rattle.whole_grounds.specs.Turning.{whole_met, verdict_if, lists_met, nexts_of, turn_from, points_begun, turns_come}
 use Rattle.whole_tests.specs.Whole.{WholeRoom}
 use Rattle.text_places.specs.TextPlaces.{SpotRoom}
@@ -57,22 +52,22 @@ few Refine = omega arith
 
 module _ (b : Bounds) (v : Version) (cs : List Float) (ss fs ls : List ℕ) (is : List Float) where
   pub met-counts :
-      (x : Bool) → x ≡ counts_fit (limits_of b) (lists_in v cs ss fs ls is) → x ≡ false → Unfit OverCounts ≡ lists_met (limits_of b) (lists_in v cs ss fs ls is)
+      (x : Bool) → x ≡ counts_fit (limits_of b) (lists_in v cs ss fs ls is) → x ≡ false → Err OverCounts ≡ lists_met (limits_of b) (lists_in v cs ss fs ls is)
   unfolding lists_met
   met-counts x e t = rw (sym e ∙ t)
 
   pub met-numbers :
       (x y : Bool) → x ≡ counts_fit (limits_of b) (lists_in v cs ss fs ls is) → x ≡ true → y ≡ listed_fit (lists_one cs [] [] is) → y ≡ false →
-      Unfit UnfitNumber ≡ lists_met (limits_of b) (lists_in v cs ss fs ls is)
+      Err UnfitNumber ≡ lists_met (limits_of b) (lists_in v cs ss fs ls is)
   unfolding lists_met listed_fit
   met-numbers x y e t e' t' = go (counts_fit (limits_of b) (lists_in v cs ss fs ls is)) (listed_fit (lists_in v cs ss fs ls is)) (sym e ∙ t) (sym e' ∙ t')
     where
-      go : (p q : Bool) → p ≡ true → q ≡ false → Unfit UnfitNumber ≡ verdict_if p q (first_spot (lists_in v cs ss fs ls is)) (whole_met (lists_in v cs ss fs ls is))
+      go : (p q : Bool) → p ≡ true → q ≡ false → Err UnfitNumber ≡ verdict_if p q (first_spot (lists_in v cs ss fs ls is)) (whole_met (lists_in v cs ss fs ls is))
       go p q h k = rw (h, k)
 
   pub met-faces :
       (x y : Bool) → x ≡ counts_fit (limits_of b) (lists_in v cs ss fs ls is) → x ≡ true → y ≡ listed_fit (lists_one cs [] [] is) → y ≡ true →
-      (r : Verdict) → r ≡ faces_met (lists_in v cs ss fs ls is) → r ≡ lists_met (limits_of b) (lists_in v cs ss fs ls is)
+      (r : Result ⊤ Ground) → r ≡ faces_met (lists_in v cs ss fs ls is) → r ≡ lists_met (limits_of b) (lists_in v cs ss fs ls is)
   unfolding lists_met listed_fit faces_met
   met-faces x y e t e' t' r h =
       h ∙ go (counts_fit (limits_of b) (lists_in v cs ss fs ls is)) (listed_fit (lists_in v cs ss fs ls is)) (sym e ∙ t) (sym e' ∙ t')
@@ -86,69 +81,68 @@ module _ (b : Bounds) (v : Version) (cs : List Float) (ss fs ls : List ℕ) (is 
 -- ---- in the faces, then in the whole
 
 module _ (l : Lists) where
-  pub face-met : (s : Spot) (f : ℕ) (g : Ground) → s ≡ first_spot l → s ≡ Face f g → Unfit g ≡ faces_met l
+  pub face-met : (s : Result ⊤ Spot) (f : ℕ) (g : Ground) → s ≡ first_spot l → s ≡ Err (Face f g) → Err g ≡ faces_met l
   unfolding faces_met
   face-met s f g e q = rw (sym e ∙ q)
 
-  pub edge-met : (s : Spot) (f i : ℕ) (g : Ground) → s ≡ first_spot l → s ≡ Edge f i g → Unfit g ≡ faces_met l
+  pub edge-met : (s : Result ⊤ Spot) (f i : ℕ) (g : Ground) → s ≡ first_spot l → s ≡ Err (Edge f i g) → Err g ≡ faces_met l
   unfolding faces_met
   edge-met s f i g e q = rw (sym e ∙ q)
 
-  pub whole-met : (s : Spot) (w : Verdict) → s ≡ first_spot l → s ≡ Clear → w ≡ whole_met l → w ≡ faces_met l
+  pub whole-met : (s : Result ⊤ Spot) (w : Result ⊤ Ground) → s ≡ first_spot l → s ≡ Ok tt → w ≡ whole_met l → w ≡ faces_met l
   unfolding faces_met
   whole-met s w e q h = rw (sym e ∙ q) h
 
   -- where nothing is met in the faces, all listed points are points
-  clear-then : (s t : Spot) → then_spot s t ≡ Clear → (s ≡ Clear) × (t ≡ Clear)
-  clear-then Clear t h = (refl, h)
-  clear-then (Face f g) t h = absurd (not-clear (Face f g) (face-stops f g) h)
-  clear-then (Edge f i g) t h = absurd (not-clear (Edge f i g) (edge-stops f i g) h)
+  clear-then : (s t : Result ⊤ Spot) → then_spot s t ≡ Ok tt → (s ≡ Ok tt) × (t ≡ Ok tt)
+  clear-then (Ok tt) t h = (refl, h)
+  clear-then (Err x) t h = absurd (not-clear (Err x) (stops x) h)
 
-  clear-faces : (k : ℕ) → faces_spot l (places_of l) k ≡ Clear → (f : ℕ) → f < k → face_spot l (places_of l) f ≡ Clear
+  clear-faces : (k : ℕ) → faces_spot l (places_of l) k ≡ Ok tt → (f : ℕ) → f < k → face_spot l (places_of l) f ≡ Ok tt
   unfolding faces_spot
   clear-faces zero h f b = absurd (omega arith)
   clear-faces (suc k) h f b = go (ℕ_discrete f k) (clear-then (faces_spot l (places_of l) k) (face_spot l (places_of l) k) h) (λ q c. clear-faces k q f c)
     where
       go :
-          Dec (f ≡ k) → (faces_spot l (places_of l) k ≡ Clear) × (face_spot l (places_of l) k ≡ Clear) →
-          (faces_spot l (places_of l) k ≡ Clear → f < k → face_spot l (places_of l) f ≡ Clear) → face_spot l (places_of l) f ≡ Clear
+          Dec (f ≡ k) → (faces_spot l (places_of l) k ≡ Ok tt) × (face_spot l (places_of l) k ≡ Ok tt) →
+          (faces_spot l (places_of l) k ≡ Ok tt → f < k → face_spot l (places_of l) f ≡ Ok tt) → face_spot l (places_of l) f ≡ Ok tt
       go (yes e) w rest = rw e w.1
       go (no e) w rest = rest w.0 (omega arith)
 
-  fit-verdict : (f : ℕ) (v : Verdict) → verdict_spot f v ≡ Clear → v ≡ Fit
-  fit-verdict f Fit h = refl
-  fit-verdict f (Unfit g) h = absurd (not-clear (Face f g) (face-stops f g) h)
+  fit-verdict : (f : ℕ) (v : Result ⊤ Ground) → verdict_spot f v ≡ Ok tt → v ≡ Ok tt
+  fit-verdict f (Ok tt) h = refl
+  fit-verdict f (Err g) h = absurd (not-clear (Err (Face f g)) (stops (Face f g)) h)
 
-  in-range : (a b : Bool) (rest : Verdict) → cond (not a) (Unfit FaceSize) (cond (not b) (Unfit OutOfRange) rest) ≡ Fit → b ≡ true
+  in-range : (a b : Bool) (rest : Result ⊤ Ground) → cond (not a) (Err FaceSize) (cond (not b) (Err OutOfRange) rest) ≡ Ok tt → b ≡ true
   in-range true true rest h = refl
   in-range true false rest h = absurd (unfit OutOfRange h)
   in-range false b rest h = absurd (unfit FaceSize h)
 
-  are-points : first_spot l ≡ Clear → (f i : ℕ) → IsPlace l f i → point_of l f i < points_of l
+  are-points : first_spot l ≡ Ok tt → (f i : ℕ) → IsPlace l f i → point_of l f i < points_of l
   unfolding first_spot face_spot face_verdict listed_in_range
   are-points h f i (a, b) =
       (every-is (size l f) (λ i. ltb-is (point_of l f i) (points_of l))).0
       (in-range (size_fit (size l f)) (every (size l f) (λ i. ltb (point_of l f i) (points_of l)))
-      (cond (not (no_point_twice l (offset l f) (size l f))) (Unfit PointTwice)
-      (cond (not (firsts_fit l.version l f (offset l f))) (Unfit FirstPoint)
-      (cond (not (sums_fit l.version l f (offset l f))) (Unfit NonRectangularFace) Fit)))
+      (cond (not (no_point_twice l (offset l f) (size l f))) (Err PointTwice)
+      (cond (not (firsts_fit l.version l f (offset l f))) (Err FirstPoint)
+      (cond (not (sums_fit l.version l f (offset l f))) (Err NonRectangularFace) (Ok tt))))
       (fit-verdict f (face_verdict l (points_of l) f (offset l f))
       (clear-then (verdict_spot f (face_verdict l (points_of l) f (offset l f))) (edges_spot (places_of l) f (offset l f) (size l f))
       (clear-faces (faces_of l) h f a)).0))
       i b
 
 pub whole_is :
-    (v : Version) (cs : List Float) (ss fs ls : List ℕ) (is : List Float) (w : Verdict) → w ≡ whole_met (lists_one cs ss ls []) →
+    (v : Version) (cs : List Float) (ss fs ls : List ℕ) (is : List Float) (w : Result ⊤ Ground) → w ≡ whole_met (lists_one cs ss ls []) →
     w ≡ whole_met (lists_in v cs ss fs ls is)
 unfolding whole_met points_begun turns_come turn_from nexts_of places_of offset
 whole_is v cs ss fs ls is w e = e
 
 -- ---- the number of a verdict
 
-pub number-fit : (v : Verdict) → v ≡ Fit → 0 ≡ verdict_number v
+pub number-fit : (v : Result ⊤ Ground) → v ≡ Ok tt → 0 ≡ verdict_number v
 number-fit v e = rw e
 
-pub number-unfit : (v : Verdict) (g : Ground) (n : ℕ) → v ≡ Unfit g → n ≡ ground_number g → n ≡ verdict_number v
+pub number-unfit : (v : Result ⊤ Ground) (g : Ground) (n : ℕ) → v ≡ Err g → n ≡ ground_number g → n ≡ verdict_number v
 number-unfit v g n e h = rw e h
 
 -- ---- the local lists
@@ -209,7 +203,7 @@ zero-pairs ls h =
 pub whole_room :
     (v : Version) (cs : List Float) (ss fs ls : List ℕ) (is : List Float) (np : ℕ) → length cs / position_width ≡ np → SpotRoom ss fs ls is np →
     (mates seconds : List ℕ) → length ls ≤ length mates → length ls ≤ length seconds → Pairs ss ls mates seconds →
-    first_spot (lists_in v cs ss fs ls is) ≡ Clear →
+    first_spot (lists_in v cs ss fs ls is) ≡ Ok tt →
     WholeRoom ss ls (take (length ls) mates) (take (length ls) seconds) np
 unfolding places_of offset
 whole_room v cs ss fs ls is np en r mates seconds hm hs p e =
@@ -237,7 +231,7 @@ whole_room v cs ss fs ls is np en r mates seconds hm hs p e =
 -- whatever the coordinates are
 pub whole-room-any :
     (v : Version) (ss fs ls : List ℕ) (is : List Float) (np : ℕ) → SpotRoom ss fs ls is np →
-    (mates seconds : List ℕ) → length ls ≤ length mates → length ls ≤ length seconds → Pairs ss ls mates seconds → (x : Spot) → x ≡ Clear →
+    (mates seconds : List ℕ) → length ls ≤ length mates → length ls ≤ length seconds → Pairs ss ls mates seconds → (x : Result ⊤ Spot) → x ≡ Ok tt →
     ((cs : List Float) → length cs / position_width ≡ np → x ≡ first_spot (lists_in v cs ss fs ls is)) →
     WholeRoom ss ls (take (length ls) mates) (take (length ls) seconds) np
 whole-room-any v ss fs ls is np r mates seconds hm hs p x e h =
@@ -246,19 +240,19 @@ whole-room-any v ss fs ls is np r mates seconds hm hs p x e h =
 
 -- ---- a text
 
-module _ (b : Bounds) (s : List ℕ) (l : TextLists) {r : Reading} {l' : TextLists} {limits : Sizes} (eb : limits ≡ limits_of b)
+module _ (b : Bounds) (s : List ℕ) (l : TextLists) {r : Result (Version × Sizes) ReadingGround} {l' : TextLists} {limits : Sizes} (eb : limits ≡ limits_of b)
     (e : record { reading = r; lists = l' } ≡ read_into s limits l) where
-  pub not-text : r ≡ Reading.NotText → 1 ≡ told_if false b s
+  pub not-text : r ≡ Err ReadingGround.NotText → 1 ≡ told_if false b s
   unfolding told_if form_number
   not-text h = rw (no-form b s l eb e h)
 
   pub over-limits :
       12288 ≤ length l.coordinates → 16384 ≤ length l.lengths → 16384 ≤ length l.listed → 16384 ≤ length l.intervals →
-      16384 ≤ length l.firsts → r ≡ Reading.OverLimits → 2 ≡ told_if false b s
+      16384 ≤ length l.firsts → r ≡ Err ReadingGround.OverLimits → 2 ≡ told_if false b s
   unfolding told_if form_number lists_met
   over-limits rx rl rp rd rq h = let (t, n, et, ec) = over-text b s l eb e rx rl rp rd rq h in rw (et, ec)
 
-  module _ {v : Version} {c : Sizes} (ec : r ≡ Reading.Read v c) where
+  module _ {v : Version} {c : Sizes} (ec : r ≡ Ok (v, c)) where
     pub held : Held c l'
     held = fits b s l eb e ec
 

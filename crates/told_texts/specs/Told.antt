@@ -3,13 +3,12 @@
 --     verdict_number v       0, or the number of the ground
 --     told_number b s        the number of the answer to the text s within the limits b
 --     Unpaired, Pairs       the lists of mates before the faces are looked at, and after
-use Rattle.std.specs.Prelude.{◌≡◌, Bool, true, false, List, [], ℕ, ◌≤◌, ◌<◌, length, get_or}
+use Rattle.std.specs.Prelude.{◌≡◌, Bool, true, false, List, [], ℕ, ◌≤◌, ◌<◌, length, get_or, Result, Ok, Err, ⊤}
+use Rattle.built_meshes.specs.declared.Ground.{Ground}
 use Rattle.text_numbers.specs.Form.{Parsed, parsed, unparsed}
 use Rattle.mesh_text.specs.Text.{text, TextMesh}
 use Rattle.built_meshes.specs.Lists.{Lists}
 use Rattle.built_meshes.specs.Answers.{ground_number}
-use Rattle.built_meshes.specs.declared.Verdict.{Verdict}
-use Rattle.built_meshes.specs.declared.Verdict.TheVariants.{Fit, Unfit}
 use Rattle.building_tests.specs.Lent.{limits_of, lists}
 use Rattle.building_tests.specs.declared.Bounds.{Bounds}
 use Rattle.text_meshes.specs.TextBuilding.{is_too_long, lists_of}
@@ -17,13 +16,13 @@ use Rattle.mended_lists.specs.Edges.{places_of, mate, follower}
 use Rattle.refusal_places.specs.Spots.{first_spot}
 use Rattle.whole_grounds.specs.Turning.{whole_met, verdict_if, lists_met}
 
-unfoldable pub faces_met : Lists → Verdict
+unfoldable pub faces_met : Lists → Result ⊤ Ground
 unfolding first_spot whole_met
 faces_met l = verdict_if true true (first_spot l) (whole_met l)
 
-abbrev pub verdict_number : Verdict → ℕ
-verdict_number Fit = 0
-verdict_number (Unfit g) = ground_number g
+abbrev pub verdict_number : Result ⊤ Ground → ℕ
+verdict_number (Ok tt) = 0
+verdict_number (Err g) = ground_number g
 
 -- of a text that is of the form, or is not
 unfoldable pub form_number : Bounds → Parsed TextMesh → ℕ

@@ -5,12 +5,11 @@
 // The lists of a text and those of its places are local arrays of the sizes that the general limits allow, below 760 KiB of stack.
 #![tactic(auto)]
 
-ghost use Rattle.std.specs.Prelude.{◌≡◌, true, false, List, [], ℕ, ◌*◌, ◌/◌, ◌≤◌, Float, length, take};
+ghost use Rattle.std.specs.Prelude.{◌≡◌, true, false, List, [], ℕ, Ok, ◌*◌, ◌/◌, ◌≤◌, Float, length, take};
 ghost use Rattle.tables.specs.Layout.{position_width};
 ghost use Rattle.building_tests.specs.Lent.{lists_in, limits_of};
 ghost use Rattle.built_meshes.specs.Lists.{general_limits};
 ghost use Rattle.refusal_places.specs.Spots.{first_spot};
-ghost use Rattle.refusal_places.specs.declared.Spot.TheVariants.{Clear};
 ghost use Rattle.text_places.specs.TextPlaces.{SpotRoom};
 ghost use Rattle.whole_grounds.specs.Turning.{lists_met};
 ghost use Rattle.told_texts.specs.Told.{Unpaired, Pairs, faces_met, verdict_number, told_if, told_number};
@@ -18,11 +17,11 @@ ghost use Rattle.told_texts.specs.Told.{Unpaired, Pairs, faces_met, verdict_numb
 use answer_numbers::ground_number;
 use building_lists::counts_fit;
 use building_tests::{Bounds, MOST_FACES, MOST_LISTED, MOST_POINTS};
-use built_meshes::{Ground, Verdict, Version};
+use built_meshes::{Ground, LentLists, Version};
 use face_grounds::faces_spot;
 use face_places::spread;
 use list_numbers::numbers_fit;
-use mesh_text::Reading;
+use mesh_text::ReadingGround;
 use refusal_places::Spot;
 use tables::POSITION_WIDTH;
 use text_answers::is_too_long;
@@ -39,12 +38,12 @@ fn pair_spot(
     mates: &mut [u32],
     seconds: &mut [u32],
     np: usize,
-) -> Spot
+) -> Result<(), Spot>
     requires spot_room { SpotRoom sides.now firsts.now listed.now beside.now np }
     requires unpaired { Unpaired listed.now mates.old seconds.old }
     ensures value { (cs : List Float) → length cs / position_width ≡ np →
         result ≡ first_spot (lists_in version cs sides.now firsts.now listed.now beside.now) }
-    ensures pairs { result ≡ Clear → Pairs sides.now listed.now mates.new seconds.new }
+    ensures pairs { result ≡ Ok tt → Pairs sides.now listed.now mates.new seconds.new }
 {
     let mut tos = [0u32; MOST_LISTED];
     let mut owners = [0u32; MOST_LISTED];
@@ -64,7 +63,7 @@ fn faces_and_whole(
     listed: &[u32],
     beside: &[f64],
     np: usize,
-) -> Verdict
+) -> Result<(), Ground>
     requires { SpotRoom sides.now firsts.now listed.now beside.now np }
     ensures { (cs : List Float) → length cs / position_width ≡ np →
         result ≡ faces_met (lists_in version cs sides.now firsts.now listed.now beside.now) }
@@ -82,9 +81,9 @@ fn faces_and_whole(
         &mut seconds,
         np,
     ) {
-        Spot::Face(_, g) => Verdict::Unfit(g),
-        Spot::Edge(_, _, g) => Verdict::Unfit(g),
-        Spot::Clear => whole_told(sides, listed, &mates[..n], &seconds[..n], np),
+        Err(Spot::Face(_, g)) => Err(g),
+        Err(Spot::Edge(_, _, g)) => Err(g),
+        Ok(()) => whole_told(sides, listed, &mates[..n], &seconds[..n], np),
     }
 }
 
@@ -97,28 +96,36 @@ fn met_in(
     listed: &[u32],
     beside: &[f64],
     bounds: Bounds,
-) -> Verdict
+) -> Result<(), Ground>
     requires { length firsts.now ≡ length sides.now }
     ensures { result ≡ lists_met (limits_of bounds)
         (lists_in version coordinates.now sides.now firsts.now listed.now beside.now) }
 {
-    if !counts_fit(version, coordinates, sides, firsts, listed, beside, bounds) {
-        return Verdict::Unfit(Ground::OverCounts);
+    let lists = LentLists {
+        version,
+        coordinates,
+        sides,
+        firsts,
+        listed,
+        beside,
+    };
+    if !counts_fit(&lists, bounds) {
+        return Err(Ground::OverCounts);
     }
     if !numbers_fit(coordinates, beside) {
-        return Verdict::Unfit(Ground::UnfitNumber);
+        return Err(Ground::UnfitNumber);
     }
     let np = coordinates.len() / POSITION_WIDTH;
     faces_and_whole(version, sides, firsts, listed, beside, np)
 }
 
 // The number of a verdict: 0, or that of the ground.
-fn verdict_number(v: Verdict) -> u32
+fn verdict_number(v: Result<(), Ground>) -> u32
     ensures { result ≡ verdict_number v }
 {
     match v {
-        Verdict::Fit => 0,
-        Verdict::Unfit(g) => ground_number(g),
+        Ok(()) => 0,
+        Err(g) => ground_number(g),
     }
 }
 
@@ -185,7 +192,7 @@ fn read_and_number(
         listed,
         beside,
     ) {
-        Reading::Read(version, c) => number_first(
+        Ok((version, c)) => number_first(
             version,
             coordinates,
             sides,
@@ -197,8 +204,8 @@ fn read_and_number(
             c.listed,
             bounds,
         ),
-        Reading::NotText => 1,
-        Reading::OverLimits => 2,
+        Err(ReadingGround::NotText) => 1,
+        Err(ReadingGround::OverLimits) => 2,
     }
 }
 

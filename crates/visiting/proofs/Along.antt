@@ -12,13 +12,13 @@ use Prim.Native.Nat.{ℕ, ◌+◌, ◌-◌, ◌*◌, ◌≤◌}
 use native.Mathlib.Nat.{add-zero}
 use lib.ListN.{length, get_or, replicate, length-replicate}
 use lib.Ieee.{Float, nan, of_bits, binary64}
+use Rattle.std.specs.Prelude.{Some}
 use Rattle.tables.specs.declared.Counts.{Counts}
 use Rattle.tables.specs.Mesh.{Mesh}
 use Rattle.audited_meshes.specs.Walks.{edges_of, passed, face_walk}
 use Rattle.tables.specs.Parts.{face_tables}
 use Rattle.walks.specs.Border.{padded, border}
 use Rattle.walks.specs.declared.FaceBorder.{FaceBorder}
-use Rattle.walks.specs.declared.Passed.TheVariants as Passed
 use Rattle.walks.proofs.Laws.{get_or-padded, passed-back, border-passed}
 use Rattle.refined_meshes.specs.Turns.{turns, filled}
 use Rattle.refined_meshes.specs.State.{State, take_rows}
@@ -150,7 +150,7 @@ module _ (oe ps ps1 ps2 es es1 es2 fs fs2 pe : List ℕ) (is is1 is2 found lent 
 
 -- a visit goes along the border of its face
 pub visited-border : (oe of : List ℕ) (np ne f : ℕ) (about : FaceBorder) (s : State) → about ≡ border (face_tables oe of) ne f
-    → {n : ℕ} → about.passed ≡ Passed.Back n → visit_along (face_tables oe []) np f about.edges n s ≡ visit (face_tables oe of) np ne f s
+    → {n : ℕ} → about.passed ≡ Some n → visit_along (face_tables oe []) np f about.edges n s ≡ visit (face_tables oe of) np ne f s
 unfolding visit
 visited-border oe of np ne f about s h {n} came =
     let m : Mesh = face_tables oe of in

@@ -10,12 +10,12 @@ use native.Mathlib.Decide.{dec_lt}
 use native.Mathlib.Omega.{arith}
 use lib.ListN.{length, get_or, replicate, length-replicate}
 use lib.Ieee.{Float}
+use Rattle.std.specs.Prelude.{Some, None}
 use Rattle.tables.specs.declared.Counts.{Counts}
 use Rattle.tables.specs.Mesh.{Mesh}
 use Rattle.audited_meshes.specs.Walks.{edges_of, passed, face_walk}
 use Rattle.walks.specs.Border.{padded, border}
 use Rattle.walks.specs.declared.FaceBorder.{FaceBorder}
-use Rattle.walks.specs.declared.Passed.TheVariants as Passed
 use Rattle.tables.specs.Parts.{face_tables}
 use Rattle.walks.proofs.Laws.{get_or-padded, passed-back, passed-lost, border-passed}
 use Rattle.refined_meshes.specs.Turns.{filled}
@@ -148,7 +148,7 @@ along-places oe np f pe es n s same h =
 
 -- of a visit that fits the walk comes back
 pub never-lost : (oe of : List ℕ) (np ne nf f : ℕ) (s : State) (about : FaceBorder) → about ≡ border (face_tables oe of) ne f
-    → VisitFits (face_tables oe of) np ne nf f s → about.passed ≡ Passed.Lost → ⊥
+    → VisitFits (face_tables oe of) np ne nf f s → about.passed ≡ None → ⊥
 never-lost oe of np ne nf f s about b h e =
     let m : Mesh = face_tables oe of in
     let none = passed-lost (face_walk m ne f) (sym (ap (λ (x : FaceBorder). x.passed) b ∙ border-passed m ne f) ∙ e) in
@@ -157,7 +157,7 @@ never-lost oe of np ne nf f s about b h e =
 
 -- a visit that fits goes along the border of its face
 pub along-of-visit : (oe of : List ℕ) (np ne nf f : ℕ) (s : State) (about : FaceBorder) → about ≡ border (face_tables oe of) ne f
-    → {n : ℕ} → about.passed ≡ Passed.Back n → Ceilings np ne nf → ne * 8 ≤ length oe → VisitFits (face_tables oe of) np ne nf f s
+    → {n : ℕ} → about.passed ≡ Some n → Ceilings np ne nf → ne * 8 ≤ length oe → VisitFits (face_tables oe of) np ne nf f s
     → AlongFits oe np f about.edges n s
 along-of-visit oe of np ne nf f s about b {n} came limits r h =
     let m : Mesh = face_tables oe of in

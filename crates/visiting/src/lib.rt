@@ -26,10 +26,9 @@ use ring_rows::RingRows;
 use splitting::split_all;
 use t_nurcc_face::put_border;
 use tables::{
-    Counts, EDGE_WIDTH, FACE_WIDTH, LONGEST_BORDER, LONGEST_PERIMETER, POINT_WIDTH, copy_numbers,
-    copy_words, index,
+    Counts, EDGE_WIDTH, FACE_WIDTH, LONGEST_BORDER, LONGEST_PERIMETER, POINT_WIDTH, copy_first,
+    index,
 };
-use walks::Passed;
 
 // Stores the edges of a ring: the joining edges, then the halves on the side of the face.
 fn put_ring_edges(
@@ -207,7 +206,7 @@ fn visit(
 {
     let mut perimeter = [0u32; LONGEST_PERIMETER];
     let mut about = [0u32; LONGEST_BORDER];
-    let Passed::Back(n) = put_border(edges, faces, old.edges, f, &mut perimeter, &mut about) else {
+    let Some(n) = put_border(edges, faces, old.edges, f, &mut perimeter, &mut about) else {
         return taken;
     };
     visit_along(
@@ -252,8 +251,7 @@ fn visits(
     let mut seconds = [0u32; LONGEST_PERIMETER];
     let mut mids = [0u32; LONGEST_PERIMETER];
     let mut taken = old;
-    let mut i = 0;
-    while i < old.faces {
+    for i in 0..old.faces {
         let f = index(order[i]);
         taken = visit(
             edges,
@@ -270,7 +268,6 @@ fn visits(
             &mut seconds,
             &mut mids,
         );
-        i += 1;
     }
     taken
 }
@@ -295,10 +292,10 @@ fn copy_rows(
         old.points old.edges old.faces
         (mesh_of [] newpoints.old newedges.old newintervals.old newfaces.old)) }
 {
-    copy_words(points, newpoints, old.points * POINT_WIDTH);
-    copy_words(edges, newedges, old.edges * EDGE_WIDTH);
-    copy_numbers(intervals, newintervals, old.edges);
-    copy_words(faces, newfaces, old.faces * FACE_WIDTH);
+    copy_first(points, newpoints, old.points * POINT_WIDTH);
+    copy_first(edges, newedges, old.edges * EDGE_WIDTH);
+    copy_first(intervals, newintervals, old.edges);
+    copy_first(faces, newfaces, old.faces * FACE_WIDTH);
 }
 
 // Makes the topology of the refined mesh in the scratch tables: the mesh's rows are copied, then its faces are visited in the

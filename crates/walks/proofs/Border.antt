@@ -6,20 +6,18 @@
 --     border-of-laid, cleared                    laid into arrays of 0 it is the border, which is 0 where the walk is lost
 --     laid-passed, laid-edge, laid-point         for callers: what was answered, and what stands at the first places
 use mathlib.Core.Path.{◌≡◌, refl, sym, ◌∙◌, ap, subst}
-use mathlib.Core.Bool.{Bool, ◌&&◌}
+use mathlib.Core.Bool.{Bool, ◌&&◌, true, false, false≢true}
 use mathlib.Core.List.{List, [], ◌∷◌, ◌++◌, map}
 use mathlib.Core.Logic.{◌≢◌}
 use Prim.Native.Nat.{ℕ, ◌+◌, ◌<◌, ◌≤◌}
 use native.Mathlib.Omega.{arith}
 use lib.Dec.{ltb}
 use lib.ListN.{length, get_or, set, replicate, length-set, length-append, length-map}
+use Rattle.std.specs.Prelude.{Option, Some, None, is_some}
 use Rattle.tables.specs.Mesh.{Mesh, face_start}
 use Rattle.audited_meshes.specs.Walks.{Walk, back, lost, borders, acw_of_face, first_point, face_walk}
-use Rattle.walks.specs.declared.Step.TheVariants.{To, Lost}
 use Rattle.walks.specs.declared.FaceBorder.{FaceBorder}
-use Rattle.walks.specs.declared.Passed.{Passed}
-use Rattle.walks.specs.declared.Passed.TheVariants as Passed
-use Rattle.walks.specs.Steps.{to_if, passed_by}
+use Rattle.walks.specs.Steps.{step_to, to_if, passed_by}
 use Rattle.walks.specs.Border.{padded, laid, border_of, border, BorderLaid}
 use Rattle.audited_meshes.specs.Folds.{again}
 use Rattle.walks.proofs.Steps.{to_is, lost-is}
@@ -90,7 +88,7 @@ module _ (m : Mesh) (ne f : ℕ) where
           ∙ ap (λ (t : List ℕ). laid t ps₀)
           (ap (λ (i : ℕ). points h.passed ++ i ∷ []) (sym q) ∙ sym (map_snoc (first_point m f) h.passed e))
 
-      module _ (p next : ℕ) (to : To p next ≡ to_if (on e) (first_point m f e) (acw_of_face m f e)) (l : n < 64) where
+      module _ (p next : ℕ) (to : Some (step_to p next) ≡ to_if (on e) (first_point m f e) (acw_of_face m f e)) (l : n < 64) where
         pub border-more : next ≢ face_start m f → Bordering (set es n e) (set ps n p) (n + 1) next
         border-more b =
             let t = to_is (on e) (first_point m f e) (acw_of_face m f e) p next to in
@@ -104,7 +102,7 @@ module _ (m : Mesh) (ne f : ℕ) where
 
         pub border-last : (qs : List ℕ) → next ≡ face_start m f
             → ((xs ys : List ℕ) → length xs ≡ n + 1 → length ys ≡ 68 → set ps n p ≡ laid xs ys → qs ≡ laid (again 4 xs) ys)
-            → BorderLaid m ne f (Passed.Back (n + 1)) (set es n e) qs es₀ ps₀
+            → BorderLaid m ne f (Some (n + 1)) (set es n e) qs es₀ ps₀
         border-last qs b four =
             let t = to_is (on e) (first_point m f e) (acw_of_face m f e) p next to in
             let whole : List ℕ = h.passed ++ e ∷ [] in
@@ -113,7 +111,7 @@ module _ (m : Mesh) (ne f : ℕ) where
             let many : length (points whole) ≡ n + 1 = length-map whole (first_point m f) ∙ long in
             let stand : qs ≡ laid (again 4 (points whole)) ps₀ = four (points whole) ps₀ many lp (points-longer p t.1 l) in
             record {
-              answered = ap Passed.Back (sym long) ∙ ap passed_by (sym w);
+              answered = ap Some (sym long) ∙ ap passed_by (sym w);
               edges-long = length-set es n e ∙ same_edges;
               points-long = ap length stand ∙ length-laid (again 4 (points whole)) ps₀ (omega (arith, length-again 4 (points whole)));
               edges-laid = λ rs q. edges-longer l ∙ ap (λ (x : List ℕ). laid x es₀) (back-same (sym w ∙ q));
@@ -121,7 +119,7 @@ module _ (m : Mesh) (ne f : ℕ) where
             }
 
       -- nothing is said of the arrays of a walk that is lost but their lengths
-      no-border : face_walk m ne f ≡ lost → BorderLaid m ne f Passed.Lost es ps es₀ ps₀
+      no-border : face_walk m ne f ≡ lost → BorderLaid m ne f None es ps es₀ ps₀
       no-border w = record {
         answered = ap passed_by (sym w);
         edges-long = same_edges;
@@ -130,12 +128,12 @@ module _ (m : Mesh) (ne f : ℕ) where
         points-laid = λ rs q. absurd (lost-or-back (sym w ∙ q));
       }
 
-      pub border-lost : Lost ≡ to_if (on e) (first_point m f e) (acw_of_face m f e) → n < 64 → BorderLaid m ne f Passed.Lost es ps es₀ ps₀
+      pub border-lost : None ≡ to_if (on e) (first_point m f e) (acw_of_face m f e) → n < 64 → BorderLaid m ne f None es ps es₀ ps₀
       border-lost o l =
           no-border (walking-lost (acw_of_face m f) on (face_start m f) 64 (face_walk m ne f) h.passed n e h.way l
           (lost-is (on e) (first_point m f e) (acw_of_face m f e) o))
 
-      pub border-out : 64 ≤ n → BorderLaid m ne f Passed.Lost es ps es₀ ps₀
+      pub border-out : 64 ≤ n → BorderLaid m ne f None es ps es₀ ps₀
       border-out l = no-border (walking-out (acw_of_face m f) on (face_start m f) 64 (face_walk m ne f) h.passed n e h.way l)
 
   -- ---- the border in arrays of 0
@@ -143,38 +141,46 @@ module _ (m : Mesh) (ne f : ℕ) where
   -- laid into arrays of 0, it is the border
   padded-border : (xs qs es : List ℕ) (n : ℕ) → face_walk m ne f ≡ back es → length es ≡ n → xs ≡ padded 64 es
       → qs ≡ padded 68 (again 4 (points es))
-      → ◌≡◌ {A = FaceBorder} (record { passed = Passed.Back n; edges = xs; points = qs }) (border m ne f)
+      → ◌≡◌ {A = FaceBorder} (record { passed = Some n; edges = xs; points = qs }) (border m ne f)
   unfolding border
   padded-border xs qs es n w k a b = rw (w, a, b, ← k)
 
-  pub border-of-laid : (answer : Passed) (xs qs xs₀ qs₀ : List ℕ) {n : ℕ} → BorderLaid m ne f answer xs qs xs₀ qs₀
-      → xs₀ ≡ replicate 64 0 → qs₀ ≡ replicate 68 0 → answer ≡ Passed.Back n
-      → ◌≡◌ {A = FaceBorder} (record { passed = Passed.Back n; edges = xs; points = qs }) (border m ne f)
-  border-of-laid answer xs qs xs₀ qs₀ {n} h a b came =
-      let w = back_is (face_walk m ne f) n (sym came ∙ h.answered) in
+  laid-back : (xs qs xs₀ qs₀ : List ℕ) {n : ℕ} → BorderLaid m ne f (Some n) xs qs xs₀ qs₀
+      → xs₀ ≡ replicate 64 0 → qs₀ ≡ replicate 68 0
+      → ◌≡◌ {A = FaceBorder} (record { passed = Some n; edges = xs; points = qs }) (border m ne f)
+  laid-back xs qs xs₀ qs₀ {n} h a b =
+      let w = back_is (face_walk m ne f) n h.answered in
       let all : List ℕ = again 4 (points w.edges) in
       padded-border xs qs w.edges n w.came w.count
       (h.edges-laid w.edges w.came ∙ ap (laid w.edges) a ∙ laid-zeros 64 w.edges)
       (h.points-laid w.edges w.came ∙ ap (laid all) b ∙ laid-zeros 68 all)
 
+  pub border-of-laid : (answer : Option ℕ) (xs qs xs₀ qs₀ : List ℕ) → BorderLaid m ne f answer xs qs xs₀ qs₀
+      → xs₀ ≡ replicate 64 0 → qs₀ ≡ replicate 68 0 → is_some answer ≡ true
+      → ◌≡◌ {A = FaceBorder} (record { passed = answer; edges = xs; points = qs }) (border m ne f)
+  border-of-laid (Some n) xs qs xs₀ qs₀ h a b came = laid-back xs qs xs₀ qs₀ h a b
+  border-of-laid None xs qs xs₀ qs₀ h a b came = absurd (false≢true came)
+
   -- arrays of 0 are the border of a walk that is lost
-  pub cleared : (es ps : List ℕ) → es ≡ replicate 64 0 → ps ≡ replicate 68 0 → Passed.Lost ≡ passed_by (face_walk m ne f)
-      → ◌≡◌ {A = FaceBorder} (record { passed = Passed.Lost; edges = es; points = ps }) (border m ne f)
-  unfolding border padded
-  cleared es ps a b h = rw (a, b) (go (face_walk m ne f) h)
-    where
-      go : (w : Walk) → Passed.Lost ≡ passed_by w
-          → ◌≡◌ {A = FaceBorder} (record { passed = Passed.Lost; edges = replicate 64 0; points = replicate 68 0 }) (border_of m f w)
-      go (back es) h = let z : ◌≡◌ {A = ℕ} 0 1 = cc in absurd (omega arith)
-      go lost h = refl
+  zeros-lost : (w : Walk) → None ≡ passed_by w
+      → ◌≡◌ {A = FaceBorder} (record { passed = None; edges = replicate 64 0; points = replicate 68 0 }) (border_of m f w)
+  unfolding padded
+  zeros-lost (back es) h = let z : ◌≡◌ {A = ℕ} 0 1 = cc in absurd (omega arith)
+  zeros-lost lost h = refl
+
+  pub cleared : (answer : Option ℕ) (es ps : List ℕ) → es ≡ replicate 64 0 → ps ≡ replicate 68 0 → is_some answer ≡ false
+      → answer ≡ passed_by (face_walk m ne f) → ◌≡◌ {A = FaceBorder} (record { passed = answer; edges = es; points = ps }) (border m ne f)
+  unfolding border
+  cleared (Some n) es ps a b gone h = absurd (false≢true (sym gone))
+  cleared None es ps a b gone h = rw (a, b) (zeros-lost (face_walk m ne f) h)
 
   -- ---- what callers read from the arrays
 
-  module _ (answer : Passed) (xs qs xs₀ qs₀ : List ℕ) (h : BorderLaid m ne f answer xs qs xs₀ qs₀) where
+  module _ (answer : Option ℕ) (xs qs xs₀ qs₀ : List ℕ) (h : BorderLaid m ne f answer xs qs xs₀ qs₀) where
     pub laid-passed : answer ≡ (border m ne f).passed
     laid-passed = h.answered ∙ sym (border-passed m ne f)
 
-    module _ {n : ℕ} (came : answer ≡ Passed.Back n) where
+    module _ {n : ℕ} (came : answer ≡ Some n) where
       walked : CameBack (face_walk m ne f) n
       walked = back_is (face_walk m ne f) n (sym came ∙ h.answered)
 

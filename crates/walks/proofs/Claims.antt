@@ -7,6 +7,7 @@ use native.Mathlib.Omega.{arith}
 use lib.Dec.{ltb}
 use lib.ListN.{length}
 use borrow.Author.Tests.{eq-eqb, ne_eqb}
+use Rattle.std.specs.Prelude.{Some, None}
 use Rattle.tables.specs.Mesh.{Mesh, start, face_start}
 use Rattle.audited_meshes.specs.Folds.{one_if, occurrences}
 use Rattle.audited_meshes.specs.Walks.{back, borders, touches, acw_of_face, acw_of_point, face_walk, point_walk, Touches}
@@ -15,12 +16,9 @@ use Rattle.audited_meshes.proofs.Tests.{self-is}
 use Rattle.audited_meshes.proofs.Folds.{sum_to-cong, length-sum_to}
 use Rattle.audited_meshes.proofs.Walks.{passes_on, walk_of-passes, passes-of-walk}
 use Rattle.audited_meshes.proofs.Audited.{borders-is, on-face-is, on-point-is}
-use Rattle.walks.specs.declared.FoundEdge.TheVariants.{Nowhere}
-use Rattle.walks.specs.declared.Passed.{Passed}
 use Rattle.walks.specs.Steps.{passed_by}
 use Rattle.walks.specs.Neighbour.{seek, edge_to_point}
 use Rattle.walks.specs.Claims.{perimeter_size, first_passing, CountIsPerimeter, CountIsValence, FirstFound}
-use Rattle.walks.specs.declared.Passed
 
 -- a walk that passes each edge of its face, and no other, passes as many as there are
 module _ (m : Mesh) (ne f : ℕ) (w : FaceWalked m ne f) where
@@ -50,7 +48,7 @@ module _ (m : Mesh) (ne f : ℕ) (w : FaceWalked m ne f) where
 pub count-is-perimeter : CountIsPerimeter
 count-is-perimeter m np ne nf f a l =
     let w = a.face-walked f l in
-    ap passed_by (face-came m ne f w) ∙ ap Passed.Back (whole m ne f w)
+    ap passed_by (face-came m ne f w) ∙ ap Some (whole m ne f w)
 
 pub count-is-valence : CountIsValence
 unfolding point_walk
@@ -59,11 +57,11 @@ count-is-valence m np ne nf k p a l fits =
     ap passed_by
     (walk_of-passes (acw_of_point m p) (λ e. (e < ne) × Touches m p e) (start m p) (λ e. ltb e ne && touches m p e) (on-point-is m ne p)
     (start m p) w.edges w.passes k (omega (arith, w.is-valence)))
-    ∙ ap Passed.Back w.is-valence
+    ∙ ap Some w.is-valence
 
 -- the search passes the edges of the walk
 module _ (step : ℕ → ℕ) (on test : ℕ → Bool) (s : ℕ) where
-  seek-met : (k : ℕ) (here : Bool) (e : ℕ) → seek step on test s k true here e ≡ Nowhere
+  seek-met : (k : ℕ) (here : Bool) (e : ℕ) → seek step on test s k true here e ≡ None
   unfolding seek
   seek-met zero here e = refl
   seek-met (suc k) here e = refl

@@ -14,11 +14,11 @@ use native.Mathlib.Omega.{arith}
 use native.Mathlib.Decide.{dec_lt}
 use lib.ListN.{length, get_or, set, drop, replicate, length-append, length-drop, get_or-append, length-map}
 use lib.Seq.{set-append_seam, get_or_at, drop-cons}
+use Rattle.std.specs.Prelude.{Some, None}
 use Rattle.tables.specs.Mesh.{Mesh}
 use Rattle.audited_meshes.specs.Walks.{Walk, back, lost, passed, first_point, face_walk}
 use Rattle.walks.specs.Border.{padded, laid, border_of, border}
 use Rattle.walks.specs.Steps.{passed_by}
-use Rattle.walks.specs.declared.Passed.TheVariants as Passed
 use Rattle.audited_meshes.specs.Folds.{again}
 
 one_more : (n : ℕ) → suc n ≡ n + 1
@@ -130,11 +130,11 @@ unfolding border
 border-walk m ne f = refl
 
 -- what a walk answers is how many edges it passed, or that it passed none
-pub passed-back : (w : Walk) {n : ℕ} → passed_by w ≡ Passed.Back n → passed w ≡ n
+pub passed-back : (w : Walk) {n : ℕ} → passed_by w ≡ Some n → passed w ≡ n
 passed-back (back es) h = cc
 passed-back lost h = cc
 
-pub passed-lost : (w : Walk) → passed_by w ≡ Passed.Lost → passed w ≡ 0
+pub passed-lost : (w : Walk) → passed_by w ≡ None → passed w ≡ 0
 passed-lost (back es) h = cc
 passed-lost lost h = refl
 

@@ -2,7 +2,7 @@
 -- sides, stand at the places b and b + 1 of the list es, i is the first of them, and w the one that is found. Assumes nothing.
 --     place-one-of              whether the word that is found is n says whether one of the two is n
 --     place-choice              what a function of the number gives is the choice of what it gives for 0 and for 1
-use mathlib.Core.Path.{◌≡◌, refl, sym, ◌∙◌, ap}
+use mathlib.Core.Path.{◌≡◌, refl, ◌∙◌, ap}
 use mathlib.Core.Bool.{Bool, true, false, ◌||◌, cond}
 use mathlib.Core.List.{List}
 use Prim.Native.Nat.{ℕ, ◌+◌}

@@ -7,15 +7,14 @@ use Prim.Native.Nat.{ℕ, ◌+◌, ◌<◌, ◌≤◌}
 use native.Mathlib.Omega.{arith}
 use lib.Dec.{ltb}
 use lib.ListN.{length, get_or, set, length-set, get_or-append}
+use Rattle.std.specs.Prelude.{Some, None}
 use Rattle.tables.specs.Mesh.{Mesh, start}
 use Rattle.tables.specs.Rows.{over}
 use Rattle.tables.proofs.Laws.{over_none, over-more}
 use Rattle.audited_meshes.specs.Walks.{Walk, back, lost, acw_of_point, touches, point_walk}
 use Rattle.audited_meshes.proofs.Tests.{and_is, ltb-is, self-is}
-use Rattle.walks.specs.declared.Passed.{Passed}
 use Rattle.walks.specs.Steps.{passed_by, radial_over}
 use Rattle.walks.proofs.Back.{back-first, back_on, back-next, back-within}
-use Rattle.walks.specs.declared.Passed
 
 -- a walk of which so many edges are answered comes back
 pub record CameBack (w : Walk) (n : ℕ) : Type 0 where
@@ -23,12 +22,12 @@ pub record CameBack (w : Walk) (n : ℕ) : Type 0 where
   pub came : w ≡ back edges
   pub count : length edges ≡ n
 
-pub back_is : (w : Walk) (n : ℕ) → Passed.Back n ≡ passed_by w → CameBack w n
+pub back_is : (w : Walk) (n : ℕ) → Some n ≡ passed_by w → CameBack w n
 back_is (back es) n h = record { edges = es; came = refl; count = cc }
 back_is lost n h = let z : ◌≡◌ {A = ℕ} 0 1 = cc in absurd (omega arith)
 
 -- nothing is stored where the walk is lost
-pub radial-lost : (w : Walk) (xs : List ℕ) → Passed.Lost ≡ passed_by w → xs ≡ radial_over w xs
+pub radial-lost : (w : Walk) (xs : List ℕ) → None ≡ passed_by w → xs ≡ radial_over w xs
 radial-lost (back es) xs h = let z : ◌≡◌ {A = ℕ} 0 1 = cc in absurd (omega arith)
 radial-lost lost xs h = sym (over_none [] xs)
 
@@ -43,7 +42,7 @@ module _ (m : Mesh) (ne p n : ℕ) (xs₀ : List ℕ) where
     pub stands : xs ≡ over i whole.edges xs₀
     pub here : e ≡ get_or (whole.edges ++ start m p ∷ []) i 0
 
-  pub radial-start : Passed.Back n ≡ passed_by (point_walk m ne (length xs₀) p) → Radial xs₀ 0 (start m p)
+  pub radial-start : Some n ≡ passed_by (point_walk m ne (length xs₀) p) → Radial xs₀ 0 (start m p)
   unfolding point_walk
   radial-start h =
       let w = back_is (point_walk m ne (length xs₀) p) n h in

@@ -9,17 +9,15 @@ use mathlib.Core.Logic.{◌≢◌}
 use Prim.Native.Nat.{ℕ, zero, suc, ◌+◌, ◌-◌, ◌<◌, ◌≤◌}
 use native.Mathlib.Omega.{arith}
 use borrow.Author.Tests.{eq-eqb, ne_eqb}
-use Rattle.walks.specs.declared.Step.TheVariants.{To, Lost}
-use Rattle.walks.specs.declared.FoundEdge.{FoundEdge}
-use Rattle.walks.specs.declared.FoundEdge.TheVariants.{At, Nowhere}
-use Rattle.walks.specs.Steps.{to_if}
+use Rattle.std.specs.Prelude.{Option, Some, None}
+use Rattle.walks.specs.Steps.{step_to, to_if}
 use Rattle.walks.specs.Neighbour.{seek}
 use Rattle.walks.proofs.Steps.{to_is, lost-is}
 
 less_one : (k n : ℕ) → n < k → k - n ≡ suc (k - (n + 1))
 less_one k n l = omega arith
 
-module _ (step : ℕ → ℕ) (on test : ℕ → Bool) (s k : ℕ) (r : FoundEdge) where
+module _ (step : ℕ → ℕ) (on test : ℕ → Bool) (s k : ℕ) (r : Option ℕ) where
   pub record Sought (n e : ℕ) : Type 0 where
     pub within : n ≤ k
     pub rest : r ≡ seek step on test s (k - n) false (on e) e
@@ -31,8 +29,8 @@ module _ (step : ℕ → ℕ) (on test : ℕ → Bool) (s k : ℕ) (r : FoundEdg
       less_none k = omega arith
 
   module _ (n e : ℕ) (h : Sought n e) where
-    module _ (q p next : ℕ) (to : To p next ≡ to_if (on e) q (step e)) (l : n < k) where
-      pub sought-at : test e ≡ true → At e ≡ r
+    module _ (q p next : ℕ) (to : Some (step_to p next) ≡ to_if (on e) q (step e)) (l : n < k) where
+      pub sought-at : test e ≡ true → Some e ≡ r
       unfolding seek
       sought-at b = sym (h.rest ∙ rw (less_one k n l, (to_is (on e) q (step e) p next to).0, b))
 
@@ -45,21 +43,21 @@ module _ (step : ℕ → ℕ) (on test : ℕ → Bool) (s k : ℕ) (r : FoundEdg
             rest = h.rest ∙ rw (less_one k n l, t.0, b, ne_eqb (step e) s (λ z. d (sym t.2 ∙ z)));
           }
 
-      pub sought-last : test e ≡ false → next ≡ s → Nowhere ≡ r
+      pub sought-last : test e ≡ false → next ≡ s → None ≡ r
       unfolding seek
       sought-last b d =
           let t = to_is (on e) q (step e) p next to in
           sym (h.rest ∙ rw (less_one k n l, t.0, b, eq-eqb (step e) s (t.2 ∙ d)) (met (k - (n + 1))))
         where
-          met : (j : ℕ) → seek step on test s j true (on (step e)) (step e) ≡ Nowhere
+          met : (j : ℕ) → seek step on test s j true (on (step e)) (step e) ≡ None
           met zero = refl
           met (suc j) = refl
 
-    pub sought-lost : (q : ℕ) → Lost ≡ to_if (on e) q (step e) → n < k → Nowhere ≡ r
+    pub sought-lost : (q : ℕ) → None ≡ to_if (on e) q (step e) → n < k → None ≡ r
     unfolding seek
     sought-lost q o l = sym (h.rest ∙ rw (less_one k n l, lost-is (on e) q (step e) o))
 
-    pub sought-out : k ≤ n → Nowhere ≡ r
+    pub sought-out : k ≤ n → None ≡ r
     unfolding seek
     sought-out l = sym (h.rest ∙ rw (none_left k n l))
       where

@@ -17,39 +17,24 @@ ghost use Rattle.walks.specs.Steps.{face_step, point_step};
 
 use edge_ends::TnurccVertexEnd;
 use records::load_edge_words;
-use t_spline::{FaceSide, PointEnd};
 use tables::{EDGE_WIDTH, LONGEST_BORDER, LONGEST_PERIMETER, index};
 
 // The neighbours of an edge on one side.
 pub const SIDE_WIDTH: usize = 2;
 
 // One step of a walk: the next edge, and a point of the edge that it leaves (about a face, the point at which the walk came to
-// that edge; about a point, its other end); or the walk is lost.
+// that edge; about a point, its other end).
 #[derive(Clone, Copy)]
-pub enum Step {
-    To { point: u32, next: u32 },
-    Lost,
+pub struct Step {
+    pub point: u32,
+    pub next: u32,
 }
 
-// The number of edges that a walk passed before it met its start; or the walk is lost.
-#[derive(Clone, Copy)]
-pub enum Passed {
-    Back(usize),
-    Lost,
-}
-
-// An edge that is looked for.
-#[derive(Clone, Copy)]
-pub enum FoundEdge {
-    At(u32),
-    Nowhere,
-}
-
-// The border of a face: the number of edges that the walk passed, or that it is lost; the edges, and the points at which the walk
+// The border of a face: the number of edges that the walk passed, if it is not lost; the edges, and the points at which the walk
 // comes to each of them, followed by the first four again. The rest of the arrays is 0.
 #[derive(Clone, Copy)]
 pub struct FaceBorder {
-    pub passed: Passed,
+    pub passed: Option<usize>,
     pub edges: [u32; LONGEST_PERIMETER],
     pub points: [u32; LONGEST_BORDER],
 }
@@ -65,40 +50,37 @@ pub fn end_number(first: usize, n: usize) -> usize
     1
 }
 
-// One step about face f from edge e, among the edges below ne.
-pub fn face_step(edges: &[u32], ne: usize, f: usize, e: usize) -> Step
+// One step about face f from edge e, among the edges below ne; none where the walk is lost.
+pub fn face_step(edges: &[u32], ne: usize, f: usize, e: usize) -> Option<Step>
     requires { ne * edge_width ≤ length edges.now }
     ensures { result ≡ face_step edges.now ne f e }
 {
     if ne <= e {
-        return Step::Lost;
+        return None;
     }
     let edge = load_edge_words(edges, e);
-    match edge.face_side(f) {
-        FaceSide::At(side) => Step::To {
-            point: edge.point_at_end(side.first_end()),
-            next: edge.acw_edge_from_side(side),
-        },
-        FaceSide::Nowhere => Step::Lost,
-    }
+    let side = edge.face_side(f)?;
+    Some(Step {
+        point: edge.point_at_end(side.first_end()),
+        next: edge.acw_edge_from_side(side),
+    })
 }
 
-// One step about point p from edge e, among the edges below ne.
-pub fn point_step(edges: &[u32], ne: usize, p: usize, e: usize) -> Step
+// One step about point p from edge e, among the edges below ne; none where the walk is lost. It asks of ends what `face_step` asks of sides
+// (`t_spline` has the methods of both).
+pub fn point_step(edges: &[u32], ne: usize, p: usize, e: usize) -> Option<Step>
     requires { ne * edge_width ≤ length edges.now }
     ensures { result ≡ point_step edges.now ne p e }
 {
     if ne <= e {
-        return Step::Lost;
+        return None;
     }
     let edge = load_edge_words(edges, e);
-    match edge.point_end(p) {
-        PointEnd::At(end) => Step::To {
-            point: edge.point_at_end(end.other()),
-            next: edge.acw_edge_from_end(end),
-        },
-        PointEnd::Nowhere => Step::Lost,
-    }
+    let end = edge.point_end(p)?;
+    Some(Step {
+        point: edge.point_at_end(end.other()),
+        next: edge.acw_edge_from_end(end),
+    })
 }
 
 // The next edge anticlockwise about point p from edge e, which touches it.

@@ -6,6 +6,7 @@ use mathlib.Core.Bool.{Bool, true, false}
 use mathlib.Core.Logic.{◌⊎◌, inl, inr}
 use Prim.Native.Nat.{ℕ, ◌≤◌, ◌<◌}
 use native.Mathlib.Omega.{arith}
+use Rattle.std.specs.Prelude.{Result, Ok, Err, ⊤}
 use Rattle.tables.specs.declared.Sizes.{Sizes}
 use Rattle.tables.specs.declared.Counts.{Counts}
 use Rattle.tables.specs.Mesh.{Mesh, none}
@@ -16,17 +17,13 @@ use Rattle.built_meshes.specs.Grounds.{HasFewRows, HasMissingFace, HasNoEdge, Ha
 use Rattle.built_meshes.specs.Grounds.{over-counts, unfit-number, missing-face, no_edge, missed-edge}
 use Rattle.built_meshes.specs.declared.Ground.{Ground}
 use Rattle.built_meshes.specs.declared.Ground.TheVariants.{OverCounts, UnfitNumber, MissingFace, NoEdge, MissedEdge}
-use Rattle.built_meshes.specs.declared.Verdict.{Verdict}
-use Rattle.built_meshes.specs.declared.Verdict.TheVariants.{Fit, Unfit}
-use Rattle.built_meshes.specs.declared.Built.{Built}
-use Rattle.built_meshes.specs.declared.Built.TheVariants.{Accepted, Refused}
 use Rattle.built_meshes.proofs.Before.{ClearLists, first-lists, first-whole, nothing-met, Tests, Triple, Same}
 use Rattle.built_meshes.proofs.Begin.{counts-is, counts-fail, counted-fits, numbers-is, numbers-fail, numbered-fits}
 use Rattle.built_meshes.proofs.Theorem.{first-ground, accepts-exactly}
 use Rattle.mended_lists.specs.Edges.{places_of}
 use Rattle.mended_lists.specs.Mending.{edges_shared}
 use Rattle.refusal_places.specs.declared.Spot.{Spot}
-use Rattle.refusal_places.specs.declared.Spot.TheVariants.{Clear, Face, Edge}
+use Rattle.refusal_places.specs.declared.Spot.TheVariants.{Face, Edge}
 use Rattle.refusal_places.specs.Spots.{first_spot}
 use Rattle.refusal_places.proofs.Theorem.{SoFar, Came, passed, at-face, at_edge, first-came}
 use Rattle.whole_grounds.specs.Turning.{points_begun, turns_come, whole_verdict_if, whole_met, verdict_if, lists_met}
@@ -34,11 +31,11 @@ use Rattle.whole_grounds.specs.Claims.{RefusesBy, AcceptsNone}
 use Rattle.whole_grounds.proofs.Turning.{missing-of, none-missing, bare_of, none_bare, missed-of, none-missed}
 
 module _ (c : Sizes) (l : Lists) (m : Mesh) (few : c.faces ≤ none) (rows : ¬ HasFewRows l m) where
-  pub data Answered : Verdict → Type 0 where
-    refuses : {g : Ground} → (build c l m).answer ≡ Refused g → Answered (Unfit g)
-    accepts : {k : Counts} → (build c l m).answer ≡ Accepted k → Answered Fit
+  pub data Answered : Result ⊤ Ground → Type 0 where
+    refuses : {g : Ground} → (build c l m).answer ≡ Err g → Answered (Err g)
+    accepts : {k : Counts} → (build c l m).answer ≡ Ok k → Answered (Ok tt)
 
-  by : (w : Where) (g : Ground) → FirstMet c l m w g → Answered (Unfit g)
+  by : (w : Where) (g : Ground) → FirstMet c l m w g → Answered (Err g)
   by w g h = refuses ((first-ground c l m few g).1 (w, h))
 
   whole-came : (clear : ClearLists c l m) → SoFar c l m clear (faces_of l) → Answered (whole_met l)
@@ -74,7 +71,7 @@ module _ (c : Sizes) (l : Lists) (m : Mesh) (few : c.faces ≤ none) (rows : ¬ 
   unfolding lists_met
   lists-came = go (counts_fit c l) refl (listed_fit l) refl
     where
-      faces : (clear : ClearLists c l m) (s : Spot) → Came c l m clear (SoFar c l m clear (faces_of l)) s → Answered (verdict_if true true s (whole_met l))
+      faces : (clear : ClearLists c l m) (s : Result ⊤ Spot) → Came c l m clear (SoFar c l m clear (faces_of l)) s → Answered (verdict_if true true s (whole_met l))
       faces clear s (passed far) = whole-came clear far
       faces clear s (at-face {f = f} {g = g} h) = by (face f) g h
       faces clear s (at_edge {f = f} {i = i} {g = g} h) = by (edge f i) g h
@@ -96,22 +93,22 @@ module _ (c : Sizes) (l : Lists) (m : Mesh) (few : c.faces ≤ none) (rows : ¬ 
 pub refuses-by : RefusesBy
 refuses-by c l m few rows g = (to (lists_met c l) (lists-came c l m few rows), λ e. from (lists_met c l) e (lists-came c l m few rows))
   where
-    to : (v : Verdict) → Answered c l m few rows v → (build c l m).answer ≡ Refused g → v ≡ Unfit g
-    to v (refuses {g = g'} a) b = let e : Refused g' ≡ Refused g = sym a ∙ b in let y : g' ≡ g = cc in ap Unfit y
-    to v (accepts {k = k} a) b = absurd (let e : Accepted k ≡ Refused g = sym a ∙ b in let z : ◌≡◌ {A = ℕ} 0 1 = cc in omega arith)
+    to : (v : Result ⊤ Ground) → Answered c l m few rows v → (build c l m).answer ≡ Err g → v ≡ Err g
+    to v (refuses {g = g'} a) b = let e : ◌≡◌ {A = Result Counts Ground} (Err g') (Err g) = sym a ∙ b in let y : g' ≡ g = cc in ap Err y
+    to v (accepts {k = k} a) b = absurd (let e : ◌≡◌ {A = Result Counts Ground} (Ok k) (Err g) = sym a ∙ b in let z : ◌≡◌ {A = ℕ} 0 1 = cc in omega arith)
 
-    from : (v : Verdict) → v ≡ Unfit g → Answered c l m few rows v → (build c l m).answer ≡ Refused g
-    from v e (refuses {g = g'} a) = let y : g' ≡ g = cc in a ∙ ap Refused y
+    from : (v : Result ⊤ Ground) → v ≡ Err g → Answered c l m few rows v → (build c l m).answer ≡ Err g
+    from v e (refuses {g = g'} a) = let y : g' ≡ g = cc in a ∙ ap Err y
     from v e (accepts a) = absurd (let z : ◌≡◌ {A = ℕ} 0 1 = cc in omega arith)
 
 pub accepts-none : AcceptsNone
 accepts-none c l m few rows =
     (λ w. to (lists_met c l) (lists-came c l m few rows) w.0 w.1, λ e. from (lists_met c l) e (lists-came c l m few rows))
   where
-    to : (v : Verdict) → Answered c l m few rows v → (k : Counts) → (build c l m).answer ≡ Accepted k → v ≡ Fit
-    to v (refuses {g = g} a) k b = absurd (let e : Refused g ≡ Accepted k = sym a ∙ b in let z : ◌≡◌ {A = ℕ} 0 1 = cc in omega arith)
+    to : (v : Result ⊤ Ground) → Answered c l m few rows v → (k : Counts) → (build c l m).answer ≡ Ok k → v ≡ Ok tt
+    to v (refuses {g = g} a) k b = absurd (let e : ◌≡◌ {A = Result Counts Ground} (Err g) (Ok k) = sym a ∙ b in let z : ◌≡◌ {A = ℕ} 0 1 = cc in omega arith)
     to v (accepts a) k b = refl
 
-    from : (v : Verdict) → v ≡ Fit → Answered c l m few rows v → (k : Counts) × ((build c l m).answer ≡ Accepted k)
+    from : (v : Result ⊤ Ground) → v ≡ Ok tt → Answered c l m few rows v → (k : Counts) × ((build c l m).answer ≡ Ok k)
     from v e (refuses a) = absurd (let z : ◌≡◌ {A = ℕ} 0 1 = cc in omega arith)
     from v e (accepts {k = k} a) = (k, a)

@@ -8,20 +8,19 @@
 --     turns_come l           about each point, turning from each place that begins there leads to the last one
 --     whole_met l            the first of the grounds 20, 21 and 22 that is met
 --     lists_met c l          the first ground that is met in the lists l within the limits c, but for 4
-use Rattle.std.specs.Prelude.{Bool, true, false, not, cond, List, ℕ, zero, suc, ◌+◌, ◌-◌, eqb, length, get_or}
+use Rattle.std.specs.Prelude.{Bool, true, false, not, cond, List, ℕ, zero, suc, ◌+◌, ◌-◌, eqb, length, get_or, Result, Ok, Err, ⊤}
+use Rattle.built_meshes.specs.declared.Ground.{Ground}
 use Rattle.perimeters.specs.Places.{next_place}
 use Rattle.audited_meshes.specs.Folds.{every}
 use Rattle.tables.specs.declared.Sizes.{Sizes}
 use Rattle.built_meshes.specs.Lists.{Lists, points_of, faces_of, size, offset, counts_fit, listed_fit}
-use Rattle.built_meshes.specs.declared.Verdict.{Verdict}
-use Rattle.built_meshes.specs.declared.Verdict.TheVariants.{Fit, Unfit}
 use Rattle.built_meshes.specs.declared.Ground.TheVariants.{OverCounts, UnfitNumber, MissingFace, NoEdge, MissedEdge}
 use Rattle.mended_lists.specs.InTurn.{in_turn}
 use Rattle.mended_lists.specs.Edges.{FacePlace, places_of, place_at, latest, mate, follower}
 use Rattle.mended_lists.specs.Mending.{edges_shared}
 use Rattle.refusal_places.specs.Spots.{first_spot}
 use Rattle.refusal_places.specs.declared.Spot.{Spot}
-use Rattle.refusal_places.specs.declared.Spot.TheVariants.{Clear, Face, Edge}
+use Rattle.refusal_places.specs.declared.Spot.TheVariants.{Face, Edge}
 
 -- by the links to the mate and to the follower
 abbrev pub linked_to : ℕ → ℕ → ℕ
@@ -63,24 +62,24 @@ unfolding every places_of comes turn_from start_at
 turns_come l = every (length (places_of l)) (λ k. comes_back l k)
 
 -- whether each edge has two faces, each point a place and all turns come together
-abbrev pub whole_verdict_if : Bool → Bool → Bool → Verdict
-whole_verdict_if false begun come = Unfit MissingFace
-whole_verdict_if true false come = Unfit NoEdge
-whole_verdict_if true true false = Unfit MissedEdge
-whole_verdict_if true true true = Fit
+abbrev pub whole_verdict_if : Bool → Bool → Bool → Result ⊤ Ground
+whole_verdict_if false begun come = Err MissingFace
+whole_verdict_if true false come = Err NoEdge
+whole_verdict_if true true false = Err MissedEdge
+whole_verdict_if true true true = Ok tt
 
-unfoldable pub whole_met : Lists → Verdict
+unfoldable pub whole_met : Lists → Result ⊤ Ground
 unfolding edges_shared places_of points_begun turns_come
 whole_met l = whole_verdict_if (edges_shared (places_of l)) (points_begun l) (turns_come l)
 
 -- the counts, the numbers, the faces, the whole
-abbrev pub verdict_if : Bool → Bool → Spot → Verdict → Verdict
-verdict_if false numbers s v = Unfit OverCounts
-verdict_if true false s v = Unfit UnfitNumber
-verdict_if true true (Face f g) v = Unfit g
-verdict_if true true (Edge f i g) v = Unfit g
-verdict_if true true Clear v = v
+abbrev pub verdict_if : Bool → Bool → Result ⊤ Spot → Result ⊤ Ground → Result ⊤ Ground
+verdict_if false numbers s v = Err OverCounts
+verdict_if true false s v = Err UnfitNumber
+verdict_if true true (Err (Face f g)) v = Err g
+verdict_if true true (Err (Edge f i g)) v = Err g
+verdict_if true true (Ok tt) v = v
 
-unfoldable pub lists_met : Sizes → Lists → Verdict
+unfoldable pub lists_met : Sizes → Lists → Result ⊤ Ground
 unfolding counts_fit listed_fit first_spot whole_met
 lists_met c l = verdict_if (counts_fit c l) (listed_fit l) (first_spot l) (whole_met l)

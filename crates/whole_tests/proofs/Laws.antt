@@ -12,6 +12,7 @@ use lib.Ieee.{Float}
 use lib.ListN.{length, get_or, set, take, replicate, length-replicate, get_or-replicate, length-set}
 use lib.Seq.{length-take-le, get_or-set_same, get_or-set_other}
 use borrow.Author.Tests.{eqb-true, eq-eqb}
+use Rattle.std.specs.Prelude.{Ok, Err}
 use Rattle.tables.specs.Layout.{position_width}
 use Rattle.perimeters.specs.Places.{next_place}
 use Rattle.perimeters.proofs.Laws.{next-below}
@@ -19,8 +20,6 @@ use Rattle.closed_meshes.proofs.Sums.{place-below}
 use Rattle.audited_meshes.specs.Folds.{every}
 use Rattle.audited_meshes.proofs.Tests.{self-is, every-is}
 use Rattle.built_meshes.specs.Lists.{Lists, points_of, faces_of, size, offset}
-use Rattle.built_meshes.specs.declared.Verdict.{Verdict}
-use Rattle.built_meshes.specs.declared.Verdict.TheVariants.{Fit, Unfit}
 use Rattle.built_meshes.specs.declared.Ground.TheVariants.{MissingFace, NoEdge, MissedEdge}
 use Rattle.building_tests.specs.Lent.{lists}
 use Rattle.mended_lists.specs.Edges.{FacePlace, listed_place, places_of, place_at, same_edge, latest, mate, follower, lone}
@@ -259,24 +258,24 @@ module _ (ss ls mates seconds : List ℕ) (np : ℕ) (r : WholeRoom ss ls mates 
 
     pub missing-met :
         (x : Bool) → x ≡ every (length mates) (λ k. not (eqb (get_or mates k 0) 0 && eqb (get_or seconds k 0) 0)) → x ≡ false →
-        Unfit MissingFace ≡ whole_met (lists cs ss ls [])
+        Err MissingFace ≡ whole_met (lists cs ss ls [])
     missing-met x q t = whole_is false (points_begun (lists cs ss ls [])) (turns_come L) (sym t ∙ q ∙ shared-shown) refl refl
 
     module _ (starts : List ℕ) (st : Started ls starts (length ls)) (h : np ≤ length starts) (x y : Bool)
         (q : x ≡ every (length mates) (λ k. not (eqb (get_or mates k 0) 0 && eqb (get_or seconds k 0) 0))) (t : x ≡ true)
         (q' : y ≡ every np (λ p. not (eqb (get_or starts p 0) 0))) where
-      pub bare-met : y ≡ false → Unfit NoEdge ≡ whole_met (lists cs ss ls [])
+      pub bare-met : y ≡ false → Err NoEdge ≡ whole_met (lists cs ss ls [])
       bare-met t' = whole_is true false (turns_come L) (sym t ∙ q ∙ shared-shown) (sym t' ∙ q' ∙ begun-shown starts st h) refl
 
       pub missed-met :
           y ≡ true → (z : Bool) → z ≡ every (length ls) (λ k. comes (turn_from L) (length ls) k (get_or starts (get_or ls k 0) 0 - 1)) →
-          z ≡ false → Unfit MissedEdge ≡ whole_met (lists cs ss ls [])
+          z ≡ false → Err MissedEdge ≡ whole_met (lists cs ss ls [])
       missed-met t' z o u =
           whole_is true true false (sym t ∙ q ∙ shared-shown) (sym t' ∙ q' ∙ begun-shown starts st h) (sym u ∙ o ∙ come-shown starts st h)
 
       pub nothing-met :
           y ≡ true → (z : Bool) → z ≡ every (length ls) (λ k. comes (turn_from L) (length ls) k (get_or starts (get_or ls k 0) 0 - 1)) →
-          z ≡ true → Fit ≡ whole_met (lists cs ss ls [])
+          z ≡ true → Ok tt ≡ whole_met (lists cs ss ls [])
       nothing-met t' z o u =
           whole_is true true true (sym t ∙ q ∙ shared-shown) (sym t' ∙ q' ∙ begun-shown starts st h) (sym u ∙ o ∙ come-shown starts st h)
 

@@ -12,7 +12,7 @@ ghost use Rattle.whole_grounds.specs.Turning.{linked_to, turn_from, comes, whole
 ghost use Rattle.whole_tests.specs.Whole.{step_at, TurnRoom, StartRoom, WholeRoom};
 
 use building_tests::{MOST_LISTED, MOST_POINTS};
-use built_meshes::{Ground, Verdict};
+use built_meshes::Ground;
 use face_places::spread;
 use shared_edges::are_shared;
 use tables::index;
@@ -23,11 +23,9 @@ fn start_points(listed: &[u32], starts: &mut [u32])
     ensures { (p : ℕ) → p < length starts.old →
         get_or starts.new p 0 ≡ latest (λ k. eqb (get_or listed.now k 0) p) (length listed.now) }
 {
-    let mut k = 0;
-    while k < listed.len() {
+    for k in 0..listed.len() {
         let p = index(listed[k]);
         starts[p] = k as u32 + 1;
-        k += 1;
     }
 }
 
@@ -36,12 +34,10 @@ fn all_begun(starts: &[u32], np: usize) -> bool
     requires { np ≤ length starts.now }
     ensures { result ≡ every np (λ p. not (eqb (get_or starts.now p 0) 0)) }
 {
-    let mut p = 0;
-    while p < np {
+    for p in 0..np {
         if starts[p] == 0 {
             return false;
         }
-        p += 1;
     }
     true
 }
@@ -52,10 +48,8 @@ fn number_places(numbers: &mut [u32], n: usize)
     requires n_bound { n ≤ 16384 }
     ensures { (k : ℕ) → k < n → get_or numbers.new k 0 ≡ k }
 {
-    let mut k = 0;
-    while k < n {
+    for k in 0..n {
         numbers[k] = k as u32;
-        k += 1;
     }
 }
 
@@ -63,10 +57,7 @@ fn number_places(numbers: &mut [u32], n: usize)
 fn link_place(link: u32) -> usize
     ensures { result ≡ link - 1 }
 {
-    if link == 0 {
-        return 0;
-    }
-    index(link - 1)
+    index(link.saturating_sub(1))
 }
 
 // The other place on an edge, by the links to the mate and to the place whose mate it is.
@@ -86,14 +77,12 @@ fn comes_to(nexts: &[u32], mates: &[u32], seconds: &[u32], n: usize, k: usize, s
     ensures { result ≡ comes (step_at nexts.now mates.now seconds.now) n k s }
 {
     let mut at = k;
-    let mut left = n;
-    while 0 < left {
+    for _turn in 0..n {
         if at == s {
             return true;
         }
         let j = other(mates[at], seconds[at]);
         at = index(nexts[j]);
-        left -= 1;
     }
     at == s
 }
@@ -114,14 +103,12 @@ fn all_come(
     ensures { result ≡ every n (λ k. comes (step_at nexts.now mates.now seconds.now) n k
         (get_or starts.now (get_or listed.now k 0) 0 - 1)) }
 {
-    let mut k = 0;
-    while k < n {
+    for k in 0..n {
         let p = index(listed[k]);
         let s = link_place(starts[p]);
         if !comes_to(nexts, mates, seconds, n, k, s) {
             return false;
         }
-        k += 1;
     }
     true
 }
@@ -149,21 +136,21 @@ pub fn whole_told(
     mates: &[u32],
     seconds: &[u32],
     np: usize,
-) -> Verdict
+) -> Result<(), Ground>
     requires whole_room { WholeRoom sides.now listed.now mates.now seconds.now np }
     requires np_bound { np ≤ 4096 }
     ensures { (cs : List Float) → length cs / position_width ≡ np → result ≡ whole_met (lists cs sides.now listed.now []) }
 {
     if !are_shared(mates, seconds) {
-        return Verdict::Unfit(Ground::MissingFace);
+        return Err(Ground::MissingFace);
     }
     let mut starts = [0u32; MOST_POINTS];
     start_points(listed, &mut starts);
     if !all_begun(&starts, np) {
-        return Verdict::Unfit(Ground::NoEdge);
+        return Err(Ground::NoEdge);
     }
     if !turns_come(sides, listed, mates, seconds, &starts) {
-        return Verdict::Unfit(Ground::MissedEdge);
+        return Err(Ground::MissedEdge);
     }
-    Verdict::Fit
+    Ok(())
 }

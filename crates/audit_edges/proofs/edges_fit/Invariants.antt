@@ -1,6 +1,5 @@
--- edges_fit meets its contract. The invariant: the first e edges pass the test but for their clockwise links; the measure is what is
--- left of ne. All edges pass that test exactly if all pass the whole.
-use Prim.Native.Nat.{◌≤◌, ◌-◌}
+-- edges_fit meets its contract. The invariant: the first e edges pass the test but for their clockwise links. All edges pass that test
+-- exactly if all pass the whole.
 use mathlib.Core.Path.{◌≡◌}
 use mathlib.Core.Bool.{true}
 use Rattle.audited_meshes.specs.Folds.{every}
@@ -9,7 +8,5 @@ use Rattle.tables.specs.Parts.{edge_tables}
 use Rattle.audit_edges.proofs.edges_fit.Given as goal
 
 abbrev pub invariant-loop-e : goal.invariant-loop-e
-invariant-loop-e l = (l.e ≤ l.ne) × (every l.e (λ k. half_fit (edge_tables l.edges l.intervals) l.np l.ne l.nf k) ≡ true)
-
-abbrev pub decreases-loop-e : goal.decreases-loop-e
-decreases-loop-e l = l.ne - l.e
+invariant-loop-e l =
+    every l.e (λ k. half_fit (edge_tables l.edges l.intervals) l.np l.ne l.nf k) ≡ true

@@ -1,12 +1,12 @@
--- are_distinct meets its contract. The invariant: the points of the first i places are new; the measure is what is left of n.
-use Prim.Native.Nat.{ℕ, ◌-◌}
+-- are_distinct meets its contract. The invariant: the points of the first i places are new.
+use Prim.Native.Nat.{ℕ}
 use mathlib.Core.Path.{sym, ◌∙◌, ap}
-use mathlib.Core.Bool.{true}
 use native.Mathlib.Omega.{arith}
 use Rattle.audited_meshes.specs.Folds.{every}
 use Rattle.audited_meshes.proofs.Folds.{every-none, every_more, every-stop}
 use Rattle.audit_tests.proofs.Laws.{every-all}
 use Rattle.audit_tests.specs.Parts.{differ_at}
+use Rattle.audit_faces.proofs.FaceTests.{new-differs}
 use Rattle.audit_faces.proofs.are_distinct.Goals as goal
 
 -- of four
@@ -16,20 +16,18 @@ returns-then-n-eq4 c =
 
 pub loop-i-init : goal.loop-i-init
 loop-i-init c =
-    (omega arith, every-none _)
+    every-none _
 
-pub returns-then-not-is_new : goal.returns-then-not-is_new
-returns-then-not-is_new c =
+pub returns-then-not-is_new_among : goal.returns-then-not-is_new_among
+returns-then-not-is_new_among c =
     sym (every-stop _ _ _ c.loop-i-test.true
-    (sym c.is_new.ensures ∙ c.if-not-is_new.true))
+    (sym (new-differs c.args.points.now c.loop-i.i) ∙ sym c.is_new_among.ensures ∙ c.if-not-is_new_among.true))
 
 pub loop-i-preserved : goal.loop-i-preserved
-loop-i-preserved c = (
-  omega arith,
-  every_more _ _ c.loop-i.invariant.1
-      (sym c.is_new.ensures ∙ c.if-not-is_new.false),
-)
+loop-i-preserved c =
+    every_more _ _ c.loop-i.invariant
+    (sym (new-differs c.args.points.now c.loop-i.i) ∙ sym c.is_new_among.ensures ∙ c.if-not-is_new_among.false)
 
 pub returns : goal.returns
 returns c =
-    sym (every-all _ _ _ c.loop-i.invariant.1 (omega arith))
+    sym (every-all _ _ _ c.loop-i.invariant (omega arith))

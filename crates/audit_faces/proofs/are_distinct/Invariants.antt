@@ -1,5 +1,4 @@
--- are_distinct meets its contract. The invariant: the points of the first i places are new; the measure is what is left of n.
-use Prim.Native.Nat.{◌≤◌, ◌-◌}
+-- are_distinct meets its contract. The invariant: the points of the first i places are new.
 use mathlib.Core.Path.{◌≡◌}
 use mathlib.Core.Bool.{true}
 use Rattle.audited_meshes.specs.Folds.{every}
@@ -7,7 +6,4 @@ use Rattle.audit_tests.specs.Parts.{differ_at}
 use Rattle.audit_faces.proofs.are_distinct.Given as goal
 
 abbrev pub invariant-loop-i : goal.invariant-loop-i
-invariant-loop-i l = (l.i ≤ l.n) × (every l.i (λ k. every k (λ j. differ_at l.points k j)) ≡ true)
-
-abbrev pub decreases-loop-i : goal.decreases-loop-i
-decreases-loop-i l = l.n - l.i
+invariant-loop-i l = every l.i (λ k. every k (λ j. differ_at l.points k j)) ≡ true

@@ -5,10 +5,6 @@ use lib.ListN.{get_or}
 use Rattle.audit_steps.proofs.Noted.{new-unstamped}
 use Rattle.audit_steps.proofs.is_new.Goals as goal
 
-pub returns-then-was-stamp : goal.returns-then-was-stamp
-returns-then-was-stamp c =
-    record { value = c.is_apart.ensures; stamps_after = rw c.index-b.ensures refl }
-
 pub returns : goal.returns
 returns c =
     record {

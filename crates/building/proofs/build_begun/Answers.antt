@@ -1,14 +1,13 @@
 -- build_begun meets its contract: the counted rows are zeroed first.
 use Rattle.tables.specs.Mesh.{mesh_of}
-use Rattle.building_tests.specs.Lent.{lists_in}
+use Rattle.built_meshes.specs.Lent.{lists_of}
 use Rattle.building.proofs.Outcomes.{rooms, links-room, links-none}
 use mathlib.Core.Path.{◌∙◌}
 use Rattle.building.proofs.build_begun.Goals as goal
 
 pub zero_rows-requires : goal.zero_rows-requires
 zero_rows-requires c =
-    let r = rooms (lists_in c.args.version c.args.coordinates.now c.args.sides.now c.args.firsts.now c.args.listed.now
-    c.args.beside.now)
+    let r = rooms (lists_of c.args.lists.now)
     (mesh_of c.args.positions.now c.args.points.now c.args.edges.now c.args.intervals.now c.args.faces.now)
     (c.requires) in
     record {

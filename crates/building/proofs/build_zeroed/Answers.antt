@@ -3,15 +3,14 @@ use native.Mathlib.Omega.{arith}
 use mathlib.Core.Path.{◌∙◌, refl}
 use Rattle.built_meshes.specs.Lists.{offset}
 use Rattle.tables.specs.Mesh.{mesh_of}
-use Rattle.building_tests.specs.Lent.{lists_in}
+use Rattle.built_meshes.specs.Lent.{lists_of}
 use Rattle.building.proofs.Outcomes.{rooms-of, standing-none, lent-rooms, stopped-outcome, on-outcome}
 use Rattle.building.proofs.build_zeroed.Goals as goal
 
 pub enter_faces-requires : goal.enter_faces-requires
 unfolding offset
 enter_faces-requires c =
-    let l = lists_in c.args.version c.args.coordinates.now c.args.sides.now c.args.firsts.now c.args.listed.now
-    c.args.beside.now in
+    let l = lists_of c.args.lists.now in
     let m = mesh_of c.args.positions.now c.args.points.now c.args.edges.now c.args.intervals.now c.args.faces.now in
     let r = rooms-of l m c.requires.zeroed in
     record {
@@ -26,8 +25,7 @@ enter_faces-requires c =
 
 pub conclude-requires : goal.conclude-requires
 conclude-requires c =
-    let r = rooms-of (lists_in c.args.version c.args.coordinates.now c.args.sides.now c.args.firsts.now
-    c.args.listed.now c.args.beside.now)
+    let r = rooms-of (lists_of c.args.lists.now)
     (mesh_of c.args.positions.now c.args.points.now c.args.edges.now c.args.intervals.now c.args.faces.now)
     c.requires.zeroed in
     record {
@@ -36,13 +34,12 @@ conclude-requires c =
       edge_width_in_bounds = rw c.enter_faces.auto.edges r.edges_fit;
       nl_in_bounds = rw c.enter_faces.auto.intervals r.intervals-fit;
       face_width_in_bounds = rw c.enter_faces.auto.faces r.faces-fit;
-      k_le_nl = (rw c.in-On.is at c.enter_faces.ensures.face_stands).1;
+      k_le_nl = (rw c.in-Ok.is at c.enter_faces.ensures.face_stands).1;
     }
 
 pub zero_rows-requires : goal.zero_rows-requires
 zero_rows-requires c =
-    let r = rooms-of (lists_in c.args.version c.args.coordinates.now c.args.sides.now c.args.firsts.now
-    c.args.listed.now c.args.beside.now)
+    let r = rooms-of (lists_of c.args.lists.now)
     (mesh_of c.args.positions.now c.args.points.now c.args.edges.now c.args.intervals.now c.args.faces.now)
     c.requires.zeroed in
     record {
@@ -53,72 +50,70 @@ zero_rows-requires c =
       face_width_in_bounds = rw c.enter_faces.auto.faces r.faces-fit;
     }
 
-pub shape_of-positions-in-On : goal.shape_of-positions-in-On
-shape_of-positions-in-On c =
+pub shape_of-positions-in-Ok : goal.shape_of-positions-in-Ok
+shape_of-positions-in-Ok c =
     c.conclude.auto.positions
 
-pub shape_of-points-in-On : goal.shape_of-points-in-On
-shape_of-points-in-On c =
+pub shape_of-points-in-Ok : goal.shape_of-points-in-Ok
+shape_of-points-in-Ok c =
     c.conclude.auto.points ∙ c.enter_faces.auto.points
 
-pub shape_of-edges-in-On : goal.shape_of-edges-in-On
-shape_of-edges-in-On c =
+pub shape_of-edges-in-Ok : goal.shape_of-edges-in-Ok
+shape_of-edges-in-Ok c =
     c.conclude.auto.edges ∙ c.enter_faces.auto.edges
 
-pub shape_of-intervals-in-On : goal.shape_of-intervals-in-On
-shape_of-intervals-in-On c =
+pub shape_of-intervals-in-Ok : goal.shape_of-intervals-in-Ok
+shape_of-intervals-in-Ok c =
     c.conclude.auto.intervals ∙ c.enter_faces.auto.intervals
 
-pub shape_of-faces-in-On : goal.shape_of-faces-in-On
-shape_of-faces-in-On c =
+pub shape_of-faces-in-Ok : goal.shape_of-faces-in-Ok
+shape_of-faces-in-Ok c =
     c.conclude.auto.faces ∙ c.enter_faces.auto.faces
 
-pub shape_of-chain-in-On : goal.shape_of-chain-in-On
-shape_of-chain-in-On c =
+pub shape_of-chain-in-Ok : goal.shape_of-chain-in-Ok
+shape_of-chain-in-Ok c =
     c.enter_faces.auto.chain
 
-pub returns-in-On : goal.returns-in-On
-returns-in-On c =
-    λ m begun z. on-outcome (lists_in c.args.version c.args.coordinates.now c.args.sides.now c.args.firsts.now
-    c.args.listed.now c.args.beside.now) m
+pub returns-in-Ok : goal.returns-in-Ok
+returns-in-Ok c =
+    λ m begun z. on-outcome (lists_of c.args.lists.now) m
     (mesh_of c.args.positions.now c.args.points.now c.args.edges.now c.args.intervals.now c.args.faces.now)
-    begun z c.in-On.k (mesh_of c.args.positions.now c.enter_faces.new.points
+    begun z c.in-Ok.k (mesh_of c.args.positions.now c.enter_faces.new.points
     c.enter_faces.new.edges c.enter_faces.new.intervals
     c.enter_faces.new.faces) _
-    (rw c.in-On.is at (c.enter_faces.ensures.fact c.args.coordinates.now c.args.positions.now refl))
+    (rw c.in-Ok.is at (c.enter_faces.ensures.fact c.args.lists.now.coordinates.now c.args.positions.now refl))
     c.conclude.ensures
 
-pub shape_of-positions-in-Stopped : goal.shape_of-positions-in-Stopped
-shape_of-positions-in-Stopped c =
+pub shape_of-positions-in-Err : goal.shape_of-positions-in-Err
+shape_of-positions-in-Err c =
     c.zero_rows.auto.positions
 
-pub shape_of-points-in-Stopped : goal.shape_of-points-in-Stopped
-shape_of-points-in-Stopped c =
+pub shape_of-points-in-Err : goal.shape_of-points-in-Err
+shape_of-points-in-Err c =
     c.zero_rows.auto.points ∙ c.enter_faces.auto.points
 
-pub shape_of-edges-in-Stopped : goal.shape_of-edges-in-Stopped
-shape_of-edges-in-Stopped c =
+pub shape_of-edges-in-Err : goal.shape_of-edges-in-Err
+shape_of-edges-in-Err c =
     c.zero_rows.auto.edges ∙ c.enter_faces.auto.edges
 
-pub shape_of-intervals-in-Stopped : goal.shape_of-intervals-in-Stopped
-shape_of-intervals-in-Stopped c =
+pub shape_of-intervals-in-Err : goal.shape_of-intervals-in-Err
+shape_of-intervals-in-Err c =
     c.zero_rows.auto.intervals ∙ c.enter_faces.auto.intervals
 
-pub shape_of-faces-in-Stopped : goal.shape_of-faces-in-Stopped
-shape_of-faces-in-Stopped c =
+pub shape_of-faces-in-Err : goal.shape_of-faces-in-Err
+shape_of-faces-in-Err c =
     c.zero_rows.auto.faces ∙ c.enter_faces.auto.faces
 
-pub shape_of-chain-in-Stopped : goal.shape_of-chain-in-Stopped
-shape_of-chain-in-Stopped c =
+pub shape_of-chain-in-Err : goal.shape_of-chain-in-Err
+shape_of-chain-in-Err c =
     c.enter_faces.auto.chain
 
-pub returns-in-Stopped : goal.returns-in-Stopped
-returns-in-Stopped c =
-    λ m begun z. stopped-outcome (lists_in c.args.version c.args.coordinates.now c.args.sides.now
-    c.args.firsts.now c.args.listed.now c.args.beside.now) m
+pub returns-in-Err : goal.returns-in-Err
+returns-in-Err c =
+    λ m begun z. stopped-outcome (lists_of c.args.lists.now) m
     (mesh_of c.args.positions.now c.args.points.now c.args.edges.now c.args.intervals.now c.args.faces.now)
-    begun z c.in-Stopped.g (mesh_of c.args.positions.now c.enter_faces.new.points
+    begun z c.in-Err.g (mesh_of c.args.positions.now c.enter_faces.new.points
     c.enter_faces.new.edges c.enter_faces.new.intervals
     c.enter_faces.new.faces) _
-    (rw c.in-Stopped.is at (c.enter_faces.ensures.fact c.args.coordinates.now c.args.positions.now refl))
+    (rw c.in-Err.is at (c.enter_faces.ensures.fact c.args.lists.now.coordinates.now c.args.positions.now refl))
     c.zero_rows.ensures

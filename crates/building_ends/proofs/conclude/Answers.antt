@@ -7,23 +7,23 @@ use Rattle.built_meshes.specs.Whole.{whole_verdict}
 use Rattle.building_ends.proofs.Ends.{concluded-fit, concluded-unfit}
 use Rattle.building_ends.proofs.conclude.Goals as goal
 
-pub returns-in-Fit : goal.returns-in-Fit
-returns-in-Fit c =
+pub returns-in-Ok : goal.returns-in-Ok
+returns-in-Ok c =
     let m = mesh_of c.args.positions.now c.args.points.now c.args.edges.now c.args.intervals.now
     c.args.faces.now in
     concluded-fit c.args.coordinates.now (length c.args.coordinates.now / 3) c.args.nl c.args.nf m c.args.k
-    (whole_verdict m (length c.args.coordinates.now / 3) c.args.k) c.index-ne.result c.copy_numbers.new.numbers
+    (whole_verdict m (length c.args.coordinates.now / 3) c.args.k) c.index-ne.result c.copy_first.new.elements
     c.mark_points.new.points
     (sym (rw c.index-ne.ensures at
     (c.whole_verdict.ensures c.args.positions.now c.args.intervals.now c.args.faces.now))
-    ∙ c.in-Fit.is) c.index-ne.ensures c.copy_numbers.ensures c.mark_points.ensures
+    ∙ c.in-Ok.is) c.index-ne.ensures c.copy_first.ensures c.mark_points.ensures
 
-pub returns-in-Unfit : goal.returns-in-Unfit
-returns-in-Unfit c =
+pub returns-in-Err : goal.returns-in-Err
+returns-in-Err c =
     let m = mesh_of c.args.positions.now c.args.points.now c.args.edges.now c.args.intervals.now
     c.args.faces.now in
     concluded-unfit c.args.coordinates.now (length c.args.coordinates.now / 3) c.args.nl c.args.nf m c.args.k
-    (whole_verdict m (length c.args.coordinates.now / 3) c.args.k) c.in-Unfit.g _
+    (whole_verdict m (length c.args.coordinates.now / 3) c.args.k) c.in-Err.g _
     (sym
     (rw c.index-ne.ensures at (c.whole_verdict.ensures c.args.positions.now c.args.intervals.now c.args.faces.now))
-    ∙ c.in-Unfit.is) c.zero_rows.ensures
+    ∙ c.in-Err.is) c.zero_rows.ensures

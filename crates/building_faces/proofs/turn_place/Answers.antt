@@ -4,7 +4,8 @@ use lib.Ieee.{nan}
 use native.Mathlib.Omega.{arith}
 use Prim.Native.Nat.{ℕ, ◌+◌}
 use mathlib.Core.List.{[]}
-use mathlib.Core.Path.{◌∙◌, refl, ap}
+use mathlib.Core.Path.{refl, ap}
+use Rattle.std.proofs.lemmas.Result.{err_from_is_err_and}
 use Rattle.perimeters.proofs.Laws.{next-below}
 use Rattle.tables.specs.Mesh.{mesh_of}
 use Rattle.building_faces.proofs.Turns.{placed-point, room-lent, made_counted, turn_stopped, turn-first, turn_more, stands-first, joined-fits, stands-more}
@@ -78,26 +79,26 @@ returns-then-i-eq0 c =
           (mesh_of ps c.args.points.now c.args.edges.now c.args.intervals.now fs)
           (mesh_of ps c.enter.new.points c.enter.new.edges c.enter.new.intervals fs) c.next_place-next.ensures.value refl refl
           (ap (λ (j : ℕ). get_or c.args.beside.now (c.args.a + j) nan) c.interval_place.ensures.value)
-          c.in-Made.count c.in-Made.edge (rw c.in-Made.is at (c.enter.ensures.entered_by ps fs)) c.if-i-eq0.true);
+          c.in_ok-place.place.edges c.in_ok-place.place.edge (rw c.in_ok-place.was at (c.enter.ensures.entered_by ps fs)) c.if-i-eq0.true);
       turn_stands = stands-first c.args.np c.enter.new.points c.enter.new.edges c.enter.new.chain c.args.ring.edges
-          c.in-Made.count c.in-Made.edge (c.args.a + c.args.i + 1) (rw c.in-Made.is at c.enter.ensures.standing_2)
+          c.in_ok-place.place.edges c.in_ok-place.place.edge (c.args.a + c.args.i + 1) (rw c.in_ok-place.was at c.enter.ensures.standing_2)
           (made_counted (mesh_of [] c.args.points.now c.args.edges.now c.args.intervals.now [])
           (mesh_of [] c.enter.new.points c.enter.new.edges c.enter.new.intervals []) c.args.ring.edges c.args.f
           (get_or c.args.listed.now (c.args.a + c.args.i) 0) (get_or c.args.listed.now (c.args.a + c.next_place-next.result) 0)
-          (get_or c.args.beside.now (c.args.a + c.interval_place.result) nan) c.in-Made.count c.in-Made.edge
-          (rw c.in-Made.is at (c.enter.ensures.entered_by [] []))) (omega arith);
+          (get_or c.args.beside.now (c.args.a + c.interval_place.result) nan) c.in_ok-place.place.edges c.in_ok-place.place.edge
+          (rw c.in_ok-place.was at (c.enter.ensures.entered_by [] []))) (omega arith);
     }
 
 pub connect-requires : goal.connect-requires
 connect-requires c =
     let whole = joined-fits c.args.np c.enter.new.points c.enter.new.edges c.enter.new.chain c.args.ring.edges
-    c.in-Made.count c.in-Made.edge (c.args.a + c.args.i + 1) (rw c.in-Made.is at c.enter.ensures.standing_2)
+    c.in_ok-place.place.edges c.in_ok-place.place.edge (c.args.a + c.args.i + 1) (rw c.in_ok-place.was at c.enter.ensures.standing_2)
     (made_counted (mesh_of [] c.args.points.now c.args.edges.now c.args.intervals.now [])
     (mesh_of [] c.enter.new.points c.enter.new.edges c.enter.new.intervals []) c.args.ring.edges c.args.f
     (get_or c.args.listed.now (c.args.a + c.args.i) 0)
     (get_or c.args.listed.now (c.args.a + c.next_place-next.result) 0)
-    (get_or c.args.beside.now (c.args.a + c.interval_place.result) nan) c.in-Made.count c.in-Made.edge
-    (rw c.in-Made.is at (c.enter.ensures.entered_by [] []))) (omega arith) c.args.ring refl
+    (get_or c.args.beside.now (c.args.a + c.interval_place.result) nan) c.in_ok-place.place.edges c.in_ok-place.place.edge
+    (rw c.in_ok-place.was at (c.enter.ensures.entered_by [] []))) (omega arith) c.args.ring refl
     (c.requires.closing (omega arith)) c.enter.new.intervals
     (rw c.enter.auto.intervals (omega (arith, c.requires.i_lt_n))) in
     record {
@@ -107,24 +108,8 @@ connect-requires c =
       j_in_bounds = whole.1.1.1;
     }
 
-pub shape_of-points-else-i-eq0 : goal.shape_of-points-else-i-eq0
-shape_of-points-else-i-eq0 c =
-    c.enter.auto.points
-
-pub shape_of-edges-else-i-eq0 : goal.shape_of-edges-else-i-eq0
-shape_of-edges-else-i-eq0 c =
-    c.connect.auto.edges ∙ c.enter.auto.edges
-
-pub shape_of-intervals-else-i-eq0 : goal.shape_of-intervals-else-i-eq0
-shape_of-intervals-else-i-eq0 c =
-    c.enter.auto.intervals
-
-pub shape_of-chain-else-i-eq0 : goal.shape_of-chain-else-i-eq0
-shape_of-chain-else-i-eq0 c =
-    c.enter.auto.chain
-
-pub returns-else-i-eq0 : goal.returns-else-i-eq0
-returns-else-i-eq0 c =
+pub returns : goal.returns
+returns c =
     record {
       fact = (λ cs ss qs ps fs. turn_more c.args.version cs ss qs c.args.listed.now c.args.beside.now c.args.f c.args.a
           c.args.n c.args.i c.next_place-next.result (get_or c.args.listed.now (c.args.a + c.args.i) 0)
@@ -133,43 +118,31 @@ returns-else-i-eq0 c =
           (mesh_of ps c.args.points.now c.args.edges.now c.args.intervals.now fs)
           (mesh_of ps c.enter.new.points c.enter.new.edges c.enter.new.intervals fs) c.next_place-next.ensures.value refl refl
           (ap (λ (j : ℕ). get_or c.args.beside.now (c.args.a + j) nan) c.interval_place.ensures.value)
-          c.in-Made.count c.in-Made.edge c.connect.new.edges (rw c.in-Made.is at (c.enter.ensures.entered_by ps fs))
+          c.in_ok-place.place.edges c.in_ok-place.place.edge c.connect.new.edges (rw c.in_ok-place.was at (c.enter.ensures.entered_by ps fs))
           c.if-i-eq0.false c.connect.ensures.edges_after);
       turn_stands = stands-more c.args.np c.enter.new.points c.enter.new.edges c.enter.new.chain c.args.ring.edges
-          c.in-Made.count c.in-Made.edge (c.args.a + c.args.i + 1) (rw c.in-Made.is at c.enter.ensures.standing_2)
+          c.in_ok-place.place.edges c.in_ok-place.place.edge (c.args.a + c.args.i + 1) (rw c.in_ok-place.was at c.enter.ensures.standing_2)
           (made_counted (mesh_of [] c.args.points.now c.args.edges.now c.args.intervals.now [])
           (mesh_of [] c.enter.new.points c.enter.new.edges c.enter.new.intervals []) c.args.ring.edges c.args.f
           (get_or c.args.listed.now (c.args.a + c.args.i) 0) (get_or c.args.listed.now (c.args.a + c.next_place-next.result) 0)
-          (get_or c.args.beside.now (c.args.a + c.interval_place.result) nan) c.in-Made.count c.in-Made.edge
-          (rw c.in-Made.is at (c.enter.ensures.entered_by [] []))) (omega arith) c.args.ring refl
+          (get_or c.args.beside.now (c.args.a + c.interval_place.result) nan) c.in_ok-place.place.edges c.in_ok-place.place.edge
+          (rw c.in_ok-place.was at (c.enter.ensures.entered_by [] []))) (omega arith) c.args.ring refl
           (c.requires.closing (omega arith)) c.enter.new.intervals c.connect.new.edges c.connect.ensures.edges_after;
     }
 
-pub shape_of-points-in-Refused : goal.shape_of-points-in-Refused
-shape_of-points-in-Refused c =
-    c.enter.auto.points
+pub returns-in_err-place-clause-fact : goal.returns-in_err-place-clause-fact
+returns-in_err-place-clause-fact c =
+    let p = err_from_is_err_and c.from_residual.result c.from_residual.ensures.1 in
+    rw (p.1, p.2) (λ cs ss qs ps fs. turn_stopped c.args.version cs ss qs c.args.listed.now c.args.beside.now c.args.f c.args.a c.args.n c.args.i
+    c.next_place-next.result (get_or c.args.listed.now (c.args.a + c.args.i) 0) (get_or c.args.listed.now (c.args.a + c.next_place-next.result) 0)
+    (get_or c.args.beside.now (c.args.a + c.interval_place.result) nan) c.args.ring
+    (mesh_of ps c.args.points.now c.args.edges.now c.args.intervals.now fs)
+    (mesh_of ps c.enter.new.points c.enter.new.edges c.enter.new.intervals fs) c.next_place-next.ensures.value refl refl
+    (ap (λ (j : ℕ). get_or c.args.beside.now (c.args.a + j) nan) c.interval_place.ensures.value)
+    c.in_err-place.field-0.0 (rw c.in_err-place.was at (c.enter.ensures.entered_by ps fs)))
 
-pub shape_of-edges-in-Refused : goal.shape_of-edges-in-Refused
-shape_of-edges-in-Refused c =
-    c.enter.auto.edges
-
-pub shape_of-intervals-in-Refused : goal.shape_of-intervals-in-Refused
-shape_of-intervals-in-Refused c =
-    c.enter.auto.intervals
-
-pub shape_of-chain-in-Refused : goal.shape_of-chain-in-Refused
-shape_of-chain-in-Refused c =
-    c.enter.auto.chain
-
-pub returns-in-Refused : goal.returns-in-Refused
-returns-in-Refused c =
-    let s = rw c.in-Refused.is at c.enter.ensures.standing_2 in record {
-      fact = (λ cs ss qs ps fs. turn_stopped c.args.version cs ss qs c.args.listed.now c.args.beside.now c.args.f c.args.a c.args.n c.args.i
-          c.next_place-next.result (get_or c.args.listed.now (c.args.a + c.args.i) 0) (get_or c.args.listed.now (c.args.a + c.next_place-next.result) 0)
-          (get_or c.args.beside.now (c.args.a + c.interval_place.result) nan) c.args.ring
-          (mesh_of ps c.args.points.now c.args.edges.now c.args.intervals.now fs)
-          (mesh_of ps c.enter.new.points c.enter.new.edges c.enter.new.intervals fs) c.next_place-next.ensures.value refl refl
-          (ap (λ (j : ℕ). get_or c.args.beside.now (c.args.a + j) nan) c.interval_place.ensures.value)
-          c.in-Refused.g (rw c.in-Refused.is at (c.enter.ensures.entered_by ps fs)));
-      turn_stands = (c.args.ring.edges, s, omega (arith, c.requires.edges_bound));
-    }
+pub returns-in_err-place-clause-turn_stands : goal.returns-in_err-place-clause-turn_stands
+returns-in_err-place-clause-turn_stands c =
+    let p = err_from_is_err_and c.from_residual.result c.from_residual.ensures.1 in
+    let s = rw c.in_err-place.was at c.enter.ensures.standing_2 in
+    rw p.1 (c.args.ring.edges, s, omega (arith, c.requires.edges_bound))

@@ -2,67 +2,67 @@
 use borrow.Author.Tests.{le-leb, lt-leb, eq-eqb, ne_eqb}
 use native.Mathlib.Omega.{arith}
 use Rattle.built_meshes.specs.Lists.{counts_fit}
-use Rattle.building_tests.proofs.Laws.{faces-few, firsts_same}
+use Rattle.building_tests.proofs.Laws.{faces-few}
 use Rattle.building_lists.proofs.counts_fit.Goals as goal
 
-pub returns-then-most-coordinates : goal.returns-then-most-coordinates
+pub returns-then-most-lists : goal.returns-then-most-lists
 unfolding counts_fit
-returns-then-most-coordinates c =
-    rw (← c.most-most.ensures, lt-leb _ _ c.if-most-coordinates.true)
+returns-then-most-lists c =
+    rw (← c.most-most.ensures, lt-leb _ _ c.if-most-lists.true)
 
-pub returns-then-most-sides : goal.returns-then-most-sides
+pub returns-then-most-lists-2 : goal.returns-then-most-lists-2
 unfolding counts_fit
-returns-then-most-sides c =
+returns-then-most-lists-2 c =
     rw (
       ← c.most-most.ensures,
-      le-leb _ _ c.if-most-coordinates.false,
-      lt-leb _ _ c.if-most-sides.true,
+      le-leb _ _ c.if-most-lists.false,
+      lt-leb _ _ c.if-most-lists-2.true,
     )
 
-pub returns-then-most-listed : goal.returns-then-most-listed
+pub returns-then-most-lists-3 : goal.returns-then-most-lists-3
 unfolding counts_fit
-returns-then-most-listed c =
+returns-then-most-lists-3 c =
     rw (
       ← c.most-most.ensures,
-      le-leb _ _ c.if-most-coordinates.false,
-      le-leb _ _ c.if-most-sides.false,
-      lt-leb _ _ c.if-most-listed.true,
+      le-leb _ _ c.if-most-lists.false,
+      le-leb _ _ c.if-most-lists-2.false,
+      lt-leb _ _ c.if-most-lists-3.true,
     )
 
-pub returns-then-coordinates-ne0 : goal.returns-then-coordinates-ne0
+pub returns-then-lists-ne0 : goal.returns-then-lists-ne0
 unfolding counts_fit
-returns-then-coordinates-ne0 c =
+returns-then-lists-ne0 c =
     rw (
       ← c.most-most.ensures,
-      le-leb _ _ c.if-most-coordinates.false,
-      le-leb _ _ c.if-most-sides.false,
-      le-leb _ _ c.if-most-listed.false,
-      ne_eqb _ _ c.if-coordinates-ne0.true,
+      le-leb _ _ c.if-most-lists.false,
+      le-leb _ _ c.if-most-lists-2.false,
+      le-leb _ _ c.if-most-lists-3.false,
+      ne_eqb _ _ c.if-lists-ne0.true,
     )
 
-pub returns-then-sides-ne0 : goal.returns-then-sides-ne0
+pub returns-then-lists-ne0-2 : goal.returns-then-lists-ne0-2
 unfolding counts_fit
-returns-then-sides-ne0 c =
+returns-then-lists-ne0-2 c =
     rw (
       ← c.most-most.ensures,
-      le-leb _ _ c.if-most-coordinates.false,
-      le-leb _ _ c.if-most-sides.false,
-      le-leb _ _ c.if-most-listed.false,
-      eq-eqb _ _ c.if-coordinates-ne0.false,
-      ne_eqb _ _ c.if-sides-ne0.true,
+      le-leb _ _ c.if-most-lists.false,
+      le-leb _ _ c.if-most-lists-2.false,
+      le-leb _ _ c.if-most-lists-3.false,
+      eq-eqb _ _ c.if-lists-ne0.false,
+      ne_eqb _ _ c.if-lists-ne0-2.true,
     )
 
-pub returns-then-listed-beside : goal.returns-then-listed-beside
+pub returns-then-lists : goal.returns-then-lists
 unfolding counts_fit
-returns-then-listed-beside c =
+returns-then-lists c =
     rw (
       ← c.most-most.ensures,
-      le-leb _ _ c.if-most-coordinates.false,
-      le-leb _ _ c.if-most-sides.false,
-      le-leb _ _ c.if-most-listed.false,
-      eq-eqb _ _ c.if-coordinates-ne0.false,
-      eq-eqb _ _ c.if-sides-ne0.false,
-      ne_eqb _ _ c.if-listed-beside.true,
+      le-leb _ _ c.if-most-lists.false,
+      le-leb _ _ c.if-most-lists-2.false,
+      le-leb _ _ c.if-most-lists-3.false,
+      eq-eqb _ _ c.if-lists-ne0.false,
+      eq-eqb _ _ c.if-lists-ne0-2.false,
+      ne_eqb _ _ c.if-lists.true,
     )
 
 pub sum_of-requires : goal.sum_of-requires
@@ -70,18 +70,18 @@ sum_of-requires c =
     let h = faces-few c.args.bounds c.most-most.result c.most-most.ensures in
     omega arith
 
-pub returns-then-sum_of-listed : goal.returns-then-sum_of-listed
+pub returns-then-sum_of-lists : goal.returns-then-sum_of-lists
 unfolding counts_fit
-returns-then-sum_of-listed c =
+returns-then-sum_of-lists c =
     rw (
       ← c.most-most.ensures,
-      le-leb _ _ c.if-most-coordinates.false,
-      le-leb _ _ c.if-most-sides.false,
-      le-leb _ _ c.if-most-listed.false,
-      eq-eqb _ _ c.if-coordinates-ne0.false,
-      eq-eqb _ _ c.if-sides-ne0.false,
-      eq-eqb _ _ c.if-listed-beside.false,
-      ne_eqb _ _ (rw c.sum_of.ensures at c.if-sum_of-listed.true),
+      le-leb _ _ c.if-most-lists.false,
+      le-leb _ _ c.if-most-lists-2.false,
+      le-leb _ _ c.if-most-lists-3.false,
+      eq-eqb _ _ c.if-lists-ne0.false,
+      eq-eqb _ _ c.if-lists-ne0-2.false,
+      eq-eqb _ _ c.if-lists.false,
+      ne_eqb _ _ (rw c.sum_of.ensures at c.if-sum_of-lists.true),
     )
 
 pub returns : goal.returns
@@ -89,13 +89,12 @@ unfolding counts_fit
 returns c =
     rw (
       ← c.most-most.ensures,
-      le-leb _ _ c.if-most-coordinates.false,
-      le-leb _ _ c.if-most-sides.false,
-      le-leb _ _ c.if-most-listed.false,
-      eq-eqb _ _ c.if-coordinates-ne0.false,
-      eq-eqb _ _ c.if-sides-ne0.false,
-      eq-eqb _ _ c.if-listed-beside.false,
-      eq-eqb _ _ (rw c.sum_of.ensures at c.if-sum_of-listed.false),
+      le-leb _ _ c.if-most-lists.false,
+      le-leb _ _ c.if-most-lists-2.false,
+      le-leb _ _ c.if-most-lists-3.false,
+      eq-eqb _ _ c.if-lists-ne0.false,
+      eq-eqb _ _ c.if-lists-ne0-2.false,
+      eq-eqb _ _ c.if-lists.false,
+      eq-eqb _ _ (rw c.sum_of.ensures at c.if-sum_of-lists.false),
       c.firsts_counted.ensures,
-    ) (firsts_same c.args.version c.args.coordinates.now c.args.sides.now
-    c.args.firsts.now c.args.listed.now c.args.beside.now)
+    )

@@ -1,6 +1,5 @@
--- search meets its contract: what the definition finds among the edges that are left is what it finds among all. The measure is
--- how many are left.
-use Prim.Native.Nat.{ℕ, ◌-◌}
+-- search meets its contract: what the definition finds among the edges that are left is what it finds among all.
+use Prim.Native.Nat.{ℕ}
 use mathlib.Core.Path.{◌∙◌, sym, ap}
 use native.Mathlib.Omega.{arith}
 use native.Mathlib.Nat.{sub-zero}
@@ -11,7 +10,7 @@ use Rattle.depth_finder.proofs.search.Goals as goal
 
 pub loop-e-init : goal.loop-e-init
 loop-e-init c =
-    (omega arith, ap (λ (n : ℕ). first_from (λ k. test c.args.positions.now c.args.edges.now c.args.depth k) n 0) (sub-zero c.args.ne))
+    ap (λ (n : ℕ). first_from (λ k. test c.args.positions.now c.args.edges.now c.args.depth k) n 0) (sub-zero c.args.ne)
 
 pub crosses_depth-requires : goal.crosses_depth-requires
 crosses_depth-requires c =
@@ -21,18 +20,16 @@ pub returns-then-crosses_depth : goal.returns-then-crosses_depth
 returns-then-crosses_depth c =
     sym (first-here (λ k. test c.args.positions.now c.args.edges.now c.args.depth k) c.args.ne
     c.loop-e.e (omega arith) (sym c.crosses_depth.ensures ∙ c.if-crosses_depth.true))
-    ∙ c.loop-e.invariant.1
+    ∙ c.loop-e.invariant
 
 pub loop-e-preserved : goal.loop-e-preserved
-loop-e-preserved c = (
-  omega arith,
-  sym (first-later (λ k. test c.args.positions.now c.args.edges.now c.args.depth k) c.args.ne
-      c.loop-e.e (omega arith) (sym c.crosses_depth.ensures ∙ c.if-crosses_depth.false))
-      ∙ c.loop-e.invariant.1,
-)
+loop-e-preserved c =
+    sym (first-later (λ k. test c.args.positions.now c.args.edges.now c.args.depth k) c.args.ne
+    c.loop-e.e (omega arith) (sym c.crosses_depth.ensures ∙ c.if-crosses_depth.false))
+    ∙ c.loop-e.invariant
 
 pub returns : goal.returns
 returns c =
     sym
     (first-none (λ k. test c.args.positions.now c.args.edges.now c.args.depth k) c.args.ne c.loop-e.e (omega arith))
-    ∙ c.loop-e.invariant.1
+    ∙ c.loop-e.invariant

@@ -1,8 +1,7 @@
--- search meets its contract: what the definition finds among the edges that are left is what it finds among all. The measure is
--- how many are left.
+-- search meets its contract: what the definition finds among the edges that are left is what it finds among all.
 use mathlib.Core.Bool.{Bool}
 use mathlib.Core.List.{List}
-use Prim.Native.Nat.{ℕ, ◌-◌, ◌≤◌}
+use Prim.Native.Nat.{ℕ, ◌-◌}
 use mathlib.Core.Path.{◌≡◌}
 use lib.Ieee.{Float}
 use Rattle.crossings.specs.Crossings.{crosses, first_from}
@@ -15,7 +14,4 @@ test positions edges depth e = crosses (end_tables positions edges) depth e
 
 abbrev pub invariant-loop-e : goal.invariant-loop-e
 invariant-loop-e l =
-    (l.e ≤ l.ne) × (first_from (λ k. test l.positions l.edges l.depth k) (l.ne - l.e) l.e ≡ first_from (λ k. test l.positions l.edges l.depth k) l.ne 0)
-
-abbrev pub decreases-loop-e : goal.decreases-loop-e
-decreases-loop-e l = l.ne - l.e
+    first_from (λ k. test l.positions l.edges l.depth k) (l.ne - l.e) l.e ≡ first_from (λ k. test l.positions l.edges l.depth k) l.ne 0

@@ -2,7 +2,7 @@
 use mathlib.Core.Path.{◌∙◌, sym}
 use native.Mathlib.Omega.{arith}
 use Rattle.edge_links.specs.Connect.{links_of}
-use Rattle.edge_links.proofs.LinkTable.{own-entry, other-entry, own-small, other-small, mismatch-of-number, both-of-numbers, links-face-past, links-vertex-past}
+use Rattle.edge_links.proofs.LinkTable.{own-entry, other-entry, mismatch-of-number, both-of-numbers, links-face-past, links-vertex-past}
 use Rattle.edge_links.proofs.link_directions.Goals as goal
 
 pub returns-then-face-ge4 : goal.returns-then-face-ge4
@@ -13,21 +13,13 @@ pub returns-then-vert-ge4 : goal.returns-then-vert-ge4
 returns-then-vert-ge4 c =
     sym (links-vertex-past _ _ c.if-vert-ge4.true)
 
-pub overflow_cast-own : goal.overflow_cast-own
-overflow_cast-own c =
-    omega (arith, own-small c.args.face c.args.vert (omega arith) (omega arith))
-
 pub returns-then-own-eq-NO_LINK : goal.returns-then-own-eq-NO_LINK
 returns-then-own-eq-NO_LINK c =
-    sym (mismatch-of-number _ (sym (own-entry _ _ (omega arith) (omega arith)) ∙ c.if-own-eq-NO_LINK.true))
-
-pub overflow_cast-other : goal.overflow_cast-other
-overflow_cast-other c =
-    omega (arith, other-small c.args.face c.args.vert (omega arith) (omega arith))
+    sym (mismatch-of-number _ (sym (own-entry _ _ (omega arith) (omega arith)) ∙ sym c.from-own.ensures ∙ c.if-own-eq-NO_LINK.true))
 
 pub returns : goal.returns
 returns c =
     let own = own-entry c.args.face c.args.vert (omega arith) (omega arith) in
     let other = other-entry c.args.face c.args.vert (omega arith) (omega arith) in
-    rw (c.from_usize.ensures, c.from_usize-2.ensures, own, other)
-    (both-of-numbers (links_of c.args.face c.args.vert) (λ e. c.if-own-eq-NO_LINK.false (own ∙ e)))
+    rw (c.from_usize.ensures, c.from_usize-2.ensures, c.from-own.ensures, c.from-other.ensures, own, other)
+    (both-of-numbers (links_of c.args.face c.args.vert) (λ e. c.if-own-eq-NO_LINK.false (c.from-own.ensures ∙ own ∙ e)))

@@ -1,4 +1,4 @@
--- none_runs meets its contract. The invariant: no place before j runs so; the measure is what is left of n.
+-- none_runs meets its contract. The invariant: no place before j runs so.
 use mathlib.Core.Path.{◌≡◌}
 use mathlib.Core.Bool.{true, not, ◌&&◌}
 use Prim.Native.Nat.{◌≤◌, ◌-◌, ◌+◌}
@@ -9,8 +9,4 @@ use Rattle.audited_meshes.specs.Folds.{every}
 use Rattle.edge_lookups.proofs.none_runs.Given as goal
 
 abbrev pub invariant-loop-j : goal.invariant-loop-j
-invariant-loop-j l =
-    (l.j ≤ l.n) × (every l.j (λ k. not (eqb (get_or l.listed (l.a + k) 0) l.p && eqb (get_or l.listed (l.a + next_place l.n k) 0) l.q)) ≡ true)
-
-abbrev pub decreases-loop-j : goal.decreases-loop-j
-decreases-loop-j l = l.n - l.j
+invariant-loop-j l = every l.j (λ k. not (eqb (get_or l.listed (l.a + k) 0) l.p && eqb (get_or l.listed (l.a + next_place l.n k) 0) l.q)) ≡ true

@@ -1,4 +1,4 @@
--- same_way_before meets its contract. The invariant: no face before face g runs from p to q; the measure is what is left of the faces.
+-- same_way_before meets its contract. The invariant: no face before face g runs from p to q.
 use mathlib.Core.Path.{◌∙◌}
 use mathlib.Core.List.{[]}
 use Prim.Native.Nat.{◌-◌}

@@ -1,4 +1,4 @@
--- same_way_before meets its contract. The invariant: no face before face g runs from p to q; the measure is what is left of the faces.
+-- same_way_before meets its contract. The invariant: no face before face g runs from p to q.
 use mathlib.Core.List.{[]}
 use Prim.Native.Nat.{◌-◌}
 use Rattle.building_tests.specs.Lent.{lists}
@@ -7,6 +7,3 @@ use Rattle.edge_lookups.proofs.same_way_before.Given as goal
 
 abbrev pub invariant-loop-g : goal.invariant-loop-g
 invariant-loop-g l = Searched (lists [] l.sides l.listed []) l.f l.p l.q l.a l.g
-
-abbrev pub decreases-loop-g : goal.decreases-loop-g
-decreases-loop-g l = l.f - l.g

@@ -1,4 +1,4 @@
--- told_edge meets its contract. The invariant: the listed points of the faces before face g are there; the measure is what is left of the faces.
+-- told_edge meets its contract. The invariant: the listed points of the faces before face g are there.
 use mathlib.Core.List.{[]}
 use Prim.Native.Nat.{◌-◌}
 use native.Mathlib.Omega.{arith}

@@ -1,4 +1,4 @@
--- told_edge meets its contract. The invariant: the listed points of the faces before face g are there; the measure is what is left of the faces.
+-- told_edge meets its contract. The invariant: the listed points of the faces before face g are there.
 use mathlib.Core.List.{[]}
 use Prim.Native.Nat.{◌-◌}
 use Rattle.building_tests.specs.Lent.{lists}
@@ -7,6 +7,3 @@ use Rattle.edge_lookups.proofs.told_edge.Given as goal
 
 abbrev pub invariant-loop-g : goal.invariant-loop-g
 invariant-loop-g l = Begun (lists [] l.sides l.listed []) l.f l.a l.g
-
-abbrev pub decreases-loop-g : goal.decreases-loop-g
-decreases-loop-g l = l.f - l.g

@@ -11,25 +11,25 @@ find_edge-requires c =
 
 pub fill_edge-requires : goal.fill_edge-requires
 fill_edge-requires c =
-    let l = edge_between-below (edge_table c.args.edges.now) c.args.k c.args.p c.args.q c.in-At.e
-    (sym c.find_edge.ensures ∙ c.in-At.is) in
+    let l = edge_between-below (edge_table c.args.edges.now) c.args.k c.args.p c.args.q c.in-Some.e
+    (sym c.find_edge.ensures ∙ c.in-Some.is) in
     omega arith
 
-pub returns-in-At : goal.returns-in-At
-returns-in-At c =
+pub returns-in-Some : goal.returns-in-Some
+returns-in-Some c =
     record {
       entered_by = entered-found c.args.points.now c.args.edges.now c.args.intervals.now c.args.k c.args.f c.args.p c.args.q c.args.v
-          c.in-At.e c.fill_edge.result c.fill_edge.new.edges
-          (sym c.find_edge.ensures ∙ c.in-At.is)
+          c.in-Some.e c.fill_edge.result c.fill_edge.new.edges
+          (sym c.find_edge.ensures ∙ c.in-Some.is)
           c.fill_edge.ensures;
       standing_2 = standing-filled c.args.np c.args.points.now c.args.edges.now c.args.chain.now c.fill_edge.new.edges c.args.k c.args.f
-          c.in-At.e c.args.p c.fill_edge.result c.fill_edge.ensures c.fill_edge.auto.edges c.requires.standing;
+          c.in-Some.e c.args.p c.fill_edge.result c.fill_edge.ensures c.fill_edge.auto.edges c.requires.standing;
     }
 
-pub returns-in-Nothing : goal.returns-in-Nothing
-returns-in-Nothing c =
+pub returns-in-None : goal.returns-in-None
+returns-in-None c =
     record {
       entered_by = (λ ps fs. entered-new c.args.points.now c.args.edges.now c.args.intervals.now c.args.k c.args.f c.args.p c.args.q c.args.v ps fs
-          _ (sym c.find_edge.ensures ∙ c.in-Nothing.is) (c.make_edge.ensures.fact ps fs));
+          _ (sym c.find_edge.ensures ∙ c.in-None.is) (c.make_edge.ensures.fact ps fs));
       standing_2 = c.make_edge.ensures.standing_2;
     }

@@ -1,5 +1,6 @@
--- join_places meets its contract. The invariant: the faces of the places passed are joined; the measure is what is left of the places.
-use mathlib.Core.Path.{sym, ◌∙◌}
+-- join_places meets its contract. The invariant: the faces of the places passed are joined.
+use mathlib.Core.Bool.{◌||◌}
+use mathlib.Core.Path.{refl, sym, ◌∙◌}
 use Prim.Native.Nat.{◌-◌}
 use native.Mathlib.Omega.{arith}
 use lib.ListN.{length}
@@ -7,47 +8,35 @@ use Rattle.face_choices.proofs.Laws.{joined-none, joined-more, mates-fit-like, a
 use Rattle.face_choices.proofs.join_places.Goals as goal
 
 pub loop-k-init : goal.loop-k-init
-loop-k-init c = (
-  joined-none c.args.listed.now c.args.faces.now c.args.mates.now c.args.ups.now c.args.odds.now
-      c.requires.started,
-  omega arith,
-)
+loop-k-init c =
+    joined-none c.args.listed.now c.args.faces.now c.args.mates.now c.args.ups.now c.args.odds.now
+    c.requires.started
 
-pub join_place-requires : goal.join_place-requires
-join_place-requires c =
+pub join_place-twisted-requires : goal.join_place-twisted-requires
+join_place-twisted-requires c =
     record {
-      falling = c.loop-k.invariant.0.falling;
+      falling = c.loop-k.invariant.falling;
       mates_fit = mates-fit-like c.args.listed.now c.args.faces.now c.args.mates.now (length c.args.ups.now)
-          (length c.loop-k.ups) c.loop-k.invariant.0.same_length c.requires.mates_fit;
+          (length c.loop-k.ups) c.loop-k.invariant.same_length c.requires.mates_fit;
       k_in_bounds = c.loop-k-test.true;
     }
 
-pub are_either-twisted-requires : goal.are_either-twisted-requires
-are_either-twisted-requires c =
-    tt
-
-pub loop-k-smaller : goal.loop-k-smaller
-loop-k-smaller c =
-    omega (arith, c.loop-k-test.true)
-
 pub loop-k-preserved : goal.loop-k-preserved
-loop-k-preserved c = (
-  joined-more c.args.listed.now c.args.faces.now c.args.mates.now c.loop-k.k (length c.args.ups.now)
-      c.loop-k.ups c.loop-k.odds c.join_place.new.ups c.join_place.new.odds c.loop-k.twisted
-      c.join_place.result c.are_either-twisted.result c.loop-k.invariant.0 c.join_place.ensures c.are_either-twisted.ensures,
-  omega (arith, c.loop-k-test.true),
-)
+loop-k-preserved c =
+    joined-more c.args.listed.now c.args.faces.now c.args.mates.now c.loop-k.k (length c.args.ups.now)
+    c.loop-k.ups c.loop-k.odds c.join_place-twisted.new.ups c.join_place-twisted.new.odds c.loop-k.twisted
+    c.join_place-twisted.result (c.loop-k.twisted || c.join_place-twisted.result) c.loop-k.invariant c.join_place-twisted.ensures refl
 
 pub shape_of-ups : goal.shape_of-ups
 shape_of-ups c =
-    c.loop-k.invariant.0.same_length
+    c.loop-k.invariant.same_length
 
 pub shape_of-odds : goal.shape_of-odds
 shape_of-odds c =
-    c.loop-k.invariant.0.falling.like ∙ c.loop-k.invariant.0.same_length
+    c.loop-k.invariant.falling.like ∙ c.loop-k.invariant.same_length
     ∙ sym c.requires.started.falling.like
 
 pub returns : goal.returns
 returns c =
     at-end c.args.listed.now c.args.faces.now c.args.mates.now c.loop-k.k (length c.args.ups.now) c.loop-k.ups
-    c.loop-k.odds c.loop-k.twisted (omega (arith, c.loop-k-test.false, c.loop-k.invariant.1)) c.loop-k.invariant.0
+    c.loop-k.odds c.loop-k.twisted (omega (arith, c.loop-k-test.false, c.loop-k.auto.k-end)) c.loop-k.invariant

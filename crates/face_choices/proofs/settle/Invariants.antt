@@ -5,7 +5,4 @@ use Rattle.face_choices.proofs.Laws.{Settling}
 use Rattle.face_choices.proofs.settle.Given as goal
 
 abbrev pub invariant-loop-f : goal.invariant-loop-f
-invariant-loop-f l = Settling l.initial.ups l.initial.odds l.initial.turned l.ups l.odds l.turned l.f × (l.f ≤ length l.initial.turned)
-
-abbrev pub decreases-loop-f : goal.decreases-loop-f
-decreases-loop-f l = length l.initial.turned - l.f
+invariant-loop-f l = Settling l.initial.ups l.initial.odds l.initial.turned l.ups l.odds l.turned l.f

@@ -1,4 +1,4 @@
--- start meets its contract. The invariant: the faces passed point to themselves; the measure is what is left of the faces.
+-- start meets its contract. The invariant: the faces passed point to themselves.
 use Prim.Native.Nat.{◌-◌}
 use native.Mathlib.Omega.{arith}
 use Rattle.face_choices.proofs.Laws.{pointing-none, pointing-more, pointing-all}
@@ -16,18 +16,10 @@ pub bounds-odds-f : goal.bounds-odds-f
 bounds-odds-f c =
     omega (arith, c.requires.odds_len, c.loop-f.invariant.ups-length, c.loop-f.invariant.odds-length)
 
-pub overflow_add-f : goal.overflow_add-f
-overflow_add-f c =
-    omega (arith, c.requires.ups_len_bound, c.loop-f.invariant.not-past)
-
-pub loop-f-smaller : goal.loop-f-smaller
-loop-f-smaller c =
-    omega (arith, c.loop-f.invariant.ups-length)
-
 pub loop-f-preserved : goal.loop-f-preserved
 loop-f-preserved c =
     pointing-more c.args.ups.now c.args.odds.now c.loop-f.ups c.loop-f.odds
-    c.loop-f.f c.requires.odds_len c.loop-f.invariant c.loop-f-test.true
+    c.loop-f.f c.requires.odds_len c.loop-f.invariant (omega (arith, c.loop-f-test.true, c.loop-f.invariant.ups-length))
 
 pub shape_of-ups : goal.shape_of-ups
 shape_of-ups c =

@@ -1,7 +1,7 @@
 -- enter_edge meets its contract: the place is entered; it is the third on its edge, or its mate is looked at.
 use lib.ListN.{length}
 use Rattle.face_grounds.proofs.Laws.{one-room, third-met, mate-is, mate-within, same_met, none-met}
-use Rattle.refusal_places.proofs.Theorem.{edge-stops, not-clear}
+use Rattle.refusal_places.proofs.Theorem.{stops, not-clear}
 use Rattle.face_grounds.proofs.enter_edge.Goals as goal
 
 -- src/lib.rt:62:9
@@ -39,7 +39,7 @@ returns-then-not-enter_places c =
     record {
       value = third-met c.args.listed.now c.args.tos.now c.args.f c.args.i c.args.k c.enter_places.result
           c.enter_places.ensures.value (c.if-not-enter_places.true);
-      found_if = λ t. absurd (not-clear _ (edge-stops _ _ _) t);
+      found_if = λ t. absurd (not-clear _ (stops _) t);
     }
 
 -- src/lib.rt:66:8
@@ -83,7 +83,7 @@ returns-then-runs_with c =
           c.enter_places.new.mates c.enter_places.new.seconds c.args.k c.enter_places.result
           c.enter_places.ensures.entered_to (c.if-not-enter_places.false)) c.runs_with.ensures
           c.if-runs_with.true;
-      found_if = λ t. absurd (not-clear _ (edge-stops _ _ _) t);
+      found_if = λ t. absurd (not-clear _ (stops _) t);
     }
 
 -- src/lib.rt:41:1

@@ -4,6 +4,7 @@ use mathlib.Core.Bool.{not}
 use mathlib.Core.List.{[]}
 use Prim.Native.Nat.{◌+◌}
 use lib.ListN.{length}
+use Rattle.std.proofs.lemmas.Result.{err_from_is_err_and}
 use Rattle.audited_meshes.specs.Folds.{every}
 use Rattle.built_meshes.specs.Faces.{face_verdict}
 use Rattle.built_meshes.specs.declared.Version.TheVariants.{Two}
@@ -22,7 +23,7 @@ enter_places-requires c =
           c.args.a c.args.n c.requires.face_room (sym
           (ap forgiven (c.face_verdict.ensures []))
           ∙ sym c.forgive.ensures
-          ∙ c.in-Fit.is);
+          ∙ c.in_ok-forgive.was);
       places_entered = c.requires.places_entered;
     }
 
@@ -32,29 +33,30 @@ returns-then-enter_places c =
       value = λ cs. edges_fit (forgiven (face_verdict
           (lists_in Two cs c.args.sides.now c.args.firsts.now c.args.listed.now c.args.beside.now) c.args.np c.args.f
           c.args.a)) (every c.args.n (λ i. not (third_at c.args.listed.now c.args.tos.now (c.args.a + i))))
-          (sym (ap forgiven (c.face_verdict.ensures cs)) ∙ sym c.forgive.ensures ∙ c.in-Fit.is)
+          (sym (ap forgiven (c.face_verdict.ensures cs)) ∙ sym c.forgive.ensures ∙ c.in_ok-forgive.was)
           (sym c.enter_places.ensures.value ∙ c.if-enter_places.true);
       entered_if = λ t. c.enter_places.ensures.entered_to c.if-enter_places.true;
     }
 
-pub returns-in-Unfit : goal.returns-in-Unfit
-returns-in-Unfit c =
+pub returns-in_err-forgive : goal.returns-in_err-forgive
+returns-in_err-forgive c =
+    let p = err_from_is_err_and c.from_residual.result c.from_residual.ensures.1 in
     record {
-      value = λ cs. edges-after (forgiven (face_verdict
+      value = rw (p.1, p.2) (λ cs. edges-after (forgiven (face_verdict
           (lists_in Two cs c.args.sides.now c.args.firsts.now c.args.listed.now c.args.beside.now) c.args.np c.args.f
           c.args.a)) (every c.args.n (λ i. not (third_at c.args.listed.now c.args.tos.now (c.args.a + i))))
-          c.in-Unfit.g (sym (ap forgiven (c.face_verdict.ensures cs))
-          ∙ sym c.forgive.ensures ∙ c.in-Unfit.is);
-      entered_if = λ t. absurd (unfit c.in-Unfit.g t);
+          c.in_err-forgive.field-0.0 (sym (ap forgiven (c.face_verdict.ensures cs))
+          ∙ sym c.forgive.ensures ∙ c.in_err-forgive.was));
+      entered_if = rw (p.1, p.2) (λ t. absurd (unfit c.in_err-forgive.field-0.0 t));
     }
 
-pub returns-else-enter_places : goal.returns-else-enter_places
-returns-else-enter_places c =
+pub returns : goal.returns
+returns c =
     record {
       value = λ cs. edges-third (forgiven (face_verdict
           (lists_in Two cs c.args.sides.now c.args.firsts.now c.args.listed.now c.args.beside.now) c.args.np c.args.f
           c.args.a)) (every c.args.n (λ i. not (third_at c.args.listed.now c.args.tos.now (c.args.a + i))))
-          (sym (ap forgiven (c.face_verdict.ensures cs)) ∙ sym c.forgive.ensures ∙ c.in-Fit.is)
+          (sym (ap forgiven (c.face_verdict.ensures cs)) ∙ sym c.forgive.ensures ∙ c.in_ok-forgive.was)
           (sym c.enter_places.ensures.value ∙ c.if-enter_places.false);
       entered_if = λ t. absurd (unfit EdgeTripleFace t);
     }

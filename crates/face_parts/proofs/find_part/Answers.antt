@@ -2,7 +2,7 @@
 -- the face is the measure.
 use mathlib.Core.Path.{sym, ◌∙◌}
 use native.Mathlib.Omega.{arith}
-use Rattle.face_parts.proofs.Laws.{find-start, find-turn, find-less, find-in, find-in-odds, find-next, find-end}
+use Rattle.face_parts.proofs.Laws.{differ-is, find-start, find-turn, find-less, find-in, find-in-odds, find-next, find-end}
 use Rattle.face_parts.proofs.find_part.Goals as goal
 
 pub index-requires : goal.index-requires
@@ -30,10 +30,6 @@ bounds-odds-h c =
     find-in-odds c.args.ups.now c.args.odds.now c.loop-up.ups c.loop-up.odds c.skip.new.ups c.skip.new.odds
     c.args.f c.loop-up.g c.index-h.result c.loop-up.odd c.loop-up.invariant.0 c.loop-up.invariant.1 c.index-h.ensures c.skip.ensures.ups_after
     c.skip.ensures.odds_after
-
-pub are_different-odd-requires : goal.are_different-odd-requires
-are_different-odd-requires c =
-    tt
 
 pub offset_bounds-ups-h : goal.offset_bounds-ups-h
 offset_bounds-ups-h c =
@@ -83,7 +79,7 @@ loop-up-smaller c =
 pub loop-up-preserved : goal.loop-up-preserved
 loop-up-preserved c = (
   c.loop-up.invariant.0,
-  rw c.are_different-odd.ensures
+  rw differ-is
       (find-turn c.args.ups.now c.args.odds.now c.loop-up.ups c.loop-up.odds c.skip.new.ups c.skip.new.odds c.args.f
       c.loop-up.g c.index-h.result c.loop-up.odd c.loop-up.invariant.0 c.loop-up.invariant.1 c.index-h.ensures c.skip.ensures.ups_after
       c.skip.ensures.odds_after),

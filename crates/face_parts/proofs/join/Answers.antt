@@ -1,11 +1,11 @@
 -- join meets its contract: the lower of two roots becomes that of both parts.
 use native.Mathlib.Omega.{arith}
-use Rattle.face_parts.proofs.Laws.{join_one, join-two}
+use Rattle.face_parts.proofs.Laws.{differ-is, join_one, join-two}
 use Rattle.face_parts.proofs.join.Goals as goal
 
 pub returns-then-x-y : goal.returns-then-x-y
 returns-then-x-y c =
-    rw (c.are_different-d.ensures, c.are_different.ensures)
+    rw (differ-is c.find_part-a.result.odd c.find_part-b.result.odd, differ-is)
     (join_one c.args.ups.now c.args.odds.now c.find_part-a.new.ups c.find_part-a.new.odds c.find_part-b.new.ups c.find_part-b.new.odds
     c.args.f c.args.g c.args.way c.find_part-a.result c.find_part-b.result c.find_part-a.ensures c.find_part-b.ensures c.if-x-y.true)
 
@@ -14,8 +14,8 @@ returns-then-x-y-2 c =
     rw (
       c.hang.ensures.ups_after,
       c.hang.ensures.odds_after,
-      c.are_different-d.ensures,
-      c.are_different.ensures,
+      differ-is c.find_part-a.result.odd c.find_part-b.result.odd,
+      differ-is,
     )
     (join-two c.args.ups.now c.args.odds.now c.find_part-a.new.ups c.find_part-a.new.odds c.find_part-b.new.ups c.find_part-b.new.odds
     c.args.f c.args.g c.args.way c.find_part-a.result c.find_part-b.result c.find_part-a.ensures c.find_part-b.ensures
@@ -27,8 +27,8 @@ returns c =
     rw (
       c.hang-2.ensures.ups_after,
       c.hang-2.ensures.odds_after,
-      c.are_different-d.ensures,
-      c.are_different.ensures,
+      differ-is c.find_part-a.result.odd c.find_part-b.result.odd,
+      differ-is,
     )
     (join-two c.args.ups.now c.args.odds.now c.find_part-a.new.ups c.find_part-a.new.odds c.find_part-b.new.ups c.find_part-b.new.odds
     c.args.f c.args.g c.args.way c.find_part-a.result c.find_part-b.result c.find_part-a.ensures c.find_part-b.ensures c.find_part-a.result.root

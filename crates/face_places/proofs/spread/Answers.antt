@@ -1,4 +1,4 @@
--- spread meets its contract. The invariant: the faces passed are spread; the measure is what is left of them.
+-- spread meets its contract. The invariant: the faces passed are spread.
 use Prim.Native.Nat.{◌-◌}
 use native.Mathlib.Omega.{arith}
 use Rattle.face_places.proofs.Laws.{faces-none, face-fits, faces-more, faces-all}
@@ -46,14 +46,6 @@ overflow_add-a c =
           c.loop-f.a c.loop-f.f c.face_size-n.result c.loop-f.invariant c.loop-f-test.true c.face_size-n.ensures c.requires.sides_value,
       c.requires.listed_len_bound,
     )
-
-pub overflow_add-f : goal.overflow_add-f
-overflow_add-f c =
-    omega (arith, c.loop-f-test.true, c.requires.sides_len_bound)
-
-pub loop-f-smaller : goal.loop-f-smaller
-loop-f-smaller c =
-    omega (arith, c.loop-f-test.true)
 
 pub loop-f-preserved : goal.loop-f-preserved
 loop-f-preserved c =

@@ -1,4 +1,4 @@
--- spread_face meets its contract. The invariant: the places passed are spread; the measure is what is left of them.
+-- spread_face meets its contract. The invariant: the places passed are spread.
 use Prim.Native.Nat.{◌-◌}
 use native.Mathlib.Omega.{arith}
 use Rattle.face_places.proofs.Laws.{spreading-none, spreading-in, spreading-in-faces, spreading-more, spreading-all}
@@ -49,14 +49,6 @@ pub bounds-faces-a : goal.bounds-faces-a
 bounds-faces-a c =
     spreading-in-faces c.args.listed.now c.args.f c.args.a c.args.n c.args.tos.now c.args.faces.now c.loop-i.tos
     c.loop-i.faces c.loop-i.i c.loop-i.invariant c.loop-i-test.true c.requires.n_in_bounds_2 c.requires.n_in_bounds_3
-
-pub overflow_add-i : goal.overflow_add-i
-overflow_add-i c =
-    omega (arith, c.loop-i-test.true, c.requires.n_in_bounds, c.requires.listed_len_bound)
-
-pub loop-i-smaller : goal.loop-i-smaller
-loop-i-smaller c =
-    omega (arith, c.loop-i-test.true)
 
 pub loop-i-preserved : goal.loop-i-preserved
 loop-i-preserved c =

@@ -1,5 +1,5 @@
 -- window_sum meets its contract. The invariant: the sum is that of the first i windows, fewer than n, and the terms that the window i
--- shares with the one before it are kept; the measure is what is left of n. The last window comes behind the loop.
+-- shares with the one before it are kept. The last window comes behind the loop.
 use Prim.Native.Nat.{◌-◌}
 use native.Mathlib.Omega.{arith}
 use Rattle.position_rules.proofs.Fits.{border-fits}

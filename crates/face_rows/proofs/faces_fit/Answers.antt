@@ -1,7 +1,5 @@
--- faces_fit meets its contract. The invariant: the first f faces pass; the measure is what is left of nf.
-use Prim.Native.Nat.{◌-◌}
+-- faces_fit meets its contract. The invariant: the first f faces pass.
 use mathlib.Core.Path.{sym, ◌∙◌}
-use mathlib.Core.Bool.{true}
 use native.Mathlib.Omega.{arith}
 use Rattle.audited_meshes.proofs.Folds.{every-none, every_more, every-stop}
 use Rattle.audit_tests.proofs.Laws.{every-all}
@@ -10,7 +8,7 @@ use Rattle.face_rows.proofs.faces_fit.Goals as goal
 
 pub loop-f-init : goal.loop-f-init
 loop-f-init c =
-    (omega arith, every-none _)
+    every-none _
 
 pub returns-then-not-face_fit : goal.returns-then-not-face_fit
 returns-then-not-face_fit c =
@@ -18,12 +16,10 @@ returns-then-not-face_fit c =
     (sym c.face_fit.ensures ∙ c.if-not-face_fit.true))
 
 pub loop-f-preserved : goal.loop-f-preserved
-loop-f-preserved c = (
-  omega arith,
-  every_more _ _ c.loop-f.invariant.1
-      (sym c.face_fit.ensures ∙ c.if-not-face_fit.false),
-)
+loop-f-preserved c =
+    every_more _ _ c.loop-f.invariant
+    (sym c.face_fit.ensures ∙ c.if-not-face_fit.false)
 
 pub returns : goal.returns
 returns c =
-    sym (every-all _ _ _ c.loop-f.invariant.1 (omega arith))
+    sym (every-all _ _ _ c.loop-f.invariant (omega arith))

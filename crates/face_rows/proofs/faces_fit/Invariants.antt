@@ -1,5 +1,4 @@
--- faces_fit meets its contract. The invariant: the first f faces pass; the measure is what is left of nf.
-use Prim.Native.Nat.{◌≤◌, ◌-◌}
+-- faces_fit meets its contract. The invariant: the first f faces pass.
 use mathlib.Core.Path.{◌≡◌}
 use mathlib.Core.Bool.{true}
 use mathlib.Core.List.{[]}
@@ -9,7 +8,4 @@ use Rattle.tables.specs.Parts.{face_tables}
 use Rattle.face_rows.proofs.faces_fit.Given as goal
 
 abbrev pub invariant-loop-f : goal.invariant-loop-f
-invariant-loop-f l = (l.f ≤ l.nf) × (every l.f (λ k. face_fit (face_tables [] l.faces) l.np l.ne k) ≡ true)
-
-abbrev pub decreases-loop-f : goal.decreases-loop-f
-decreases-loop-f l = l.nf - l.f
+invariant-loop-f l = every l.f (λ k. face_fit (face_tables [] l.faces) l.np l.ne k) ≡ true

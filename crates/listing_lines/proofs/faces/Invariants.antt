@@ -1,5 +1,4 @@
 -- `faces` meets its contract. The invariant is `Progress`, and `Table` of each table; the measure is what is left of the text.
-use mathlib.Core.Path.{◌≡◌}
 use Prim.Native.Nat.{◌-◌}
 use lib.ListN.{length}
 use Rattle.text_numbers.specs.Form.{bytes}
@@ -9,7 +8,7 @@ use Rattle.listing_lines.proofs.Progress.{Progress, Table}
 use Rattle.listing_lines.proofs.faces.Given as goal
 
 abbrev pub invariant-loop-ws : goal.invariant-loop-ws
-invariant-loop-ws l = (length l.ws ≡ length l.initial.ws) × Progress l.s (bytes "[face")
+invariant-loop-ws l = Progress l.s (bytes "[face")
     (face_row_form l.s) 5 l.at l.i l.k × Table l.s (bytes "[face") (face_row_form l.s) 5 l.at row_words 5 l.initial.ws l.ws l.i l.k
 
 abbrev pub decreases-loop-ws : goal.decreases-loop-ws

@@ -1,5 +1,4 @@
 -- `points` meets its contract. The invariant is `Progress`, and `Table` of each table; the measure is what is left of the text.
-use mathlib.Core.Path.{◌≡◌}
 use Prim.Native.Nat.{◌-◌}
 use lib.ListN.{length}
 use Rattle.text_numbers.specs.Form.{bytes}
@@ -9,7 +8,7 @@ use Rattle.listing_lines.proofs.Progress.{Progress, Table}
 use Rattle.listing_lines.proofs.points.Given as goal
 
 abbrev pub invariant-loop-xs : goal.invariant-loop-xs
-invariant-loop-xs l = (length l.xs ≡ length l.initial.xs) × (length l.ws ≡ length l.initial.ws) × Progress l.s
+invariant-loop-xs l = Progress l.s
     (bytes "[point") (point_row_form l.s) 3 l.at l.i l.k × Table l.s (bytes "[point") (point_row_form l.s) 3 l.at
     row_numbers 3 l.initial.xs l.xs l.i l.k × Table l.s (bytes "[point") (point_row_form l.s) 3 l.at row_words 3
     l.initial.ws l.ws l.i l.k

@@ -6,19 +6,16 @@ use Rattle.text_numbers.proofs.Turns.{literal-found, literal-none}
 use Rattle.listings.specs.Grammar.{word_form}
 use Rattle.listing_lines.proofs.word.Goals as goal
 
--- src/lib.rt:28:9
 pub returns-then-not-stands : goal.returns-then-not-stands
 unfolding word_form
 returns-then-not-stands c =
     rw (literal-none _ _ _ (sym c.stands.ensures ∙ c.if-not-stands.true))
 
--- src/lib.rt:30:5
 pub decimal-requires : goal.decimal-requires
 decimal-requires c =
     stands-inside c.args.s.now (bytes " ") c.args.at refl c.requires
     (sym c.stands.ensures ∙ c.if-not-stands.false)
 
--- src/lib.rt:23:1
 pub returns : goal.returns
 unfolding word_form
 returns c =

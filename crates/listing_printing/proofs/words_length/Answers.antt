@@ -1,4 +1,4 @@
--- `words_length` meets its contract. The invariant: r is how long the first i words are; the measure is how many are to come.
+-- `words_length` meets its contract. The invariant: r is how long the first i words are.
 use native.Mathlib.Omega.{arith}
 use mathlib.Core.Path.{ap, ◌∙◌}
 use Prim.Native.Nat.{ℕ, ◌-◌}
@@ -8,36 +8,29 @@ use Rattle.mesh_answers.proofs.Laws.{length-decimal}
 use Rattle.listing_printing.proofs.Lengths.{words-start, words_more, words-end, words-bound}
 use Rattle.listing_printing.proofs.words_length.Goals as goal
 
--- src/lib.rt:174:5
 pub loop-i-init : goal.loop-i-init
 loop-i-init c =
-    (omega arith, words-start c.args.words.now)
+    words-start c.args.words.now
 
--- src/lib.rt:176:13
 pub overflow_add-r : goal.overflow_add-r
 overflow_add-r c =
     let b = words-bound c.args.words.now c.loop-i.i in
     omega arith
 
--- src/lib.rt:176:13
 pub overflow_add-r-in-loop-i : goal.overflow_add-r-in-loop-i
 overflow_add-r-in-loop-i c =
     let b = words-bound c.args.words.now c.loop-i.i in
     let l = length-decimal 20 c.wide-v.result in
     omega arith
 
--- src/lib.rt:174:5
 pub loop-i-preserved : goal.loop-i-preserved
-loop-i-preserved c = (
-  omega arith,
-  let bound = c.loop-i-test.true in
-      let m = words_more c.args.words.now c.loop-i.i (omega arith) in
-      let d = c.digits_length.ensures ∙ ap (λ (v : ℕ). length (decimal_digits 20 v)) c.wide-v.ensures in
-      omega arith,
-)
+loop-i-preserved c =
+    let bound = c.loop-i-test.true in
+    let m = words_more c.args.words.now c.loop-i.i (omega arith) in
+    let d = c.digits_length.ensures ∙ ap (λ (v : ℕ). length (decimal_digits 20 v)) c.wide-v.ensures in
+    omega arith
 
--- src/lib.rt:167:1
 pub returns : goal.returns
 returns c =
-    words-end c.args.words.now _ _ c.loop-i.invariant.0 c.loop-i-test.false
-    c.loop-i.invariant.1
+    words-end c.args.words.now _ _ (omega arith) (omega arith)
+    c.loop-i.invariant

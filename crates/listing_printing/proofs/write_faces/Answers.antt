@@ -1,4 +1,4 @@
--- `write_faces` meets its contract. The invariant: the first f lines are written; the measure is how many are to come.
+-- `write_faces` meets its contract. The invariant: the first f lines are written.
 use native.Mathlib.Omega.{arith}
 use mathlib.Core.Path.{refl, ◌∙◌}
 use Prim.Native.Nat.{◌-◌}
@@ -9,37 +9,25 @@ use Rattle.listings.specs.Handing.{face_line_row}
 use Rattle.listing_printing.proofs.Laws.{lines_start, lines-turn-room, lines-turn, lines_end}
 use Rattle.listing_printing.proofs.write_faces.Goals as goal
 
--- src/lib.rt:146:5
 pub loop-f-init : goal.loop-f-init
 loop-f-init c =
-    (omega arith, refl, lines_start face_line _ _ (face_line_row (mesh_of [] [] [] [] c.args.faces.now)))
+    lines_start face_line _ _ (face_line_row (mesh_of [] [] [] [] c.args.faces.now))
 
--- src/lib.rt:147:9
 pub write_face-i-requires : goal.write_face-i-requires
 write_face-i-requires c =
     record {
       face_width_in_bounds = omega arith;
       f_in_bounds = lines-turn-room face_line _ _
           (face_line_row (mesh_of [] [] [] [] c.args.faces.now)) c.loop-f.f
-          c.loop-f.invariant.2 c.loop-f.invariant.1 c.loop-f-test.true c.requires.faces_in_bounds;
+          c.loop-f.invariant c.loop-f.auto.out c.loop-f-test.true c.requires.faces_in_bounds;
     }
 
--- src/lib.rt:146:5
 pub loop-f-preserved : goal.loop-f-preserved
-loop-f-preserved c = (
-  omega arith,
-  c.write_face-i.auto.out ∙ c.loop-f.invariant.1,
-  lines-turn face_line _ _ (face_line_row (mesh_of [] [] [] [] c.args.faces.now)) c.loop-f.f c.loop-f.invariant.2
-      c.write_face-i.ensures,
-)
+loop-f-preserved c =
+    lines-turn face_line _ _ (face_line_row (mesh_of [] [] [] [] c.args.faces.now)) c.loop-f.f c.loop-f.invariant
+    c.write_face-i.ensures
 
--- src/lib.rt:139:1
-pub shape_of-out : goal.shape_of-out
-shape_of-out c =
-    c.loop-f.invariant.1
-
--- src/lib.rt:139:1
 pub returns : goal.returns
 returns c =
     lines_end face_line _ _ (face_line_row (mesh_of [] [] [] [] c.args.faces.now))
-    c.loop-f.invariant.2 c.loop-f.invariant.0 c.loop-f-test.false
+    c.loop-f.invariant (omega arith) (omega arith)

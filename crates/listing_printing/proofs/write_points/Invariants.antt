@@ -1,6 +1,5 @@
--- `write_points` meets its contract. The invariant: the first p lines are written; the measure is how many are to come.
+-- `write_points` meets its contract. The invariant: the first p lines are written.
 use mathlib.Core.Path.{◌≡◌}
-use Prim.Native.Nat.{◌-◌, ◌≤◌}
 use mathlib.Core.List.{[]}
 use lib.ListN.{length}
 use Rattle.tables.specs.Mesh.{mesh_of}
@@ -12,8 +11,4 @@ use Rattle.listing_printing.proofs.write_points.Given as goal
 
 abbrev pub invariant-loop-p : goal.invariant-loop-p
 invariant-loop-p l =
-    (l.p ≤ l.n) × (length l.out ≡ length l.initial.out)
-    × Written l.initial.out l.at (flat point_line (up_to l.p (point_line_row (mesh_of l.positions l.points [] [] [])))) l.i l.out
-
-abbrev pub decreases-loop-p : goal.decreases-loop-p
-decreases-loop-p l = l.n - l.p
+    Written l.initial.out l.at (flat point_line (up_to l.p (point_line_row (mesh_of l.positions l.points [] [] [])))) l.i l.out

@@ -1,7 +1,7 @@
 -- `write_listing` meets its contract: each return answers for the tests before it.
 use native.Mathlib.Omega.{arith}
 use mathlib.Core.Path.{sym, ◌∙◌}
-use Rattle.tables.specs.Mesh.{mesh_of}
+use Rattle.tables.specs.Lent.{tables_of}
 use Rattle.listing_writing.proofs.Parts.{sizes-of, ready_of, length-of, not-closed, over, short, all}
 use Rattle.listing_writing.proofs.write_listing.Goals as goal
 
@@ -9,14 +9,14 @@ use Rattle.listing_writing.proofs.write_listing.Goals as goal
 pub returns-then-not-audit : goal.returns-then-not-audit
 returns-then-not-audit c =
     not-closed
-    (mesh_of c.args.positions.now c.args.points.now c.args.edges.now c.args.intervals.now c.args.faces.now) _ _
+    (tables_of c.args.t.now) _ _
     (sym c.audit.ensures ∙ c.if-not-audit.true)
 
 -- src/lib.rt:88:9
 pub returns-then-not-within_ceilings : goal.returns-then-not-within_ceilings
 returns-then-not-within_ceilings c =
     over
-    (mesh_of c.args.positions.now c.args.points.now c.args.edges.now c.args.intervals.now c.args.faces.now) _ _
+    (tables_of c.args.t.now) _ _
     (sym c.audit.ensures ∙ c.if-not-audit.false)
     (sym c.within_ceilings.ensures ∙ c.if-not-within_ceilings.true)
 
@@ -24,7 +24,7 @@ returns-then-not-within_ceilings c =
 pub listing_length-n-requires : goal.listing_length-n-requires
 listing_length-n-requires c =
     sizes-of _
-    (mesh_of c.args.positions.now c.args.points.now c.args.edges.now c.args.intervals.now c.args.faces.now)
+    (tables_of c.args.t.now)
     (sym c.audit.ensures ∙ c.if-not-audit.false)
     (sym c.within_ceilings.ensures ∙ c.if-not-within_ceilings.false)
 
@@ -32,7 +32,7 @@ listing_length-n-requires c =
 pub returns-then-text-n : goal.returns-then-text-n
 returns-then-text-n c =
     short
-    (mesh_of c.args.positions.now c.args.points.now c.args.edges.now c.args.intervals.now c.args.faces.now) _ _
+    (tables_of c.args.t.now) _ _
     (sym c.audit.ensures
     ∙ c.if-not-audit.false)
     (sym c.within_ceilings.ensures ∙ c.if-not-within_ceilings.false) _
@@ -41,8 +41,7 @@ returns-then-text-n c =
 -- src/lib.rt:94:5
 pub write_rows-requires : goal.write_rows-requires
 write_rows-requires c =
-    let m = mesh_of c.args.positions.now c.args.points.now c.args.edges.now c.args.intervals.now
-    c.args.faces.now in record {
+    let m = tables_of c.args.t.now in record {
       rows_ready = ready_of _ m (sym c.audit.ensures ∙ c.if-not-audit.false);
       counts_in_bounds = let lo = length-of c.args.counts m (ready_of _ m (sym c.audit.ensures ∙ c.if-not-audit.false)).room in
           omega arith;
@@ -51,7 +50,7 @@ write_rows-requires c =
 -- src/lib.rt:67:1
 pub returns : goal.returns
 returns c =
-    all (mesh_of c.args.positions.now c.args.points.now c.args.edges.now c.args.intervals.now c.args.faces.now)
+    all (tables_of c.args.t.now)
     _ _ (sym c.audit.ensures ∙ c.if-not-audit.false)
     (sym c.within_ceilings.ensures
     ∙ c.if-not-within_ceilings.false) _

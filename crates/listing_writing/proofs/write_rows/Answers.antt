@@ -1,6 +1,6 @@
 -- `write_rows` meets its contract: one part of the listing after another.
 use native.Mathlib.Omega.{arith}
-use Rattle.tables.specs.Mesh.{mesh_of}
+use Rattle.tables.specs.Lent.{tables_of}
 use Rattle.listing_writing.proofs.Parts.{length-parts, whole}
 use Rattle.listing_writing.proofs.write_rows.Goals as goal
 
@@ -11,7 +11,7 @@ write_points-j-requires c =
       position_width_in_bounds = c.requires.rows_ready.room.positions;
       point_width_in_bounds = c.requires.rows_ready.room.points;
       points_in_bounds = let l = length-parts c.args.counts
-          (mesh_of c.args.positions.now c.args.points.now c.args.edges.now c.args.intervals.now c.args.faces.now) in
+          (tables_of c.args.t.now) in
           omega arith;
       by_index = c.requires.rows_ready.positions-finite;
     }
@@ -23,7 +23,7 @@ write_edges-k-requires c =
       edge_width_in_bounds = c.requires.rows_ready.room.edges;
       n_in_bounds = c.requires.rows_ready.room.intervals;
       intervals_in_bounds = let l = length-parts c.args.counts
-          (mesh_of c.args.positions.now c.args.points.now c.args.edges.now c.args.intervals.now c.args.faces.now) in
+          (tables_of c.args.t.now) in
           omega arith;
       by_index = c.requires.rows_ready.intervals-finite;
     }
@@ -34,7 +34,7 @@ write_faces-l-requires c =
     record {
       face_width_in_bounds = c.requires.rows_ready.room.faces;
       faces_in_bounds = let l = length-parts c.args.counts
-          (mesh_of c.args.positions.now c.args.points.now c.args.edges.now c.args.intervals.now c.args.faces.now) in
+          (tables_of c.args.t.now) in
           omega arith;
     }
 
@@ -42,7 +42,7 @@ write_faces-l-requires c =
 pub write-requires : goal.write-requires
 write-requires c =
     let l = length-parts c.args.counts
-    (mesh_of c.args.positions.now c.args.points.now c.args.edges.now c.args.intervals.now c.args.faces.now) in
+    (tables_of c.args.t.now) in
     omega arith
 
 -- src/lib.rt:42:1

@@ -32,26 +32,6 @@ place_first-requires c =
     c.refined_rows.auto.newfaces in
     record { face_points_fit = fit.0; edge_points_fit = fit.1; old_points_fit = fit.2 }
 
-pub shape_of-newpositions : goal.shape_of-newpositions
-shape_of-newpositions c =
-    c.place_first.auto.newpositions
-
-pub shape_of-newpoints : goal.shape_of-newpoints
-shape_of-newpoints c =
-    c.refined_rows.auto.newpoints
-
-pub shape_of-newedges : goal.shape_of-newedges
-shape_of-newedges c =
-    c.refined_rows.auto.newedges
-
-pub shape_of-newintervals : goal.shape_of-newintervals
-shape_of-newintervals c =
-    c.refined_rows.auto.newintervals
-
-pub shape_of-newfaces : goal.shape_of-newfaces
-shape_of-newfaces c =
-    c.refined_rows.auto.newfaces
-
 pub returns : goal.returns
 returns c =
     let m : Mesh = mesh_of c.args.positions.now c.args.points.now c.args.edges.now c.args.intervals.now c.args.faces.now in

@@ -1,5 +1,4 @@
 -- `write_decimal` meets its contract: the digits but the last are written first. The measure is how many digits there may be.
-use Prim.Native.Nat.{◌-◌, ◌/◌}
 use native.Mathlib.Omega.{arith}
 use Rattle.mesh_answers.proofs.Laws.{length-short, length-long, decimal-none, decimal-one, decimal-last}
 use Rattle.mesh_answers.proofs.+write_decimal.Goals as goal

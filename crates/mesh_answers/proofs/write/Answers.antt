@@ -1,31 +1,17 @@
--- `write` meets its contract. The loop leaves what is still to be written; the measure is how many bytes that are.
-pub mod Turn
-use borrow.Author.Rules.{rules}
-use mathlib.Core.Path.{◌∙◌}
-use Prim.Native.Nat.{◌-◌}
-use lib.ListN.{length-set}
-use Rattle.mesh_answers.proofs.write.Answers.Turn.{start, turn, end}
+-- `write` meets its contract: the bytes take the place of as many of the list.
+use native.Mathlib.Omega.{arith}
+use mathlib.Core.List.{List, append_assoc}
+use mathlib.Core.Path.{◌≡◌, refl, sym, ◌∙◌}
+use Prim.Native.Nat.{ℕ, ◌+◌, ◌≤◌}
+use lib.ListN.{length, take, drop}
+use lib.Seq.{sets, sets-eq}
+use borrow.Rule.Slice.PartMut.{put_mid}
+use Rattle.std.proofs.lemmas.List.{drop-drop}
 use Rattle.mesh_answers.proofs.write.Goals as goal
 
--- src/lib.rt:18:5
-pub loop-i-init : goal.loop-i-init
-loop-i-init c =
-    (search rules, search rules, start c.args.out.now c.args.at c.args.t.now)
+put_is_sets : (out t ys : List ℕ) (at k : ℕ) → ys ≡ t → k ≡ length t → at + length t ≤ length out → put_mid at k out ys ≡ sets out at t
+put_is_sets out t ys at k ey ek h = rw (ey, ek, drop-drop (length t) at out) (sym (append_assoc (take at out) t (drop (at + length t) out)) ∙ sym (sets-eq t out at h))
 
--- src/lib.rt:18:5
-pub loop-i-preserved : goal.loop-i-preserved
-loop-i-preserved c = (
-  search rules,
-  length-set c.loop-i.out _ _ ∙ c.loop-i.invariant.1,
-  turn _ _ _ _ _ c.loop-i.invariant.2 c.loop-i-test.true,
-)
-
--- src/lib.rt:13:1
-pub shape_of-out : goal.shape_of-out
-shape_of-out c =
-    c.loop-i.invariant.1
-
--- src/lib.rt:13:1
 pub returns : goal.returns
 returns c =
-    end _ _ _ _ _ c.loop-i.invariant.0 c.loop-i.invariant.2 c.loop-i-test.false
+    record { place = refl; list = put_is_sets _ _ _ _ _ c.copy_from_slice.ensures.after (omega arith) c.requires }

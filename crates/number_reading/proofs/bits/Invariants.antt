@@ -1,6 +1,6 @@
--- `bits` meets its contract. The loop keeps the value of the digits read and the form of those to come; the measure is how many are to come.
+-- `bits` meets its contract. The loop keeps the value of the digits read and the form of those to come.
 use mathlib.Core.Path.{◌≡◌}
-use Prim.Native.Nat.{◌≤◌, ◌<◌, ◌-◌, ◌^◌}
+use Prim.Native.Nat.{◌+◌, ◌≤◌, ◌<◌, ◌-◌, ◌^◌}
 use lib.ListN.{length}
 use Rattle.text_numbers.specs.Form.{times}
 use Rattle.text_numbers.specs.Numbers.{bits, digit}
@@ -10,7 +10,4 @@ use Rattle.number_reading.proofs.bits.Given as goal
 
 abbrev pub invariant-loop-k : goal.invariant-loop-k
 invariant-loop-k l =
-    (l.k ≤ 16) × (l.i ≤ length l.s) × (l.v < 16 ^ l.k) × (number_of l.v (times (16 - l.k) (digit l.s 16) l.i) ≡ number (bits l.s l.at))
-
-abbrev pub decreases-loop-k : goal.decreases-loop-k
-decreases-loop-k l = 16 - l.k
+    (l.at + l.k ≤ length l.s) × (l.v < 16 ^ l.k) × (number_of l.v (times (16 - l.k) (digit l.s 16) (l.at + l.k)) ≡ number (bits l.s l.at))

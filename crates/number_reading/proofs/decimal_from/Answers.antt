@@ -2,7 +2,9 @@
 -- of the text. A value that is too large stays so.
 pub mod Turn
 use native.Mathlib.Omega.{arith}
+use mathlib.Core.Path.{◌∙◌, sym}
 use Prim.Native.Nat.{◌-◌}
+use Rattle.text_numbers.proofs.Turns.{digit_some, digit_past}
 use Rattle.number_reading.proofs.decimal_from.Answers.Turn.{rest-start, rest-turn, rest-stop, rest-large, rest-inside}
 use Rattle.number_reading.proofs.decimal_from.Goals as goal
 
@@ -10,27 +12,21 @@ pub loop-v-init : goal.loop-v-init
 loop-v-init c =
     (omega arith, c.requires.0, rest-start _ _ _)
 
-pub returns-then-d-ge10 : goal.returns-then-d-ge10
-returns-then-d-ge10 c =
-    rest-stop _ _ _ _ _ c.loop-v.invariant.2 c.digit_value-d.ensures
-    c.byte.ensures c.if-d-ge10.true c.loop-v-test.true
+pub returns-in_default : goal.returns-in_default
+returns-in_default c =
+    rest-stop _ _ _ _ _ c.loop-v.invariant.2 c.byte.ensures (digit_past (sym c.digit_value.ensures ∙ c.in_default.is)) c.loop-v-test.true
 
 pub loop-v-smaller : goal.loop-v-smaller
 loop-v-smaller c =
-    let h = rest-inside c.args.s.now
-    c.loop-v.i c.digit_value-d.ensures c.byte.ensures
-    c.if-d-ge10.false in
+    let d = digit_some (sym c.digit_value.ensures ∙ c.in-Some.is) in
+    let h = rest-inside c.args.s.now c.loop-v.i d.0 c.byte.ensures d.1 in
     omega arith
 
 pub loop-v-preserved : goal.loop-v-preserved
 loop-v-preserved c =
-    let h = rest-inside c.args.s.now c.loop-v.i
-    c.digit_value-d.ensures c.byte.ensures c.if-d-ge10.false in (
-      omega arith,
-      omega arith,
-      rest-turn _ _ _ _ _ c.loop-v.invariant.2 c.loop-v.invariant.0 h c.digit_value-d.ensures
-          c.byte.ensures c.if-d-ge10.false,
-    )
+    let d = digit_some (sym c.digit_value.ensures ∙ c.in-Some.is) in
+    let h = rest-inside c.args.s.now c.loop-v.i d.0 c.byte.ensures d.1 in
+    (omega arith, omega arith, rest-turn _ _ _ _ _ c.loop-v.invariant.2 c.loop-v.invariant.0 h d.0 c.byte.ensures d.1)
 
 pub returns : goal.returns
 returns c =

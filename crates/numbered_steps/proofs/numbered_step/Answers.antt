@@ -14,26 +14,6 @@ slice_bounds-step_by_zeros-end c =
     (let e : length c.number_faces.new.order ≡ 64 = ap length c.number_faces.ensures ∙ length-numbered 64 in
     omega (arith, c.requires)))
 
-pub shape_of-positions : goal.shape_of-positions
-shape_of-positions c =
-    c.step_by_zeros.auto.positions
-
-pub shape_of-points : goal.shape_of-points
-shape_of-points c =
-    c.step_by_zeros.auto.points
-
-pub shape_of-edges : goal.shape_of-edges
-shape_of-edges c =
-    c.step_by_zeros.auto.edges
-
-pub shape_of-intervals : goal.shape_of-intervals
-shape_of-intervals c =
-    c.step_by_zeros.auto.intervals
-
-pub shape_of-faces : goal.shape_of-faces
-shape_of-faces c =
-    c.step_by_zeros.auto.faces
-
 pub returns : goal.returns
 returns c =
     in-numbered-order

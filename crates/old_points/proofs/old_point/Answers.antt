@@ -12,7 +12,7 @@ returns c =
     rw (
       c.placed.ensures,
       c.moved.ensures,
-      c.number.ensures,
+      c.from.ensures,
       c.radial_sum-s.ensures,
       c.index-start.ensures,
       c.index.ensures,

@@ -1,5 +1,5 @@
 -- radial_sum meets its contract. The invariant: the sum is that of the first i edges, r is the next one and `next` the one after it, and the
--- intervals about r are kept; the measure is what is left of n.
+-- intervals about r are kept.
 use Rattle.position_rules.proofs.Fits.{row-there, interval-there, radial-edge-fits}
 use Rattle.position_rules.specs.OldPoint.{radial_sum}
 use Rattle.position_rules.specs.Places.{edge_point_at, face_point_at}
@@ -46,10 +46,6 @@ bounds-intervals-after c =
 pub radial_terms-s-requires : goal.radial_terms-s-requires
 radial_terms-s-requires c =
     summed-between _ _ _ _ _ _ _ _ _ _ _ _ _ c.loop-i.invariant
-
-pub overflow_add-i : goal.overflow_add-i
-overflow_add-i c =
-    omega (arith, c.loop-i-test.true, c.ranges.n)
 
 pub loop-i-preserved : goal.loop-i-preserved
 loop-i-preserved c =

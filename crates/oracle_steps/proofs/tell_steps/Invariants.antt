@@ -1,9 +1,6 @@
--- The orders that have been read have at most 4,422 bytes each; the measure is what is left of the steps.
-use Rattle.std.proofs.Common.{◌+◌, ◌-◌, ◌*◌, ◌≤◌}
+-- The orders that have been read have at most 4,422 bytes each.
+use Rattle.std.proofs.Common.{◌+◌, ◌*◌, ◌≤◌}
 use Rattle.oracle_steps.proofs.tell_steps.Given as goal
 
 abbrev pub invariant-loop-k : goal.invariant-loop-k
-invariant-loop-k g l = (l.k ≤ l.steps) × (l.at ≤ l.more + 4422 * l.k)
-
-abbrev pub decreases-loop-k : goal.decreases-loop-k
-decreases-loop-k g l = l.steps - l.k
+invariant-loop-k g l = l.at ≤ l.more + 4422 * l.k-counter

@@ -1,5 +1,5 @@
--- all_apart meets its contract. The invariant: no face stands twice in the windows passed; the measure is what is left of the passes.
-use Prim.Native.Nat.{ℕ, ◌-◌, ◌*◌, ◌<◌}
+-- all_apart meets its contract. The invariant: no face stands twice in the windows passed.
+use Prim.Native.Nat.{ℕ, ◌*◌, ◌<◌}
 use mathlib.Core.Bool.{false≢true}
 use mathlib.Core.Path.{refl, sym, ◌∙◌, subst}
 use native.Mathlib.Omega.{arith}
@@ -16,9 +16,8 @@ returns-then-not-apart_above c =
 
 pub loop-k-preserved : goal.loop-k-preserved
 loop-k-preserved c = (
-  omega arith,
   refl,
-  λ j l. below_suc j c.loop-k.k (omega arith) (λ lt. c.loop-k.invariant.2 j lt)
+  λ j l. below_suc j c.loop-k.k (omega arith) (λ lt. c.loop-k.invariant.1 j lt)
       (λ e. subst (λ (j : ℕ). ApartAbove (j * window) c.args.order.now) (sym e)
       (c.apart_above.ensures.0 (c.if-not-apart_above.false))),
 )
@@ -27,4 +26,4 @@ pub returns : goal.returns
 returns c =
     let below : (i : ℕ) → i < length c.args.order.now → get_or c.args.order.now i 0 < c.loop-k.k * window =
     λ i l. let o : get_or c.args.order.now i 0 < length c.args.order.now = c.requires i l in omega arith in
-    sym (distinct-of-windows c.args.order.now c.loop-k.k below (λ j l. c.loop-k.invariant.2 j l))
+    sym (distinct-of-windows c.args.order.now c.loop-k.k below (λ j l. c.loop-k.invariant.1 j l))

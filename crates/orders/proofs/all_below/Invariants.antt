@@ -1,5 +1,4 @@
--- all_below meets its contract. The invariant: the entries passed are below nf; the measure is what is left of nf.
-use Prim.Native.Nat.{◌≤◌, ◌-◌}
+-- all_below meets its contract. The invariant: the entries passed are below nf.
 use mathlib.Core.Bool.{true}
 use mathlib.Core.Path.{◌≡◌}
 use lib.ListN.{get_or}
@@ -8,7 +7,4 @@ use Rattle.audited_meshes.specs.Folds.{every}
 use Rattle.orders.proofs.all_below.Given as goal
 
 abbrev pub invariant-loop-i : goal.invariant-loop-i
-invariant-loop-i l = (l.i ≤ l.nf) × (every l.i (λ k. ltb (get_or l.order k 0) l.nf) ≡ true)
-
-abbrev pub decreases-loop-i : goal.decreases-loop-i
-decreases-loop-i l = l.nf - l.i
+invariant-loop-i l = every l.i (λ k. ltb (get_or l.order k 0) l.nf) ≡ true

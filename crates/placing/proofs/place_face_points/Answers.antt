@@ -1,4 +1,4 @@
--- place_face_points meets its contract. The invariant: the first f face points are put; the measure is what is left of nf.
+-- place_face_points meets its contract. The invariant: the first f face points are put.
 use Prim.Native.Nat.{ℕ, ◌+◌, ◌*◌, ◌-◌}
 use mathlib.Core.List.{List}
 use mathlib.Core.Path.{◌≡◌, refl, sym, ◌∙◌, ap}
@@ -15,14 +15,14 @@ use Rattle.placing.proofs.place_face_points.Goals as goal
 
 pub loop-f-init : goal.loop-f-init
 loop-f-init c =
-    (omega arith, refl, (refl, refl), unfold placed_by in refl)
+    (refl, (refl, refl), unfold placed_by in refl)
 
 pub face_point-requires : goal.face_point-requires
 face_point-requires c =
     record {
       face_point_fits = c.requires.rule_fits c.loop-f.f (omega arith);
-      perimeter_len = c.loop-f.invariant.2.0;
-      points_len = c.loop-f.invariant.2.1;
+      perimeter_len = c.loop-f.invariant.1.0;
+      points_len = c.loop-f.invariant.1.1;
     }
 
 pub returns-in_default : goal.returns-in_default
@@ -31,7 +31,7 @@ returns-in_default c =
     let rule : ℕ → List Float → Position = λ k ps. face_point_in
     (without_points c.args.positions.now c.args.edges.now c.args.intervals.now c.args.faces.now) c.args.ne k in
     let start = so_far c.args.newpositions.now in
-    placed-ends row rule start c.args.nf c.loop-f.f c.loop-f.newpositions (omega arith) c.loop-f.invariant.3
+    placed-ends row rule start c.args.nf c.loop-f.f c.loop-f.newpositions (omega arith) c.loop-f.invariant.2
     (sym c.face_point.ensures.value ∙ c.in_default.is)
 
 pub overflow_mul-f : goal.overflow_mul-f
@@ -60,10 +60,9 @@ loop-f-preserved c =
     let rule : ℕ → List Float → Position = λ k ps. face_point_in
     (without_points c.args.positions.now c.args.edges.now c.args.intervals.now c.args.faces.now) c.args.ne k in
     let start = so_far c.args.newpositions.now in
-    let put = placed-more row rule start c.loop-f.f c.loop-f.newpositions c.loop-f.invariant.3
-    (sym c.face_point.ensures.value ∙ c.in-At.is) in (
-      omega arith,
-      rw (c.store_position.ensures, length-put_row) c.loop-f.invariant.1,
+    let put = placed-more row rule start c.loop-f.f c.loop-f.newpositions c.loop-f.invariant.2
+    (sym c.face_point.ensures.value ∙ c.in-Some.is) in (
+      rw (c.store_position.ensures, length-put_row) c.loop-f.invariant.0,
       (c.face_point.ensures.perimeter_len_2, c.face_point.ensures.points_len_2),
       rw (c.store_position.ensures, c.index.ensures) put,
     )
@@ -74,5 +73,5 @@ returns c =
     let rule : ℕ → List Float → Position = λ k ps. face_point_in
     (without_points c.args.positions.now c.args.edges.now c.args.intervals.now c.args.faces.now) c.args.ne k in
     let start = so_far c.args.newpositions.now in
-    let all : c.args.nf ≡ c.loop-f.f = omega arith in
-    ap (λ (k : ℕ). placed_by k row rule start) all ∙ c.loop-f.invariant.3
+    let all : c.args.nf ≡ c.loop-f.f = omega (arith, c.loop-f.auto.f-end) in
+    ap (λ (k : ℕ). placed_by k row rule start) all ∙ c.loop-f.invariant.2

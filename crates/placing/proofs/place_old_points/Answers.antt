@@ -1,4 +1,4 @@
--- place_old_points meets its contract. The invariant: the first p old points are put; the measure is what is left of np.
+-- place_old_points meets its contract. The invariant: the first p old points are put.
 use Prim.Native.Nat.{ℕ, ◌-◌}
 use mathlib.Core.List.{List}
 use mathlib.Core.Path.{◌≡◌, refl, sym, ◌∙◌, ap}
@@ -14,11 +14,11 @@ use Rattle.placing.proofs.place_old_points.Goals as goal
 
 pub loop-p-init : goal.loop-p-init
 loop-p-init c =
-    (omega arith, refl, unfold placed_by in refl)
+    (refl, unfold placed_by in refl)
 
 pub old_point-requires : goal.old_point-requires
 old_point-requires c =
-    c.requires.rule_fits c.loop-p.newpositions c.loop-p.invariant.1 c.loop-p.p (omega arith)
+    c.requires.rule_fits c.loop-p.newpositions c.loop-p.invariant.0 c.loop-p.p (omega arith)
 
 pub returns-in_default : goal.returns-in_default
 returns-in_default c =
@@ -26,7 +26,7 @@ returns-in_default c =
     let rule : ℕ → List Float → Position = λ k ps. old_point c.args.positions.now c.args.points.now c.args.edges.now
     c.args.intervals.now (edge_point_at ps c.args.newedges.now) (face_point_at ps c.args.newfaces.now) k in
     let start = so_far c.args.newpositions.now in
-    placed-ends row rule start c.args.np c.loop-p.p c.loop-p.newpositions (omega arith) c.loop-p.invariant.2
+    placed-ends row rule start c.args.np c.loop-p.p c.loop-p.newpositions (omega arith) c.loop-p.invariant.1
     (sym c.old_point.ensures ∙ c.in_default.is)
 
 pub store_position-requires : goal.store_position-requires
@@ -39,11 +39,10 @@ loop-p-preserved c =
     let rule : ℕ → List Float → Position = λ k ps. old_point c.args.positions.now c.args.points.now c.args.edges.now
     c.args.intervals.now (edge_point_at ps c.args.newedges.now) (face_point_at ps c.args.newfaces.now) k in
     let start = so_far c.args.newpositions.now in
-    let put = placed-more row rule start c.loop-p.p c.loop-p.newpositions c.loop-p.invariant.2
+    let put = placed-more row rule start c.loop-p.p c.loop-p.newpositions c.loop-p.invariant.1
     (sym c.old_point.ensures
-    ∙ c.in-At.is) in (
-      omega arith,
-      rw (c.store_position.ensures, length-put_row) c.loop-p.invariant.1,
+    ∙ c.in-Some.is) in (
+      rw (c.store_position.ensures, length-put_row) c.loop-p.invariant.0,
       rw c.store_position.ensures put,
     )
 
@@ -53,5 +52,5 @@ returns c =
     let rule : ℕ → List Float → Position = λ k ps. old_point c.args.positions.now c.args.points.now c.args.edges.now
     c.args.intervals.now (edge_point_at ps c.args.newedges.now) (face_point_at ps c.args.newfaces.now) k in
     let start = so_far c.args.newpositions.now in
-    let all : c.args.np ≡ c.loop-p.p = omega arith in
-    ap (λ (k : ℕ). placed_by k row rule start) all ∙ c.loop-p.invariant.2
+    let all : c.args.np ≡ c.loop-p.p = omega (arith, c.loop-p.auto.p-end) in
+    ap (λ (k : ℕ). placed_by k row rule start) all ∙ c.loop-p.invariant.1

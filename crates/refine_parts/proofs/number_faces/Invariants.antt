@@ -1,10 +1,7 @@
--- number_faces meets its contract. The invariant: the first i entries are 0, 1, ..; the measure is what is left.
-use Prim.Native.Nat.{◌-◌}
-use Rattle.refine_parts.proofs.Filling.{Filled}
+-- number_faces meets its contract: the first i entries are 0, 1, ..
+use Rattle.std.proofs.Common.{◌≡◌, take}
+use Rattle.runs.specs.Runs.{numbered}
 use Rattle.refine_parts.proofs.number_faces.Given as goal
 
 abbrev pub invariant-loop-i : goal.invariant-loop-i
-invariant-loop-i l = Filled l.initial.order l.n l.order l.i
-
-abbrev pub decreases-loop-i : goal.decreases-loop-i
-decreases-loop-i l = l.n - l.i
+invariant-loop-i l = take l.i l.order ≡ numbered l.i

@@ -1,4 +1,4 @@
--- put_new_faces meets its contract. The invariant: the first i turns are made; the measure is what is left of n.
+-- put_new_faces meets its contract. The invariant: the first i turns are made.
 use Rattle.ring_rows.specs.Rings.{ring}
 use Rattle.splitting.specs.Scratch.{tables_of}
 use Rattle.refined_meshes.specs.Ring.{put_new_face}
@@ -8,16 +8,12 @@ use Rattle.tables.specs.Parts.{face_tables}
 use Rattle.tables.specs.declared.Counts.{Counts}
 use lib.Ieee.{Float}
 use lib.ListN.{length}
-use Prim.Native.Nat.{ℕ, ◌≤◌, ◌-◌}
+use Prim.Native.Nat.{ℕ}
 use mathlib.Core.List.{List, []}
 use mathlib.Core.Path.{◌≡◌}
 use Rattle.ring_faces.proofs.put_new_faces.Given as goal
 
 abbrev pub invariant-loop-i : goal.invariant-loop-i
-invariant-loop-i l = (l.i ≤ l.n) × (l.n ≡ l.rows.size) ×
-    (length l.newfaces ≡ length l.initial.newfaces) × ((gs ps es : List ℕ) (ds is : List Float) (c : Counts) → ◌≡◌ {A = State}
+invariant-loop-i l = (length l.newfaces ≡ length l.initial.newfaces) × ((gs ps es : List ℕ) (ds is : List Float) (c : Counts) → ◌≡◌ {A = State}
     (tables_of ps es is l.newfaces c)
     (turns l.i (put_new_face (face_tables l.edges []) (ring l.rows l.perimeter l.firsts gs l.mids ds)) (tables_of ps es is l.initial.newfaces c)))
-
-abbrev pub decreases-loop-i : goal.decreases-loop-i
-decreases-loop-i l = l.n - l.i

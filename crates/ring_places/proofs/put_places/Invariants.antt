@@ -1,10 +1,6 @@
--- put_places meets its contract. The invariant: the three arrays are filled up to i; the measure is what is left of n.
+-- put_places meets its contract. The invariant: the three arrays are filled up to i.
 use Rattle.ring_places.proofs.Filling.{Filled}
-use Prim.Native.Nat.{◌-◌}
 use Rattle.ring_places.proofs.put_places.Given as goal
 
 abbrev pub invariant-loop-i : goal.invariant-loop-i
 invariant-loop-i l = Filled l.edges l.newedges l.perimeter l.f l.n l.initial.firsts l.initial.seconds l.initial.mids l.firsts l.seconds l.mids l.i
-
-abbrev pub decreases-loop-i : goal.decreases-loop-i
-decreases-loop-i l = l.n - l.i

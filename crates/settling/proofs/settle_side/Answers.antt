@@ -1,14 +1,11 @@
--- settle_side meets its contract. The invariant: the joining edges of the first e rows are settled; the measure is what is left of ne.
-use Prim.Native.Nat.{◌-◌}
-use mathlib.Core.Path.{refl}
+-- settle_side meets its contract. The invariant: the joining edges of the first e rows are settled.
 use native.Mathlib.Omega.{arith}
-use lib.ListN.{length-set}
 use Rattle.settling.proofs.Laws.{side-none, side-turn, side-end}
 use Rattle.settling.proofs.settle_side.Goals as goal
 
 pub loop-e-init : goal.loop-e-init
 loop-e-init c =
-    (omega arith, refl, side-none _ _ _ _ _ _ _)
+    side-none _ _ _ _ _ _ _
 
 pub overflow_mul-b : goal.overflow_mul-b
 overflow_mul-b c =
@@ -74,24 +71,21 @@ bounds-intervals-before c =
 
 pub offset_bounds-newintervals-join : goal.offset_bounds-newintervals-join
 offset_bounds-newintervals-join c =
-    omega (arith, c.index-join.ensures, c.loop-e.invariant.1, c.requires.join-there c.loop-e.e (omega arith))
+    omega (arith, c.index-join.ensures, c.loop-e.auto.newintervals, c.requires.join-there c.loop-e.e (omega arith))
 
 pub bounds-newintervals-join : goal.bounds-newintervals-join
 bounds-newintervals-join c =
-    omega (arith, c.index-join.ensures, c.loop-e.invariant.1, c.requires.join-there c.loop-e.e (omega arith))
+    omega (arith, c.index-join.ensures, c.loop-e.auto.newintervals, c.requires.join-there c.loop-e.e (omega arith))
 
 pub loop-e-preserved : goal.loop-e-preserved
-loop-e-preserved c = (
-  omega arith,
-  rw length-set c.loop-e.invariant.1,
-  side-turn _ _ _ _ _ _ c.loop-e.e c.loop-e.newintervals _ c.index-join.result _ c.loop-e.invariant.2
-      c.index-join.ensures (rw (
-        c.index-after.ensures,
-        c.index-before.ensures,
-      )),
-)
+loop-e-preserved c =
+    side-turn _ _ _ _ _ _ c.loop-e.e c.loop-e.newintervals _ c.index-join.result _ c.loop-e.invariant
+    c.index-join.ensures (rw (
+      c.index-after.ensures,
+      c.index-before.ensures,
+    ))
 
 pub returns : goal.returns
 returns c =
     side-end c.args.edges.now c.args.intervals.now c.args.newedges.now c.args.w c.args.next c.args.prev c.loop-e.e
-    c.args.ne c.loop-e.newintervals c.args.newintervals.now (omega arith) c.loop-e.invariant.2
+    c.args.ne c.loop-e.newintervals c.args.newintervals.now (omega arith) c.loop-e.invariant

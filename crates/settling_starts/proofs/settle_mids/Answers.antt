@@ -1,14 +1,11 @@
--- settle_mids meets its contract. The invariant: the start edges of the midpoints of the first e edges are stored; the measure is what is left of ne.
-use Prim.Native.Nat.{◌-◌}
-use mathlib.Core.Path.{refl}
+-- settle_mids meets its contract. The invariant: the start edges of the midpoints of the first e edges are stored.
 use native.Mathlib.Omega.{arith}
-use lib.ListN.{length-set}
 use Rattle.settling_starts.proofs.Laws.{starts_none, starts-turn, starts-end}
 use Rattle.settling_starts.proofs.settle_mids.Goals as goal
 
 pub loop-e-init : goal.loop-e-init
 loop-e-init c =
-    (omega arith, refl, starts_none _ _ _)
+    starts_none _ _ _
 
 pub overflow_mul-e : goal.overflow_mul-e
 overflow_mul-e c =
@@ -36,7 +33,7 @@ overflow_mul-newpoints c =
     omega (
       arith,
       c.index-p.ensures,
-      c.loop-e.invariant.1,
+      c.loop-e.auto.newpoints,
       c.requires.rows c.loop-e.e (omega arith),
     )
 
@@ -45,7 +42,7 @@ overflow_add-newpoints c =
     omega (
       arith,
       c.index-p.ensures,
-      c.loop-e.invariant.1,
+      c.loop-e.auto.newpoints,
       c.requires.rows c.loop-e.e (omega arith),
     )
 
@@ -54,7 +51,7 @@ offset_bounds-newpoints-p c =
     omega (
       arith,
       c.index-p.ensures,
-      c.loop-e.invariant.1,
+      c.loop-e.auto.newpoints,
       c.requires.rows c.loop-e.e (omega arith),
     )
 
@@ -63,19 +60,16 @@ bounds-newpoints-p c =
     omega (
       arith,
       c.index-p.ensures,
-      c.loop-e.invariant.1,
+      c.loop-e.auto.newpoints,
       c.requires.rows c.loop-e.e (omega arith),
     )
 
 pub loop-e-preserved : goal.loop-e-preserved
-loop-e-preserved c = (
-  omega arith,
-  rw length-set c.loop-e.invariant.1,
-  starts-turn _ _ c.loop-e.e c.loop-e.newpoints _ c.index-p.result _ c.loop-e.invariant.2
-      c.index-p.ensures c.new_half-start.ensures,
-)
+loop-e-preserved c =
+    starts-turn _ _ c.loop-e.e c.loop-e.newpoints _ c.index-p.result _ c.loop-e.invariant
+    c.index-p.ensures c.new_half-start.ensures
 
 pub returns : goal.returns
 returns c =
     starts-end _ _ c.loop-e.e c.args.ne c.loop-e.newpoints c.args.newpoints.now (omega arith)
-    c.loop-e.invariant.2
+    c.loop-e.invariant

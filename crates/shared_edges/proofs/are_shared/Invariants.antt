@@ -1,4 +1,4 @@
--- are_shared meets its contract. The invariant: the places passed are shared; the measure is what is left of them.
+-- are_shared meets its contract. The invariant: the places passed are shared.
 use mathlib.Core.Path.{◌≡◌}
 use mathlib.Core.Bool.{not, true, ◌&&◌}
 use Prim.Native.Nat.{◌-◌, ◌≤◌}
@@ -8,7 +8,4 @@ use Rattle.audited_meshes.specs.Folds.{every}
 use Rattle.shared_edges.proofs.are_shared.Given as goal
 
 abbrev pub invariant-loop-k : goal.invariant-loop-k
-invariant-loop-k l = let k = l.k in (k ≤ length l.mates) × (every k (λ k. not (eqb (get_or l.mates k 0) 0 && eqb (get_or l.seconds k 0) 0)) ≡ true)
-
-abbrev pub decreases-loop-k : goal.decreases-loop-k
-decreases-loop-k l = length l.mates - l.k
+invariant-loop-k l = every l.k (λ k. not (eqb (get_or l.mates k 0) 0 && eqb (get_or l.seconds k 0) 0)) ≡ true

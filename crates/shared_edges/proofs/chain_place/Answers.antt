@@ -15,7 +15,7 @@ search-mate-requires c =
       k_in_bounds_3 = omega (arith, c.requires.links_room.links-fit);
       chain_links = c.requires.places_chained.link;
       from_value = ap (λ (x : ℕ). get_or c.args.heads.now x 0)
-          (c.index-low.ensures ∙ c.lower.ensures)
+          (c.index-low.ensures ∙ c.min.ensures)
           ∙ c.requires.places_chained.head (low_at c.args.listed.now c.args.tos.now c.args.k) c.requires.links_room.low-fit;
     }
 
@@ -24,6 +24,6 @@ returns c =
     record {
       value = c.search-mate.ensures;
       places_chained_2 = chained_more c.args.listed.now c.args.tos.now c.args.heads.now c.args.links.now c.args.k c.index-low.result
-          c.requires.places_chained (c.index-low.ensures ∙ c.lower.ensures) (omega (arith, c.index-low.ensures, c.lower.ensures, c.requires.links_room.low-fit))
+          c.requires.places_chained (c.index-low.ensures ∙ c.min.ensures) (omega (arith, c.index-low.ensures, c.min.ensures, c.requires.links_room.low-fit))
           c.requires.links_room.links-fit;
     }

@@ -58,14 +58,6 @@ returns-then-not-enter c =
       entered_to = λ t. absurd (false≢true t);
     }
 
-pub overflow_add-i : goal.overflow_add-i
-overflow_add-i c =
-    omega (arith, c.loop-i-test.true)
-
-pub loop-i-smaller : goal.loop-i-smaller
-loop-i-smaller c =
-    omega (arith, c.loop-i-test.true)
-
 pub loop-i-preserved : goal.loop-i-preserved
 loop-i-preserved c =
     entering-more c.args.listed.now c.args.tos.now c.args.heads.now c.args.links.now c.args.mates.now

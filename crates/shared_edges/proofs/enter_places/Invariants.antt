@@ -6,6 +6,3 @@ use Rattle.shared_edges.proofs.enter_places.Given as goal
 
 abbrev pub invariant-loop-i : goal.invariant-loop-i
 invariant-loop-i l = Entering l.listed l.tos l.initial.heads l.initial.links l.initial.mates l.initial.seconds l.heads l.links l.mates l.seconds l.a l.n l.i
-
-abbrev pub decreases-loop-i : goal.decreases-loop-i
-decreases-loop-i l = l.n - l.i

@@ -1,15 +1,12 @@
--- is_sole_in meets its contract. The invariant: the edges passed are noted at their other ends, and the walk is not at its start again;
--- the measure is what is left of the valence.
-use Prim.Native.Nat.{◌-◌}
+-- is_sole_in meets its contract. The invariant: the edges passed are noted at their other ends, and the walk is not at its start again.
 use mathlib.Core.Bool.{false≢true}
 use mathlib.Core.Logic.{◌≢◌}
 use mathlib.Core.Path.{refl, sym, ◌∙◌, ap}
 use native.Mathlib.Omega.{arith}
 use borrow.Author.Tests.{eqb-true, eq-eqb}
-use lib.ListN.{length}
 use Rattle.tables.specs.Parts.{point_tables}
 use Rattle.walks.specs.Steps.{point_step}
-use Rattle.sole_edges.proofs.Walking.{noted-length, walking_start, walking-lost, walking-next, walking-stop, walking-home, walking-early, walking-late}
+use Rattle.sole_edges.proofs.Walking.{walking_start, walking-lost, walking-next, walking-stop, walking-home, walking-early, walking-late}
 use Rattle.few_edges.proofs.Steps.{step-made, step-lost}
 use Rattle.sole_edges.proofs.is_sole_in.Goals as goal
 
@@ -18,7 +15,6 @@ loop-n-init c = (
   walking_start (point_tables c.args.points.now c.args.edges.now) c.args.ne c.args.p c.args.base _ _ _
       c.index-k.ensures refl c.requires.ends_window_in_bounds,
   λ l. absurd (omega arith),
-  refl,
 )
 
 pub returns-in_default : goal.returns-in_default
@@ -34,7 +30,7 @@ returns-in_default c =
 pub returns-then-not-note : goal.returns-then-not-note
 returns-then-not-note c =
     let made = step-made c.args.edges.now c.args.ne c.args.p _ _ _
-    (sym c.in-To.is ∙ c.point_step.ensures
+    (sym c.in-Some.is ∙ c.point_step.ensures
     ∙ ap (point_step c.args.edges.now c.args.ne c.args.p) c.index.ensures) in let found = sym c.note.ensures.value ∙ c.if-not-note.true in record {
       round_in = λ e. absurd (false≢true e);
       value = λ good. absurd (walking-stop (point_tables c.args.points.now c.args.edges.now) c.args.ne c.args.p c.args.base _ _ _ _
@@ -42,32 +38,31 @@ returns-then-not-note c =
           found good.1);
     }
 
-pub returns-then-next-start : goal.returns-then-next-start
-returns-then-next-start c =
+pub returns-then-step-start : goal.returns-then-step-start
+returns-then-step-start c =
     let m = point_tables c.args.points.now c.args.edges.now in
     let made = step-made c.args.edges.now c.args.ne c.args.p _ _ _
-    (sym c.in-To.is ∙ c.point_step.ensures ∙ ap (point_step c.args.edges.now c.args.ne c.args.p) c.index.ensures) in
+    (sym c.in-Some.is ∙ c.point_step.ensures ∙ ap (point_step c.args.edges.now c.args.ne c.args.p) c.index.ensures) in
     let fresh = sym c.note.ensures.value ∙ c.if-not-note.false in
     let then = walking-next m c.args.ne c.args.p c.args.base _ _ _ _ c.loop-n.invariant.0 c.loop-n-test.true
     c.loop-n.invariant.1 made.0 _ _ _ (c.index-in-loop-n.ensures ∙ made.1) made.2 fresh c.note.ensures.seen_after in
     record {
       round_in = λ e. walking-home m c.args.ne c.args.p c.args.base _ _ _ _ then (eqb-true _ _ e)
-          c.if-next-start.true;
+          c.if-step-start.true;
       value = λ good. eq-eqb _ _
-          (walking-early m c.args.ne c.args.p c.args.base _ _ _ _ then (omega arith) c.if-next-start.true good.0);
+          (walking-early m c.args.ne c.args.p c.args.base _ _ _ _ then (omega arith) c.if-step-start.true good.0);
     }
 
 pub loop-n-preserved : goal.loop-n-preserved
 loop-n-preserved c =
     let m = point_tables c.args.points.now c.args.edges.now in
     let made = step-made c.args.edges.now c.args.ne c.args.p _ _ _
-    (sym c.in-To.is ∙ c.point_step.ensures
+    (sym c.in-Some.is ∙ c.point_step.ensures
     ∙ ap (point_step c.args.edges.now c.args.ne c.args.p) c.index.ensures) in
     let fresh = sym c.note.ensures.value ∙ c.if-not-note.false in (
       walking-next m c.args.ne c.args.p c.args.base _ _ _ _ c.loop-n.invariant.0 c.loop-n-test.true c.loop-n.invariant.1 made.0 _ _ _
           (c.index-in-loop-n.ensures ∙ made.1) made.2 fresh c.note.ensures.seen_after,
-      λ l. c.if-next-start.false,
-      ap length c.note.ensures.seen_after ∙ noted-length c.args.base c.loop-n.seen c.index-in-loop-n.result c.loop-n.i ∙ c.loop-n.invariant.2,
+      λ l. c.if-step-start.false,
     )
 
 pub returns : goal.returns

@@ -1,14 +1,8 @@
--- sole_by_table meets its contract. The invariant: the points before pass; the measure is what is left of np.
-use Prim.Native.Nat.{◌-◌, ◌≤◌}
-use mathlib.Core.Path.{◌≡◌}
-use lib.ListN.{length}
+-- sole_by_table meets its contract. The invariant: the points before pass.
 use Rattle.tables.specs.Parts.{point_tables}
 use Rattle.sole_edges.specs.Sole.{RoundsFrom}
 use Rattle.sole_edges.proofs.sole_by_table.Given as goal
 
 abbrev pub invariant-loop-p : goal.invariant-loop-p
 invariant-loop-p l =
-    (l.p ≤ l.np) × (l.from ≤ l.p) × (length l.seen ≡ length l.initial.seen) × RoundsFrom (point_tables l.points l.edges) l.p l.ne l.from
-
-abbrev pub decreases-loop-p : goal.decreases-loop-p
-decreases-loop-p l = l.np - l.p
+    RoundsFrom (point_tables l.points l.edges) l.p l.ne l.from

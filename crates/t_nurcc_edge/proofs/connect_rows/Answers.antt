@@ -1,55 +1,10 @@
 -- connect_rows meets its contract, by the four face states in turn.
 use mathlib.Core.Path.{◌∙◌, ap}
 use Prim.Native.Nat.{ℕ}
-use native.Mathlib.Omega.{arith}
 use Rattle.tables.specs.Records.{edge_at}
 use Rattle.t_nurcc_edge.proofs.Laws.{joinable-steps}
 use Rattle.t_nurcc_edge.proofs.Links.{connected-links}
 use Rattle.t_nurcc_edge.proofs.connect_rows.Goals as goal
-
-pub put_links-requires-2 : goal.put_links-requires-2
-put_links-requires-2 c = record {
-  edge_width_in_bounds = omega
-      (arith, c.requires.edge_width_in_bounds, c.put_links.ensures.edges_len_unchanged);
-  edge_width_in_bounds_2 = omega (arith, c.requires.edge_width_in_bounds_2, c.put_links.ensures.edges_len_unchanged);
-  i_nonzero = c.requires.i_nonzero;
-}
-
-pub put_links-requires-3 : goal.put_links-requires-3
-put_links-requires-3 c = record {
-  edge_width_in_bounds = omega (
-    arith,
-    c.requires.edge_width_in_bounds,
-    c.put_links.ensures.edges_len_unchanged,
-    c.put_links-2.ensures.edges_len_unchanged,
-  );
-  edge_width_in_bounds_2 = omega (
-    arith,
-    c.requires.edge_width_in_bounds_2,
-    c.put_links.ensures.edges_len_unchanged,
-    c.put_links-2.ensures.edges_len_unchanged,
-  );
-  i_nonzero = c.requires.i_nonzero;
-}
-
-pub put_links-requires-4 : goal.put_links-requires-4
-put_links-requires-4 c = record {
-  edge_width_in_bounds = omega (
-    arith,
-    c.requires.edge_width_in_bounds,
-    c.put_links.ensures.edges_len_unchanged,
-    c.put_links-2.ensures.edges_len_unchanged,
-    c.put_links-3.ensures.edges_len_unchanged,
-  );
-  edge_width_in_bounds_2 = omega (
-    arith,
-    c.requires.edge_width_in_bounds_2,
-    c.put_links.ensures.edges_len_unchanged,
-    c.put_links-2.ensures.edges_len_unchanged,
-    c.put_links-3.ensures.edges_len_unchanged,
-  );
-  i_nonzero = c.requires.i_nonzero;
-}
 
 pub returns : goal.returns
 returns c =

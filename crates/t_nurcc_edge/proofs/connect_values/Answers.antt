@@ -1,12 +1,6 @@
 -- connect_values meets its contract: the steps of the code are the definition's, with the indices of the rows put for the rows.
-use native.Mathlib.Omega.{arith}
 use Rattle.t_nurcc_edge.proofs.Laws.{joinable-steps, connected-steps}
-use Rattle.tables.proofs.Laws.{length-put_row}
 use Rattle.t_nurcc_edge.proofs.connect_values.Goals as goal
-
-pub store_edge_words-requires-2 : goal.store_edge_words-requires-2
-store_edge_words-requires-2 c =
-    rw (c.store_edge_words.ensures, length-put_row, c.index-b.ensures) (omega (arith, c.requires))
 
 pub returns : goal.returns
 returns c =

@@ -1,5 +1,5 @@
--- face_walk meets its contract. The invariant: the walk has passed n edges; the measure is what is left of 64.
-use Prim.Native.Nat.{◌-◌, ℕ}
+-- face_walk meets its contract. The invariant: the walk has passed n edges.
+use Prim.Native.Nat.{ℕ}
 use mathlib.Core.Bool.{Bool, ◌&&◌}
 use lib.Dec.{ltb}
 use Rattle.tables.specs.Mesh.{Mesh, face_start}
@@ -16,6 +16,3 @@ Way m ne f n e = Counted (acw_of_face m f) (on m ne f) (face_start m f) 64 (face
 
 abbrev pub invariant-loop-n : goal.invariant-loop-n
 invariant-loop-n l = Way (face_tables l.edges l.faces) l.ne l.f l.n l.e
-
-abbrev pub decreases-loop-n : goal.decreases-loop-n
-decreases-loop-n l = 64 - l.n

@@ -1,5 +1,5 @@
--- point_walk meets its contract. The invariant: the walk has passed n edges; the measure is what is left of the bound.
-use Prim.Native.Nat.{◌-◌, ℕ}
+-- point_walk meets its contract. The invariant: the walk has passed n edges.
+use Prim.Native.Nat.{ℕ}
 use mathlib.Core.Bool.{Bool, ◌&&◌}
 use lib.Dec.{ltb}
 use Rattle.tables.specs.Mesh.{Mesh, start}
@@ -16,6 +16,3 @@ Way m ne k p n e = Counted (acw_of_point m p) (on m ne p) (start m p) k (point_w
 
 abbrev pub invariant-loop-v : goal.invariant-loop-v
 invariant-loop-v l = Way (point_tables l.points l.edges) l.ne l.k l.p l.v l.e
-
-abbrev pub decreases-loop-v : goal.decreases-loop-v
-decreases-loop-v l = l.k - l.v

@@ -5,24 +5,24 @@ use lib.Seq.{length-take-le}
 use Rattle.text_building.proofs.Laws.{same-told}
 use Rattle.text_building.proofs.build_first.Goals as goal
 
-pub slice_bounds-build-end : goal.slice_bounds-build-end
-slice_bounds-build-end c =
+pub slice_bounds-lists-end : goal.slice_bounds-lists-end
+slice_bounds-lists-end c =
     sym (length-take-le (3 * c.args.p) c.args.coordinates.now c.requires.p_in_bounds)
 
-pub slice_bounds-build-end-2 : goal.slice_bounds-build-end-2
-slice_bounds-build-end-2 c =
+pub slice_bounds-lists-end-2 : goal.slice_bounds-lists-end-2
+slice_bounds-lists-end-2 c =
     sym (length-take-le (4 * c.args.f) c.args.sides.now c.requires.f_in_bounds)
 
-pub slice_bounds-build-end-3 : goal.slice_bounds-build-end-3
-slice_bounds-build-end-3 c =
+pub slice_bounds-lists-end-3 : goal.slice_bounds-lists-end-3
+slice_bounds-lists-end-3 c =
     sym (length-take-le (4 * c.args.f) c.args.firsts.now c.requires.f_in_bounds_2)
 
-pub slice_bounds-build-end-4 : goal.slice_bounds-build-end-4
-slice_bounds-build-end-4 c =
+pub slice_bounds-lists-end-4 : goal.slice_bounds-lists-end-4
+slice_bounds-lists-end-4 c =
     sym (length-take-le c.args.n c.args.listed.now c.requires.n_in_bounds)
 
-pub slice_bounds-build-end-5 : goal.slice_bounds-build-end-5
-slice_bounds-build-end-5 c =
+pub slice_bounds-lists-end-5 : goal.slice_bounds-lists-end-5
+slice_bounds-lists-end-5 c =
     sym (length-take-le c.args.n c.args.beside.now c.requires.n_in_bounds_2)
 
 pub build-built-requires : goal.build-built-requires

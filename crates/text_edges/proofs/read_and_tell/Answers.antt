@@ -1,6 +1,6 @@
 -- read_and_tell meets its contract: of a text that is read, the first entries of the lists are those of the text.
 use Rattle.text_places.proofs.Laws.{roomed}
-use Rattle.text_edges.proofs.Laws.{first-entries, not-text, over-limits}
+use Rattle.text_edges.proofs.Laws.{first-entries, unread}
 use Rattle.text_edges.proofs.read_and_tell.Goals as goal
 
 pub told_first-requires : goal.told_first-requires
@@ -12,30 +12,10 @@ told_first-requires c =
       firsts = c.args.firsts.now;
       listed = c.args.listed.now;
       intervals = c.args.beside.now;
-    }) c.most.ensures c.read_text.ensures.outcome c.in-Read.is in record { nf_in_bounds = h.held.lengths; n_in_bounds = h.held.listed; nf_bound = h.faces-few }
+    }) c.most.ensures c.read_text.ensures.outcome c.in-Ok.is in record { nf_in_bounds = h.held.lengths; n_in_bounds = h.held.listed; nf_bound = h.faces-few }
 
-pub shape_of-coordinates-in-Read : goal.shape_of-coordinates-in-Read
-shape_of-coordinates-in-Read c =
-    c.read_text.auto.xs
-
-pub shape_of-sides-in-Read : goal.shape_of-sides-in-Read
-shape_of-sides-in-Read c =
-    c.read_text.auto.ls
-
-pub shape_of-firsts-in-Read : goal.shape_of-firsts-in-Read
-shape_of-firsts-in-Read c =
-    c.read_text.auto.qs
-
-pub shape_of-listed-in-Read : goal.shape_of-listed-in-Read
-shape_of-listed-in-Read c =
-    c.read_text.auto.ps
-
-pub shape_of-beside-in-Read : goal.shape_of-beside-in-Read
-shape_of-beside-in-Read c =
-    c.read_text.auto.ds
-
-pub returns-in-Read : goal.returns-in-Read
-returns-in-Read c =
+pub returns-in-Ok : goal.returns-in-Ok
+returns-in-Ok c =
     first-entries c.args.bounds c.args.text.now
     (record {
       coordinates = c.args.coordinates.now;
@@ -44,63 +24,11 @@ returns-in-Read c =
       listed = c.args.listed.now;
       intervals = c.args.beside.now;
     }) c.most.ensures c.read_text.ensures.outcome c.requires.text_value c.args.f
-    c.args.i c.in-Read.is _ c.told_first.ensures
+    c.args.i c.in-Ok.is _ c.told_first.ensures
 
-pub shape_of-coordinates-in-NotText : goal.shape_of-coordinates-in-NotText
-shape_of-coordinates-in-NotText c =
-    c.read_text.auto.xs
-
-pub shape_of-sides-in-NotText : goal.shape_of-sides-in-NotText
-shape_of-sides-in-NotText c =
-    c.read_text.auto.ls
-
-pub shape_of-firsts-in-NotText : goal.shape_of-firsts-in-NotText
-shape_of-firsts-in-NotText c =
-    c.read_text.auto.qs
-
-pub shape_of-listed-in-NotText : goal.shape_of-listed-in-NotText
-shape_of-listed-in-NotText c =
-    c.read_text.auto.ps
-
-pub shape_of-beside-in-NotText : goal.shape_of-beside-in-NotText
-shape_of-beside-in-NotText c =
-    c.read_text.auto.ds
-
-pub returns-in-NotText : goal.returns-in-NotText
-returns-in-NotText c =
-    not-text c.args.bounds c.args.text.now
-    (record {
-      coordinates = c.args.coordinates.now;
-      lengths = c.args.sides.now;
-      firsts = c.args.firsts.now;
-      listed = c.args.listed.now;
-      intervals = c.args.beside.now;
-    }) c.most.ensures c.read_text.ensures.outcome
-    c.requires.text_value c.args.f c.args.i c.in-NotText.is
-
-pub shape_of-coordinates-in-OverLimits : goal.shape_of-coordinates-in-OverLimits
-shape_of-coordinates-in-OverLimits c =
-    c.read_text.auto.xs
-
-pub shape_of-sides-in-OverLimits : goal.shape_of-sides-in-OverLimits
-shape_of-sides-in-OverLimits c =
-    c.read_text.auto.ls
-
-pub shape_of-firsts-in-OverLimits : goal.shape_of-firsts-in-OverLimits
-shape_of-firsts-in-OverLimits c =
-    c.read_text.auto.qs
-
-pub shape_of-listed-in-OverLimits : goal.shape_of-listed-in-OverLimits
-shape_of-listed-in-OverLimits c =
-    c.read_text.auto.ps
-
-pub shape_of-beside-in-OverLimits : goal.shape_of-beside-in-OverLimits
-shape_of-beside-in-OverLimits c =
-    c.read_text.auto.ds
-
-pub returns-in-OverLimits : goal.returns-in-OverLimits
-returns-in-OverLimits c =
-    over-limits c.args.bounds c.args.text.now
+pub returns-in-Err : goal.returns-in-Err
+returns-in-Err c =
+    unread c.args.bounds c.args.text.now
     (record {
       coordinates = c.args.coordinates.now;
       lengths = c.args.sides.now;
@@ -109,4 +37,4 @@ returns-in-OverLimits c =
       intervals = c.args.beside.now;
     }) c.most.ensures c.read_text.ensures.outcome c.requires.text_value
     c.args.f c.args.i c.requires.points_in_bounds c.requires.faces_in_bounds c.requires.listed_in_bounds c.requires.listed_in_bounds_2 c.requires.faces_in_bounds_2
-    c.in-OverLimits.is
+    _ c.in-Err.is

@@ -4,6 +4,7 @@ use native.Mathlib.Omega.{arith}
 use Prim.Native.Nat.{◌*◌}
 use lib.ListN.{take}
 use lib.Seq.{length-take-le}
+use Rattle.std.specs.Prelude.{Result, ⊤}
 use Rattle.refusal_places.specs.declared.Spot.{Spot}
 use Rattle.refusal_places.specs.Spots.{where_of}
 use Rattle.text_places.specs.TextPlaces.{place_at_check}
@@ -57,4 +58,4 @@ place_at-requires c =
 -- src/lib.rt:122:1
 pub returns : goal.returns
 returns c =
-    c.place_at.ensures ∙ ap (λ (s : Spot). place_at_check c.args.p (where_of s)) c.spot_in-spot.ensures
+    c.place_at.ensures ∙ ap (λ (s : Result ⊤ Spot). place_at_check c.args.p (where_of s)) c.spot_in-spot.ensures

@@ -1,5 +1,5 @@
 -- `write_face_lines` meets its contract. The invariant: the first f lines are written, and the listed points of the next face stand
--- from a on; the measure is how many faces are to come.
+-- from a on.
 use native.Mathlib.Omega.{arith}
 use mathlib.Core.Path.{refl, ◌∙◌}
 use mathlib.Core.List.{[]}
@@ -14,8 +14,6 @@ use Rattle.text_printing.proofs.write_face_lines.Goals as goal
 
 pub loop-f-init : goal.loop-f-init
 loop-f-init c = (
-  omega arith,
-  refl,
   offset-none c.args.sides.now,
   lines_start text_face_line _ _
       (face_in (lists_in Two [] c.args.sides.now c.args.firsts.now c.args.listed.now c.args.beside.now)),
@@ -24,10 +22,10 @@ loop-f-init c = (
 pub write_face-i-requires : goal.write_face-i-requires
 write_face-i-requires c =
     record {
-      printing_room = face-in c.requires.printing_rooms c.loop-f-test.true c.loop-f.invariant.2;
+      printing_room = face-in c.requires.printing_rooms c.loop-f-test.true c.loop-f.invariant.0;
       f_in_bounds = lines-turn-room text_face_line _ _
           (face_in (lists_in Two [] c.args.sides.now c.args.firsts.now c.args.listed.now c.args.beside.now)) c.loop-f.f
-          c.loop-f.invariant.3 c.loop-f.invariant.1 c.loop-f-test.true c.requires.beside_in_bounds;
+          c.loop-f.invariant.1 c.loop-f.auto.out c.loop-f-test.true c.requires.beside_in_bounds;
     }
 
 pub face_size-a-requires : goal.face_size-a-requires
@@ -37,26 +35,20 @@ face_size-a-requires c =
 pub overflow_add-a : goal.overflow_add-a
 overflow_add-a c =
     let h = face-in c.requires.printing_rooms c.loop-f-test.true
-    c.loop-f.invariant.2 in
+    c.loop-f.invariant.0 in
     let g = h.listed-fit in
     omega arith
 
 pub loop-f-preserved : goal.loop-f-preserved
 loop-f-preserved c = (
-  omega arith,
-  c.write_face-i.auto.out ∙ c.loop-f.invariant.1,
-  offset-more c.args.sides.now c.loop-f.f c.loop-f.invariant.2 c.face_size-a.ensures,
+  offset-more c.args.sides.now c.loop-f.f c.loop-f.invariant.0 c.face_size-a.ensures,
   lines-turn text_face_line _ _
       (face_in (lists_in Two [] c.args.sides.now c.args.firsts.now c.args.listed.now c.args.beside.now)) c.loop-f.f
-      c.loop-f.invariant.3 c.write_face-i.ensures,
+      c.loop-f.invariant.1 c.write_face-i.ensures,
 )
-
-pub shape_of-out : goal.shape_of-out
-shape_of-out c =
-    c.loop-f.invariant.1
 
 pub returns : goal.returns
 returns c =
     lines_end text_face_line _ _
     (face_in (lists_in Two [] c.args.sides.now c.args.firsts.now c.args.listed.now c.args.beside.now))
-    c.loop-f.invariant.3 c.loop-f.invariant.0 c.loop-f-test.false
+    c.loop-f.invariant.1 (omega arith) (omega arith)

@@ -1,8 +1,8 @@
 -- `write_face_lines` meets its contract. The invariant: the first f lines are written, and the listed points of the next face stand
--- from a on; the measure is how many faces are to come.
+-- from a on.
 use mathlib.Core.Path.{◌≡◌}
 use mathlib.Core.List.{[]}
-use Prim.Native.Nat.{◌-◌, ◌/◌, ◌≤◌}
+use Prim.Native.Nat.{◌/◌}
 use lib.ListN.{length}
 use Rattle.mesh_lines.specs.Grammar.{flat}
 use Rattle.built_meshes.specs.Lists.{offset}
@@ -16,8 +16,5 @@ use Rattle.text_printing.proofs.write_face_lines.Given as goal
 
 abbrev pub invariant-loop-f : goal.invariant-loop-f
 invariant-loop-f l =
-    (l.f ≤ length l.sides / 4) × (length l.out ≡ length l.initial.out) × (l.a ≡ offset (lists [] l.sides [] []) l.f)
+    (l.a ≡ offset (lists [] l.sides [] []) l.f)
     × Written l.initial.out l.at (flat text_face_line (up_to l.f (face_in (lists_in Two [] l.sides l.firsts l.listed l.beside)))) l.i l.out
-
-abbrev pub decreases-loop-f : goal.decreases-loop-f
-decreases-loop-f l = l.nf - l.f

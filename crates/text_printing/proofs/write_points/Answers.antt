@@ -1,4 +1,4 @@
--- `write_points` meets its contract. The invariant: the first i listed points are written; the measure is how many are to come.
+-- `write_points` meets its contract. The invariant: the first i listed points are written.
 use native.Mathlib.Omega.{arith}
 use mathlib.Core.Path.{refl, ◌∙◌}
 use mathlib.Core.List.{[]}
@@ -11,12 +11,9 @@ use Rattle.mesh_printing.specs.Faces.{listed_pair_at}
 use Rattle.text_printing.proofs.write_points.Goals as goal
 
 pub loop-i-init : goal.loop-i-init
-loop-i-init c = (
-  omega arith,
-  refl,
-  lines_start listed_part _ _
-      (λ k. listed_pair_at (lists_in Two [] [] [] c.args.listed.now c.args.beside.now) (c.args.a + k)),
-)
+loop-i-init c =
+    lines_start listed_part _ _
+    (λ k. listed_pair_at (lists_in Two [] [] [] c.args.listed.now c.args.beside.now) (c.args.a + k))
 
 pub write_listed-j-requires : goal.write_listed-j-requires
 write_listed-j-requires c = record {
@@ -32,24 +29,17 @@ write_listed-j-requires c = record {
       omega arith);
   i_in_bounds_3 = lines-turn-room listed_part _ _
       (λ k. listed_pair_at (lists_in Two [] [] [] c.args.listed.now c.args.beside.now) (c.args.a + k)) c.loop-i.i
-      c.loop-i.invariant.2 c.loop-i.invariant.1 c.loop-i-test.true c.requires.n_in_bounds_2;
+      c.loop-i.invariant c.loop-i.auto.out c.loop-i-test.true c.requires.n_in_bounds_2;
 }
 
 pub loop-i-preserved : goal.loop-i-preserved
-loop-i-preserved c = (
-  omega arith,
-  c.write_listed-j.auto.out ∙ c.loop-i.invariant.1,
-  lines-turn listed_part _ _
-      (λ k. listed_pair_at (lists_in Two [] [] [] c.args.listed.now c.args.beside.now) (c.args.a + k)) c.loop-i.i
-      c.loop-i.invariant.2 c.write_listed-j.ensures,
-)
-
-pub shape_of-out : goal.shape_of-out
-shape_of-out c =
-    c.loop-i.invariant.1
+loop-i-preserved c =
+    lines-turn listed_part _ _
+    (λ k. listed_pair_at (lists_in Two [] [] [] c.args.listed.now c.args.beside.now) (c.args.a + k)) c.loop-i.i
+    c.loop-i.invariant c.write_listed-j.ensures
 
 pub returns : goal.returns
 returns c =
     lines_end listed_part _ _
     (λ k. listed_pair_at (lists_in Two [] [] [] c.args.listed.now c.args.beside.now) (c.args.a + k))
-    c.loop-i.invariant.2 c.loop-i.invariant.0 c.loop-i-test.false
+    c.loop-i.invariant (omega arith) (omega arith)

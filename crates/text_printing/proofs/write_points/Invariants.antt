@@ -1,7 +1,6 @@
--- `write_points` meets its contract. The invariant: the first i listed points are written; the measure is how many are to come.
+-- `write_points` meets its contract. The invariant: the first i listed points are written.
 use mathlib.Core.Path.{◌≡◌}
 use mathlib.Core.List.{[]}
-use Prim.Native.Nat.{◌-◌, ◌≤◌}
 use lib.ListN.{length}
 use Rattle.mesh_lines.specs.Grammar.{flat}
 use Rattle.built_meshes.specs.declared.Version.TheVariants.{Two}
@@ -13,7 +12,4 @@ use Rattle.text_printing.proofs.write_points.Given as goal
 
 abbrev pub invariant-loop-i : goal.invariant-loop-i
 invariant-loop-i l =
-    (l.i ≤ l.n) × (length l.out ≡ length l.initial.out) × Written l.initial.out l.at (flat listed_part (listed_from (lists_in Two [] [] [] l.listed l.beside) l.a l.i)) l.j l.out
-
-abbrev pub decreases-loop-i : goal.decreases-loop-i
-decreases-loop-i l = l.n - l.i
+    Written l.initial.out l.at (flat listed_part (listed_from (lists_in Two [] [] [] l.listed l.beside) l.a l.i)) l.j l.out

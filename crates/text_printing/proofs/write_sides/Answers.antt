@@ -1,5 +1,4 @@
--- `write_sides` meets its contract. The invariant: the first k sides are written, and the listed points of the next stand from b on;
--- the measure is how many sides are to come.
+-- `write_sides` meets its contract. The invariant: the first k sides are written, and the listed points of the next stand from b on.
 use native.Mathlib.Omega.{arith}
 use mathlib.Core.Path.{refl, ap, ◌∙◌}
 use mathlib.Core.List.{[]}
@@ -16,8 +15,6 @@ use Rattle.text_printing.proofs.write_sides.Goals as goal
 
 pub loop-k-init : goal.loop-k-init
 loop-k-init c = (
-  omega arith,
-  refl,
   refl,
   lines_start side_part _ _
       (side_in (lists_in Two [] c.args.sides.now c.args.firsts.now c.args.listed.now c.args.beside.now) c.args.f),
@@ -30,11 +27,11 @@ write_side-i-requires c =
           omega arith;
       beside_len = c.requires.printing_room.intervals-fit;
       finite_intervals = c.requires.printing_room.all-finite;
-      n_in_bounds_2 = let r = lines-turn-room side_part _ _ (side_in l c.args.f) c.loop-k.k c.loop-k.invariant.3 c.loop-k.invariant.1 c.loop-k-test.true
+      n_in_bounds_2 = let r = lines-turn-room side_part _ _ (side_in l c.args.f) c.loop-k.k c.loop-k.invariant.1 c.loop-k.auto.out c.loop-k-test.true
           c.requires.f_in_bounds in
           let s = ap (λ (d : Side). length (side_part d))
           (side_same c.args.sides.now c.args.firsts.now c.args.listed.now c.args.beside.now c.args.f c.args.a
-          c.loop-k.k refl c.loop-k.invariant.2 c.index-n.ensures c.requires.printing_room.at-is) in
+          c.loop-k.k refl c.loop-k.invariant.0 c.index-n.ensures c.requires.printing_room.at-is) in
           omega arith;
     }
 
@@ -48,22 +45,16 @@ overflow_add-b c =
 pub loop-k-preserved : goal.loop-k-preserved
 loop-k-preserved c =
     let l = lists_in Two [] c.args.sides.now c.args.firsts.now c.args.listed.now c.args.beside.now in (
-      omega arith,
-      c.write_side-i.auto.out ∙ c.loop-k.invariant.1,
       let m = from_more l c.args.f c.args.a c.loop-k.k in
           omega arith,
-      lines-turn side_part _ _ (side_in l c.args.f) c.loop-k.k c.loop-k.invariant.3
+      lines-turn side_part _ _ (side_in l c.args.f) c.loop-k.k c.loop-k.invariant.1
           (written_same (ap side_part (side_same c.args.sides.now c.args.firsts.now c.args.listed.now c.args.beside.now
-          c.args.f c.args.a c.loop-k.k refl c.loop-k.invariant.2 c.index-n.ensures c.requires.printing_room.at-is))
+          c.args.f c.args.a c.loop-k.k refl c.loop-k.invariant.0 c.index-n.ensures c.requires.printing_room.at-is))
           c.write_side-i.ensures),
     )
-
-pub shape_of-out : goal.shape_of-out
-shape_of-out c =
-    c.loop-k.invariant.1
 
 pub returns : goal.returns
 returns c =
     lines_end side_part _ _
     (side_in (lists_in Two [] c.args.sides.now c.args.firsts.now c.args.listed.now c.args.beside.now) c.args.f)
-    c.loop-k.invariant.3 c.loop-k.invariant.0 c.loop-k-test.false
+    c.loop-k.invariant.1 (omega arith) (omega arith)

@@ -1,8 +1,6 @@
--- `write_sides` meets its contract. The invariant: the first k sides are written, and the listed points of the next stand from b on;
--- the measure is how many sides are to come.
+-- `write_sides` meets its contract. The invariant: the first k sides are written, and the listed points of the next stand from b on.
 use mathlib.Core.Path.{◌≡◌}
 use mathlib.Core.List.{[]}
-use Prim.Native.Nat.{◌-◌, ◌≤◌}
 use lib.ListN.{length}
 use Rattle.mesh_lines.specs.Grammar.{flat}
 use Rattle.built_meshes.specs.Faces.{side_from}
@@ -16,8 +14,5 @@ use Rattle.text_printing.proofs.write_sides.Given as goal
 
 abbrev pub invariant-loop-k : goal.invariant-loop-k
 invariant-loop-k l =
-    (l.k ≤ 4) × (length l.out ≡ length l.initial.out) × (l.b ≡ side_from (lists_in Two [] l.sides l.firsts l.listed l.beside) l.f l.a l.k)
+    (l.b ≡ side_from (lists_in Two [] l.sides l.firsts l.listed l.beside) l.f l.a l.k)
     × Written l.initial.out l.at (flat side_part (up_to l.k (side_in (lists_in Two [] l.sides l.firsts l.listed l.beside) l.f))) l.i l.out
-
-abbrev pub decreases-loop-k : goal.decreases-loop-k
-decreases-loop-k l = 4 - l.k

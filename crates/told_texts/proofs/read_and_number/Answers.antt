@@ -1,8 +1,9 @@
 -- read_and_number meets its contract: of a text that is read, the first entries of the lists are those of the text.
+use mathlib.Core.Path.{ap, ◌∙◌}
+use Rattle.std.specs.Prelude.{Err}
 use Rattle.told_texts.proofs.Laws.{held, first-entries, not-text, over-limits}
 use Rattle.told_texts.proofs.read_and_number.Goals as goal
 
--- src/lib.rt:209:38
 pub number_first-requires : goal.number_first-requires
 number_first-requires c =
     let h = held c.args.bounds c.args.text.now
@@ -13,36 +14,10 @@ number_first-requires c =
       listed = c.args.listed.now;
       intervals = c.args.beside.now;
     }) c.most.ensures c.read_text.ensures.outcome
-    c.in-Read.is in record { p_in_bounds = h.coordinates; f_in_bounds = h.lengths; n_in_bounds = h.listed; n_in_bounds_2 = h.intervals; f_in_bounds_2 = h.firsts }
+    c.in-Ok.is in record { p_in_bounds = h.coordinates; f_in_bounds = h.lengths; n_in_bounds = h.listed; n_in_bounds_2 = h.intervals; f_in_bounds_2 = h.firsts }
 
--- src/lib.rt:184:1
-pub shape_of-coordinates-in-Read : goal.shape_of-coordinates-in-Read
-shape_of-coordinates-in-Read c =
-    c.read_text.auto.xs
-
--- src/lib.rt:184:1
-pub shape_of-sides-in-Read : goal.shape_of-sides-in-Read
-shape_of-sides-in-Read c =
-    c.read_text.auto.ls
-
--- src/lib.rt:184:1
-pub shape_of-firsts-in-Read : goal.shape_of-firsts-in-Read
-shape_of-firsts-in-Read c =
-    c.read_text.auto.qs
-
--- src/lib.rt:184:1
-pub shape_of-listed-in-Read : goal.shape_of-listed-in-Read
-shape_of-listed-in-Read c =
-    c.read_text.auto.ps
-
--- src/lib.rt:184:1
-pub shape_of-beside-in-Read : goal.shape_of-beside-in-Read
-shape_of-beside-in-Read c =
-    c.read_text.auto.ds
-
--- src/lib.rt:184:1
-pub returns-in-Read : goal.returns-in-Read
-returns-in-Read c =
+pub returns-in-Ok : goal.returns-in-Ok
+returns-in-Ok c =
     first-entries c.args.bounds c.args.text.now
     (record {
       coordinates = c.args.coordinates.now;
@@ -51,36 +26,10 @@ returns-in-Read c =
       listed = c.args.listed.now;
       intervals = c.args.beside.now;
     }) c.most.ensures c.read_text.ensures.outcome
-    c.in-Read.is _ c.number_first.ensures
+    c.in-Ok.is _ c.number_first.ensures
 
--- src/lib.rt:184:1
-pub shape_of-coordinates-in-NotText : goal.shape_of-coordinates-in-NotText
-shape_of-coordinates-in-NotText c =
-    c.read_text.auto.xs
-
--- src/lib.rt:184:1
-pub shape_of-sides-in-NotText : goal.shape_of-sides-in-NotText
-shape_of-sides-in-NotText c =
-    c.read_text.auto.ls
-
--- src/lib.rt:184:1
-pub shape_of-firsts-in-NotText : goal.shape_of-firsts-in-NotText
-shape_of-firsts-in-NotText c =
-    c.read_text.auto.qs
-
--- src/lib.rt:184:1
-pub shape_of-listed-in-NotText : goal.shape_of-listed-in-NotText
-shape_of-listed-in-NotText c =
-    c.read_text.auto.ps
-
--- src/lib.rt:184:1
-pub shape_of-beside-in-NotText : goal.shape_of-beside-in-NotText
-shape_of-beside-in-NotText c =
-    c.read_text.auto.ds
-
--- src/lib.rt:184:1
-pub returns-in-NotText : goal.returns-in-NotText
-returns-in-NotText c =
+pub returns-in-Err-NotText : goal.returns-in-Err-NotText
+returns-in-Err-NotText c =
     not-text c.args.bounds c.args.text.now
     (record {
       coordinates = c.args.coordinates.now;
@@ -89,36 +38,10 @@ returns-in-NotText c =
       listed = c.args.listed.now;
       intervals = c.args.beside.now;
     }) c.most.ensures c.read_text.ensures.outcome
-    c.in-NotText.is
+    (c.in-Err-NotText.is ∙ ap Err c.in-Err-NotText.field-0-is)
 
--- src/lib.rt:184:1
-pub shape_of-coordinates-in-OverLimits : goal.shape_of-coordinates-in-OverLimits
-shape_of-coordinates-in-OverLimits c =
-    c.read_text.auto.xs
-
--- src/lib.rt:184:1
-pub shape_of-sides-in-OverLimits : goal.shape_of-sides-in-OverLimits
-shape_of-sides-in-OverLimits c =
-    c.read_text.auto.ls
-
--- src/lib.rt:184:1
-pub shape_of-firsts-in-OverLimits : goal.shape_of-firsts-in-OverLimits
-shape_of-firsts-in-OverLimits c =
-    c.read_text.auto.qs
-
--- src/lib.rt:184:1
-pub shape_of-listed-in-OverLimits : goal.shape_of-listed-in-OverLimits
-shape_of-listed-in-OverLimits c =
-    c.read_text.auto.ps
-
--- src/lib.rt:184:1
-pub shape_of-beside-in-OverLimits : goal.shape_of-beside-in-OverLimits
-shape_of-beside-in-OverLimits c =
-    c.read_text.auto.ds
-
--- src/lib.rt:184:1
-pub returns-in-OverLimits : goal.returns-in-OverLimits
-returns-in-OverLimits c =
+pub returns-in-Err-OverLimits : goal.returns-in-Err-OverLimits
+returns-in-Err-OverLimits c =
     over-limits c.args.bounds c.args.text.now
     (record {
       coordinates = c.args.coordinates.now;
@@ -127,4 +50,4 @@ returns-in-OverLimits c =
       listed = c.args.listed.now;
       intervals = c.args.beside.now;
     }) c.most.ensures c.read_text.ensures.outcome c.requires.points_in_bounds c.requires.faces_in_bounds
-    c.requires.listed_in_bounds c.requires.listed_in_bounds_2 c.requires.faces_in_bounds_2 c.in-OverLimits.is
+    c.requires.listed_in_bounds c.requires.listed_in_bounds_2 c.requires.faces_in_bounds_2 (c.in-Err-OverLimits.is ∙ ap Err c.in-Err-OverLimits.field-0-is)

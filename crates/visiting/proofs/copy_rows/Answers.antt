@@ -8,6 +8,6 @@ pub returns : goal.returns
 returns c =
     rows-copied (mesh_of [] c.args.points.now c.args.edges.now c.args.intervals.now c.args.faces.now)
     (mesh_of [] c.args.newpoints.now c.args.newedges.now c.args.newintervals.now c.args.newfaces.now) c.args.old _ _ _ _
-    c.copy_words.ensures c.copy_words-2.ensures
-    c.copy_numbers.ensures
-    c.copy_words-3.ensures
+    c.copy_first.ensures c.copy_first-2.ensures
+    c.copy_first-3.ensures
+    c.copy_first-4.ensures

@@ -16,22 +16,6 @@ visits-requires c =
     subst (λ (s : State). EachVisitFits (face_tables c.args.edges.now c.args.faces.now) c.args.old.points c.args.old.edges
     c.args.old.faces c.args.order.now s) (sym c.copy_rows.ensures) c.requires.each_visit_fits
 
-pub shape_of-newpoints : goal.shape_of-newpoints
-shape_of-newpoints c =
-    c.visits.auto.newpoints ∙ c.copy_rows.auto.newpoints
-
-pub shape_of-newedges : goal.shape_of-newedges
-shape_of-newedges c =
-    c.visits.auto.newedges ∙ c.copy_rows.auto.newedges
-
-pub shape_of-newintervals : goal.shape_of-newintervals
-shape_of-newintervals c =
-    c.visits.auto.newintervals ∙ c.copy_rows.auto.newintervals
-
-pub shape_of-newfaces : goal.shape_of-newfaces
-shape_of-newfaces c =
-    c.visits.auto.newfaces ∙ c.copy_rows.auto.newfaces
-
 pub returns : goal.returns
 unfolding copied
 returns c =

@@ -18,7 +18,7 @@ pub visit_along-requires : goal.visit_along-requires
 visit_along-requires c =
     record {
       along_fits = along-of-visit c.args.edges.now c.args.faces.now c.args.old.points c.args.old.edges c.args.old.faces c.args.f _ _
-          c.put_border.ensures c.in-Back.is c.requires.ceilings c.requires.edge_width_in_bounds c.requires.visit_fits;
+          c.put_border.ensures c.in-Some.is c.requires.ceilings c.requires.edge_width_in_bounds c.requires.visit_fits;
       found_len = c.requires.found_len;
       places_lent = c.requires.places_lent;
     }
@@ -28,7 +28,7 @@ returns c =
     record {
       fact = c.visit_along.ensures.fact
           ∙ visited-border c.args.edges.now c.args.faces.now c.args.old.points c.args.old.edges c.args.f _ _ c.put_border.ensures
-          c.in-Back.is;
+          c.in-Some.is;
       found_len_2 = c.visit_along.ensures.found_len_2;
       places_lent_2 = c.visit_along.ensures.places_lent_2;
     }

@@ -1,5 +1,5 @@
 -- visits meets its contract. The invariant: the first i faces of the order are visited, and the arrays for the places of a perimeter have
--- their length; the measure is what is left of the faces.
+-- their length.
 use Rattle.visiting.proofs.Turning.{turning-start, turning-fits, turning-turn, turning-end}
 use Rattle.tables.specs.Parts.{face_tables}
 use mathlib.Core.Path.{refl}
@@ -40,22 +40,6 @@ loop-i-preserved c = (
       c.visit-taken.ensures.fact,
   (c.visit-taken.ensures.found_len_2, c.visit-taken.ensures.places_lent_2),
 )
-
-pub shape_of-newpoints : goal.shape_of-newpoints
-shape_of-newpoints c =
-    c.loop-i.invariant.0.same_points
-
-pub shape_of-newedges : goal.shape_of-newedges
-shape_of-newedges c =
-    c.loop-i.invariant.0.same_edges
-
-pub shape_of-newintervals : goal.shape_of-newintervals
-shape_of-newintervals c =
-    c.loop-i.invariant.0.same-intervals
-
-pub shape_of-newfaces : goal.shape_of-newfaces
-shape_of-newfaces c =
-    c.loop-i.invariant.0.same-faces
 
 pub returns : goal.returns
 returns c =

@@ -1,4 +1,4 @@
--- all_begun meets its contract. The invariant: a place begins at each point passed; the measure is what is left of them.
+-- all_begun meets its contract. The invariant: a place begins at each point passed.
 use mathlib.Core.Path.{refl, ap}
 use Prim.Native.Nat.{◌-◌}
 use native.Mathlib.Omega.{arith}
@@ -27,11 +27,6 @@ pub returns-then-starts-p-eq0 : goal.returns-then-starts-p-eq0
 returns-then-starts-p-eq0 c =
     every-fails c.args.np (λ p. not (eqb (get_or c.args.starts.now p 0) 0)) c.loop-p.p
     c.loop-p-test.true (ap not (eq-eqb _ 0 c.if-starts-p-eq0.true))
-
--- src/lib.rt:46:5
-pub loop-p-smaller : goal.loop-p-smaller
-loop-p-smaller c =
-    omega (arith, c.loop-p-test.true)
 
 -- src/lib.rt:46:5
 pub loop-p-preserved : goal.loop-p-preserved

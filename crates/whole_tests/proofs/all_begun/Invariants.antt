@@ -1,4 +1,4 @@
--- all_begun meets its contract. The invariant: a place begins at each point passed; the measure is what is left of them.
+-- all_begun meets its contract. The invariant: a place begins at each point passed.
 use mathlib.Core.Path.{◌≡◌}
 use Prim.Native.Nat.{◌-◌, ◌≤◌}
 use lib.Dec.{eqb}
@@ -9,6 +9,3 @@ use Rattle.whole_tests.proofs.all_begun.Given as goal
 
 abbrev pub invariant-loop-p : goal.invariant-loop-p
 invariant-loop-p l = let p = l.p in (p ≤ l.np) × (every p (λ p. not (eqb (get_or l.starts p 0) 0)) ≡ true)
-
-abbrev pub decreases-loop-p : goal.decreases-loop-p
-decreases-loop-p l = l.np - l.p

@@ -1,4 +1,4 @@
--- all_come meets its contract. The invariant: turning from the places passed leads there; the measure is what is left of them.
+-- all_come meets its contract. The invariant: turning from the places passed leads there.
 use mathlib.Core.Path.{refl, sym, ◌∙◌, ap}
 use Prim.Native.Nat.{ℕ, ◌-◌}
 use native.Mathlib.Omega.{arith}
@@ -55,16 +55,6 @@ returns-then-not-comes_to c =
     (sym (c.link_place-s.ensures
     ∙ ap (λ (x : ℕ). get_or c.args.starts.now x 0 - 1) c.index-p.ensures))
     ∙ sym c.comes_to.ensures ∙ c.if-not-comes_to.true)
-
--- src/lib.rt:130:9
-pub overflow_add-k : goal.overflow_add-k
-overflow_add-k c =
-    omega (arith, c.loop-k-test.true, c.requires.turn_room.few)
-
--- src/lib.rt:124:5
-pub loop-k-smaller : goal.loop-k-smaller
-loop-k-smaller c =
-    omega (arith, c.loop-k-test.true)
 
 -- src/lib.rt:124:5
 pub loop-k-preserved : goal.loop-k-preserved

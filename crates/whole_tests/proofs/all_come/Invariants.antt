@@ -1,4 +1,4 @@
--- all_come meets its contract. The invariant: turning from the places passed leads there; the measure is what is left of them.
+-- all_come meets its contract. The invariant: turning from the places passed leads there.
 use mathlib.Core.Path.{◌≡◌}
 use Prim.Native.Nat.{◌-◌, ◌≤◌}
 use lib.ListN.{get_or}
@@ -10,6 +10,3 @@ use Rattle.whole_tests.proofs.all_come.Given as goal
 
 abbrev pub invariant-loop-k : goal.invariant-loop-k
 invariant-loop-k l = let k = l.k in (k ≤ l.n) × (every k (λ k. comes (step_at l.nexts l.mates l.seconds) l.n k (get_or l.starts (get_or l.listed k 0) 0 - 1)) ≡ true)
-
-abbrev pub decreases-loop-k : goal.decreases-loop-k
-decreases-loop-k l = l.n - l.k

@@ -1,4 +1,4 @@
--- start_points meets its contract. The invariant: of the places passed the last ones are written; the measure is what is left of them.
+-- start_points meets its contract. The invariant: of the places passed the last ones are written.
 use mathlib.Core.Path.{◌≡◌, refl, ◌∙◌, ap}
 use Prim.Native.Nat.{◌-◌, ◌+◌}
 use native.Mathlib.Omega.{arith}
@@ -11,7 +11,6 @@ use Rattle.whole_tests.proofs.start_points.Goals as goal
 -- src/lib.rt:33:5
 pub loop-k-init : goal.loop-k-init
 loop-k-init c = (
-  omega arith,
   refl,
   start_none c.args.listed.now c.args.starts.now c.requires,
 )
@@ -49,42 +48,31 @@ bounds-starts-p c =
       c.index-p.ensures,
       c.requires.are-points c.loop-k.k
           c.loop-k-test.true,
-      c.loop-k.invariant.1,
+      c.loop-k.invariant.0,
     )
-
--- src/lib.rt:36:9
-pub overflow_add-k : goal.overflow_add-k
-overflow_add-k c =
-    omega (arith, c.loop-k-test.true, c.requires.few)
-
--- src/lib.rt:33:5
-pub loop-k-smaller : goal.loop-k-smaller
-loop-k-smaller c =
-    omega (arith, c.loop-k-test.true)
 
 -- src/lib.rt:33:5
 pub loop-k-preserved : goal.loop-k-preserved
 loop-k-preserved c = (
-  omega (arith, c.loop-k-test.true),
-  length-set c.loop-k.starts c.index-p.result (c.loop-k.k + 1) ∙ c.loop-k.invariant.1,
+  length-set c.loop-k.starts c.index-p.result (c.loop-k.k + 1) ∙ c.loop-k.invariant.0,
   start-more c.args.listed.now c.loop-k.starts c.loop-k.k
       c.index-p.result c.index-p.ensures
       (omega (
         arith,
         c.index-p.ensures,
         c.requires.are-points c.loop-k.k c.loop-k-test.true,
-        c.loop-k.invariant.1,
-      )) c.loop-k.invariant.2,
+        c.loop-k.invariant.0,
+      )) c.loop-k.invariant.1,
 )
 
 -- src/lib.rt:26:1
 pub shape_of-starts : goal.shape_of-starts
 shape_of-starts c =
-    c.loop-k.invariant.1
+    c.loop-k.invariant.0
 
 -- src/lib.rt:26:1
 pub returns : goal.returns
 returns c =
-    λ p b. c.loop-k.invariant.2 p (omega (arith, c.loop-k.invariant.1))
+    λ p b. c.loop-k.invariant.1 p (omega (arith, c.loop-k.invariant.0))
     ∙ ap (latest (λ k. eqb (get_or c.args.listed.now k 0) p))
-    (let e : c.loop-k.k ≡ length c.args.listed.now = omega (arith, c.loop-k-test.false, c.loop-k.invariant.0) in e)
+    (let e : c.loop-k.k ≡ length c.args.listed.now = omega (arith, c.loop-k-test.false, c.loop-k.auto.k-end) in e)

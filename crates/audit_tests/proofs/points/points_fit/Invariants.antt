@@ -1,5 +1,4 @@
--- points_fit meets its contract. The invariant: the first p points pass; the measure is what is left of np.
-use Prim.Native.Nat.{◌≤◌, ◌-◌}
+-- points_fit meets its contract. The invariant: the first p points pass.
 use mathlib.Core.Path.{◌≡◌}
 use mathlib.Core.Bool.{true}
 use Rattle.audited_meshes.specs.Folds.{every}
@@ -8,7 +7,4 @@ use Rattle.tables.specs.Parts.{position_tables}
 use Rattle.audit_tests.proofs.points.points_fit.Given as goal
 
 abbrev pub invariant-loop-p : goal.invariant-loop-p
-invariant-loop-p l = (l.p ≤ l.np) × (every l.p (λ k. point_fit (position_tables l.positions l.points) l.ne k) ≡ true)
-
-abbrev pub decreases-loop-p : goal.decreases-loop-p
-decreases-loop-p l = l.np - l.p
+invariant-loop-p l = every l.p (λ k. point_fit (position_tables l.positions l.points) l.ne k) ≡ true

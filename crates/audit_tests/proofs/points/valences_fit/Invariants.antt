@@ -1,6 +1,5 @@
--- valences_fit meets its contract. The invariant: the sum is that of the first p valences and not past the total; the measure is
--- what is left of np.
-use Prim.Native.Nat.{◌≤◌, ◌-◌}
+-- valences_fit meets its contract. The invariant: the sum is that of the first p valences and not past the total.
+use Prim.Native.Nat.{◌≤◌}
 use mathlib.Core.Path.{◌≡◌}
 use mathlib.Core.List.{[]}
 use Rattle.closed_meshes.specs.Renumbering.{sum_to}
@@ -9,7 +8,5 @@ use Rattle.tables.specs.Parts.{point_tables}
 use Rattle.audit_tests.proofs.points.valences_fit.Given as goal
 
 abbrev pub invariant-loop-p : goal.invariant-loop-p
-invariant-loop-p l = (l.p ≤ l.np) × (l.sum ≡ sum_to l.p (λ k. valence (point_tables l.points []) k)) × (l.sum ≤ l.total)
-
-abbrev pub decreases-loop-p : goal.decreases-loop-p
-decreases-loop-p l = l.np - l.p
+invariant-loop-p l =
+    (l.sum ≡ sum_to l.p (λ k. valence (point_tables l.points []) k)) × (l.sum ≤ l.total)

@@ -1,5 +1,4 @@
--- firsts_fit meets its contract. The invariant: the first points of the sides before side k fit, and b points are listed before it; the
--- measure is what is left of four sides.
+-- firsts_fit meets its contract. The invariant: the first points of the sides before side k fit, and b points are listed before it.
 use Prim.Native.Nat.{◌≤◌, ◌-◌}
 use mathlib.Core.List.{[]}
 use mathlib.Core.Bool.{true}
@@ -12,9 +11,4 @@ use Rattle.building_tests.proofs.Laws.{fits}
 use Rattle.building_tests.proofs.faces.firsts_fit.Given as goal
 
 abbrev pub invariant-loop-k : goal.invariant-loop-k
-invariant-loop-k l =
-    (l.k ≤ 4) × (l.b ≡ side_from (lists_in Two [] l.sides l.firsts l.listed []) l.f 0 l.k)
-    × (every l.k (fits l.sides l.firsts l.listed l.f l.a) ≡ true)
-
-abbrev pub decreases-loop-k : goal.decreases-loop-k
-decreases-loop-k l = 4 - l.k
+invariant-loop-k l = (l.b ≡ side_from (lists_in Two [] l.sides l.firsts l.listed []) l.f 0 l.k) × (every l.k (fits l.sides l.firsts l.listed l.f l.a) ≡ true)

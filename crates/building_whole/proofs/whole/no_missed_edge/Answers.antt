@@ -1,8 +1,6 @@
--- no_missed_edge meets its contract. The invariant: no walk about a point before p misses an edge; the measure is what is left of the points.
+-- no_missed_edge meets its contract. The invariant: no walk about a point before p misses an edge.
 use Rattle.built_meshes.specs.Whole.{no_missed_edge}
 use native.Mathlib.Omega.{arith}
-use Prim.Native.Nat.{◌-◌}
-use mathlib.Core.Bool.{true}
 use mathlib.Core.Path.{◌∙◌, sym}
 use Rattle.audited_meshes.proofs.Folds.{every-none, every_more, every-stop}
 use Rattle.listed_points.proofs.Laws.{whole}
@@ -11,7 +9,7 @@ use Rattle.building_whole.proofs.whole.no_missed_edge.Goals as goal
 
 pub loop-p-init : goal.loop-p-init
 loop-p-init c =
-    (omega arith, every-none (passes c.args.points.now c.args.edges.now c.args.ne))
+    every-none (passes c.args.points.now c.args.edges.now c.args.ne)
 
 pub returns-then-not-walk_passes_all : goal.returns-then-not-walk_passes_all
 unfolding no_missed_edge
@@ -21,14 +19,12 @@ returns-then-not-walk_passes_all c =
     (sym c.walk_passes_all.ensures ∙ c.if-not-walk_passes_all.true))
 
 pub loop-p-preserved : goal.loop-p-preserved
-loop-p-preserved c = (
-  omega arith,
-  every_more c.loop-p.p (passes c.args.points.now c.args.edges.now c.args.ne)
-      c.loop-p.invariant.1 (sym c.walk_passes_all.ensures ∙ c.if-not-walk_passes_all.false),
-)
+loop-p-preserved c =
+    every_more c.loop-p.p (passes c.args.points.now c.args.edges.now c.args.ne)
+    c.loop-p.invariant (sym c.walk_passes_all.ensures ∙ c.if-not-walk_passes_all.false)
 
 pub returns : goal.returns
 unfolding no_missed_edge
 returns c =
-    sym (rw (whole c.loop-p.p c.args.np c.loop-p.invariant.0
-    c.loop-p-test.false) at c.loop-p.invariant.1)
+    sym (rw (whole c.loop-p.p c.args.np c.loop-p.auto.p-end
+    c.loop-p-test.false) at c.loop-p.invariant)

@@ -1,4 +1,4 @@
--- no_missed_edge meets its contract. The invariant: no walk about a point before p misses an edge; the measure is what is left of the points.
+-- no_missed_edge meets its contract. The invariant: no walk about a point before p misses an edge.
 use Rattle.tables.specs.Parts.{point_tables}
 use Rattle.tables.specs.Mesh.{valence}
 use Rattle.audited_meshes.specs.Walks.{passed, point_walk}
@@ -15,7 +15,4 @@ abbrev pub passes : List ℕ → List ℕ → ℕ → ℕ → Bool
 passes pts es ne p = not (ltb (passed (point_walk (point_tables pts es) ne (valence (point_tables pts es) p) p)) (valence (point_tables pts es) p))
 
 abbrev pub invariant-loop-p : goal.invariant-loop-p
-invariant-loop-p l = (l.p ≤ l.np) × (every l.p (passes l.points l.edges l.ne) ≡ true)
-
-abbrev pub decreases-loop-p : goal.decreases-loop-p
-decreases-loop-p l = l.np - l.p
+invariant-loop-p l = every l.p (passes l.points l.edges l.ne) ≡ true

@@ -5,37 +5,36 @@ use mathlib.Core.Bool.{true, false}
 use Prim.Native.Nat.{ℕ, ◌+◌, ◌≤◌}
 use lib.ListN.{length}
 use lib.Ieee.{Float}
+use Rattle.std.specs.Prelude.{Option, Some, None, OnSome}
 use Rattle.text_numbers.specs.Form.{bytes, times, stands}
 use Rattle.mesh_lines.specs.Grammar.{side_form, face_form, flat, side_first, side_points, side_intervals}
-use Rattle.mesh_lines.specs.Parts.{run_answer, stored, length_word, listed_in, AtRun}
-use Rattle.mesh_lines.specs.declared.Run.{Run}
-use Rattle.mesh_lines.specs.declared.Run.TheVariants as Run
+use Rattle.mesh_lines.specs.Parts.{run_answer, stored, length_word, listed_in}
 use Rattle.mesh_lines.proofs.Laws.{takes-sides}
 use Rattle.text_numbers.proofs.Turns.{literal-found, literal-none}
 use Rattle.mesh_lines.proofs.Answers.{run_of, run_none}
 
 module _ (s : List ℕ) (at : ℕ) where
-  pub no_sides : {r : Run} → r ≡ run_answer listed_in (times 4 (side_form s) at) → r ≡ Run.None → Run.None ≡ run_answer listed_in (face_form s at)
+  pub no_sides : {r : Option (ℕ × ℕ)} → r ≡ run_answer listed_in (times 4 (side_form s) at) → r ≡ None → None ≡ run_answer listed_in (face_form s at)
   unfolding face_form
   no_sides er en = rw (run_none listed_in (times 4 (side_form s) at) (sym er ∙ en))
 
-  pub sides-inside : at ≤ length s → {r : Run} {c i : ℕ} → r ≡ run_answer listed_in (times 4 (side_form s) at) → r ≡ Run.Of c i → i ≤ length s
+  pub sides-inside : at ≤ length s → {r : Option (ℕ × ℕ)} {c i : ℕ} → r ≡ run_answer listed_in (times 4 (side_form s) at) → r ≡ Some (c, i) → i ≤ length s
   sides-inside h {r} {c} {i} er ec =
       let a = run_of listed_in (times 4 (side_form s) at) (sym er ∙ ec) in
       (takes-sides s at h a.0 i a.1).1
 
-  pub no_end : {r : Run} {c i : ℕ} → r ≡ run_answer listed_in (times 4 (side_form s) at) → r ≡ Run.Of c i → stands s i (bytes "]\n") ≡ false
-      → Run.None ≡ run_answer listed_in (face_form s at)
+  pub no_end : {r : Option (ℕ × ℕ)} {c i : ℕ} → r ≡ run_answer listed_in (times 4 (side_form s) at) → r ≡ Some (c, i) → stands s i (bytes "]\n") ≡ false
+      → None ≡ run_answer listed_in (face_form s at)
   unfolding face_form
   no_end {r} {c} {i} er ec es = rw ((run_of listed_in (times 4 (side_form s) at) (sym er ∙ ec)).1, literal-none s (bytes "]\n") i es)
 
-  pub whole : (ls qs : List ℕ) (f : ℕ) (ps : List ℕ) (ds : List Float) (n : ℕ) {r : Run} {c i : ℕ} {ls' qs' ps' : List ℕ} {ds' : List Float}
-      → r ≡ run_answer listed_in (times 4 (side_form s) at) → r ≡ Run.Of c i → stands s i (bytes "]\n") ≡ true
-      → AtRun r (ls' ≡ stored (map length_word) ls f (times 4 (side_form s) at))
-      → AtRun r (qs' ≡ stored (map side_first) qs f (times 4 (side_form s) at))
-      → AtRun r (ps' ≡ stored (flat side_points) ps n (times 4 (side_form s) at))
-      → AtRun r (ds' ≡ stored (flat side_intervals) ds n (times 4 (side_form s) at))
-      → (Run.Of c (i + 2) ≡ run_answer listed_in (face_form s at))
+  pub whole : (ls qs : List ℕ) (f : ℕ) (ps : List ℕ) (ds : List Float) (n : ℕ) {r : Option (ℕ × ℕ)} {c i : ℕ} {ls' qs' ps' : List ℕ} {ds' : List Float}
+      → r ≡ run_answer listed_in (times 4 (side_form s) at) → r ≡ Some (c, i) → stands s i (bytes "]\n") ≡ true
+      → OnSome r (ls' ≡ stored (map length_word) ls f (times 4 (side_form s) at))
+      → OnSome r (qs' ≡ stored (map side_first) qs f (times 4 (side_form s) at))
+      → OnSome r (ps' ≡ stored (flat side_points) ps n (times 4 (side_form s) at))
+      → OnSome r (ds' ≡ stored (flat side_intervals) ds n (times 4 (side_form s) at))
+      → (Some (c, i + 2) ≡ run_answer listed_in (face_form s at))
       × ((ls' ≡ stored (map length_word) ls f (face_form s at))
       × ((qs' ≡ stored (map side_first) qs f (face_form s at))
       × ((ps' ≡ stored (flat side_points) ps n (face_form s at)) × (ds' ≡ stored (flat side_intervals) ds n (face_form s at)))))

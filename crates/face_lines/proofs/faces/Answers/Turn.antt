@@ -8,13 +8,11 @@ use native.Mathlib.Omega.{arith}
 use lib.ListN.{length, length-map, length-append}
 use lib.Seq.{sets, length-sets}
 use lib.Ieee.{Float}
+use Rattle.std.specs.Prelude.{Option, Some, None, OnSome}
 use Rattle.text_numbers.specs.Form.{bytes, Parsed, parsed, unparsed, if_parsed, Form, onward, pure, many, stands}
 use Rattle.mesh_lines.specs.Grammar.{Side, face_form, flat, side_first, side_points, side_intervals}
-use Rattle.mesh_lines.specs.Parts.{run_answer, lines_answer, stored, length_word, listed_in, AtRun}
-use Rattle.mesh_lines.specs.declared.Run.{Run}
-use Rattle.mesh_lines.specs.declared.Run.TheVariants as Run
+use Rattle.mesh_lines.specs.Parts.{run_answer, lines_answer, stored, length_word, listed_in}
 use Rattle.mesh_lines.specs.declared.Lines.{Lines}
-use Rattle.mesh_lines.specs.declared.Lines.TheVariants as Lines
 use Rattle.mesh_lines.proofs.Laws.{takes-face, length-face, same_count}
 use Rattle.text_numbers.proofs.Laws.{stands-inside}
 use Rattle.text_numbers.proofs.Turns.{many-found, many-none, many-stop}
@@ -25,8 +23,8 @@ abbrev pub faces_from : List ℕ → ℕ → Form (List (List Side))
 faces_from s k = many s (bytes "[face") (face_form s) k
 
 -- lines and listed points counted on from k and c
-abbrev pub lines_from : ℕ → ℕ → Parsed (List (List Side)) → Lines
-lines_from k c x = if_parsed (λ fs n. Lines.Are (k + length fs) (c + length (flat (flat side_points) fs)) n) Lines.None x
+abbrev pub lines_from : ℕ → ℕ → Parsed (List (List Side)) → Option Lines
+lines_from k c x = if_parsed (λ fs n. Some (record { faces = k + length fs; listed = c + length (flat (flat side_points) fs); after = n })) None x
 
 lines_start : (x : Parsed (List (List Side))) → lines_from 0 0 x ≡ lines_answer x
 lines_start (parsed fs n) = rw (zero-add (length fs), zero-add (length (flat (flat side_points) fs)))
@@ -76,7 +74,7 @@ start s at ls₀ qs₀ ps₀ ds₀ h =
 module _ (s : List ℕ) (at : ℕ) (ls₀ qs₀ ps₀ : List ℕ) (ds₀ : List Float) (ls qs ps : List ℕ) (ds : List Float) (i k c : ℕ)
     (inv : FacesSoFar s at ls₀ qs₀ ps₀ ds₀ ls qs ps ds i k c) where
   pub end : stands s i (bytes "[face") ≡ false
-      → (Lines.Are k c i ≡ lines_answer (faces_from s (length s) at))
+      → (Some (record { faces = k; listed = c; after = i }) ≡ lines_answer (faces_from s (length s) at))
       × ((ls ≡ stored (flat (map length_word)) ls₀ 0 (faces_from s (length s) at))
       × ((qs ≡ stored (flat (map side_first)) qs₀ 0 (faces_from s (length s) at))
       × ((ps ≡ stored (flat (flat side_points)) ps₀ 0 (faces_from s (length s) at)) × (ds ≡ stored (flat (flat side_intervals)) ds₀ 0 (faces_from s (length s) at)))))
@@ -92,11 +90,11 @@ module _ (s : List ℕ) (at : ℕ) (ls₀ qs₀ ps₀ : List ℕ) (ds₀ : List 
     fuel : length s - k ≡ suc (length s - (k + 1))
     fuel = let h = head-inside in let n = inv.counted in omega arith
 
-    pub stop : {r : Run} → r ≡ run_answer listed_in (face_form s (i + 5)) → r ≡ Run.None → Lines.None ≡ lines_answer (faces_from s (length s) at)
+    pub stop : {r : Option (ℕ × ℕ)} → r ≡ run_answer listed_in (face_form s (i + 5)) → r ≡ None → None ≡ lines_answer (faces_from s (length s) at)
     stop er en =
         rw (fuel, many-none s (bytes "[face") (face_form s) i (length s - (k + 1)) e (run_none listed_in (face_form s (i + 5)) (sym er ∙ en))) at inv.lines
 
-    module _ {r : Run} {m j : ℕ} (er : r ≡ run_answer listed_in (face_form s (i + 5))) (em : r ≡ Run.Of m j) where
+    module _ {r : Option (ℕ × ℕ)} {m j : ℕ} (er : r ≡ run_answer listed_in (face_form s (i + 5))) (em : r ≡ Some (m, j)) where
       line : (a : List Side) × (face_form s (i + 5) ≡ parsed a j) × (listed_in a ≡ m)
       line = run_of listed_in (face_form s (i + 5)) (sym er ∙ em)
 
@@ -107,10 +105,10 @@ module _ (s : List ℕ) (at : ℕ) (ls₀ qs₀ ps₀ : List ℕ) (ds₀ : List 
           omega arith
 
       pub turn : {ls' qs' ps' : List ℕ} {ds' : List Float}
-          → AtRun r (ls' ≡ stored (map length_word) ls (4 * k) (face_form s (i + 5)))
-          → AtRun r (qs' ≡ stored (map side_first) qs (4 * k) (face_form s (i + 5)))
-          → AtRun r (ps' ≡ stored (flat side_points) ps c (face_form s (i + 5)))
-          → AtRun r (ds' ≡ stored (flat side_intervals) ds c (face_form s (i + 5)))
+          → OnSome r (ls' ≡ stored (map length_word) ls (4 * k) (face_form s (i + 5)))
+          → OnSome r (qs' ≡ stored (map side_first) qs (4 * k) (face_form s (i + 5)))
+          → OnSome r (ps' ≡ stored (flat side_points) ps c (face_form s (i + 5)))
+          → OnSome r (ds' ≡ stored (flat side_intervals) ds c (face_form s (i + 5)))
           → FacesSoFar s at ls₀ qs₀ ps₀ ds₀ ls' qs' ps' ds' j (k + 1) (c + m)
       unfolding flat
       turn {ls'} {qs'} {ps'} {ds'} el eq ep ed =

@@ -4,16 +4,16 @@ use mathlib.Core.Path.{◌≡◌, refl}
 use mathlib.Core.Bool.{true, false}
 use Prim.Native.Nat.{ℕ, ◌+◌, ◌≤◌}
 use lib.ListN.{length}
+use Rattle.std.specs.Prelude.{Some, None}
 use Rattle.text_numbers.specs.Form.{bytes, parsed, unparsed, stands}
 use Rattle.text_numbers.specs.Numbers.{decimal, bits}
 use Rattle.mesh_lines.specs.Grammar.{listed_form}
 use Rattle.mesh_lines.specs.Parts.{listed_answer}
-use Rattle.mesh_lines.specs.declared.ListedPoint.TheVariants as ListedPoint
 use Rattle.text_numbers.proofs.Laws.{takes-decimal, takes-bits, stands-inside}
 use Rattle.text_numbers.proofs.Turns.{literal-found, literal-none}
 
 module _ (s : List ℕ) (at : ℕ) where
-  pub no-decimal : decimal s at ≡ unparsed → ListedPoint.None ≡ listed_answer (listed_form s at)
+  pub no-decimal : decimal s at ≡ unparsed → None ≡ listed_answer (listed_form s at)
   unfolding listed_form
   no-decimal e = rw e
 
@@ -21,14 +21,14 @@ module _ (s : List ℕ) (at : ℕ) where
   decimal-inside h {p} {i} e = (takes-decimal s at h p i e).1
 
   module _ {p i : ℕ} where
-    pub no-space : decimal s at ≡ parsed p i → stands s i (bytes " ") ≡ false → ListedPoint.None ≡ listed_answer (listed_form s at)
+    pub no-space : decimal s at ≡ parsed p i → stands s i (bytes " ") ≡ false → None ≡ listed_answer (listed_form s at)
     unfolding listed_form
     no-space e f = rw (e, literal-none s (bytes " ") i f)
 
     pub space-inside : at ≤ length s → decimal s at ≡ parsed p i → stands s i (bytes " ") ≡ true → i + 1 ≤ length s
     space-inside h e f = stands-inside s (bytes " ") i refl (decimal-inside h e) f
 
-    pub no_bits : decimal s at ≡ parsed p i → stands s i (bytes " ") ≡ true → bits s (i + 1) ≡ unparsed → ListedPoint.None ≡ listed_answer (listed_form s at)
+    pub no_bits : decimal s at ≡ parsed p i → stands s i (bytes " ") ≡ true → bits s (i + 1) ≡ unparsed → None ≡ listed_answer (listed_form s at)
     unfolding listed_form
     no_bits e f g = rw (e, literal-found s (bytes " ") i f, g)
 
@@ -37,11 +37,11 @@ module _ (s : List ℕ) (at : ℕ) where
       bits_inside h e f g = (takes-bits s (i + 1) (space-inside h e f) d j g).1
 
       pub no_end : decimal s at ≡ parsed p i → stands s i (bytes " ") ≡ true → bits s (i + 1) ≡ parsed d j → stands s j (bytes "]") ≡ false
-          → ListedPoint.None ≡ listed_answer (listed_form s at)
+          → None ≡ listed_answer (listed_form s at)
       unfolding listed_form
       no_end e f g k = rw (e, literal-found s (bytes " ") i f, g, literal-none s (bytes "]") j k)
 
       pub whole : decimal s at ≡ parsed p i → stands s i (bytes " ") ≡ true → bits s (i + 1) ≡ parsed d j → stands s j (bytes "]") ≡ true
-          → ListedPoint.Is p d (j + 1) ≡ listed_answer (listed_form s at)
+          → Some (record { point = p; interval = d; after = j + 1 }) ≡ listed_answer (listed_form s at)
       unfolding listed_form
       whole e f g k = rw (e, literal-found s (bytes " ") i f, g, literal-found s (bytes "]") j k)

@@ -7,11 +7,11 @@ use native.Mathlib.Nat.{add-zero}
 use native.Mathlib.Omega.{arith}
 use lib.ListN.{length, set, length-set}
 use lib.Ieee.{Float}
+use Rattle.std.specs.Prelude.{Some, None}
 use Rattle.text_numbers.specs.Form.{bytes, parsed, unparsed, Form, many, stands}
 use Rattle.mesh_lines.specs.Grammar.{Listed, listed_form, points_in, intervals_in}
 use Rattle.text_numbers.specs.Numbers.{float}
 use Rattle.mesh_lines.specs.Parts.{run_answer, stored}
-use Rattle.mesh_lines.specs.declared.Run.TheVariants as Run
 use Rattle.mesh_lines.proofs.Laws.{takes-listed}
 use Rattle.text_numbers.proofs.Laws.{stands-inside}
 use Rattle.text_numbers.proofs.Turns.{many-found, many-none, many-stop}
@@ -46,11 +46,11 @@ start s at ps₀ ds₀ n h hn =
 module _ (s : List ℕ) (at : ℕ) (ps₀ : List ℕ) (ds₀ : List Float) (n : ℕ) (ps : List ℕ) (ds : List Float) (i k : ℕ)
     (inv : ListedSoFar s at ps₀ ds₀ n ps ds i k) where
   pub end : stands s i (bytes " [") ≡ false
-      → (Run.Of k i ≡ run_answer length (listed_from s (length s) at))
+      → (Some (k, i) ≡ run_answer length (listed_from s (length s) at))
       × ((ps ≡ stored points_in ps₀ n (listed_from s (length s) at)) × (ds ≡ stored intervals_in ds₀ n (listed_from s (length s) at)))
   end e =
       let m = many-stop s (bytes " [") (listed_form s) i (length s - k) e in
-      (ap (λ c. Run.Of c i) (sym (add-zero k)) ∙ (rw m at inv.run), (rw m at inv.points, rw m at inv.intervals))
+      (ap (λ c. Some (c, i)) (sym (add-zero k)) ∙ (rw m at inv.run), (rw m at inv.points, rw m at inv.intervals))
 
   module _ (e : stands s i (bytes " [") ≡ true) where
     pub head-inside : i + 2 ≤ length s
@@ -59,7 +59,7 @@ module _ (s : List ℕ) (at : ℕ) (ps₀ : List ℕ) (ds₀ : List Float) (n : 
     fuel : length s - k ≡ suc (length s - (k + 1))
     fuel = let h = head-inside in let c = inv.counted in omega arith
 
-    pub stop : listed_form s (i + 2) ≡ unparsed → Run.None ≡ run_answer length (listed_from s (length s) at)
+    pub stop : listed_form s (i + 2) ≡ unparsed → None ≡ run_answer length (listed_from s (length s) at)
     stop en = rw (fuel, many-none s (bytes " [") (listed_form s) i (length s - (k + 1)) e en) at inv.run
 
     module _ {p d j : ℕ} (el : listed_form s (i + 2) ≡ parsed (record { point = p; interval = d }) j) where

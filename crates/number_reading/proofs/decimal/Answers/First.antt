@@ -7,8 +7,7 @@ use lib.ListN.{length, get_or}
 use borrow.Author.Tests.{eq-eqb, ne_eqb}
 use Rattle.text_numbers.specs.Numbers.{decimal, decimal_from, digit_value}
 use Rattle.text_numbers.specs.Answers.{number}
-use Rattle.text_numbers.specs.declared.Number.{Number}
-use Rattle.text_numbers.specs.declared.Number.TheVariants as Number
+use Rattle.std.specs.Prelude.{Some, None}
 use Rattle.text_numbers.proofs.Laws.{digit-inside}
 use Rattle.text_numbers.proofs.Turns.{digit-found, digit-none}
 
@@ -16,14 +15,10 @@ module _ (s : List ℕ) (at : ℕ) {d b : ℕ} (ed : d ≡ digit_value b) (eb : 
   value-at : d ≡ digit_value (get_or s at 0)
   value-at = ed ∙ ap digit_value eb
 
-  pub first-none : 10 ≤ d → Number.None ≡ number (decimal s at)
-  unfolding decimal
-  first-none h = rw (digit-none s 10 at (rw value-at at h))
-
   first_small : d ≡ 0 → d < 10
   first_small e = omega arith
 
-  pub first-zero : d ≡ 0 → Number.Is 0 (at + 1) ≡ number (decimal s at)
+  pub first-zero : d ≡ 0 → Some (0, at + 1) ≡ number (decimal s at)
   unfolding decimal
   first-zero e = rw (digit-found s 10 at (rw value-at at (first_small e)), eq-eqb _ 0 (sym value-at ∙ e))
 
@@ -33,3 +28,7 @@ module _ (s : List ℕ) (at : ℕ) {d b : ℕ} (ed : d ≡ digit_value b) (eb : 
 
   pub first-inside : d < 10 → at + 1 ≤ length s
   first-inside h = let r = digit-inside s at 10 (omega arith) (rw value-at at h) in omega arith
+
+pub first-none : (s : List ℕ) (at : ℕ) {b : ℕ} → b ≡ get_or s at 0 → 10 ≤ digit_value b → None ≡ number (decimal s at)
+unfolding decimal
+first-none s at eb h = rw (digit-none s 10 at (rw eb at h))

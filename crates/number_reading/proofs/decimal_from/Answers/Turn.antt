@@ -12,8 +12,7 @@ use borrow.Author.Tests.{lt-ltb, le-ltb, ltb-true, ltb-false}
 use Rattle.text_numbers.specs.Form.{Parsed, parsed, unparsed, Form, onward, ◌>>=◌, pure, choose}
 use Rattle.text_numbers.specs.Numbers.{digits_from, decimal_from, digit_value}
 use Rattle.text_numbers.specs.Answers.{number}
-use Rattle.text_numbers.specs.declared.Number.{Number}
-use Rattle.text_numbers.specs.declared.Number.TheVariants as Number
+use Rattle.std.specs.Prelude.{Some, None}
 use Rattle.text_numbers.proofs.Laws.{digit-inside}
 use Rattle.text_numbers.proofs.Turns.{digits-turn, digits-stop}
 
@@ -50,12 +49,11 @@ module _ (s : List ℕ) (at first v i : ℕ) (inv : number (rest s (length s - (
       let f : length s - (i - at) ≡ suc (length s - (i + 1 - at)) = omega arith in
       rw e (rw (f, digits-turn s v i (length s - (i + 1 - at)) (rw e at hd)) at inv)
 
-  pub rest-stop : {d b : ℕ} → d ≡ digit_value b → b ≡ get_or s i 0 → 10 ≤ d → v < 4294967296 → Number.Is v i ≡ number (decimal_from s first at)
-  rest-stop {d} {b} ed eb hd hv =
-      let e : d ≡ digit_value (get_or s i 0) = ed ∙ ap digit_value eb in
-      rw (digits-stop s v i (length s - (i - at)) (rw e at hd), lt-ltb v 4294967296 hv) at inv
+  pub rest-stop : {b : ℕ} → b ≡ get_or s i 0 → 10 ≤ digit_value b → v < 4294967296 → Some (v, i) ≡ number (decimal_from s first at)
+  rest-stop {b} eb hd hv =
+      rw (digits-stop s v i (length s - (i - at)) (rw eb at hd), lt-ltb v 4294967296 hv) at inv
 
-  pub rest-large : 4294967296 ≤ v → Number.None ≡ number (decimal_from s first at)
+  pub rest-large : 4294967296 ≤ v → None ≡ number (decimal_from s first at)
   rest-large h = rw (large s (length s - (i - at)) v i h) at inv
 
 pub rest-inside : (s : List ℕ) (i : ℕ) {d b : ℕ} → d ≡ digit_value b → b ≡ get_or s i 0 → d < 10 → i < length s

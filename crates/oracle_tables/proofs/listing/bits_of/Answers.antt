@@ -5,4 +5,4 @@ use Rattle.oracle_tables.proofs.listing.bits_of.Goals as goal
 
 pub float_to_bits-result : goal.float_to_bits-result
 float_to_bits-result c =
-    finite_number c.args.x (sym c.is_finite.ensures ∙ c.if-not-is_finite.false)
+    finite_number c.args.x (sym c.is_finite.ensures ∙ c.if-is_finite.true)

@@ -6,17 +6,16 @@ use native.Mathlib.Nat.{add-zero}
 use native.Mathlib.Omega.{arith}
 use lib.ListN.{length, set, length-set}
 use lib.Ieee.{Float}
+use Rattle.std.specs.Prelude.{Some, None}
 use Rattle.text_numbers.specs.Form.{Parsed, parsed, unparsed, times}
 use Rattle.mesh_lines.specs.Grammar.{coordinate_form}
 use Rattle.text_numbers.specs.Numbers.{float}
 use Rattle.mesh_lines.specs.Parts.{place_answer, stored}
-use Rattle.mesh_lines.specs.declared.LinePlace.TheVariants as LinePlace
 use Rattle.mesh_lines.proofs.Laws.{takes-coordinate}
 use Rattle.text_numbers.proofs.Turns.{times-found, times_none}
 use Rattle.mesh_lines.proofs.Answers.{place-next, stored_next}
 
 pub record Coordinates (s : List ℕ) (at : ℕ) (xs₀ : List Float) (n w : ℕ) (xs : List Float) (i k : ℕ) : Type 0 where
-  pub few : k ≤ w
   pub far : at + k ≤ i
   pub inside : i ≤ length s
   pub same : length xs ≡ length xs₀
@@ -26,7 +25,7 @@ pub record Coordinates (s : List ℕ) (at : ℕ) (xs₀ : List Float) (n w : ℕ
 pub start : (s : List ℕ) (at : ℕ) (xs₀ : List Float) (n w : ℕ) → at ≤ length s → Coordinates s at xs₀ n w xs₀ at 0
 start s at xs₀ n w h =
     let e : w - 0 ≡ w = omega arith in
-    record { few = omega arith; far = omega arith; inside = h; same = refl; place = rw e refl; list = rw (e, add-zero) refl }
+    record { far = omega arith; inside = h; same = refl; place = rw e refl; list = rw (e, add-zero) refl }
 
 module _ (s : List ℕ) (at : ℕ) (xs₀ : List Float) (n w : ℕ) (xs : List Float) (i k : ℕ) (inv : Coordinates s at xs₀ n w xs i k) where
   pub turn : k < w → at ≤ length s → {b j : ℕ} → coordinate_form s i ≡ parsed b j → {x : Float} → x ≡ float b → {ys : List Float} → ys ≡ set xs (n + k) x
@@ -37,7 +36,6 @@ module _ (s : List ℕ) (at : ℕ) (xs₀ : List Float) (n w : ℕ) (xs : List F
       let l : n + (k + 1) ≡ n + k + 1 = omega arith in
       let rest : Parsed (List ℕ) = times (w - (k + 1)) (coordinate_form s) j in
       record {
-        few = omega arith;
         far = let t = takes-coordinate s i inv.inside b j e in let g = inv.far in omega arith;
         inside = (takes-coordinate s i inv.inside b j e).1;
         same = ap length ey ∙ length-set xs (n + k) x ∙ inv.same;
@@ -49,12 +47,12 @@ module _ (s : List ℕ) (at : ℕ) (xs₀ : List Float) (n w : ℕ) (xs : List F
             ∙ (rw (f, t) at inv.list);
       }
 
-  pub stop : k < w → coordinate_form s i ≡ unparsed → LinePlace.None ≡ place_answer (times w (coordinate_form s) at)
+  pub stop : k < w → coordinate_form s i ≡ unparsed → None ≡ place_answer (times w (coordinate_form s) at)
   stop hk e =
       let f : w - k ≡ suc (w - (k + 1)) = omega arith in
       rw (f, times_none (coordinate_form s) i (w - (k + 1)) e) at inv.place
 
-  pub end : w ≤ k → (LinePlace.At i ≡ place_answer (times w (coordinate_form s) at)) × (xs ≡ stored (map float) xs₀ n (times w (coordinate_form s) at))
+  pub end : w ≤ k → (Some i ≡ place_answer (times w (coordinate_form s) at)) × (xs ≡ stored (map float) xs₀ n (times w (coordinate_form s) at))
   unfolding times
   end hk =
       let f : w - k ≡ 0 = omega arith in

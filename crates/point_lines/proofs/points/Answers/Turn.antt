@@ -8,13 +8,11 @@ use native.Mathlib.Omega.{arith}
 use lib.ListN.{length, length-map}
 use lib.Seq.{sets, length-sets}
 use lib.Ieee.{Float}
+use Rattle.std.specs.Prelude.{Option, Some, None, OnSome}
 use Rattle.text_numbers.specs.Form.{bytes, parsed, Form, many, stands}
 use Rattle.mesh_lines.specs.Grammar.{point_form, flat}
 use Rattle.text_numbers.specs.Numbers.{float}
-use Rattle.mesh_lines.specs.Parts.{place_answer, run_answer, stored, AtPlace}
-use Rattle.mesh_lines.specs.declared.LinePlace.{LinePlace}
-use Rattle.mesh_lines.specs.declared.LinePlace.TheVariants as LinePlace
-use Rattle.mesh_lines.specs.declared.Run.TheVariants as Run
+use Rattle.mesh_lines.specs.Parts.{place_answer, run_answer, stored}
 use Rattle.mesh_lines.proofs.Laws.{takes-point, length-point}
 use Rattle.text_numbers.proofs.Laws.{stands-inside}
 use Rattle.text_numbers.proofs.Turns.{many-found, many-none, many-stop}
@@ -39,11 +37,11 @@ start s at xs₀ h =
 
 module _ (s : List ℕ) (at : ℕ) (xs₀ : List Float) (xs : List Float) (i k : ℕ) (inv : Points s at xs₀ xs i k) where
   pub end : stands s i (bytes "[point") ≡ false
-      → (Run.Of k i ≡ run_answer length (lines s (length s) at)) × (xs ≡ stored (flat (map float)) xs₀ 0 (lines s (length s) at))
+      → (Some (k, i) ≡ run_answer length (lines s (length s) at)) × (xs ≡ stored (flat (map float)) xs₀ 0 (lines s (length s) at))
   unfolding flat
   end e =
       let m = many-stop s (bytes "[point") (point_form s) i (length s - k) e in
-      (ap (λ c. Run.Of c i) (sym (add-zero k)) ∙ (rw m at inv.run), rw m at inv.list)
+      (ap (λ c. Some (c, i)) (sym (add-zero k)) ∙ (rw m at inv.run), rw m at inv.list)
 
   module _ (e : stands s i (bytes "[point") ≡ true) where
     pub head-inside : i + 6 ≤ length s
@@ -52,18 +50,18 @@ module _ (s : List ℕ) (at : ℕ) (xs₀ : List Float) (xs : List Float) (i k :
     fuel : length s - k ≡ suc (length s - (k + 1))
     fuel = let h = head-inside in let c = inv.counted in omega arith
 
-    pub stop : {r : LinePlace} → r ≡ place_answer (point_form s (i + 6)) → r ≡ LinePlace.None → Run.None ≡ run_answer length (lines s (length s) at)
+    pub stop : {r : Option ℕ} → r ≡ place_answer (point_form s (i + 6)) → r ≡ None → None ≡ run_answer length (lines s (length s) at)
     stop {r} er en =
         rw (fuel, many-none s (bytes "[point") (point_form s) i (length s - (k + 1)) e (place_none (point_form s (i + 6)) (sym er ∙ en))) at inv.run
 
-    module _ {r : LinePlace} {j : ℕ} (er : r ≡ place_answer (point_form s (i + 6))) (ej : r ≡ LinePlace.At j) where
+    module _ {r : Option ℕ} {j : ℕ} (er : r ≡ place_answer (point_form s (i + 6))) (ej : r ≡ Some j) where
       line : (a : List ℕ) × (point_form s (i + 6) ≡ parsed a j)
       line = place_at (point_form s (i + 6)) (sym er ∙ ej)
 
       pub line-longer : (i + 6 ≤ j) × (j ≤ length s)
       line-longer = let t = takes-point s (i + 6) head-inside line.0 j line.1 in omega arith
 
-      pub turn : {ys : List Float} → AtPlace r (ys ≡ stored (map float) xs (3 * k) (point_form s (i + 6))) → Points s at xs₀ ys j (k + 1)
+      pub turn : {ys : List Float} → OnSome r (ys ≡ stored (map float) xs (3 * k) (point_form s (i + 6))) → Points s at xs₀ ys j (k + 1)
       unfolding flat
       turn {ys} el =
           let a = line.0 in

@@ -1,4 +1,4 @@
--- Reading a text into lists l: r is the answer for its version v and its sizes p, f and c; xs', ls', qs', ps' and ds' are the lists once the text is stored.
+-- Reading a text into lists l: r is the answer for its version v and its sizes c; xs', ls', qs', ps' and ds' are the lists once the text is stored.
 use mathlib.Core.List.{List, [], ◌∷◌, ◌++◌, map}
 use mathlib.Core.Path.{◌≡◌, refl, sym, ap, ◌∙◌}
 use mathlib.Core.Bool.{true, false}
@@ -10,6 +10,7 @@ use lib.Seq.{sets}
 use lib.Dec.{leb}
 use lib.Ieee.{Float}
 use borrow.Author.Tests.{leb-true}
+use Rattle.std.specs.Prelude.{Option, Some, None, Result, Ok, Err}
 use Rattle.text_numbers.specs.Form.{Parsed, parsed, unparsed}
 use Rattle.mesh_lines.specs.Grammar.{Side, flat, side_count, side_points}
 use Rattle.mesh_text.specs.Text.{TextMesh, text}
@@ -18,28 +19,25 @@ use Rattle.mesh_text.specs.Lists.{coordinates, lengths, firsts, listed_points, i
 use Rattle.mesh_lines.specs.Parts.{length_word, Parses, stored}
 use Rattle.mesh_text.specs.Parts.{length_words, total_of}
 use Rattle.text_numbers.proofs.Laws.{and_both}
-use Rattle.mesh_text.specs.declared.Total.{Total}
-use Rattle.mesh_text.specs.declared.Total.TheVariants as Total
 use Rattle.tables.specs.declared.Sizes.{Sizes}
 use Rattle.built_meshes.specs.declared.Version.{Version}
-use Rattle.mesh_text.specs.declared.Reading.TheVariants as Reading
+use Rattle.mesh_text.specs.declared.ReadingGround.{ReadingGround}
+use Rattle.mesh_text.specs.declared.ReadingGround.TheVariants.{NotText, OverLimits}
+use Rattle.std.proofs.lemmas.Option.{some_pair_parts}
 
-total-of : (x : Parsed TextMesh) {v : Version} {p f c : ℕ} → total_of x ≡ Total.Of v p f c →
-    (m : TextMesh) × (n : ℕ) × (x ≡ parsed m n) × (counts m ≡ record { points = p; faces = f; listed = c }) × (m.version ≡ v)
-total-of (parsed m n) {v} {p} {f} {c} e =
-    let ep : length m.points ≡ p = cc in
-    let ef : length m.faces ≡ f = cc in
-    let ec : length (listed_points m) ≡ c = cc in
-    let ev : m.version ≡ v = cc in
-    (m, n, refl, (λ i. record { points = ep i; faces = ef i; listed = ec i }), ev)
+total-of : (x : Parsed TextMesh) {v : Version} {c : Sizes} → total_of x ≡ Some (v, c) →
+    (m : TextMesh) × (n : ℕ) × (x ≡ parsed m n) × (counts m ≡ c) × (m.version ≡ v)
+total-of (parsed m n) {v} {c} e =
+    let (ev, ec) = some_pair_parts _ _ _ _ e in
+    (m, n, refl, ec, ev)
 total-of unparsed e = let z : ◌≡◌ {A = ℕ} 0 1 = cc in absurd (omega arith)
 
-total-none : (x : Parsed TextMesh) → total_of x ≡ Total.None → x ≡ unparsed
+total-none : (x : Parsed TextMesh) → total_of x ≡ None → x ≡ unparsed
 total-none (parsed m n) e = cc
 total-none unparsed e = refl
 
 -- a text that was counted is of the form
-pub parses : (s : List ℕ) {r : Total} → r ≡ total_of (text s) → {v : Version} {p f c : ℕ} → r ≡ Total.Of v p f c → Parses (text s)
+pub parses : (s : List ℕ) {r : Option (Version × Sizes)} → r ≡ total_of (text s) → {v : Version} {c : Sizes} → r ≡ Some (v, c) → Parses (text s)
 parses s er ep = let (m, n, et, ec, ev) = total-of (text s) (sym er ∙ ep) in (m, n, et)
 
 -- lengths that fit a word are that word
@@ -70,26 +68,26 @@ listed-fits c limits xs ls ps ds qs e =
     let e3 = (and_both (leb c.listed limits.listed) _ e2).1 in
     leb-true c.listed 4294967295 (and_both (leb c.listed 4294967295) _ e3).0
 
-module _ (s : List ℕ) (limits : Sizes) (l : TextLists) {r : Total} (er : r ≡ total_of (text s)) where
-  pub not-text : r ≡ Total.None → record { reading = Reading.NotText; lists = l } ≡ read_into s limits l
+module _ (s : List ℕ) (limits : Sizes) (l : TextLists) {r : Option (Version × Sizes)} (er : r ≡ total_of (text s)) where
+  pub not-text : r ≡ None → {a : Result (Version × Sizes) ReadingGround} → a ≡ Err NotText → record { reading = a; lists = l } ≡ read_into s limits l
   unfolding read_into
-  not-text en = rw (total-none (text s) (sym er ∙ en))
+  not-text en ea = rw (total-none (text s) (sym er ∙ en), ea)
 
-  module _ {v : Version} {p f c : ℕ} (ep : r ≡ Total.Of v p f c) where
+  module _ {v : Version} {c : Sizes} (ep : r ≡ Some (v, c)) where
     pub over-limits :
-        within (record { points = p; faces = f; listed = c }) limits (length l.coordinates) (length l.lengths) (length l.listed) (length l.intervals) (length l.firsts) ≡ false
-        → record { reading = Reading.OverLimits; lists = l } ≡ read_into s limits l
+        within c limits (length l.coordinates) (length l.lengths) (length l.listed) (length l.intervals) (length l.firsts) ≡ false
+        → record { reading = Err OverLimits; lists = l } ≡ read_into s limits l
     unfolding read_into
     over-limits ew =
         let (m, n, et, ec, ev) = total-of (text s) (sym er ∙ ep) in
         rw (et, ec, ew)
 
-    pub whole : within (record { points = p; faces = f; listed = c }) limits (length l.coordinates) (length l.lengths) (length l.listed) (length l.intervals) (length l.firsts) ≡ true
+    pub whole : within c limits (length l.coordinates) (length l.lengths) (length l.listed) (length l.intervals) (length l.firsts) ≡ true
         → {xs' : List Float} {ls' qs' ps' : List ℕ} {ds' : List Float}
         → xs' ≡ stored coordinates l.coordinates 0 (text s) → ls' ≡ stored length_words l.lengths 0 (text s)
         → qs' ≡ stored firsts l.firsts 0 (text s) → ps' ≡ stored listed_points l.listed 0 (text s) → ds' ≡ stored intervals l.intervals 0 (text s)
         → record {
-          reading = Reading.Read v (record { points = p; faces = f; listed = c });
+          reading = Ok (v, c);
           lists = record { coordinates = xs'; lengths = ls'; firsts = qs'; listed = ps'; intervals = ds' };
         }
         ≡ read_into s limits l
@@ -97,7 +95,7 @@ module _ (s : List ℕ) (limits : Sizes) (l : TextLists) {r : Total} (er : r ≡
     whole ew ex el eq' ep' ed =
         let (m, n, et, ec, ev) = total-of (text s) (sym er ∙ ep) in
         let h = listed-fits _ limits _ _ _ _ _ ew in
-        let em : length (listed_points m) ≡ c = ap (λ (v : Sizes). v.listed) ec in
+        let em : length (listed_points m) ≡ c.listed = ap (λ (v : Sizes). v.listed) ec in
         let w : length_words m ≡ lengths m = face-words m.faces (omega arith) in
         let ex'' = rw et at ex in
         let el'' = (rw et at el) ∙ ap (sets l.lengths 0) w in
@@ -105,7 +103,7 @@ module _ (s : List ℕ) (limits : Sizes) (l : TextLists) {r : Total} (er : r ≡
         let ep'' = rw et at ep' in
         let ed'' = rw et at ed in
         rw (et, ec, ev, ew) (λ i. record {
-          reading = Reading.Read v (record { points = p; faces = f; listed = c });
+          reading = Ok (v, c);
           lists = record { coordinates = ex'' i; lengths = el'' i; firsts = eq'' i; listed = ep'' i; intervals = ed'' i };
         })
 

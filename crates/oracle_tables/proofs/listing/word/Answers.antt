@@ -1,7 +1,0 @@
--- word meets its contract.
-use native.Mathlib.Omega.{arith}
-use Rattle.oracle_tables.proofs.listing.word.Goals as goal
-
-pub overflow_cast-result : goal.overflow_cast-result
-overflow_cast-result c =
-    omega (arith, c.shared_slice_known-1.given c.args.i)
