@@ -14,6 +14,7 @@ mod handover_text;
 // A listing of 256 points of at most 69 bytes, 512 edges of 56 and 256 faces of 55 has less.
 const LISTING_BYTES: usize = 65536;
 
+// `refine` has a main of the same four calls; why each has its own stands there.
 fn main(rt: HostRuntime) -> io::Result<()> {
     // One byte more than the limit. More need not be read: the output for every longer text is the same (`LongText` of `handover_outputs`).
     let mut text = [0u8; REFINE_BYTES + 1];

@@ -21,7 +21,7 @@ use oracle_builds::{Start, build_bytes, build_changed, put_listed_word};
 use oracle_steps::{StepStage, tell_steps};
 use oracle_tables::fields::{field, word};
 use oracle_tables::held::{Tables, lent_by};
-use oracle_tables::kinds::{Kind, kind_of};
+use oracle_tables::kinds::Kind;
 use oracle_tables::listing::tell_mesh;
 use oracle_tables::rows::{no_counts, tell_rows};
 use oracle_trials::{count_changes, count_cuts, tell_tried, tell_zeros};
@@ -49,7 +49,7 @@ fn begun(bytes: &[u8], head: usize, more: usize, mut t: Tables) -> Tables
     requires head_bound { head ≤ 16777216 }
     requires more_bound { more ≤ 8388608 }
 {
-    if matches!(kind_of(bytes, head), Kind::Spoilt) {
+    if matches!(Kind::from(field(bytes, head, 0)), Kind::Spoilt) {
         spoil(
             &mut t,
             field(bytes, more, 0),
@@ -65,7 +65,7 @@ fn build_kind(bytes: &[u8], head: usize, text: &[u8], more: usize) -> Start
     requires head_bound { head ≤ 16777216 }
     requires more_bound { more ≤ 8388608 }
 {
-    if matches!(kind_of(bytes, head), Kind::Changed) {
+    if matches!(Kind::from(field(bytes, head, 0)), Kind::Changed) {
         build_changed(text, bounds(bytes, head), change(bytes, more))
     } else {
         build_bytes(text, bounds(bytes, head), lent_by(bytes, head, 6))
@@ -116,7 +116,7 @@ fn tell_kind(rt: &impl Print, bytes: &[u8], head: usize, text: &[u8], more: usiz
     requires head_bound { head ≤ 16777216 }
     requires more_bound { more ≤ 8388608 }
 {
-    match kind_of(bytes, head) {
+    match Kind::from(field(bytes, head, 0)) {
         Kind::CutShort => tell_tried(rt, text.len(), count_cuts(text)),
         Kind::OtherByte => tell_tried(
             rt,

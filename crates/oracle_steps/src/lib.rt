@@ -7,7 +7,7 @@ ghost use Rattle.std.specs.Prelude.{◌≡◌, ◌+◌, ◌≤◌, length};
 
 use oracle_tables::fields::{cut, field, word};
 use oracle_tables::held::{LentTables, Tables, filled_tables, lent_by};
-use oracle_tables::kinds::{Kind, kind_of};
+use oracle_tables::kinds::Kind;
 use oracle_tables::listing::tell_mesh;
 use oracle_tables::rows::{no_counts, tell_rows};
 use refined_meshes::Edition;
@@ -180,7 +180,7 @@ fn tell_step(
     requires head_bound { head ≤ 16777216 }
     requires at_bound { at ≤ 16777216 }
 {
-    let listed = matches!(kind_of(bytes, head), Kind::Listed);
+    let listed = matches!(Kind::from(field(bytes, head, 0)), Kind::Listed);
     let c = stage.counts;
     let n = order_length(bytes, listed, at, c.faces);
     let mut order = [0; 400];

@@ -1,7 +1,6 @@
 // The kinds of records.
-ghost use Rattle.std.specs.Prelude.{◌≤◌};
-
-use crate::fields::field;
+ghost use Rattle.std.specs.Prelude.{◌≡◌};
+ghost use Rattle.oracle_tables.specs.Kinds.{kind_numbered};
 
 // What a record asks for. The number of each kind stands beside it.
 #[derive(Clone, Copy)]
@@ -22,17 +21,19 @@ pub enum Kind {
     Spoilt,
 }
 
-// The kind that the head of a record names.
-pub fn kind_of(bytes: &[u8], head: usize) -> Kind
-    requires { head ≤ 16777216 }
-{
-    match field(bytes, head, 0) {
-        1 => Kind::Changed,
-        2 => Kind::CutShort,
-        3 => Kind::OtherByte,
-        4 => Kind::Zeros,
-        5 => Kind::Listed,
-        6 => Kind::Spoilt,
-        _ => Kind::Whole,
+// The kind that stands as the first number in the head of a record.
+impl From<usize> for Kind {
+    ghost from_gives = { λ n kind. kind ≡ kind_numbered n };
+
+    fn from(n: usize) -> Kind {
+        match n {
+            1 => Kind::Changed,
+            2 => Kind::CutShort,
+            3 => Kind::OtherByte,
+            4 => Kind::Zeros,
+            5 => Kind::Listed,
+            6 => Kind::Spoilt,
+            _ => Kind::Whole,
+        }
     }
 }

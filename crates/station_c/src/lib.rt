@@ -201,6 +201,7 @@ pub extern "C" fn lavyngo_step(
 }
 
 // The same in the second edition, by the published position rule (document 02, §5).
+// Beside `lavyngo_step`, which differs in the edition alone: C callers have both names.
 #[unsafe(no_mangle)]
 pub extern "C" fn lavyngo_step_published(
     positions: &mut [f64],
