@@ -17,14 +17,14 @@ ROOT = Path(__file__).resolve().parent.parent
 # `handover`, `mend_text`, `mend` and of the functions for C cite.
 STATED = """
     audited_meshes/Audit audited_meshes/Claims building_tests/Lent built_meshes/Building built_meshes/Builds built_meshes/Claims
-    building_claims/Connects building_claims/LentContent closed_meshes/Refinement closed_meshes/Renumbering crossings/Claims explained_edges/Claims
+    built_meshes/Lent building_claims/Connects building_claims/LentContent closed_meshes/Refinement closed_meshes/Renumbering crossings/Claims explained_edges/Claims
     filed_pieces/Pieces filed_pieces/TextTwo full_agreement/Agreement handover_outputs/Claims handover_outputs/Output listings/Claims listings/Handing
     mend_outputs/Claims mend_outputs/Output mended_lists/Claims mended_lists/Grounds mended_texts/Claims
     mesh_printing/Claims outcomes/Outcomes refine_outputs/Bytes refine_outputs/Claims refine_outputs/Output refined_meshes/Refines
     explained_texts/Numbers explained_texts/Places refined_meshes/SplitStarts refusal_places/Claims renumbered_meshes/Claims runs/Runs station/Station
     station_audits/Told station_building/Told station_listings/Told station_mending/Told station_places/Told station_steps/Told ordered_runs/Claims
     steps/FirstGround steps/LentScratch steps/OneStep steps/Step text_meshes/Claims text_meshes/TextBuilding mesh_printing/Faces
-    told_edges/Claims whole_grounds/Claims
+    tables/Lent told_edges/Claims whole_grounds/Claims
 """.split()
 
 # What each crate's definitions are about, in the order of the table.

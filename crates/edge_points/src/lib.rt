@@ -19,7 +19,7 @@ use edge_ends::TnurccConnection;
 use position_rules::Shares;
 use position_rules::intervals::three_terms;
 use position_rules::places::load_face_point;
-use positions::{Position, is_small};
+use positions::{Placed, Position, is_small};
 use records::{load_edge, load_position};
 use refined_meshes::Edition;
 use t_spline::TnurccEdge;
@@ -147,7 +147,7 @@ pub fn weighted_point(
     newfaces: &[u32],
     e: usize,
     edition: Edition,
-) -> Option<Position>
+) -> Placed
     requires { EdgePointFits positions.now edges.now intervals.now newpositions.now newfaces.now e }
     ensures { result ≡ placed_at (weighted_point edition positions.now edges.now intervals.now
         (face_point_at newpositions.now newfaces.now) e) }

@@ -18,6 +18,7 @@ ghost use Rattle.edition_points.specs.Over.{OverFits, MiddlesThere, MidRows, pla
 
 use edge_points::edge_point;
 use placing::{place_face_points, place_old_points, place_weighted_points};
+use positions::{Placed, Position};
 use records::{load_position, store_position};
 use refined_meshes::Edition;
 use tables::{Counts, DEST_WORD, EDGE_WIDTH, index};
@@ -101,10 +102,17 @@ fn place_over(
     for e in 0..ne {
         let row = index(newedges[e * EDGE_WIDTH + DEST_WORD]);
         let m = load_position(newpositions, row);
-        let Some(place) = edge_point(edges, intervals, newpositions, newfaces, e, m).placed() else {
+        let Placed::At(x, y, z) = edge_point(
+            edges,
+            intervals,
+            newpositions,
+            newfaces,
+            e,
+            m,
+        ).placed() else {
             return false;
         };
-        store_position(newpositions, row, place);
+        store_position(newpositions, row, Position { x, y, z });
     }
     true
 }

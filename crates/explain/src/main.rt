@@ -5,8 +5,8 @@
 // written. A read or a write that fails is said on standard error (`streams`).
 #![tactic(auto)]
 
+use answer_numbers::ground_number;
 use building_tests::Bounds;
-use built_meshes::Ground;
 use explain_answers::{listing_answer, text_answer};
 use explain_words::{say_accepted, say_edge, say_face, say_not_text, say_reading, say_whole};
 use std::io;
@@ -18,17 +18,17 @@ use text_places::{NOWHERE, text_place};
 // The listings that `handover` writes have less, and texts that are longer than `refine` takes are refused all the same.
 const INPUT_BYTES: usize = 65536;
 
-// Says a refusal of a text by the ground g, with its place.
-fn explain_refused(rt: &impl Print, text: &[u8], g: Ground) -> io::Result<()> {
+// Says a refusal of a text by the ground n, with its place.
+fn explain_refused(rt: &impl Print, text: &[u8], n: u32) -> io::Result<()> {
     let place = text_place(text, Bounds::Refine);
     if place.line == NOWHERE {
-        return say_whole(rt, g);
+        return say_whole(rt, n);
     }
     if place.edge == NOWHERE {
-        return say_face(rt, g, place.line, place.face);
+        return say_face(rt, n, place.line, place.face);
     }
     let edge = text_edge(text, Bounds::Refine, place.face, place.edge);
-    say_edge(rt, g, place.line, place.face, place.edge, edge)
+    say_edge(rt, n, place.line, place.face, place.edge, edge)
 }
 
 // Says what becomes of a mesh text.
@@ -36,7 +36,7 @@ fn explain_text(rt: &impl Print, text: &[u8]) -> io::Result<()> {
     match text_answer(text) {
         Ok(c) => say_accepted(rt, c),
         Err(TextRefusal::NotText) => say_not_text(rt),
-        Err(TextRefusal::Refused(g)) => explain_refused(rt, text, g),
+        Err(TextRefusal::Refused(g)) => explain_refused(rt, text, ground_number(g)),
     }
 }
 
@@ -51,6 +51,6 @@ fn explain(rt: &impl Print, text: &[u8]) -> io::Result<()> {
 
 fn main(rt: HostRuntime) -> io::Result<()> {
     let mut text = [0; INPUT_BYTES + 1];
-    let n = read_input(rt, "explain", &mut text)?;
-    explain(&rt, &text[..n]).inspect_err(|_| say_output_lost(rt, "explain"))
+    let n = read_input(rt, b"explain", &mut text)?;
+    explain(&rt, &text[..n]).inspect_err(|_| say_output_lost(rt, b"explain"))
 }

@@ -18,7 +18,7 @@ ghost use Rattle.face_points.specs.Terms.{terms_about, six, FourAgain};
 use perimeters::next_place;
 use position_rules::WeightedSum;
 use position_rules::intervals::{a1, a2, c1, c2};
-use positions::Position;
+use positions::{Placed, Position};
 use records::load_position;
 use t_nurcc_face::lay_border;
 use tables::{LONGEST_BORDER, LONGEST_PERIMETER, index};
@@ -146,7 +146,7 @@ pub fn face_point(
     f: usize,
     perimeter: &mut [u32; LONGEST_PERIMETER],
     points: &mut [u32; LONGEST_BORDER],
-) -> Option<Position>
+) -> Placed
     requires face_point_fits { FacePointFits positions.now edges.now intervals.now faces.now ne f }
     requires perimeter_len { length perimeter.old ≡ longest_perimeter }
     requires points_len { length points.old ≡ longest_border }
@@ -154,7 +154,9 @@ pub fn face_point(
     ensures perimeter_len_2 { length perimeter.new ≡ longest_perimeter }
     ensures points_len_2 { length points.new ≡ longest_border }
 {
-    let n = lay_border(edges, faces, ne, f, perimeter, points)?;
+    let Some(n) = lay_border(edges, faces, ne, f, perimeter, points) else {
+        return Placed::NotFinite;
+    };
     let s = window_sum(positions, edges, intervals, points, perimeter, n);
     s.sum.over(s.weight).placed()
 }

@@ -18,8 +18,8 @@ const LISTING_BYTES: usize = 65536;
 fn main(rt: HostRuntime) -> io::Result<()> {
     // One byte more than the limit. More need not be read: the output for every longer text is the same (`LongText` of `handover_outputs`).
     let mut text = [0u8; REFINE_BYTES + 1];
-    let n = read_input(rt, "handover", &mut text)?;
+    let n = read_input(rt, b"handover", &mut text)?;
     let mut out = [0u8; LISTING_BYTES];
     let k = handover(&text[..n], &mut out);
-    write_output(rt, "handover", &out[..k])
+    write_output(rt, b"handover", &out[..k])
 }

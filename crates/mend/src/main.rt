@@ -15,9 +15,9 @@ use streams::{read_input, write_output};
 fn mend_input(rt: HostRuntime, buffer: &mut [u8]) -> io::Result<()>
     requires { 31 ≤ length buffer.old }
 {
-    let n = read_input(rt, "mend", buffer)?;
+    let n = read_input(rt, b"mend", buffer)?;
     let k = mend(buffer, n);
-    write_output(rt, "mend", &buffer[..k])
+    write_output(rt, b"mend", &buffer[..k])
 }
 
 fn main(rt: HostRuntime) -> io::Result<()> {

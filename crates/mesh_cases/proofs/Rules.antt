@@ -2,13 +2,14 @@
 -- order of rounding does not show; the uneven cube shows it, the two triangles have valence 2 and windows that overlap
 -- themselves, and the small cube meets both small denominators of an edge. Each stage is computed from the literal positions of
 -- the one before, and the cube's point 0 from the mesh alone, in both editions. With its intervals all 0 no face point of the cube is finite.
-use Rattle.std.specs.Prelude.{Option, Some, None}
 use mathlib.Core.Path.{◌≡◌, refl}
 use mathlib.Core.List.{List, [], ◌∷◌, map}
 use Prim.Native.Nat.{ℕ, zero, suc}
 use lib.ListN.{get_or, replicate}
 use lib.Ieee.{Float, add, sub, mul, div, neg, le, of_int, of_bits, binary64}
 use Rattle.positions.specs.declared.Position.{Position}
+use Rattle.positions.specs.declared.Placed.{Placed}
+use Rattle.positions.specs.declared.Placed.TheVariants.{At, NotFinite}
 use Rattle.positions.specs.Position.{zeros, placed_at}
 use Rattle.tables.specs.Mesh.{Mesh}
 use Rattle.audited_meshes.specs.Walks.{face_walk}
@@ -26,27 +27,27 @@ abbrev numbers : List ℕ → List Float
 numbers bs = map (of_bits binary64) bs
 
 -- three finite coordinates, by their bits
-abbrev at : ℕ → ℕ → ℕ → Option Position
-at x y z = Some (record { x = of_bits binary64 x; y = of_bits binary64 y; z = of_bits binary64 z })
+abbrev at : ℕ → ℕ → ℕ → Placed
+at x y z = At (of_bits binary64 x) (of_bits binary64 y) (of_bits binary64 z)
 
 -- the answers for the numbers from i on, n of them
-abbrev answers : (ℕ → Position) → ℕ → ℕ → List (Option Position)
+abbrev answers : (ℕ → Position) → ℕ → ℕ → List Placed
 answers rule i zero = []
 answers rule i (suc n) = placed_at (rule i) ∷ answers rule (suc i) n
 
 -- the position of an answer
-abbrev place_of : Option Position → Position
-place_of (Some p) = p
-place_of None = zeros
+abbrev place_of : Placed → Position
+place_of (At x y z) = record { x = x; y = y; z = z }
+place_of NotFinite = zeros
 
-abbrev place_in : List (Option Position) → ℕ → Position
-place_in placed i = place_of (get_or placed i None)
+abbrev place_in : List Placed → ℕ → Position
+place_in placed i = place_of (get_or placed i NotFinite)
 
 -- the rules with the points of the faces, and of the edges and faces, as listed
-abbrev edge_rule : Mesh → List (Option Position) → ℕ → Position
+abbrev edge_rule : Mesh → List Placed → ℕ → Position
 edge_rule m fs = edge_point m.positions m.edges m.intervals (place_in fs)
 
-abbrev old_rule : Mesh → List (Option Position) → List (Option Position) → ℕ → Position
+abbrev old_rule : Mesh → List Placed → List Placed → ℕ → Position
 old_rule m es fs = old_point m.positions m.points m.edges m.intervals (place_in es) (place_in fs)
 
 -- ---- document 01's cube, all intervals 1
@@ -79,7 +80,7 @@ cube =
           ∷ 6 ∷ 4294967295 ∷ 4294967295 ∷ 4294967295 ∷ 4294967295 ∷ 10 ∷ 4294967295 ∷ 4294967295 ∷ 4294967295 ∷ 4294967295 ∷ [];
     }
 
-abbrev cube-face_points : List (Option Position)
+abbrev cube-face_points : List Placed
 cube-face_points =
     at 0x0000000000000000 0x0000000000000000 0xbff0000000000000
     ∷ at 0x0000000000000000 0x0000000000000000 0x3ff0000000000000
@@ -89,7 +90,7 @@ cube-face_points =
     ∷ at 0x3ff0000000000000 0x0000000000000000 0x0000000000000000
     ∷ []
 
-abbrev cube-edge_points : List (Option Position)
+abbrev cube-edge_points : List Placed
 cube-edge_points =
     at 0x0000000000000000 0x3fe8000000000000 0xbfe8000000000000
     ∷ at 0x3fe8000000000000 0x0000000000000000 0xbfe8000000000000
@@ -105,7 +106,7 @@ cube-edge_points =
     ∷ at 0xbfe8000000000000 0x3fe8000000000000 0x0000000000000000
     ∷ []
 
-abbrev cube-old_points : List (Option Position)
+abbrev cube-old_points : List Placed
 cube-old_points =
     at 0xbfdc71c71c71c71c 0xbfdc71c71c71c71c 0xbfdc71c71c71c71c
     ∷ at 0x3fdc71c71c71c71c 0xbfdc71c71c71c71c 0xbfdc71c71c71c71c
@@ -155,7 +156,7 @@ zero_cube =
       faces = cube.faces;
     }
 
-zero_cube-faces : answers (face_point_in zero_cube 12) 0 6 ≡ replicate 6 None
+zero_cube-faces : answers (face_point_in zero_cube 12) 0 6 ≡ replicate 6 NotFinite
 unfolding face_point_in face_point_about face_point_over window_sum window_weight six_terms three_terms acw_about cw_about turns again face_walk add sub mul div neg of_bits
 zero_cube-faces = refl
 
@@ -174,7 +175,7 @@ uneven =
       faces = cube.faces;
     }
 
-abbrev uneven-face_points : List (Option Position)
+abbrev uneven-face_points : List Placed
 uneven-face_points =
     at 0xbfc35de23e96d465 0x3fc3c0628041aad6 0xbff0000000000000
     ∷ at 0xbfb3a06d3a06d3a0 0x3fb62fc962fc9630 0x3ff0000000000000
@@ -184,7 +185,7 @@ uneven-face_points =
     ∷ at 0x3ff0000000000000 0x3fc1e9bd37a6f4df 0x3fe1f4de9bd37a6f
     ∷ []
 
-abbrev uneven-edge_points : List (Option Position)
+abbrev uneven-edge_points : List Placed
 uneven-edge_points =
     at 0x3f7a289c8a4323b0 0x3fe2e01217d09c4e 0xbfef46490766775f
     ∷ at 0x3fdcf3f1121f9d13 0x3f70ed59e41a7cd2 0xbfeec885f2ab4311
@@ -200,7 +201,7 @@ uneven-edge_points =
     ∷ at 0xbfe9b9484565da9a 0x3fe86f562dc33b10 0x3f9af8957ee54544
     ∷ []
 
-abbrev uneven-old_points : List (Option Position)
+abbrev uneven-old_points : List Placed
 uneven-old_points =
     at 0xbfdebced340edbff 0xbfd9edded2564d00 0xbfdf315622ab59c0
     ∷ at 0x3fd72847ed0a03bb 0xbfd92aa27f281201 0xbfdedcbd76e6132e
@@ -245,20 +246,20 @@ triangles =
           0 ∷ 4294967295 ∷ 4294967295 ∷ 4294967295 ∷ 4294967295 ∷ 0 ∷ 4294967295 ∷ 4294967295 ∷ 4294967295 ∷ 4294967295 ∷ [];
     }
 
-abbrev triangles-face_points : List (Option Position)
+abbrev triangles-face_points : List Placed
 triangles-face_points =
     at 0x3fd2492492492492 0x3fdb6db6db6db6db 0x0000000000000000
     ∷ at 0x3fd2492492492492 0x3fdb6db6db6db6db 0x0000000000000000
     ∷ []
 
-abbrev triangles-edge_points : List (Option Position)
+abbrev triangles-edge_points : List Placed
 triangles-edge_points =
     at 0x3fd9249249249248 0x3fddb6db6db6db6e 0x0000000000000000
     ∷ at 0x3fc2492492492492 0x3fddb6db6db6db6e 0x0000000000000000
     ∷ at 0x3fd9249249249248 0x3fcb6db6db6db6db 0x0000000000000000
     ∷ []
 
-abbrev triangles-old_points : List (Option Position)
+abbrev triangles-old_points : List Placed
 triangles-old_points =
     at 0x3fda492492492490 0x3fe1b6db6db6db6d 0x0000000000000000
     ∷ at 0x3fa2492492492480 0x3fe1b6db6db6db6d 0x0000000000000000
@@ -307,7 +308,7 @@ small =
           ∷ 6 ∷ 4294967295 ∷ 4294967295 ∷ 4294967295 ∷ 4294967295 ∷ 10 ∷ 4294967295 ∷ 4294967295 ∷ 4294967295 ∷ 4294967295 ∷ [];
     }
 
-abbrev small-face_points : List (Option Position)
+abbrev small-face_points : List Placed
 small-face_points =
     at 0x0000000000000000 0x0000000000000000 0xbff0000000000000
     ∷ at 0x0000000000000000 0x0000000000000000 0x3ff0000000000000
@@ -317,7 +318,7 @@ small-face_points =
     ∷ at 0x3ff0000000000000 0x0000000000000000 0x0000000000000000
     ∷ []
 
-abbrev small-edge_points : List (Option Position)
+abbrev small-edge_points : List Placed
 small-edge_points =
     at 0x0000000000000000 0x3ff0000000000000 0xbff0000000000000
     ∷ at 0x3ff0000000000000 0x0000000000000000 0xbff0000000000000
@@ -333,7 +334,7 @@ small-edge_points =
     ∷ at 0xbff0000000000000 0x3ff0000000000000 0x0000000000000000
     ∷ []
 
-abbrev small-old_points : List (Option Position)
+abbrev small-old_points : List Placed
 small-old_points =
     at 0xbff0000000000000 0xbff0000000000000 0xbff0000000000000
     ∷ at 0x3ff0000000000000 0xbff0000000000000 0xbff0000000000000

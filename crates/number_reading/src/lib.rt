@@ -8,7 +8,7 @@ ghost use Rattle.std.specs.Prelude.{◌≡◌, ◌≤◌, ◌<◌, length};
 ghost use Rattle.text_numbers.specs.Numbers.{bits, decimal_from, decimal, float};
 ghost use Rattle.text_numbers.specs.Answers.{number};
 
-use text_numbers::{byte, digit_value};
+use text_numbers::{byte, digit_below};
 
 // 16 hexadecimal digits: the bits of a binary64.
 pub fn bits(s: &[u8], at: usize) -> Option<(u64, usize)>
@@ -17,7 +17,7 @@ pub fn bits(s: &[u8], at: usize) -> Option<(u64, usize)>
 {
     let mut v: u64 = 0;
     for k in 0..16 {
-        v = v * 16 + digit_value(byte(s, at + k), 16)?;
+        v = v * 16 + digit_below(byte(s, at + k), 16)?;
     }
     Some((v, at + 16))
 }
@@ -30,7 +30,7 @@ fn decimal_from(s: &[u8], at: usize, first: u64) -> Option<(u64, usize)>
     let mut v = first;
     let mut i = at;
     while v < 4294967296 {
-        let Some(d) = digit_value(byte(s, i), 10) else {
+        let Some(d) = digit_below(byte(s, i), 10) else {
             return Some((v, i));
         };
         v = v * 10 + d;
@@ -44,7 +44,7 @@ pub fn decimal(s: &[u8], at: usize) -> Option<(u64, usize)>
     requires { at ≤ length s.now }
     ensures { result ≡ number (decimal s.now at) }
 {
-    let first = digit_value(byte(s, at), 10)?;
+    let first = digit_below(byte(s, at), 10)?;
     if first == 0 {
         return Some((0, at + 1));
     }

@@ -20,7 +20,7 @@ use old_places::moved;
 use position_rules::WeightedSum;
 use position_rules::intervals::{a1, acw_about, c1, c2};
 use position_rules::places::{load_edge_point, load_face_point};
-use positions::Position;
+use positions::{Placed, Position};
 use records::load_point;
 use tables::index;
 
@@ -143,7 +143,7 @@ pub fn old_point(
     newedges: &[u32],
     newfaces: &[u32],
     p: usize,
-) -> Option<Position>
+) -> Placed
     requires { OldPointFits positions.now points.now edges.now intervals.now newpositions.now newedges.now newfaces.now p }
     ensures { result ≡ placed_at (old_point positions.now points.now edges.now intervals.now
         (edge_point_at newpositions.now newedges.now) (face_point_at newpositions.now

@@ -22,7 +22,7 @@ use oracle_steps::{StepStage, tell_steps};
 use oracle_tables::fields::{field, word};
 use oracle_tables::held::{Tables, lent_by};
 use oracle_tables::kinds::Kind;
-use oracle_tables::listing::tell_mesh;
+use oracle_tables::listing::{tell_mesh, tell_refused, tell_stage};
 use oracle_tables::rows::{no_counts, tell_rows};
 use oracle_trials::{count_changes, count_cuts, tell_tried, tell_zeros};
 use std::io;
@@ -85,15 +85,15 @@ fn tell_built(
     requires more_bound { more ≤ 8388608 }
 {
     tell_mesh(rt, t, counts, 0 < field(bytes, head, 5))?;
-    tell_rows(rt, "zero", t, counts)?;
+    tell_rows(rt, b"[zero", t, counts)?;
     let tables = begun(bytes, head, more, t);
     tell_steps(rt, bytes, head, more, StepStage { counts, tables })
 }
 
 // Writes the ground on which building refused.
 fn tell_ground(rt: &impl Print, t: Tables, n: u32) -> io::Result<()> {
-    println!(rt; "[refused {n}]")?;
-    tell_rows(rt, "zero", t, no_counts())
+    tell_refused(rt, n)?;
+    tell_rows(rt, b"[zero", t, no_counts())
 }
 
 // Kinds 0, 1, 5 and 6: builds a text, and makes the steps of the record if that is accepted.
@@ -103,7 +103,7 @@ fn tell_text(rt: &impl Print, bytes: &[u8], head: usize, text: &[u8], more: usiz
 {
     let start = build_kind(bytes, head, text, more);
     let t = start.tables;
-    println!(rt; "[stage 0]")?;
+    tell_stage(rt, 0)?;
     match start.answer {
         Ok(counts) => tell_built(rt, bytes, head, more, t, counts),
         Err(TextRefusal::NotText) => tell_ground(rt, t, 1),

@@ -8,7 +8,7 @@ ghost use Rattle.std.specs.Prelude.{◌≡◌, ◌+◌, ◌≤◌, length};
 use oracle_tables::fields::{cut, field, word};
 use oracle_tables::held::{LentTables, Tables, filled_tables, lent_by};
 use oracle_tables::kinds::Kind;
-use oracle_tables::listing::tell_mesh;
+use oracle_tables::listing::{tell_mesh, tell_refused, tell_stage};
 use oracle_tables::rows::{no_counts, tell_rows};
 use refined_meshes::Edition;
 use refining::step;
@@ -135,13 +135,13 @@ fn tell_made(rt: &impl Print, made: MadeStep, told: bool, counts: Counts) -> io:
             c
         }
         Err(refusal) => {
-            println!(rt; "[refused {}]", refusal.number())?;
+            tell_refused(rt, refusal.number())?;
             tell_mesh(rt, t, counts, false)?;
             counts
         }
     };
-    tell_rows(rt, "zero", t, counts)?;
-    tell_rows(rt, "scratch", made.scratch, no_counts())?;
+    tell_rows(rt, b"[zero", t, counts)?;
+    tell_rows(rt, b"[scratch", made.scratch, no_counts())?;
     Ok(StepStage { counts, tables: t })
 }
 
@@ -221,7 +221,7 @@ pub fn tell_steps(
     let mut stage = first;
     let mut at = more;
     for k in 1..=steps {
-        println!(rt; "[stage {k}]")?;
+        tell_stage(rt, k)?;
         stage = tell_step(rt, bytes, head, at, k < told, stage)?;
         at = after_order(bytes, at);
     }

@@ -16,7 +16,7 @@ pub const MOST_LINES: usize = 65536;
 
 // Where bytes go: to an output, or into the remainder of all bytes so far.
 #[derive(Drop)]
-enum Sink<'a, P: Print> {
+pub enum Sink<'a, P: Print> {
     Output(&'a P),
     Remainder(u64),
 }
@@ -130,6 +130,16 @@ fn put_mesh<P: Print>(
         put_face(s, faces, f)?;
     }
     writeln!(s, "[end]")
+}
+
+// The line before a stage.
+pub fn tell_stage(rt: &impl Print, k: usize) -> io::Result<()> {
+    println!(rt; "[stage {k}]")
+}
+
+// The line of a refusal.
+pub fn tell_refused(rt: &impl Print, n: u32) -> io::Result<()> {
+    println!(rt; "[refused {n}]")
 }
 
 // Writes the listing of a mesh, or, of a mesh that is not listed, how many points, edges and faces it has, and the remainder of its listing.

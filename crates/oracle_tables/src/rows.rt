@@ -53,7 +53,7 @@ fn tell_entries<T: Entry>(rt: &impl Print, entries: &[T], from: usize) -> io::Re
 // Writes of the rows after so many words of the tables how many words or numbers are zero, and whether all that follow are as filled.
 pub fn tell_slices(
     rt: &impl Print,
-    head: &str,
+    head: &[u8],
     positions: &[f64],
     points: &[u32],
     edges: &[u32],
@@ -64,7 +64,7 @@ pub fn tell_slices(
     let np = counts.points.min(MOST_LINES);
     let ne = counts.edges.min(MOST_LINES);
     let nf = counts.faces.min(MOST_LINES);
-    print!(rt; "[{head}")?;
+    rt.write_all(head)?;
     let a = tell_entries(rt, positions, np * POSITION_WIDTH)?;
     let b = tell_entries(rt, points, np * POINT_WIDTH)?;
     let c = tell_entries(rt, edges, ne * EDGE_WIDTH)?;
@@ -79,7 +79,7 @@ pub fn tell_slices(
 }
 
 // The same of the tables that the program holds.
-pub fn tell_rows(rt: &impl Print, head: &str, t: Tables, counts: Counts) -> io::Result<()> {
+pub fn tell_rows(rt: &impl Print, head: &[u8], t: Tables, counts: Counts) -> io::Result<()> {
     tell_slices(
         rt,
         head,

@@ -12,6 +12,7 @@ use built_meshes::Ground;
 use filled_rows::{NUMBER, WORD};
 use oracle_builds::{Lengths, build_bytes, build_lists};
 use oracle_tables::held::LentTables;
+use oracle_tables::listing::{tell_refused, tell_stage};
 use oracle_tables::rows::{is_kept, no_counts, tell_slices};
 use std::io;
 use tables::{Counts, POSITION_WIDTH};
@@ -120,13 +121,13 @@ pub fn tell_zeros(rt: &impl Print, np: usize, nf: usize, listed: u32) -> io::Res
         &mut intervals,
         &mut faces,
     );
-    println!(rt; "[stage 0]")?;
+    tell_stage(rt, 0)?;
     if let Err(g) = answer {
-        println!(rt; "[refused {}]", ground_number(g))?;
+        tell_refused(rt, ground_number(g))?;
     }
     tell_slices(
         rt,
-        "zero",
+        b"[zero",
         &positions,
         &points,
         &edges,

@@ -19,6 +19,7 @@ ghost use Rattle.placing.specs.Placing.{came, FacePointsFit, EdgePointsFit, OldP
 use edge_points::weighted_point;
 use face_points::face_point;
 use old_points::old_point;
+use positions::{Placed, Position};
 use records::store_position;
 use refined_meshes::Edition;
 use tables::{
@@ -46,7 +47,7 @@ pub fn place_face_points(
     let mut perimeter = [0u32; LONGEST_PERIMETER];
     let mut points = [0u32; LONGEST_BORDER];
     for f in 0..nf {
-        let Some(place) = face_point(
+        let Placed::At(x, y, z) = face_point(
             positions,
             edges,
             intervals,
@@ -61,7 +62,7 @@ pub fn place_face_points(
         store_position(
             newpositions,
             index(newfaces[f * FACE_WIDTH + FIRST_CORNER_WORD]),
-            place,
+            Position { x, y, z },
         );
     }
     true
@@ -87,7 +88,7 @@ pub fn place_weighted_points(
         ≡ came result newpositions.new }
 {
     for e in 0..ne {
-        let Some(place) = weighted_point(
+        let Placed::At(x, y, z) = weighted_point(
             positions,
             edges,
             intervals,
@@ -101,7 +102,7 @@ pub fn place_weighted_points(
         store_position(
             newpositions,
             index(newedges[e * EDGE_WIDTH + DEST_WORD]),
-            place,
+            Position { x, y, z },
         );
     }
     true
@@ -126,7 +127,7 @@ pub fn place_old_points(
         ≡ came result newpositions.new }
 {
     for p in 0..np {
-        let Some(place) = old_point(
+        let Placed::At(x, y, z) = old_point(
             positions,
             points,
             edges,
@@ -138,7 +139,7 @@ pub fn place_old_points(
         ) else {
             return false;
         };
-        store_position(newpositions, p, place);
+        store_position(newpositions, p, Position { x, y, z });
     }
     true
 }

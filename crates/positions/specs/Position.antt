@@ -3,12 +3,14 @@
 --     plus p q                  coordinate by coordinate, as product p w and quotient p w by a number
 --     tolerance, small v        document 01's t, and what it calls small
 --     finite_position p          all three coordinates are finite
---     placed_at p                the answer of a position rule: the position, if it is finite
-use Rattle.std.specs.Prelude.{Bool, true, false, ◌&&◌, Float, Option, Some, None}
+--     placed_at p                the answer of a position rule: the three coordinates, or the word that one is not finite
+use Rattle.std.specs.Prelude.{Bool, true, false, ◌&&◌, Float}
 use Rattle.std.specs.Float.Ieee.{add, mul, div, neg, le, of_bits}
 use Rattle.std.specs.Float.{binary64}
 use Rattle.std.specs.Float.Ieee.Scale.{finite}
 use Rattle.positions.specs.declared.Position.{Position}
+use Rattle.positions.specs.declared.Placed.{Placed}
+use Rattle.positions.specs.declared.Placed.TheVariants.{At, NotFinite}
 
 abbrev pub zeros : Position
 zeros = record { x = of_bits binary64 0; y = of_bits binary64 0; z = of_bits binary64 0 }
@@ -33,9 +35,9 @@ small v = le (neg tolerance) v && le v tolerance
 abbrev pub finite_position : Position → Bool
 finite_position p = finite p.x && (finite p.y && finite p.z)
 
-abbrev pub placed_if : Bool → Position → Option Position
-placed_if true p = Some p
-placed_if false p = None
+abbrev pub placed_if : Bool → Position → Placed
+placed_if true p = At p.x p.y p.z
+placed_if false p = NotFinite
 
-abbrev pub placed_at : Position → Option Position
+abbrev pub placed_at : Position → Placed
 placed_at p = placed_if (finite_position p) p

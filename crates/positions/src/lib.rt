@@ -13,6 +13,13 @@ pub struct Position {
     pub z: f64,
 }
 
+// What a position rule answers: three finite coordinates, or the word that one is not finite (document 01, "What form each place takes").
+#[derive(Clone, Copy)]
+pub enum Placed {
+    At(f64, f64, f64),
+    NotFinite,
+}
+
 impl Position {
     // The position whose coordinates are all +0.
     pub fn origin() -> Self
@@ -62,11 +69,15 @@ impl Position {
         is_finite(self.x) && is_finite(self.y) && is_finite(self.z)
     }
 
-    // What a position rule answers where this is the position that it found: itself, where it is finite.
-    pub fn placed(self) -> Option<Position>
+    // What a position rule answers where this is the position that it found.
+    pub fn placed(self) -> Placed
         ensures { result ≡ placed_at self }
     {
-        self.is_finite().then_some(self)
+        if self.is_finite() {
+            Placed::At(self.x, self.y, self.z)
+        } else {
+            Placed::NotFinite
+        }
     }
 }
 

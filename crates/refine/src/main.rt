@@ -16,8 +16,8 @@ mod refine_text;
 fn main(rt: HostRuntime) -> io::Result<()> {
     // One byte more than the limit. More need not be read: the output for every longer text is the same (`LongText` of `refine_outputs`).
     let mut text = [0; REFINE_BYTES + 1];
-    let n = read_input(rt, "refine", &mut text)?;
+    let n = read_input(rt, b"refine", &mut text)?;
     let mut out = [0; OUTPUT_BYTES];
     let k = refine(&text[..n], &mut out);
-    write_output(rt, "refine", &out[..k])
+    write_output(rt, b"refine", &out[..k])
 }

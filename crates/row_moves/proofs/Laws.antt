@@ -1,22 +1,32 @@
 -- A block of a list that is moved over that of another, behind those before it, for every kind of element. Assumes nothing.
+--     over-front        the first elements copied by themselves
 --     copied-block      the block copied behind those that are
 --     zeroed-block      the block made z behind those that are
 --     Moved             the first i elements are moved; moved_none: before the first block; moved-block: one block more; moved_all: after the last
-use mathlib.Core.Path.{◌≡◌, sym, ◌∙◌, ap}
-use mathlib.Core.List.{List, [], ◌∷◌}
+use mathlib.Core.Path.{◌≡◌, refl, sym, ◌∙◌, ap}
+use mathlib.Core.List.{List, [], ◌∷◌, ◌++◌}
 use Prim.Native.Nat.{ℕ, zero, suc, ◌+◌, ◌-◌, ◌≤◌, ◌<◌}
 use native.Mathlib.Omega.{arith}
-use native.Mathlib.Nat.{suc-add, zero-add}
-use lib.ListN.{length}
+use native.Mathlib.Nat.{suc-add, zero-add, not-suc-le-zero, le_of_suc-le-suc}
+use lib.ListN.{length, take, drop}
 use borrow.Rule.Slice.PartMut.{mid_of, put_mid}
 use Rattle.tables.specs.Rows.{over, zeroed}
 use Rattle.tables.proofs.Laws.{over_none, zeroed-none, zeroed-front}
 
+module _ {A : Type 0} where
+  -- the first n elements copied by themselves, followed by the others
+  over-front : (n : ℕ) (new xs : List A) → n ≤ length new → n ≤ length xs → over n (take n new) (take n xs) ++ drop n xs ≡ over n new xs
+  unfolding over
+  over-front zero new xs h l = refl
+  over-front (suc n) [] xs h l = absurd (not-suc-le-zero h)
+  over-front (suc n) (y ∷ new) [] h l = absurd (not-suc-le-zero l)
+  over-front (suc n) (y ∷ new) (x ∷ xs) h l = ap (λ (t : List A). y ∷ t) (over-front n new xs (le_of_suc-le-suc h) (le_of_suc-le-suc l))
+
 module _ {A : Type 0} (z : A) where
   copied-block : (i k : ℕ) (from to : List A) → i + k ≤ length from → i + k ≤ length to
-      → put_mid i k (over i from to) (mid_of i k (zeroed i z from)) ≡ over (i + k) from to
+      → put_mid i k (over i from to) (over k (mid_of i k (zeroed i z from)) (mid_of i k (over i from to))) ≡ over (i + k) from to
   unfolding over zeroed
-  copied-block zero k from to h l = rw (zero-add k)
+  copied-block zero k from to h l = rw (zero-add k) (over-front k from to (omega arith) (omega arith))
   copied-block (suc i) k [] to h l = absurd (omega arith)
   copied-block (suc i) k (x ∷ from) [] h l = absurd (omega arith)
   copied-block (suc i) k (x ∷ from) (y ∷ to) h l =
@@ -40,7 +50,7 @@ module _ {A : Type 0} (z : A) where
     moved_none = record { within = omega arith; left = sym (zeroed-none z from); there = sym (over_none from to) }
 
     pub moved-block : (xs ys us vs : List A) (i e : ℕ) → n ≤ length from → n ≤ length to → Moved xs ys i → i < e → e ≤ n
-        → vs ≡ mid_of i (e - i) xs → us ≡ zeroed (e - i) z (mid_of i (e - i) xs)
+        → vs ≡ over (e - i) (mid_of i (e - i) xs) (mid_of i (e - i) ys) → us ≡ zeroed (e - i) z (mid_of i (e - i) xs)
         → Moved (put_mid i (e - i) xs us) (put_mid i (e - i) ys vs) e
     moved-block xs ys us vs i e lf lt m l w copied made =
         let whole : i + (e - i) ≡ e = omega arith in

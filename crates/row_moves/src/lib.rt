@@ -9,7 +9,7 @@ ghost use Rattle.tables.specs.Mesh.{Mesh, mesh_of};
 ghost use Rattle.tables.specs.Rows.{over, zeroed};
 ghost use Rattle.tables.specs.Counted.{over_rows, zeroed_rows};
 
-use tables::{Counts, EDGE_WIDTH, FACE_WIDTH, POINT_WIDTH, POSITION_WIDTH, fill_first};
+use tables::{Counts, EDGE_WIDTH, FACE_WIDTH, POINT_WIDTH, POSITION_WIDTH, copy_first, fill_first};
 
 // How many elements are moved at a time.
 const BLOCK: usize = 256;
@@ -37,7 +37,7 @@ fn move_first<T: Copy>(new: &mut [T], elements: &mut [T], n: usize, zero: T)
     let mut i = 0;
     while i < n {
         let end = block_end(i, n);
-        elements[i..end].copy_from_slice(&new[i..end]);
+        copy_first(&new[i..end], &mut elements[i..end], end - i);
         fill_first(&mut new[i..end], end - i, zero);
         i = end;
     }

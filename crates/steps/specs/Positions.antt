@@ -9,8 +9,10 @@
 --     face_point_rule weighted_rule old_point_rule      the rules, over the table of new positions so far
 --     placed_over ed m c s r                the edge points put over what weighed for the edges
 --     placed_all ed m c s ps                all of it, begun with the table ps
-use Rattle.std.specs.Prelude.{Option, Some, None, List, [], ◌∷◌, ℕ, zero, suc, ◌+◌, ◌*◌, get_or, Float}
+use Rattle.std.specs.Prelude.{List, [], ◌∷◌, ℕ, zero, suc, ◌+◌, ◌*◌, get_or, Float}
 use Rattle.positions.specs.declared.Position.{Position}
+use Rattle.positions.specs.declared.Placed.{Placed}
+use Rattle.positions.specs.declared.Placed.TheVariants.{At, NotFinite}
 use Rattle.positions.specs.Position.{placed_at}
 use Rattle.tables.specs.Layout.{position_width, edge_width, dest_word, face_width, first_corner_word}
 use Rattle.tables.specs.Mesh.{Mesh}
@@ -36,9 +38,9 @@ pub data Placing : Type 0 where
   so_far : List Float → Placing
   not_finite : Placing
 
-abbrev pub put : ℕ → Option Position → List Float → Placing
-put p (Some a) ps = so_far (put_row ps (p * position_width) (a.x ∷ a.y ∷ a.z ∷ []))
-put p None ps = not_finite
+abbrev pub put : ℕ → Placed → List Float → Placing
+put p (At x y z) ps = so_far (put_row ps (p * position_width) (x ∷ y ∷ z ∷ []))
+put p NotFinite ps = not_finite
 
 abbrev pub put_next : ℕ → (List Float → Position) → Placing → Placing
 put_next p rule (so_far ps) = put p (placed_at (rule ps)) ps

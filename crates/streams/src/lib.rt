@@ -28,25 +28,31 @@ pub fn read_full<R: Read>(input: &mut R, buffer: &mut [u8]) -> io::Result<usize>
     Ok(done)
 }
 
+// Says on standard error what the program, named by any bytes, could not do.
+fn complain(rt: HostRuntime, program: &[u8], what: &str) {
+    // That this cannot be said either can be told nobody.
+    let _ = rt.stderr().write_all(program);
+    let _ = eprintln!(rt; ": {what}");
+}
+
 // Whether the input could not be read, which is said.
-pub fn is_input_lost(rt: HostRuntime, program: &str, read: &io::Result<usize>) -> bool
+pub fn is_input_lost(rt: HostRuntime, program: &[u8], read: &io::Result<usize>) -> bool
     ensures { result ≡ is_err read.now }
 {
     if read.is_ok() {
         return false;
     }
-    // That this cannot be said either can be told nobody.
-    let _ = eprintln!(rt; "{program}: standard input cannot be read");
+    complain(rt, program, "standard input cannot be read");
     true
 }
 
 // Says that the output cannot be written.
-pub fn say_output_lost(rt: HostRuntime, program: &str) {
-    let _ = eprintln!(rt; "{program}: standard output cannot be written");
+pub fn say_output_lost(rt: HostRuntime, program: &[u8]) {
+    complain(rt, program, "standard output cannot be written");
 }
 
 // Reads the input into the buffer, as `read_full` does it.
-pub fn read_input(rt: HostRuntime, program: &str, buffer: &mut [u8]) -> io::Result<usize>
+pub fn read_input(rt: HostRuntime, program: &[u8], buffer: &mut [u8]) -> io::Result<usize>
     ensures { ReadsAtMost result buffer.new }
 {
     let read = read_full(&mut rt.stdin(), buffer);
@@ -55,7 +61,7 @@ pub fn read_input(rt: HostRuntime, program: &str, buffer: &mut [u8]) -> io::Resu
 }
 
 // Writes the output.
-pub fn write_output(rt: HostRuntime, program: &str, bytes: &[u8]) -> io::Result<()> {
+pub fn write_output(rt: HostRuntime, program: &[u8], bytes: &[u8]) -> io::Result<()> {
     rt.write_all(bytes)
         .inspect_err(|_| say_output_lost(rt, program))
 }

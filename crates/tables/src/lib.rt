@@ -139,5 +139,9 @@ pub fn copy_first<T: Copy>(new: &[T], elements: &mut [T], n: usize)
     requires n_in_bounds_2 { n ≤ length elements.old }
     ensures { elements.new ≡ over n new.now elements.old }
 {
-    elements[..n].copy_from_slice(&new[..n]);
+    // By their places, and no `copy_from_slice`: the compiler then knows that the two are apart, and an archive for C calls `memcpy` and
+    // no `memmove`.
+    for i in 0..n {
+        elements[i] = new[i];
+    }
 }

@@ -54,11 +54,11 @@ module _ (v : Version) (cs : List Float) (ss fs ls : List ℕ) (is : List Float)
 
 module _ (b : Bounds) (s : List ℕ) (l : TextLists) {r : Result (Version × Sizes) ReadingGround} {l' : TextLists} {limits : Sizes} (eb : limits ≡ limits_of b)
     (e : record { reading = r; lists = l' } ≡ read_into s limits l) (short : is_too_long b (length s) ≡ false) (f i : ℕ) where
-  not-text : r ≡ Err ReadingGround.NotText → Missing ≡ text_edge b s f i
+  pub not-text : r ≡ Err ReadingGround.NotText → Missing ≡ text_edge b s f i
   unfolding text_edge form_edge
   not-text h = rw (short, no-form b s l eb e h)
 
-  over-limits :
+  pub over-limits :
       12288 ≤ length l.coordinates → 16384 ≤ length l.lengths → 16384 ≤ length l.listed → 16384 ≤ length l.intervals →
       16384 ≤ length l.firsts → r ≡ Err ReadingGround.OverLimits → Missing ≡ text_edge b s f i
   unfolding text_edge form_edge

@@ -1,7 +1,7 @@
 // The numbers of a text (document 01, "Mesh text") as definitions: decimal numbers, and the bits of a binary64 in hexadecimal digits; the
 // bytes and the digits of a text.
 // Not here: the reading of numbers (`number_reading`), their writing (`mesh_answers`), the lines of a mesh text (`mesh_lines`).
-// Contracts: `byte`, `stands`, `digit_value`. Definitions: `specs/Form.antt` (forms of text), `specs/Numbers.antt` (numbers).
+// Contracts: `byte`, `stands`, `digit_value`, `digit_below`. Definitions: `specs/Form.antt` (forms of text), `specs/Numbers.antt` (numbers).
 // Laws for callers: `proofs/Laws.antt` (how far a form goes), `proofs/Turns.antt` (one turn of a repeated form).
 #![tactic(auto)]
 
@@ -30,15 +30,22 @@ pub fn stands(s: &[u8], at: usize, t: &[u8]) -> bool
     true
 }
 
-// The value of a lower-case hexadecimal digit that is one of this base; any other byte has the value 16, below no base of these.
+// The value of a lower-case hexadecimal digit, 16 for any other byte.
 #[tactic(auto, unfolding(crate::specs::Numbers::digit_value))]
-pub fn digit_value(b: u8, base: u64) -> Option<u64>
-    ensures { result ≡ digit_below base (digit_value b) }
+pub fn digit_value(b: u8) -> u64
+    ensures { result ≡ digit_value b }
 {
-    let value = match b {
+    match b {
         48..=57 => u64::from(b) - 48,
         97..=102 => u64::from(b) - 87,
         _ => 16,
-    };
+    }
+}
+
+// The value of a byte that is a digit of a base, none of any other byte.
+pub fn digit_below(b: u8, base: u64) -> Option<u64>
+    ensures { result ≡ digit_below base (digit_value b) }
+{
+    let value = digit_value(b);
     if value < base { Some(value) } else { None }
 }

@@ -166,11 +166,11 @@ first-is v cs ss fs ls is r e = e
 
 module _ (b : Bounds) (s : List ℕ) (l : TextLists) {r : Result (Version × Sizes) ReadingGround} {l' : TextLists} {limits : Sizes} (eb : limits ≡ limits_of b)
     (e : record { reading = r; lists = l' } ≡ read_into s limits l) where
-  not-text : r ≡ Err ReadingGround.NotText → place_at_check 0 whole ≡ text_place_if false b s
+  pub not-text : r ≡ Err ReadingGround.NotText → place_at_check 0 whole ≡ text_place_if false b s
   unfolding text_place_if form_place
   not-text h = rw (no-form b s l eb e h)
 
-  over-limits :
+  pub over-limits :
       12288 ≤ length l.coordinates → 16384 ≤ length l.lengths → 16384 ≤ length l.listed → 16384 ≤ length l.intervals →
       16384 ≤ length l.firsts → r ≡ Err ReadingGround.OverLimits → place_at_check 0 whole ≡ text_place_if false b s
   unfolding text_place_if form_place spotted

@@ -83,7 +83,7 @@ loop-e-preserved c =
     c.args.newedges.now c.args.newpositions.now c.loop-e.newpositions c.requires.apart there c.loop-e.e
     (omega arith) (c.loop-e.invariant.1 ps there) _ from _ c.edge_point.ensures in
     let told = sym c.placed.ensures
-    ∙ c.in-Some.is in (
+    ∙ c.in-At.is in (
       rw (c.store_position.ensures, length-put_row) c.loop-e.invariant.0,
       λ ps there. rw (c.store_position.ensures, c.index-row.ensures)
           (placed-more (over_row c.args.newedges.now) (over_rule ps c.args.edges.now c.args.intervals.now c.args.newfaces.now)

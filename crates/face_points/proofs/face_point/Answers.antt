@@ -12,18 +12,18 @@ lay_border-requires c = record {
   points_len = c.requires.points_len;
 }
 
-pub returns-in_err-n : goal.returns-in_err-n
-returns-in_err-n c =
+pub returns-in_default : goal.returns-in_default
+returns-in_default c =
     absurd
-    (laid-never-lost _ _ _ _ _ _ c.requires.face_point_fits _ _ _ _ _ c.lay_border.ensures c.in_err-n.was)
+    (laid-never-lost _ _ _ _ _ _ c.requires.face_point_fits _ _ _ _ _ c.lay_border.ensures c.in_default.is)
 
 pub window_sum-s-requires : goal.window_sum-s-requires
 window_sum-s-requires c = record {
   border_fits = laid-edges-fit _ _ _ _ _ _ c.requires.face_point_fits _ _ _ _ _
-      c.lay_border.ensures c.in_ok-n.was;
-  points_fit = laid-points-fit _ _ _ _ _ _ c.requires.face_point_fits _ _ _ _ _ c.lay_border.ensures c.in_ok-n.was;
-  four_again = laid-four-again _ _ _ _ _ _ c.requires.face_point_fits _ _ _ _ _ c.lay_border.ensures c.in_ok-n.was;
-  corners_turn = laid-corners _ _ _ _ _ _ c.requires.face_point_fits _ _ _ _ _ c.lay_border.ensures c.in_ok-n.was;
+      c.lay_border.ensures c.in-Some.is;
+  points_fit = laid-points-fit _ _ _ _ _ _ c.requires.face_point_fits _ _ _ _ _ c.lay_border.ensures c.in-Some.is;
+  four_again = laid-four-again _ _ _ _ _ _ c.requires.face_point_fits _ _ _ _ _ c.lay_border.ensures c.in-Some.is;
+  corners_turn = laid-corners _ _ _ _ _ _ c.requires.face_point_fits _ _ _ _ _ c.lay_border.ensures c.in-Some.is;
 }
 
 pub returns : goal.returns
@@ -31,7 +31,7 @@ returns c =
     record {
       value = rw (c.placed.ensures, c.over.ensures)
           (ap placed_at (face_point-of-laid _ _ _ _ _ _ c.requires.face_point_fits _ _ _ _ _ c.lay_border.ensures
-          c.in_ok-n.was _ c.window_sum-s.ensures));
+          c.in-Some.is _ c.window_sum-s.ensures));
       perimeter_len_2 = c.lay_border.ensures.edges-long ∙ c.requires.perimeter_len;
       points_len_2 = c.lay_border.ensures.points-long ∙ c.requires.points_len;
     }

@@ -18,12 +18,12 @@ overflow_mul-v c =
 
 pub returns-in_err-v : goal.returns-in_err-v
 returns-in_err-v c =
-    let past = digit_past (sym c.digit_value.ensures ∙ c.in_err-v.was) in
+    let past = digit_past (sym c.digit_below.ensures ∙ c.in_err-v.was) in
     c.from_residual.ensures ∙ bits_none _ _ _ _ c.loop-k.invariant.2 c.loop-k-test.true c.byte.ensures past
 
 pub overflow_add-v : goal.overflow_add-v
 overflow_add-v c =
-    let d = digit_some (sym c.digit_value.ensures ∙ c.in_ok-v.was) in
+    let d = digit_some (sym c.digit_below.ensures ∙ c.in_ok-v.was) in
     record {
       fits = next_fits _ _ _ c.loop-k-test.true
           c.loop-k.invariant.1 d.1;
@@ -31,7 +31,7 @@ overflow_add-v c =
 
 pub loop-k-preserved : goal.loop-k-preserved
 loop-k-preserved c =
-    let d = digit_some (sym c.digit_value.ensures ∙ c.in_ok-v.was) in
+    let d = digit_some (sym c.digit_below.ensures ∙ c.in_ok-v.was) in
     let h = bits_inside c.args.s.now _ d.0 c.byte.ensures d.1 in (
       omega arith,
       next-below _ _ _ c.loop-k.invariant.1 d.1,

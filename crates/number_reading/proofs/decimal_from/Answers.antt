@@ -14,17 +14,17 @@ loop-v-init c =
 
 pub returns-in_default : goal.returns-in_default
 returns-in_default c =
-    rest-stop _ _ _ _ _ c.loop-v.invariant.2 c.byte.ensures (digit_past (sym c.digit_value.ensures ∙ c.in_default.is)) c.loop-v-test.true
+    rest-stop _ _ _ _ _ c.loop-v.invariant.2 c.byte.ensures (digit_past (sym c.digit_below.ensures ∙ c.in_default.is)) c.loop-v-test.true
 
 pub loop-v-smaller : goal.loop-v-smaller
 loop-v-smaller c =
-    let d = digit_some (sym c.digit_value.ensures ∙ c.in-Some.is) in
+    let d = digit_some (sym c.digit_below.ensures ∙ c.in-Some.is) in
     let h = rest-inside c.args.s.now c.loop-v.i d.0 c.byte.ensures d.1 in
     omega arith
 
 pub loop-v-preserved : goal.loop-v-preserved
 loop-v-preserved c =
-    let d = digit_some (sym c.digit_value.ensures ∙ c.in-Some.is) in
+    let d = digit_some (sym c.digit_below.ensures ∙ c.in-Some.is) in
     let h = rest-inside c.args.s.now c.loop-v.i d.0 c.byte.ensures d.1 in
     (omega arith, omega arith, rest-turn _ _ _ _ _ c.loop-v.invariant.2 c.loop-v.invariant.0 h d.0 c.byte.ensures d.1)
 

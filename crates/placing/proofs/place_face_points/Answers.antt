@@ -61,7 +61,7 @@ loop-f-preserved c =
     (without_points c.args.positions.now c.args.edges.now c.args.intervals.now c.args.faces.now) c.args.ne k in
     let start = so_far c.args.newpositions.now in
     let put = placed-more row rule start c.loop-f.f c.loop-f.newpositions c.loop-f.invariant.2
-    (sym c.face_point.ensures.value ∙ c.in-Some.is) in (
+    (sym c.face_point.ensures.value ∙ c.in-At.is) in (
       rw (c.store_position.ensures, length-put_row) c.loop-f.invariant.0,
       (c.face_point.ensures.perimeter_len_2, c.face_point.ensures.points_len_2),
       rw (c.store_position.ensures, c.index.ensures) put,

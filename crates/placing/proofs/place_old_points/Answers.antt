@@ -41,7 +41,7 @@ loop-p-preserved c =
     let start = so_far c.args.newpositions.now in
     let put = placed-more row rule start c.loop-p.p c.loop-p.newpositions c.loop-p.invariant.1
     (sym c.old_point.ensures
-    ∙ c.in-Some.is) in (
+    ∙ c.in-At.is) in (
       rw (c.store_position.ensures, length-put_row) c.loop-p.invariant.0,
       rw c.store_position.ensures put,
     )

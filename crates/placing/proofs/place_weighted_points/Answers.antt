@@ -57,7 +57,7 @@ loop-e-preserved c =
     (face_point_at ps c.args.newfaces.now) k in
     let start = so_far c.args.newpositions.now in
     let put = placed-more row rule start c.loop-e.e c.loop-e.newpositions c.loop-e.invariant.1
-    (sym c.weighted_point.ensures ∙ c.in-Some.is) in (
+    (sym c.weighted_point.ensures ∙ c.in-At.is) in (
       rw (c.store_position.ensures, length-put_row) c.loop-e.invariant.0,
       rw (c.store_position.ensures, c.index.ensures) put,
     )

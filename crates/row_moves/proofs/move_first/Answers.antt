@@ -13,7 +13,7 @@ pub loop-i-preserved : goal.loop-i-preserved
 loop-i-preserved g c = (
   moved-block c.args.zero c.args.new.now c.args.elements.now c.args.n _ _ _ _ c.loop-i.i c.block_end-end.result
       c.requires.n_in_bounds c.requires.n_in_bounds_2 c.loop-i.invariant.0 c.block_end-end.ensures.lower_bound
-      c.block_end-end.ensures.upper_bound c.copy_from_slice.ensures.after c.fill_first.ensures,
+      c.block_end-end.ensures.upper_bound c.copy_first.ensures c.fill_first.ensures,
   same_len_mid c.loop-i.i (c.block_end-end.result - c.loop-i.i) c.loop-i.new _ c.fill_first.auto.elements ∙ c.loop-i.invariant.1,
 )
 
