@@ -12,9 +12,12 @@ use tables::{Counts, MeshTables};
 
 // The N bytes at a place; 0 past the end.
 fn bytes_at<const N: usize>(bytes: &[u8], at: usize) -> [u8; N] {
-    let mut found = [0; N];
     // A slice, and no `skip`, which passes over the bytes before the place one by one.
     let rest = bytes.get(at..).unwrap_or(&[]);
+    if let Some(whole) = rest.first_chunk() {
+        return *whole;
+    }
+    let mut found = [0; N];
     for (b, x) in found.iter_mut().zip(rest) {
         *b = *x;
     }
